@@ -1,0 +1,5 @@
+pub mod Count
+pub mod Files
+pub mod Activity
+pub mod Desk
+pub mod Sink
