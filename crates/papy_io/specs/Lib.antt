@@ -3,3 +3,4 @@ pub mod Files
 pub mod Activity
 pub mod Desk
 pub mod Sink
+pub mod ReadAll
