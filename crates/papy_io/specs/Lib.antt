@@ -1,0 +1,6 @@
+pub mod Count
+pub mod Files
+pub mod Activity
+pub mod Desk
+pub mod Sink
+pub mod ReadAll
