@@ -4,3 +4,4 @@ pub mod Activity
 pub mod Desk
 pub mod Sink
 pub mod ReadAll
+pub mod WriteFile

@@ -7,12 +7,10 @@
 
 pub mod desk;
 pub mod fault;
-
 pub mod sink;
 pub mod whole_file;
 
 pub use desk::Desk;
 pub use fault::{Failed, IoFault};
-
 pub use sink::Sink;
-pub use whole_file::{ReadAllFault, read_all};
+pub use whole_file::{ReadAllFault, read_all, write_file};
