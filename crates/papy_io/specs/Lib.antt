@@ -5,3 +5,4 @@ pub mod Desk
 pub mod Sink
 pub mod ReadAll
 pub mod WriteFile
+pub mod MemorySink

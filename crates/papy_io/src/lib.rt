@@ -7,10 +7,13 @@
 
 pub mod desk;
 pub mod fault;
+mod memory_sink;
+mod numbers;
 pub mod sink;
 pub mod whole_file;
 
 pub use desk::Desk;
 pub use fault::{Failed, IoFault};
+pub use memory_sink::MemorySink;
 pub use sink::Sink;
 pub use whole_file::{ReadAllFault, read_all, write_file};
