@@ -6,3 +6,4 @@ pub mod Sink
 pub mod ReadAll
 pub mod WriteFile
 pub mod MemorySink
+pub mod DeskState

@@ -10,10 +10,12 @@ pub mod fault;
 mod memory_sink;
 mod numbers;
 pub mod sink;
+mod stream_sink;
 pub mod whole_file;
 
 pub use desk::Desk;
 pub use fault::{Failed, IoFault};
 pub use memory_sink::MemorySink;
 pub use sink::Sink;
+pub use stream_sink::StreamSink;
 pub use whole_file::{ReadAllFault, read_all, write_file};
