@@ -6,4 +6,5 @@ pub mod Sink
 pub mod ReadAll
 pub mod WriteFile
 pub mod MemorySink
+pub mod StreamSink
 pub mod DeskState

@@ -9,21 +9,30 @@ use crate::numbers::counted;
 use crate::sink::Sink;
 use std::io;
 use std::io::Write;
+use std::marker::Model;
 
 /// A sink over a writer of std, as standard output. It tells no bytes.
 ///
-/// What `Ok` is answered for was flushed, so that no failure stays unseen in a buffer.
+/// A clause sees the `writer` and the number of `faults`. What `Ok` is answered for was flushed, so
+/// that no failure stays unseen in a buffer.
 #[derive(Drop)]
 pub struct StreamSink<W: Write + Drop> {
     writer: W,
     faults: u64,
 }
 
+impl<W: Write + Drop> Model for StreamSink<W> {
+    ghost use Rattle.papy_io.specs.StreamSink.{StreamState};
+
+    ghost Value = { StreamState W };
+
+    ghost view = { λ s. record { writer = s.writer; faults = s.faults } };
+}
+
 impl<W: Write + Drop> StreamSink<W> {
     /// A sink that hands all bytes to this writer.
     pub fn over(writer: W) -> StreamSink<W>
-        ensures writer { result.writer ≡ writer }
-        ensures faults { result.faults ≡ 0 }
+        ensures { result ≡ record { writer = writer; faults = 0 } }
     {
         StreamSink { writer, faults: 0 }
     }
