@@ -11,6 +11,10 @@ last_count = 2 ^ 64 - 1
 abbrev pub counted : ℕ → ℕ
 counted count = min (count + 1) last_count
 
+-- the count after n more
+abbrev pub counted_by : ℕ → ℕ → ℕ
+counted_by count n = min (count + n) last_count
+
 -- it is greater than before, or stands at its last value
 pub record HasRisen (before now : ℕ) : Type 0 where
   pub never_falls : before ≤ now

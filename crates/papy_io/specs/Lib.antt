@@ -8,3 +8,4 @@ pub mod WriteFile
 pub mod MemorySink
 pub mod StreamSink
 pub mod DeskState
+pub mod FolderWork

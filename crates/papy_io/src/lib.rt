@@ -7,6 +7,7 @@
 
 pub mod desk;
 pub mod fault;
+mod folder_desk;
 mod memory_sink;
 mod numbers;
 pub mod sink;
@@ -15,6 +16,7 @@ pub mod whole_file;
 
 pub use desk::Desk;
 pub use fault::{Failed, IoFault};
+pub use folder_desk::FolderDesk;
 pub use memory_sink::MemorySink;
 pub use sink::Sink;
 pub use stream_sink::StreamSink;
