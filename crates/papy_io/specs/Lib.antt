@@ -5,6 +5,7 @@ pub mod Desk
 pub mod Sink
 pub mod ReadAll
 pub mod WriteFile
+pub mod MemoryFiles
 pub mod MemorySink
 pub mod StreamSink
 pub mod DeskState

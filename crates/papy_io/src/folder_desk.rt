@@ -83,6 +83,7 @@ fn create<R: Files>(rt: &R, name: &[u8]) -> Result<R::File, Failed> {
 /// A desk over the files of the current folder. It tells no bytes.
 ///
 /// Each call that the system refuses, and each name that isn't UTF-8, counts as a fault.
+#[derive(Drop)]
 pub struct FolderDesk<R: Files + Drop> {
     rt: R,
     alloc: Global,

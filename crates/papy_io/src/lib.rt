@@ -8,6 +8,7 @@
 pub mod desk;
 pub mod fault;
 mod folder_desk;
+mod memory_files;
 mod memory_sink;
 mod numbers;
 pub mod sink;
