@@ -6,6 +6,8 @@ pub mod Sink
 pub mod ReadAll
 pub mod WriteFile
 pub mod MemoryFiles
+pub mod MemoryWork
+pub mod MemoryDesk
 pub mod MemorySink
 pub mod StreamSink
 pub mod DeskState

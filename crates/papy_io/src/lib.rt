@@ -8,6 +8,7 @@
 pub mod desk;
 pub mod fault;
 mod folder_desk;
+mod memory_desk;
 mod memory_files;
 mod memory_sink;
 mod numbers;
@@ -18,6 +19,7 @@ pub mod whole_file;
 pub use desk::Desk;
 pub use fault::{Failed, IoFault};
 pub use folder_desk::FolderDesk;
+pub use memory_desk::MemoryDesk;
 pub use memory_sink::MemorySink;
 pub use sink::Sink;
 pub use stream_sink::StreamSink;
