@@ -18,7 +18,7 @@ use Rattle.std.specs.declared.vec.Vec.{Vec}
 use Rattle.papy_io.specs.Files.{Files}
 use Rattle.papy_io.specs.MemoryFiles.{entry_of, files_of, bytes_in}
 
-abbrev names : List ℕ → List ℕ → Ordering
+abbrev pub names : List ℕ → List ℕ → Ordering
 names = slice_cmp nat_cmp
 
 abbrev keys_cmp : Vec ℕ Global → Vec ℕ Global → Ordering
@@ -54,7 +54,7 @@ one_changed es fs name bytes h = same_map nat_list_cmp_total (slice_cmp-IsAntisy
 pub files_of-insert : (es : List (Vec ℕ Global × Vec ℕ Global)) (k v : Vec ℕ Global) → files_of (insert_entry keys_cmp es k v) ≡ insert (files_of es) k.items v.items
 files_of-insert es k v = one_changed (map entry_of es) _ k.items v.items (λ q. ap (find names q) (entries_insert es k v) ∙ find-put names nat_list_cmp_total q k.items v.items (map entry_of es))
 
-same_name : (a b : List ℕ) → is_eq (names a b) ≡ true → a ≡ b
+pub same_name : (a b : List ℕ) → is_eq (names a b) ≡ true → a ≡ b
 same_name a b e = slice_cmp-IsAntisymmetric nat_cmp-IsAntisymmetric a b (tie (names a b) e) where
   tie : (o : Ordering) → is_eq o ≡ true → o ≡ Equal
   tie Less e = absurd (false≢true e)
