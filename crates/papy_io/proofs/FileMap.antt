@@ -107,9 +107,9 @@ files_after es fs m name v w e f s =
 pub insert_held : (m : Files) (name held : List ℕ) → get m name ≡ Some held → insert m name held ≡ m
 insert_held m name held h = same_map nat_list_cmp_total (slice_cmp-IsAntisymmetric nat_cmp-IsAntisymmetric) _ _ (λ q.
     get-insert nat_list_cmp_total m name held q ∙ same q (is_eq (names q name)) refl) where
-  same : (q : List ℕ) (b : Bool) → is_eq (names q name) ≡ b → cond b (Some held) (get m q) ≡ get m q
-  same q true e = sym (ap (get m) (same_name q name e) ∙ h)
-  same q false e = refl
+      same : (q : List ℕ) (b : Bool) → is_eq (names q name) ≡ b → cond b (Some held) (get m q) ≡ get m q
+      same q true e = sym (ap (get m) (same_name q name e) ∙ h)
+      same q false e = refl
 
 pub after_ok : (r : Result (Unit {0}) AllocError) (held bytes new : List ℕ) (P : List ℕ → Type 0) → new ≡ cond (is_ok r) (held ++ bytes) held → P new → OnOk r (P (held ++ bytes))
 after_ok (Ok u) held bytes new P e p = subst P e p

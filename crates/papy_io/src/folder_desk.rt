@@ -8,12 +8,10 @@ use crate::desk::Desk;
 use crate::fault::{Failed, IoFault};
 use crate::numbers::{counted, counted_by};
 use std::alloc::Global;
-use std::fs;
 use std::io::{Read, Write};
 use std::marker::Model;
-use std::mem;
 use std::rt::Files;
-use std::str;
+use std::{fs, mem, str};
 
 /// What the desk works on.
 #[derive(Drop)]
@@ -40,7 +38,9 @@ impl<F: Read + Write> Work<F> {
     {
         match self {
             Work::Reading {
-                file, is_missed, ..
+                file,
+                is_missed,
+                ..
             } => match file.read(buffer) {
                 Ok(count) => Ok(count),
                 Err(_) => {
@@ -104,11 +104,11 @@ impl<R: Files + Drop> Model for FolderDesk<R> {
     ghost Value = { DeskState };
 
     ghost view = { λ d. record {
-        busy = activity_of d.work;
-        taken = d.taken;
-        read_faults = d.read_faults;
-        write_faults = d.write_faults;
-        missed = missed_of d.work (option_map (λ name. name.items) d.missed_before)
+      busy = activity_of d.work;
+      taken = d.taken;
+      read_faults = d.read_faults;
+      write_faults = d.write_faults;
+      missed = missed_of d.work (option_map (λ name. name.items) d.missed_before);
     } };
 }
 
@@ -202,7 +202,9 @@ impl<R: Files + Drop> Desk for FolderDesk<R> {
         match mem::replace(&mut self.work, Work::Idle) {
             Work::Idle => unreachable!(),
             Work::Reading {
-                name, is_missed, ..
+                name,
+                is_missed,
+                ..
             } => {
                 if is_missed {
                     self.missed_before = Some(name);

@@ -5,16 +5,16 @@
 //! them can say which bytes it read and wrote, and that it gave up only after a failure.
 #![tactic(auto)]
 
-pub mod desk;
-pub mod fault;
+mod desk;
+mod fault;
 mod folder_desk;
 mod memory_desk;
 mod memory_files;
 mod memory_sink;
 mod numbers;
-pub mod sink;
+mod sink;
 mod stream_sink;
-pub mod whole_file;
+mod whole_file;
 
 pub use desk::Desk;
 pub use fault::{Failed, IoFault};
@@ -24,3 +24,6 @@ pub use memory_sink::MemorySink;
 pub use sink::Sink;
 pub use stream_sink::StreamSink;
 pub use whole_file::{ReadAllFault, read_all, write_file};
+
+#[cfg(test)]
+mod tests;

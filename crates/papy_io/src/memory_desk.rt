@@ -20,7 +20,7 @@ use std::marker::Model;
 use std::mem;
 
 /// What the desk works on.
-#[derive(Drop)]
+#[derive(Debug, Drop)]
 enum Work {
     Idle,
     Reading {
@@ -88,7 +88,7 @@ impl Work {
 /// `read_faults` and `write_faults`, the name that was `missed` last, the numbers of the `failing`
 /// calls, and the number of `calls` that were made, which is that of the next. A call that finds no
 /// memory has no number. Finding a name takes time in proportion to the logarithm of their number.
-#[derive(Drop)]
+#[derive(Debug, Drop)]
 pub struct MemoryDesk {
     alloc: Global,
     files: MemoryFiles,
@@ -115,14 +115,14 @@ impl Model for MemoryDesk {
     ghost use Rattle.papy_io.specs.MemoryWork.{activity_in, missed_in, WorksOn};
 
     ghost view = { λ d. record {
-        files = d.files;
-        busy = activity_in d.files d.work;
-        taken = d.taken;
-        read_faults = d.read_faults;
-        write_faults = d.write_faults;
-        missed = missed_in d.work (option_map (λ name. name.items) d.missed_before);
-        failing = d.failing.items;
-        calls = d.calls
+      files = d.files;
+      busy = activity_in d.files d.work;
+      taken = d.taken;
+      read_faults = d.read_faults;
+      write_faults = d.write_faults;
+      missed = missed_in d.work (option_map (λ name. name.items) d.missed_before);
+      failing = d.failing.items;
+      calls = d.calls;
     } };
 
     ghost invariant = { λ d. WorksOn d.files d.work };
@@ -284,7 +284,9 @@ impl Desk for MemoryDesk {
         match mem::replace(&mut self.work, Work::Idle) {
             Work::Idle => unreachable!(),
             Work::Reading {
-                name, is_missed, ..
+                name,
+                is_missed,
+                ..
             } => {
                 if is_to_fail || is_missed {
                     self.missed_before = Some(name);

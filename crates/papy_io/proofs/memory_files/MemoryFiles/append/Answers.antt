@@ -20,9 +20,9 @@ returns-clause-ok c =
     let found = ap option_copied_mut (sym c.unwrap-held.ensures) ∙ c.get_mut.ensures.value in
     let held = bytes_in_found old _ name _ c.self.view_is found in
     after_ok c.extend_from_slice.result (bytes_in c.args.self.now name) c.args.bytes.now grown.items
-      (λ t. files_of (c.get_mut.follows.lender grown).entries ≡ insert c.args.self.now name t)
-      (subst (λ h. grown.items ≡ cond (is_ok c.extend_from_slice.result) (h ++ c.args.bytes.now) h) (sym held) c.extend_from_slice.ensures.items)
-      (files_after old _ _ name _ grown c.self.view_is found (c.get_mut.follows.holds grown).0)
+    (λ t. files_of (c.get_mut.follows.lender grown).entries ≡ insert c.args.self.now name t)
+    (subst (λ h. grown.items ≡ cond (is_ok c.extend_from_slice.result) (h ++ c.args.bytes.now) h) (sym held) c.extend_from_slice.ensures.items)
+    (files_after old _ _ name _ grown c.self.view_is found (c.get_mut.follows.holds grown).0)
 
 pub returns-clause-err : goal.returns-clause-err
 returns-clause-err c =
@@ -32,8 +32,8 @@ returns-clause-err c =
     let found = ap option_copied_mut (sym c.unwrap-held.ensures) ∙ c.get_mut.ensures.value in
     let held = bytes_in_found old _ name _ c.self.view_is found in
     after_err c.extend_from_slice.result (bytes_in c.args.self.now name) c.args.bytes.now grown.items
-      (λ t. files_of (c.get_mut.follows.lender grown).entries ≡ insert c.args.self.now name t)
-      (files_of (c.get_mut.follows.lender grown).entries ≡ c.args.self.now)
-      (λ e. e ∙ insert_held c.args.self.now name (bytes_in c.args.self.now name) (held_bytes c.args.self.now name c.requires))
-      (subst (λ h. grown.items ≡ cond (is_ok c.extend_from_slice.result) (h ++ c.args.bytes.now) h) (sym held) c.extend_from_slice.ensures.items)
-      (files_after old _ _ name _ grown c.self.view_is found (c.get_mut.follows.holds grown).0)
+    (λ t. files_of (c.get_mut.follows.lender grown).entries ≡ insert c.args.self.now name t)
+    (files_of (c.get_mut.follows.lender grown).entries ≡ c.args.self.now)
+    (λ e. e ∙ insert_held c.args.self.now name (bytes_in c.args.self.now name) (held_bytes c.args.self.now name c.requires))
+    (subst (λ h. grown.items ≡ cond (is_ok c.extend_from_slice.result) (h ++ c.args.bytes.now) h) (sym held) c.extend_from_slice.ensures.items)
+    (files_after old _ _ name _ grown c.self.view_is found (c.get_mut.follows.holds grown).0)
