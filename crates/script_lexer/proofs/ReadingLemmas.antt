@@ -39,16 +39,16 @@ Reads-length : (text : List ℕ) (ps : List Spelled) (rest : List ℕ) → Reads
 Reads-length text ps rest h = let e = ap length (Reads-spelling text ps rest h) in omega (arith, length-append (spelling ps) rest)
 
 -- at one place stands one longest piece
-same_length : (bs after cs back : List ℕ) (p q : Piece) → bs ++ after ≡ cs ++ back → IsLongest bs after p → IsLongest cs back q → length bs ≡ length cs
+pub same_length : (bs after cs back : List ℕ) (p q : Piece) → bs ++ after ≡ cs ++ back → IsLongest bs after p → IsLongest cs back q → length bs ≡ length cs
 same_length bs after cs back p q e h g =
     let le : length cs ≤ length bs = h.longest cs back q e g.spelled in
     let ge : length bs ≤ length cs = g.longest bs after p (sym e) h.spelled in
     omega arith
 
-same_bytes : (bs after cs back : List ℕ) → bs ++ after ≡ cs ++ back → length bs ≡ length cs → bs ≡ cs
+pub same_bytes : (bs after cs back : List ℕ) → bs ++ after ≡ cs ++ back → length bs ≡ length cs → bs ≡ cs
 same_bytes bs after cs back e len = sym (take_at bs after (length cs) len) ∙ ap (take (length cs)) e ∙ take_at cs back (length cs) refl
 
-same_after : (bs after cs back : List ℕ) → bs ++ after ≡ cs ++ back → length bs ≡ length cs → after ≡ back
+pub same_after : (bs after cs back : List ℕ) → bs ++ after ≡ cs ++ back → length bs ≡ length cs → after ≡ back
 same_after bs after cs back e len = sym (drop_at bs after (length cs) len) ∙ ap (drop (length cs)) e ∙ drop_at cs back (length cs) refl
 
 -- Another reading stops before, at or after a longest piece, never inside it.
