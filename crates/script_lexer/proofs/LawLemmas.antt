@@ -1,13 +1,12 @@
 -- A file has one answer.
-use Rattle.std.proofs.Common.{◌≡◌, ℕ, ◌+◌, ◌<◌, ◌≤◌, List, [], ◌∷◌, ◌++◌, length, map, take, refl, sym, ap, subst, ◌∙◌, ⊎_elim, inl, inr, arith}
-use Rattle.std.specs.Prelude.{◌⊎◌, ◌==◌, if◌then◌else◌}
+use Rattle.std.proofs.Common.{◌≡◌, ℕ, ◌+◌, ◌≤◌, List, [], ◌∷◌, ◌++◌, length, map, take, refl, sym, ap, subst, ◌∙◌, inl, inr, arith}
+use Rattle.std.specs.Prelude.{◌==◌, if◌then◌else◌}
 use Rattle.std.proofs.lemmas.List.{length-append}
 use Rattle.script_lexer.specs.declared.opening.Opening.{Opening}
 use Rattle.script_lexer.specs.declared.opening.Opening.TheVariants as opening
 use Rattle.script_lexer.specs.declared.token.Token.{Token}
 use Rattle.script_lexer.specs.declared.token.Token.TheVariants as token
 use Rattle.script_lexer.specs.declared.sign.Sign.{Sign}
-use Rattle.script_lexer.specs.declared.keyword.Keyword.{Keyword}
 use Rattle.script_lexer.specs.declared.text_item.TextItem.{TextItem}
 use Rattle.script_lexer.specs.declared.piece.Piece.{Piece}
 use Rattle.script_lexer.specs.declared.piece.Piece.TheVariants as piece
@@ -16,7 +15,7 @@ use Rattle.script_lexer.specs.declared.fault.LexRule.TheVariants as rule
 use Rattle.script_lexer.specs.Bytes.{opening_of, line_ends}
 use Rattle.script_lexer.specs.Pieces.{Completes, Spells, IsLongest, IsWord, item_value}
 use Rattle.script_lexer.specs.Rules.{rule_number}
-use Rattle.script_lexer.specs.Lines.{Spelled, Reads, LogicalLine, lines_of, mark_len, text_of, LexesFrom, Lexes, IsBroken, IsFirstBroken, FirstBreak, LexBreak, Answer, Cut, Refused, IsAnswer}
+use Rattle.script_lexer.specs.Lines.{Spelled, Reads, LogicalLine, lines_of, mark_len, text_of, IsBroken, IsFirstBroken, Answer, Cut, Refused, IsAnswer}
 use Rattle.script_lexer.proofs.KeywordLemmas.{same_keyword}
 use Rattle.script_lexer.proofs.SignLemmas.{same_sign}
 use Rattle.script_lexer.proofs.TextLemmas.{same_items}

@@ -1,11 +1,10 @@
 -- The tokens of a reading stand where their bytes stand.
-use Rattle.std.proofs.Common.{◌≡◌, ℕ, zero, suc, ◌+◌, ◌-◌, ◌<◌, ◌≤◌, Bool, true, false, cond, List, [], ◌∷◌, ◌++◌, length, take, drop, Result, Ok, Err, refl, sym, ap, subst, ◌∙◌, ⊎_elim, inl, inr, append_assoc, arith}
+use Rattle.std.proofs.Common.{◌≡◌, ℕ, suc, ◌+◌, ◌-◌, ◌<◌, ◌≤◌, Bool, true, false, cond, List, [], ◌∷◌, ◌++◌, length, take, drop, Result, Ok, Err, refl, sym, ap, subst, ◌∙◌, append_assoc, arith}
 use Rattle.std.specs.Prelude.{◌==◌, IfOk, slice_range}
-use Rattle.std.proofs.lemmas.Bool.{cases_Bool, eqb-true}
+use Rattle.std.proofs.lemmas.Bool.{eqb-true}
 use Rattle.std.proofs.lemmas.List.{length-append, take_at, drop_at, take-append-drop, length-take-le}
 use Rattle.script_lexer.specs.declared.opening.Opening.{Opening}
 use Rattle.script_lexer.specs.declared.opening.Opening.TheVariants as opening
-use Rattle.script_lexer.specs.declared.token.Token.{Token}
 use Rattle.script_lexer.specs.declared.token.Spanned.{Spanned}
 use Rattle.script_lexer.specs.declared.piece.Piece.{Piece}
 use Rattle.script_lexer.specs.declared.piece.Piece.TheVariants as piece
@@ -13,8 +12,8 @@ use Rattle.script_lexer.specs.declared.line.Lines.{Lines}
 use Rattle.script_lexer.specs.declared.fault.LexFault.{LexFault}
 use Rattle.script_lexer.specs.Bytes.{opening_of, line_ends, is_blank, is_word_start, is_sign_start}
 use Rattle.std.specs.Char.{is_ascii_digit}
-use Rattle.script_lexer.specs.Pieces.{Completes, Spells, IsLongest}
-use Rattle.script_lexer.specs.Lines.{Spelled, Reads, LogicalLine, logical_lines, nonempty, Following, with_piece, following, lines_of, mark_len, text_of, LexesFrom, Lexes}
+use Rattle.script_lexer.specs.Pieces.{Completes, Spells}
+use Rattle.script_lexer.specs.Lines.{Spelled, Reads, LogicalLine, logical_lines, nonempty, Following, with_piece, following, mark_len, text_of, LexesFrom, Lexes}
 use Rattle.script_lexer.specs.Spans.{TokensStand, LinesStand}
 use Rattle.script_lexer.specs.Steps.{TextAnswer}
 use Rattle.script_lexer.proofs.ReadingLemmas.{longest_some}
@@ -80,9 +79,13 @@ with_piece_stands : (file : List ℕ) (at line last : ℕ) (bytes : List ℕ) (p
 with_piece_stands file at line last bytes piece.LineEnd next le some within slice spelled later =
     let ends = one_line_end bytes spelled in
     nonempty_stands file last (line + line_ends bytes) (suc line) next.tokens next.lines (omega arith) (later last (omega arith))
-with_piece_stands file at line last bytes (piece.Token t) next le some within slice spelled later =
-    (le, omega arith, within, subst (λ (x : List ℕ). Spells x (piece.Token t)) (sym slice) spelled,
-     TokensStand-weaker file (at + length bytes) next.tokens _ (λ end. LinesStand file end (suc line) next.lines) (λ end h. LinesStand-weaker file end (suc (line + line_ends bytes)) (suc line) next.lines (omega arith) h) (later (at + length bytes) (omega arith)))
+with_piece_stands file at line last bytes (piece.Token t) next le some within slice spelled later = (
+  le,
+  omega arith,
+  within,
+  subst (λ (x : List ℕ). Spells x (piece.Token t)) (sym slice) spelled,
+  TokensStand-weaker file (at + length bytes) next.tokens _ (λ end. LinesStand file end (suc line) next.lines) (λ end h. LinesStand-weaker file end (suc (line + line_ends bytes)) (suc line) next.lines (omega arith) h) (later (at + length bytes) (omega arith)),
+)
 with_piece_stands file at line last bytes piece.Blank next le some within slice spelled later =
     TokensStand-weaker file last next.tokens _ (λ end. LinesStand file end (suc line) next.lines) (λ end h. LinesStand-weaker file end (suc (line + line_ends bytes)) (suc line) next.lines (omega arith) h) (later last (omega arith))
 with_piece_stands file at line last bytes piece.Join next le some within slice spelled later =
@@ -125,11 +128,11 @@ lines_stand file lines last h =
     let m = mark_len file in
     subst (LinesStand file 0 1) (sym h.as_lines)
     (nonempty_stands file 0 1 1 (following m 1 h.reading).tokens (following m 1 h.reading).lines (omega arith)
-        (following_stands file (take m file) (text_of file) m 1 0 h.reading (sym (take-append-drop m file)) (length-take-le m file (mark_len-le file)) (omega arith) h.whole))
+    (following_stands file (take m file) (text_of file) m 1 0 h.reading (sym (take-append-drop m file)) (length-take-le m file (mark_len-le file)) (omega arith) h.whole))
 
 pub cut_of : (file : List ℕ) (start : ℕ) (text : List ℕ) (r : Result Lines LexFault) → start ≡ mark_len file → text ≡ drop start file → TextAnswer start text r → IfOk r (λ l. LinesStand file 0 1 (logical_lines l.lines.items))
 cut_of file start text (Ok l) is_start is_text h =
     let whole : LexesFrom (mark_len file) (text_of file) (logical_lines l.lines.items) l.last =
-        subst (λ (n : ℕ). LexesFrom n (drop n file) (logical_lines l.lines.items) l.last) is_start (subst (λ (t : List ℕ). LexesFrom start t (logical_lines l.lines.items) l.last) is_text h.1) in
+    subst (λ (n : ℕ). LexesFrom n (drop n file) (logical_lines l.lines.items) l.last) is_start (subst (λ (t : List ℕ). LexesFrom start t (logical_lines l.lines.items) l.last) is_text h.1) in
     lines_stand file (logical_lines l.lines.items) l.last whole
 cut_of file start text (Err f) is_start is_text h = tt

@@ -27,11 +27,7 @@ fn count_line_ends(bytes: &[u8]) -> usize
 }
 
 // One piece more. Gives what is left behind it.
-fn step<'a>(
-    alloc: Global,
-    progress: &mut Progress,
-    rest: &'a [u8],
-) -> Result<&'a [u8], LexFault>
+fn step<'a>(alloc: Global, progress: &mut Progress, rest: &'a [u8]) -> Result<&'a [u8], LexFault>
     requires nonempty { 0 < length rest.now }
     requires ready { IsReady progress.old }
     requires room { progress.old.at + length rest.now < 2 ^ 31 }
