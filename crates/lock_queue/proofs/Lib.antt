@@ -1,3 +1,6 @@
 pub mod LinkLemmas
 pub mod OrderLemmas
 pub mod QueueLemmas
+pub mod ReadyLemmas
+pub mod AgreementLemmas
+pub mod TransitionLemmas

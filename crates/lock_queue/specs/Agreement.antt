@@ -32,6 +32,7 @@ ready_in owners lists stack (Waits instance) =
     is_none (link_at owners instance) && is_first stack (queue_at lists instance)
 
 pub record Agree (seats : List Seat) (owners : List (Option ℕ)) (order : Sequence) (queues : Lines) (words : List ℕ) : Type 0 where
+  pub bounded : length seats < 65536
   pub order_room : order.room ≡ length seats
   pub queue_room : queues.room ≡ length seats
   pub queue_count : length queues.lists ≡ length owners

@@ -55,19 +55,21 @@ is_first stack (first ∷ rest) = first == stack
 
 abbrev pub is_some_of : ℕ → Option ℕ → Bool
 is_some_of number None = false
-is_some_of number (Some other) = number == other
+is_some_of number (Some other) = other == number
 
 -- nobody holds the instance, and no earlier stack waits for it
 abbrev pub may_take : LockTable → ℕ → ℕ → Bool
 may_take table stack instance = is_none (owner_of table instance) && is_first stack (queue_of table instance)
 
+-- whether a stack with this seat may be chosen to run
+abbrev pub is_ready_in : LockTable → ℕ → Seat → Bool
+is_ready_in table stack Resting = false
+is_ready_in table stack Free = true
+is_ready_in table stack (Holds instance) = true
+is_ready_in table stack (Waits instance) = may_take table stack instance
+
 abbrev pub is_ready : LockTable → ℕ → Bool
-is_ready table stack = ready_in (seat_of table stack) where
-  ready_in : Seat → Bool
-  ready_in Resting = false
-  ready_in Free = true
-  ready_in (Holds instance) = true
-  ready_in (Waits instance) = may_take table stack instance
+is_ready table stack = is_ready_in table stack (seat_of table stack)
 
 -- the waiters without this stack
 abbrev pub without_stack : List (ℕ × ℕ) → ℕ → List (ℕ × ℕ)

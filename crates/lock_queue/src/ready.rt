@@ -12,6 +12,8 @@ use std::alloc::{AllocError, Global};
 #[derive(Debug, Drop)]
 pub struct ReadySet {
     words: Vec<u64>,
+    // Stacks have numbers of 16 bits.
+    ghost bounded: { vec_len words ≤ 1024 },
 }
 
 impl ReadySet {
