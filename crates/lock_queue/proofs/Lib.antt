@@ -4,3 +4,5 @@ pub mod QueueLemmas
 pub mod ReadyLemmas
 pub mod AgreementLemmas
 pub mod TransitionLemmas
+pub mod ViewLemmas
+pub mod CallLemmas

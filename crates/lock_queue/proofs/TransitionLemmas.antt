@@ -90,16 +90,6 @@ queue-set lists i queue j n within same =
     (λ (there : (eqb n i ≡ false) × (n ≢ i)). ap (is_first j) (get_or-set_other lists i n queue [] there.1))
     (eqb_tells n i)
 
-and_swap : (a b : Bool) → a && not b ≡ not b && a
-and_swap true true = refl
-and_swap true false = refl
-and_swap false true = refl
-and_swap false false = refl
-
-not_some : (o : Option ℕ) → not (is_some o) ≡ is_none o
-not_some None = refl
-not_some (Some x) = refl
-
 lines-push : (seats : List Seat) (lists : List (List ℕ)) (xs : List ℕ) (k i n : ℕ) → k < length seats → i < length lists → Lacks xs k → ((m : ℕ) → queue_at lists m ≡ filter (λ j. waits m (seat_at seats j)) xs) → queue_at (set lists i (queue_at lists i ++ k ∷ [])) n ≡ filter (λ j. waits n (seat_at (set seats k (Waits i)) j)) (xs ++ k ∷ [])
 lines-push seats lists xs k i n k_in i_in lacks lines =
     ⊎_elim
@@ -118,7 +108,7 @@ lines-push seats lists xs k i n k_in i_in lacks lines =
             (waits_other i n (seat_at (set seats k (Waits i)) k) (seat_same seats k k (Waits i) k_in refl) there.1)))
     (eqb_tells n i)
 
-pub Agree-join : (seats : List Seat) (owners : List (Option ℕ)) (order : Sequence) (queues : Lines) (words words' : List ℕ) (k i : ℕ) (b : Bool) → Agree seats owners order queues words → k < length seats → i < length owners → IsIdle (seat_at seats k) → b ≡ is_none (first_of (queue_at queues.lists i)) && not (is_some (link_at owners i)) → length words' ≡ length words → ((j : ℕ) → is_member words' j ≡ cond (eqb j k) b (is_member words j)) → Agree (set seats k (Waits i)) owners (record order { stacks = order.stacks ++ k ∷ [] }) (record queues { lists = set queues.lists i (queue_at queues.lists i ++ k ∷ []) }) words'
+pub Agree-join : (seats : List Seat) (owners : List (Option ℕ)) (order : Sequence) (queues : Lines) (words words' : List ℕ) (k i : ℕ) (b : Bool) → Agree seats owners order queues words → k < length seats → i < length owners → IsIdle (seat_at seats k) → b ≡ is_none (link_at owners i) && is_none (first_of (queue_at queues.lists i)) → length words' ≡ length words → ((j : ℕ) → is_member words' j ≡ cond (eqb j k) b (is_member words j)) → Agree (set seats k (Waits i)) owners (record order { stacks = order.stacks ++ k ∷ [] }) (record queues { lists = set queues.lists i (queue_at queues.lists i ++ k ∷ []) }) words'
 Agree-join seats owners order queues words words' k i b agree k_in i_in idle b_is same_room members =
     let lacks = unlisted seats owners order queues words k agree (λ n e. idle_waits (seat_at seats k) n idle e) in
     let queue_lacks = queues_lack seats owners order queues words k agree lacks i in
@@ -129,8 +119,7 @@ Agree-join seats owners order queues words words' k i b agree k_in i_in idle b_i
     let same_count = agree.queue_count in
     let i_list : i < length queues.lists = omega arith in
     let here : b ≡ ready_in owners (set queues.lists i (queue_at queues.lists i ++ k ∷ [])) k (Waits i) =
-        b_is ∙ and_swap (is_none (first_of (queue_at queues.lists i))) (is_some (link_at owners i))
-        ∙ ap (λ c. c && is_none (first_of (queue_at queues.lists i))) (not_some (link_at owners i))
+        b_is
         ∙ ap (λ c. is_none (link_at owners i) && c) (sym (ap (is_first k) (get_or-set_same queues.lists i (queue_at queues.lists i ++ k ∷ []) [] i_list) ∙ is_first-new (queue_at queues.lists i) k queue_lacks)) in
     record {
       bounded = omega arith;

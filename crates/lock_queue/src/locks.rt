@@ -1,6 +1,6 @@
 //! Who holds each instance, and who waits.
 
-ghost use Rattle.std.specs.Prelude.{◌≡◌, ◌<◌, ◌++◌, ◌∷◌, [], IfOk, IsSome, IsTrue, length, replicate, slice_set};
+ghost use Rattle.std.specs.Prelude.{◌≡◌, ◌<◌, ◌++◌, ◌∷◌, [], ◌&&◌, is_none, IfOk, IsSome, IsTrue, length, replicate, slice_set};
 ghost use Rattle.std.specs.Option.{ForSome};
 ghost use Rattle.lock_queue.specs.LockTable.{IsIdle, seat_of, held_by, waits_for, owner_of, may_take, without_stack, waiter_after, ready_after, start_after};
 
@@ -60,12 +60,12 @@ impl Locks {
         requires idle { IsIdle (seat_of self.old stack) }
         ensures { self.new ≡ record self.old { seats = slice_set self.old.seats stack (Seat.Waits instance); waiters = self.old.waiters ++ (instance, stack) ∷ [] } }
     {
-        let is_owned = self.owners[usize::from(instance)].is_some();
-        let is_first = self.queues.first(instance).is_none();
+        let owner = self.owners[usize::from(instance)];
+        let starts_ready = is_open(owner, self.queues.first(instance));
         self.seats[usize::from(stack)] = Seat::Waits(instance);
         self.order.push(stack);
         self.queues.push(instance, stack);
-        self.ready.set(stack, is_first && !is_owned);
+        self.ready.set(stack, starts_ready);
     }
 
     /// Whether a stack that waits for an instance may take it: nobody holds the instance, and no
@@ -180,6 +180,13 @@ impl Locks {
         let stack = self.ready.next_from(start_from(last))?;
         Some(stack as u16)
     }
+}
+
+// Nobody holds an instance and nobody waits for it.
+fn is_open(owner: Option<u16>, first: Option<u16>) -> bool
+    ensures { result ≡ is_none owner && is_none first }
+{
+    owner.is_none() && first.is_none()
 }
 
 fn start_from(last: Option<u16>) -> usize
