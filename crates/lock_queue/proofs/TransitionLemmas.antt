@@ -1,10 +1,10 @@
 -- The parts of the locks agree at first, and still after each call.
 use Rattle.std.proofs.Common.{◌≡◌, ◌≢◌, ℕ, zero, suc, ◌+◌, ◌-◌, ◌*◌, ◌<◌, ◌≤◌, List, [], ◌∷◌, ◌++◌, length, map, filter, replicate, Option, Some, None, is_none, is_some, not, ◌&&◌, Bool, true, false, cond, eqb, get_or, sym, refl, ap, subst, ◌∙◌, inl, inr, ◌⊎◌, ⊎_elim, arith}
 use Rattle.std.proofs.Math.ListN.{set, length-set}
-use Rattle.std.proofs.lemmas.List.{get_or-set_same, get_or-set_other, length-replicate, append-nil}
+use Rattle.std.proofs.lemmas.List.{get_or-set_same, get_or-set_other, length-replicate, append-nil, get_or_past}
 use Rattle.std.proofs.lemmas.Grind.{get_or-set_at}
 use Rattle.std.proofs.lemmas.List.Elements.{filter-append}
-use Rattle.std.proofs.lemmas.Bool.{eq-eqb, ne_eqb, eqb-true, false≢true}
+use Rattle.std.proofs.lemmas.Bool.{eq-eqb, ne_eqb, eqb-true, false≢true, cases_lt}
 use Rattle.std.proofs.lemmas.Bool.Decides.{eqb_tells}
 use Rattle.lock_queue.specs.declared.seat.Seat.{Seat}
 use Rattle.lock_queue.specs.declared.seat.Seat.TheVariants.{Resting, Free, Waits, Holds}
@@ -161,7 +161,7 @@ and_left : (a b : Bool) → a && b ≡ true → a ≡ true
 and_left true b e = refl
 and_left false b e = e
 
-and_right : (a b : Bool) → a && b ≡ true → b ≡ true
+pub and_right : (a b : Bool) → a && b ≡ true → b ≡ true
 and_right true b e = e
 and_right false b e = absurd (false≢true e)
 
@@ -369,3 +369,11 @@ Agree-resting stacks instances words order queues bounded room empty order_is qu
       lines = λ n. get-replicate instances n [];
       ready = λ j. empty j ∙ ap (ready_in (replicate instances None) (replicate instances []) j) (sym (rests j));
     }))
+
+-- the first of a queue is a stack
+pub first_within : (seats : List Seat) (owners : List (Option ℕ)) (order : Sequence) (queues : Lines) (words : List ℕ) (i j : ℕ) → Agree seats owners order queues words → first_of (queue_at queues.lists i) ≡ Some j → j < length seats
+first_within seats owners order queues words i j agree first =
+    let waits_here = first_waits seats owners order queues words i j agree (sym (is_some-first (queue_at queues.lists i) j) ∙ ap (is_some_of j) first ∙ eq-eqb j j refl) in
+    ⊎_elim (λ (h : j < length seats). h)
+    (λ (h : length seats ≤ j). absurd (resting_waits i (sym (get_or_past seats j Resting h) ∙ waits_here)))
+    (cases_lt j (length seats))
