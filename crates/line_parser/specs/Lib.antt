@@ -1,3 +1,3 @@
 pub mod Fault
+pub mod Levels
 pub mod Nesting
-pub mod Tokens

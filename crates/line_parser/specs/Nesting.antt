@@ -1,9 +1,9 @@
 -- When a line is too long, or its brackets are too deep.
 use Rattle.std.specs.Prelude.{ℕ, ◌+◌, ◌-◌, ◌<◌, ◌⊎◌, Bool, true, false, if◌then◌else◌, List, fold, length, take}
-use Rattle.script_lexer.specs.declared.Spanned.{Spanned}
-use Rattle.script_lexer.specs.declared.Token.{Token}
-use Rattle.script_lexer.specs.declared.Token.TheVariants.{Word, Key, Int, Quoted, Doc, Sign as sign}
-use Rattle.script_lexer.specs.declared.Sign.TheVariants.{OpenParen, OpenBracket, CloseParen, CloseBracket}
+use Rattle.script_lexer.specs.declared.token.Spanned.{Spanned}
+use Rattle.script_lexer.specs.declared.token.Token.{Token}
+use Rattle.script_lexer.specs.declared.token.Token.TheVariants.{Word, Key, Int, Quoted, Doc, Sign as sign}
+use Rattle.script_lexer.specs.declared.sign.Sign.TheVariants.{OpenParen, OpenBracket, CloseParen, CloseBracket}
 
 -- `(` and `[`
 abbrev pub opens : Token → Bool

@@ -1,6 +1,5 @@
 // Reads the tokens of a line from left to right.
 ghost use Rattle.std.specs.Prelude.{◌≡◌, ◌+◌, ◌<◌, ◌≤◌, length, IsTrue, IsSome, OnSome, OnOk};
-ghost use Rattle.line_parser.specs.Tokens.{first_token, sign_of, keyword_of};
 
 use crate::fault::FormFault;
 use crate::level::Level;
@@ -21,50 +20,34 @@ impl<'a> Cursor<'a> {
     }
 
     pub(crate) fn next_sign(&self) -> Option<Sign>
-        ensures { result ≡ sign_of (first_token self.now.rest.now) }
+        ensures { IsSome result → 0 < length self.now.rest.now }
     {
-        match self.rest {
-            [first, ..] => sign(&first.token),
-            [] => None,
-        }
+        sign_at(self.rest, 0)
     }
 
     pub(crate) fn next_keyword(&self) -> Option<Keyword>
-        ensures { result ≡ keyword_of (first_token self.now.rest.now) }
+        ensures { IsSome result → 0 < length self.now.rest.now }
     {
-        match self.rest {
-            [first, ..] => keyword(&first.token),
-            [] => None,
+        match self.rest.first() {
+            Some(spanned) => keyword(&spanned.token),
+            None => None,
         }
     }
 
     pub(crate) fn next_is_word(&self) -> bool {
-        matches!(self.rest, [first, ..] if is_word(&first.token))
+        is_word_at(self.rest, 0)
     }
 
     /// Whether the next tokens are `[` and `]`.
     fn next_is_array_mark(&self) -> bool
         ensures { IsTrue result → 2 ≤ length self.now.rest.now }
     {
-        match self.rest {
-            [open, close, ..] => {
-                sign(&open.token) == Some(Sign::OpenBracket)
-                    && sign(&close.token) == Some(Sign::CloseBracket)
-            }
-            _ => false,
-        }
+        is_sign_at(self.rest, 0, Sign::OpenBracket) && is_sign_at(self.rest, 1, Sign::CloseBracket)
     }
 
     /// Whether the next tokens are a word and `=`.
-    fn next_is_argument_name(&self) -> bool
-        ensures { IsTrue result → 2 ≤ length self.now.rest.now }
-    {
-        match self.rest {
-            [name, assign, ..] => {
-                is_word(&name.token) && sign(&assign.token) == Some(Sign::Assign)
-            }
-            _ => false,
-        }
+    fn next_is_argument_name(&self) -> bool {
+        is_word_at(self.rest, 0) && is_sign_at(self.rest, 1, Sign::Assign)
     }
 
     /// Passes over the next token.
@@ -214,6 +197,32 @@ impl<'a> Cursor<'a> {
     }
 }
 
+fn sign_at(tokens: &[Spanned], at: usize) -> Option<Sign>
+    ensures { IsSome result → at < length tokens.now }
+{
+    match tokens.get(at) {
+        Some(spanned) => sign(&spanned.token),
+        None => None,
+    }
+}
+
+/// Whether this sign is at a place of the tokens.
+pub(crate) fn is_sign_at(tokens: &[Spanned], at: usize, wanted: Sign) -> bool
+    ensures { IsTrue result → at < length tokens.now }
+{
+    match sign_at(tokens, at) {
+        Some(found) => found == wanted,
+        None => false,
+    }
+}
+
+fn is_word_at(tokens: &[Spanned], at: usize) -> bool {
+    match tokens.get(at) {
+        Some(spanned) => matches!(spanned.token, Token::Word(_)),
+        None => false,
+    }
+}
+
 fn sign(token: &Token) -> Option<Sign> {
     match token {
         Token::Sign(found) => Some(*found),
@@ -226,10 +235,6 @@ fn keyword(token: &Token) -> Option<Keyword> {
         Token::Key(found) => Some(*found),
         _ => None,
     }
-}
-
-fn is_word(token: &Token) -> bool {
-    matches!(token, Token::Word(_))
 }
 
 fn word(alloc: Global, token: &Token) -> Result<Name, FormFault> {

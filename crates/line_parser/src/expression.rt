@@ -168,7 +168,7 @@ fn arguments(cursor: &mut Cursor<'_>, depth: u8) -> Result<Vec<Argument>, FormFa
     if cursor.take_sign(Sign::CloseParen) {
         return Ok(found);
     }
-    'arguments: loop {
+    'commas: loop {
         let name = cursor.take_argument_name()?;
         let value = expression(cursor, depth)?;
         found.push(Argument { name, value })?;

@@ -6,20 +6,25 @@ use std::alloc::{AllocError, AllocFailed};
 use thiserror::Error;
 
 /// The rules of lines and blocks.
-#[derive(Clone, Copy, Debug, PartialEq, Eq)]
+#[derive(Clone, Copy, Debug, PartialEq, Eq, Error)]
 pub enum LineRule {
-    /// S1: the line has no form.
+    /// The line has no form.
+    #[error("S1 BadLine")]
     BadLine,
-    /// S2: over 64 brackets are open at once, the line has over 8,000 tokens, or the block would be the 65th that is open.
+    /// Over 64 brackets are open at once in the line, it has over 8,000 tokens, or its block would be
+    /// the 65th `If` or `While` that is open.
+    #[error("S2 TooDeep")]
     TooDeep,
-    /// S3: the innermost open block does not admit the line, or the file ends too early.
+    /// The innermost open block doesn't admit the line, or the file ends with a block open or without
+    /// lines.
+    #[error("S3 BadBlock")]
     BadBlock,
 }
 
 /// Why [`parse_line`](crate::parse_line) gives no form.
 #[derive(Clone, Copy, Debug, PartialEq, Eq, Error)]
 pub enum LineFault {
-    #[error("the line breaks {rule:?}")]
+    #[error("{rule}")]
     Broken { rule: LineRule },
     #[error("out of memory")]
     OutOfMemory,

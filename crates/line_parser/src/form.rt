@@ -1,6 +1,8 @@
 // The forms of lines, one function for each production.
-ghost use Rattle.std.specs.Prelude.{◌≡◌, ◌↔◌, ◌≢◌};
+ghost use Rattle.std.specs.Prelude.{◌↔◌, ◌≢◌, IsErrOf};
 ghost use Rattle.line_parser.specs.Nesting.{IsTooDeep};
+ghost use Rattle.line_parser.specs.declared.fault.LineFault.TheVariants.{Broken};
+ghost use Rattle.line_parser.specs.declared.fault.LineRule.TheVariants.{TooDeep, BadBlock};
 
 use crate::cursor::Cursor;
 use crate::expression::expression;
@@ -12,8 +14,15 @@ use papy_base::Text;
 use script_lexer::{Keyword, Line, Sign, Spanned, Token};
 use std::alloc::Global;
 
-/// The form of a logical line, and the documentation text at its end.
-pub fn parse_line(alloc: Global, line: &Line) -> Result<LineTree, LineFault> {
+/// The form that the line grammar gives a logical line, and the documentation text at its end.
+///
+/// # Errors
+/// `TooDeep` where over 64 brackets are open at once or the line has over 8,000 tokens, else `BadLine`
+/// where the line has no form, and never `BadBlock`. `OutOfMemory` where no memory is found.
+pub fn parse_line(alloc: Global, line: &Line) -> Result<LineTree, LineFault>
+    ensures too_deep { IsErrOf result (Broken TooDeep) ↔ IsTooDeep line.now.tokens.items }
+    ensures no_block { result ≢ Err (Broken BadBlock) }
+{
     let tokens = line.tokens.as_slice();
     if is_too_deep(tokens) {
         return Err(LineFault::Broken {

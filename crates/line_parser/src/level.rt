@@ -1,4 +1,5 @@
 // The levels of the expression grammar.
+ghost use Rattle.std.specs.Prelude.{◌≡◌, ◌+◌, IfSome};
 
 use script_lexer::Sign;
 
@@ -14,8 +15,12 @@ pub(crate) enum Level {
 }
 
 impl Level {
+    ghost use Rattle.line_parser.specs.Levels.{looseness};
+
     /// The level of the operands, or none for the last.
-    pub(crate) fn tighter(self) -> Option<Level> {
+    pub(crate) fn tighter(self) -> Option<Level>
+        ensures { IfSome result (λ next. looseness next + 1 ≡ looseness self) }
+    {
         match self {
             Level::Or => Some(Level::And),
             Level::And => Some(Level::Comparison),

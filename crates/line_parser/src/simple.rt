@@ -1,10 +1,10 @@
 // Types, constants and flags: the parts of a line that hold no expression.
 ghost use Rattle.std.specs.Prelude.{◌≡◌, ◌+◌, ◌<◌, ◌≤◌, length, OnOk, IfOk};
 
-use crate::cursor::Cursor;
+use crate::cursor::{Cursor, is_sign_at};
 use crate::fault::FormFault;
 use crate::tree::{Constant, Expr, Parameter, TypeName};
-use papy_base::Name;
+use papy_base::{Name, neg};
 use script_lexer::{Keyword, Sign, Spanned, Token};
 use std::alloc::Global;
 
@@ -91,7 +91,7 @@ pub(crate) fn constant(cursor: &mut Cursor<'_>) -> Result<Constant, FormFault>
     ensures shorter { OnOk result (length cursor.new.rest.now < length cursor.old.rest.now) }
 {
     if cursor.take_sign(Sign::Minus) {
-        return Ok(Constant::Int(cursor.expect_int()?.wrapping_neg()));
+        return Ok(Constant::Int(neg(cursor.expect_int()?)));
     }
     plain_constant(cursor)
 }
@@ -169,30 +169,32 @@ fn flag_bit(name: &Name) -> Result<u32, FormFault> {
 
 /// Whether the tokens begin a declaration: a type, and behind it `Property`, `Function` or a word.
 pub(crate) fn begins_declaration(tokens: &[Spanned]) -> bool {
-    match tokens {
-        [kind, open, close, name, ..] if is_array_mark(&open.token, &close.token) => {
-            is_type_word(&kind.token) && is_declared(&name.token)
-        }
-        [kind, name, ..] => is_type_word(&kind.token) && is_declared(&name.token),
-        _ => false,
+    let behind = if is_sign_at(tokens, 1, Sign::OpenBracket)
+        && is_sign_at(tokens, 2, Sign::CloseBracket)
+    {
+        3
+    } else {
+        1
+    };
+    is_type_word_at(tokens, 0) && is_declared_at(tokens, behind)
+}
+
+fn is_type_word_at(tokens: &[Spanned], at: usize) -> bool {
+    match tokens.get(at) {
+        Some(spanned) => matches!(
+            spanned.token,
+            Token::Word(_) | Token::Key(Keyword::Int | Keyword::Bool | Keyword::String)
+        ),
+        None => false,
     }
 }
 
-fn is_array_mark(open: &Token, close: &Token) -> bool {
-    matches!(open, Token::Sign(Sign::OpenBracket))
-        && matches!(close, Token::Sign(Sign::CloseBracket))
-}
-
-fn is_type_word(token: &Token) -> bool {
-    matches!(
-        token,
-        Token::Word(_) | Token::Key(Keyword::Int | Keyword::Bool | Keyword::String)
-    )
-}
-
-fn is_declared(token: &Token) -> bool {
-    matches!(
-        token,
-        Token::Word(_) | Token::Key(Keyword::Property | Keyword::Function)
-    )
+fn is_declared_at(tokens: &[Spanned], at: usize) -> bool {
+    match tokens.get(at) {
+        Some(spanned) => matches!(
+            spanned.token,
+            Token::Word(_) | Token::Key(Keyword::Property | Keyword::Function)
+        ),
+        None => false,
+    }
 }
