@@ -1,7 +1,9 @@
 // The statements of a function, and the blocks inside them.
+ghost use Rattle.std.specs.Prelude.{◌≡◌, ◌+◌, ◌<◌, IfOk, OnOk};
+ghost use Rattle.script_parser.specs.Reader.{left};
 
 use crate::fault::BlockFault;
-use crate::reader::Reader;
+use crate::reader::{FormAt, Reader};
 use crate::script::{Statement, StatementForm};
 use line_parser::{Expr, LineForm, LineRule};
 
@@ -12,17 +14,12 @@ pub(crate) const OPEN_LIMIT: u8 = 64;
 #[derive(Drop)]
 pub(crate) struct Block {
     pub(crate) statements: Vec<Statement>,
-    pub(crate) end: BlockEnd,
+    pub(crate) end: EndKind,
+    pub(crate) end_at: usize,
+    pub(crate) end_line: u16,
 }
 
-/// The line that ends a row of statements.
-#[derive(Drop)]
-pub(crate) struct BlockEnd {
-    pub(crate) at: usize,
-    pub(crate) line: u16,
-    pub(crate) kind: EndKind,
-}
-
+/// What ends a row of statements.
 #[derive(Drop)]
 pub(crate) enum EndKind {
     ElseIf(Expr),
@@ -45,20 +42,27 @@ enum Step {
 
 /// The statements up to the line that ends them. At most `depth` blocks may be open in them.
 #[cycle(statements)]
-pub(crate) fn statements(reader: &mut Reader<'_>, depth: u8) -> Result<Block, BlockFault> {
+pub(crate) fn statements(reader: &mut Reader<'_>, depth: u8) -> Result<Block, BlockFault>
+    ensures nearer { OnOk result (left reader.new < left reader.old) }
+{
     let mut found = Vec::new(reader.alloc);
     'lines: loop {
-        let next = reader.next_in_block()?;
-        let (at, line) = (next.at, next.line);
-        let form = match step_of(next.form) {
+        let FormAt {
+            at,
+            line,
+            form,
+            doc: _,
+        } = reader.next_in_block()?;
+        let form = match step_of(form) {
             Step::Whole(form) => form,
             Step::If(test) => if_block(reader, line, test, inner_depth(at, depth)?)?,
             Step::While(test) => while_block(reader, test, inner_depth(at, depth)?)?,
-            Step::End(kind) => {
-                let end = BlockEnd { at, line, kind };
+            Step::End(end) => {
                 return Ok(Block {
                     statements: found,
                     end,
+                    end_at: at,
+                    end_line: line,
                 });
             }
             Step::Other => return Err(BlockFault::bad_block(at)),
@@ -99,7 +103,9 @@ fn step_of(form: LineForm) -> Step {
 }
 
 // How many blocks may be open in the one that begins at this place.
-fn inner_depth(at: usize, depth: u8) -> Result<u8, BlockFault> {
+fn inner_depth(at: usize, depth: u8) -> Result<u8, BlockFault>
+    ensures { IfOk result (λ inner. inner + 1 ≡ depth) }
+{
     match depth.checked_sub(1) {
         Some(inner) => Ok(inner),
         None => Err(BlockFault::Broken {
@@ -116,49 +122,69 @@ fn if_block(
     line: u16,
     test: Expr,
     depth: u8,
-) -> Result<StatementForm, BlockFault> {
+) -> Result<StatementForm, BlockFault>
+    ensures nearer { OnOk result (left reader.new < left reader.old) }
+{
     let mut tests = Vec::new(reader.alloc);
-    let first = statements(reader, depth)?;
-    tests.push((line, test, first.statements))?;
-    let mut end = first.end;
+    let mut next = (line, test);
     'tests: loop {
-        match end.kind {
-            EndKind::ElseIf(test) => {
-                let next = statements(reader, depth)?;
-                tests.push((end.line, test, next.statements))?;
-                end = next.end;
-            }
+        let Block {
+            statements: body,
+            end,
+            end_at,
+            end_line,
+        } = statements(reader, depth)?;
+        let (line, test) = next;
+        tests.push((line, test, body))?;
+        match end {
+            EndKind::ElseIf(test) => next = (end_line, test),
             EndKind::Else => {
-                let last = statements(reader, depth)?;
-                if !matches!(last.end.kind, EndKind::EndIf) {
-                    return Err(BlockFault::bad_block(last.end.at));
-                }
-                let otherwise = last.statements;
+                let otherwise = else_block(reader, depth)?;
                 return Ok(StatementForm::If { tests, otherwise });
             }
             EndKind::EndIf => {
                 let otherwise = Vec::new(reader.alloc);
                 return Ok(StatementForm::If { tests, otherwise });
             }
-            _ => return Err(BlockFault::bad_block(end.at)),
+            _ => return Err(BlockFault::bad_block(end_at)),
         }
     }
 }
 
-// The body of a `While`, behind its first line.
+// The statements behind `Else`, up to `EndIf`.
 #[cycle(statements)]
-fn while_block(
-    reader: &mut Reader<'_>,
-    test: Expr,
-    depth: u8,
-) -> Result<StatementForm, BlockFault> {
-    let inner = statements(reader, depth)?;
-    if !matches!(inner.end.kind, EndKind::EndWhile) {
-        return Err(BlockFault::bad_block(inner.end.at));
+fn else_block(reader: &mut Reader<'_>, depth: u8) -> Result<Vec<Statement>, BlockFault>
+    ensures nearer { OnOk result (left reader.new < left reader.old) }
+{
+    let Block {
+        statements: body,
+        end,
+        end_at,
+        end_line: _,
+    } = statements(reader, depth)?;
+    match end {
+        EndKind::EndIf => Ok(body),
+        _ => Err(BlockFault::bad_block(end_at)),
     }
-    Ok(StatementForm::While {
-        test,
-        body: inner.statements,
-        end_line: inner.end.line,
-    })
+}
+
+// The body of a `While` behind its first line, up to `EndWhile`.
+#[cycle(statements)]
+fn while_block(reader: &mut Reader<'_>, test: Expr, depth: u8) -> Result<StatementForm, BlockFault>
+    ensures nearer { OnOk result (left reader.new < left reader.old) }
+{
+    let Block {
+        statements: body,
+        end,
+        end_at,
+        end_line,
+    } = statements(reader, depth)?;
+    match end {
+        EndKind::EndWhile => Ok(StatementForm::While {
+            test,
+            body,
+            end_line,
+        }),
+        _ => Err(BlockFault::bad_block(end_at)),
+    }
 }

@@ -15,3 +15,6 @@ pub use parser::parse_script;
 pub use script::{
     Body, Function, Property, PropertyForm, Script, State, Statement, StatementForm, Variable,
 };
+
+#[cfg(test)]
+mod tests;

@@ -1,6 +1,8 @@
 // The members of a script, and of its states and properties.
+ghost use Rattle.std.specs.Prelude.{◌≤◌, ◌<◌, OnOk};
+ghost use Rattle.script_parser.specs.Reader.{left};
 
-use crate::block::{EndKind, OPEN_LIMIT, statements};
+use crate::block::{Block, EndKind, OPEN_LIMIT, statements};
 use crate::fault::BlockFault;
 use crate::reader::{FormAt, Reader};
 use crate::script::{Body, Function, Property, PropertyForm, Script, State, Variable};
@@ -13,7 +15,9 @@ pub(crate) fn member(
     reader: &mut Reader<'_>,
     script: &mut Script,
     first: FormAt,
-) -> Result<(), BlockFault> {
+) -> Result<(), BlockFault>
+    ensures bound { OnOk result (left reader.new ≤ left reader.old) }
+{
     let FormAt {
         at,
         line,
@@ -27,60 +31,46 @@ pub(crate) fn member(
             name,
             value,
             flags,
-        } => {
-            let value = initial_value(at, value)?;
-            script.variables.push(Variable {
-                kind,
-                name,
-                value,
-                flags,
-                line,
-            })?;
-        }
+        } => script.variables.push(Variable {
+            kind,
+            name,
+            value: initial_value(at, value)?,
+            flags,
+            line,
+        })?,
         LineForm::AutoProperty {
             kind,
             name,
             value,
             read_only,
             flags,
-        } => {
-            let form = auto_form(at, value, read_only)?;
-            let doc = reader.own_doc(doc)?;
-            script.properties.push(Property {
-                kind,
-                name,
-                form,
-                doc,
-                flags,
-                line,
-            })?;
-        }
-        LineForm::FullProperty { kind, name, flags } => {
-            let doc = reader.own_doc(doc)?;
-            let form = PropertyForm::Full(property_functions(reader)?);
-            script.properties.push(Property {
-                kind,
-                name,
-                form,
-                doc,
-                flags,
-                line,
-            })?;
-        }
+        } => script.properties.push(Property {
+            kind,
+            name,
+            form: auto_form(at, value, read_only)?,
+            doc: reader.own_doc(doc)?,
+            flags,
+            line,
+        })?,
+        LineForm::FullProperty { kind, name, flags } => script.properties.push(Property {
+            kind,
+            name,
+            doc: reader.own_doc(doc)?,
+            form: PropertyForm::Full(property_functions(reader)?),
+            flags,
+            line,
+        })?,
         LineForm::Function(heading) => {
             script
                 .functions
                 .push(function(reader, line, heading, doc)?)?;
         }
-        LineForm::State { name, is_auto } => {
-            let functions = state_functions(reader)?;
-            script.states.push(State {
-                name,
-                is_auto,
-                functions,
-                line,
-            })?;
-        }
+        LineForm::State { name, is_auto } => script.states.push(State {
+            name,
+            is_auto,
+            functions: state_functions(reader)?,
+            line,
+        })?,
         _ => return Err(BlockFault::bad_block(at)),
     }
     Ok(())
@@ -136,7 +126,9 @@ fn function(
     line: u16,
     heading: Heading,
     doc: Option<Text>,
-) -> Result<Function, BlockFault> {
+) -> Result<Function, BlockFault>
+    ensures bound { OnOk result (left reader.new ≤ left reader.old) }
+{
     let doc = reader.own_doc(doc)?;
     if heading.is_native {
         return Ok(Function {
@@ -147,16 +139,21 @@ fn function(
             end_line: line,
         });
     }
-    let body = statements(reader, OPEN_LIMIT)?;
-    if !ends_function(&body.end.kind, heading.is_event) {
-        return Err(BlockFault::bad_block(body.end.at));
+    let Block {
+        statements: body,
+        end,
+        end_at,
+        end_line,
+    } = statements(reader, OPEN_LIMIT)?;
+    if !ends_function(&end, heading.is_event) {
+        return Err(BlockFault::bad_block(end_at));
     }
     Ok(Function {
         heading,
         doc,
-        body: Body::Lines(body.statements),
+        body: Body::Lines(body),
         line,
-        end_line: body.end.line,
+        end_line,
     })
 }
 
@@ -169,7 +166,9 @@ fn ends_function(kind: &EndKind, is_event: bool) -> bool {
 }
 
 // The functions of a state up to its end.
-fn state_functions(reader: &mut Reader<'_>) -> Result<Vec<Function>, BlockFault> {
+fn state_functions(reader: &mut Reader<'_>) -> Result<Vec<Function>, BlockFault>
+    ensures bound { OnOk result (left reader.new ≤ left reader.old) }
+{
     let mut functions = Vec::new(reader.alloc);
     'functions: loop {
         let FormAt {
@@ -187,7 +186,9 @@ fn state_functions(reader: &mut Reader<'_>) -> Result<Vec<Function>, BlockFault>
 }
 
 // The functions of a property up to its end, at least one.
-fn property_functions(reader: &mut Reader<'_>) -> Result<Vec<Function>, BlockFault> {
+fn property_functions(reader: &mut Reader<'_>) -> Result<Vec<Function>, BlockFault>
+    ensures bound { OnOk result (left reader.new ≤ left reader.old) }
+{
     let mut functions = Vec::new(reader.alloc);
     'functions: loop {
         let FormAt {

@@ -1,5 +1,5 @@
 // Reads the forms of a file's lines from first to last.
-ghost use Rattle.std.specs.Prelude.{◌≡◌, ◌-◌, ◌<◌, ◌≤◌, length, IfOk, IfSome, OnOk};
+ghost use Rattle.std.specs.Prelude.{◌<◌, ◌≤◌, IfOk, OnOk, OnSome};
 
 use crate::fault::BlockFault;
 use line_parser::{LineForm, parse_line};
@@ -28,6 +28,8 @@ pub(crate) struct FormAt {
 }
 
 impl<'a> Reader<'a> {
+    ghost use Rattle.script_parser.specs.Reader.{left};
+
     pub(crate) fn new(alloc: Global, lines: &'a [Line]) -> Self {
         Reader {
             alloc,
@@ -37,7 +39,10 @@ impl<'a> Reader<'a> {
     }
 
     /// The next line, also where it is a documentation text alone, or none at the end.
-    pub(crate) fn next(&mut self) -> Result<Option<FormAt>, BlockFault> {
+    pub(crate) fn next(&mut self) -> Result<Option<FormAt>, BlockFault>
+        ensures nearer { IfOk result (λ found. OnSome found (left self.new < left self.old)) }
+        ensures bound { left self.new ≤ left self.old }
+    {
         let at = self.at;
         let Some(line) = self.lines.get(at) else {
             return Ok(None);
@@ -57,8 +62,11 @@ impl<'a> Reader<'a> {
     }
 
     /// The next line that is no documentation text alone, or none at the end.
-    pub(crate) fn next_form(&mut self) -> Result<Option<FormAt>, BlockFault> {
-        while let Some(found) = self.next()? {
+    pub(crate) fn next_form(&mut self) -> Result<Option<FormAt>, BlockFault>
+        ensures nearer { IfOk result (λ found. OnSome found (left self.new < left self.old)) }
+        ensures bound { left self.new ≤ left self.old }
+    {
+        'docs: while let Some(found) = self.next()? {
             if !is_doc_only(&found.form) {
                 return Ok(Some(found));
             }
@@ -67,7 +75,9 @@ impl<'a> Reader<'a> {
     }
 
     /// The next line of an open block, which the file has to have.
-    pub(crate) fn next_in_block(&mut self) -> Result<FormAt, BlockFault> {
+    pub(crate) fn next_in_block(&mut self) -> Result<FormAt, BlockFault>
+        ensures nearer { OnOk result (left self.new < left self.old) }
+    {
         match self.next_form()? {
             Some(found) => Ok(found),
             None => Err(BlockFault::bad_block(self.at)),
@@ -76,7 +86,9 @@ impl<'a> Reader<'a> {
 
     /// The documentation of the line that was read: that at its end, or else that of the next line,
     /// where this is a documentation text alone.
-    pub(crate) fn own_doc(&mut self, at_end: Option<Text>) -> Result<Option<Text>, BlockFault> {
+    pub(crate) fn own_doc(&mut self, at_end: Option<Text>) -> Result<Option<Text>, BlockFault>
+        ensures bound { left self.new ≤ left self.old }
+    {
         if at_end.is_some() {
             return Ok(at_end);
         }
