@@ -6,3 +6,4 @@ pub mod TriviaLemmas
 pub mod WordLemmas
 pub mod NumberLemmas
 pub mod SignLemmas
+pub mod ReadingLemmas

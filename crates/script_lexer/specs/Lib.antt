@@ -5,3 +5,4 @@ pub mod Rules
 pub mod Lines
 pub mod Answers
 pub mod Progress
+pub mod Steps

@@ -71,7 +71,10 @@ lines_of at pieces = nonempty 1 (following at 1 pieces).tokens (following at 1 p
 
 -- how many bytes the mark EF BB BF takes at the file's start
 abbrev pub mark_len : List ℕ → ℕ
-mark_len bytes = if (slice_index bytes 0 == 0xEF) && ((slice_index bytes 1 == 0xBB) && (slice_index bytes 2 == 0xBF)) then 3 else 0
+mark_len [] = 0
+mark_len (a ∷ []) = 0
+mark_len (a ∷ b ∷ []) = 0
+mark_len (a ∷ b ∷ c ∷ bytes) = if (a == 0xEF) && ((b == 0xBB) && (c == 0xBF)) then 3 else 0
 
 -- the file behind the mark
 abbrev pub text_of : List ℕ → List ℕ
@@ -83,12 +86,15 @@ physical_lines [] = 0
 physical_lines (b ∷ []) = 1
 physical_lines (b ∷ c ∷ bytes) = (if b == 10 then 1 else 0) + physical_lines (c ∷ bytes)
 
--- the file has a reading to its end, and these are its logical lines and the number of its physical lines
-pub record Lexes (file : List ℕ) (lines : List LogicalLine) (last : ℕ) : Type 0 where
+-- the text, which begins at this place of its file, has a reading to its end, and these are its logical lines and the number of its physical lines
+pub record LexesFrom (at : ℕ) (text : List ℕ) (lines : List LogicalLine) (last : ℕ) : Type 0 where
   pub reading : List Spelled
-  pub whole : Reads (text_of file) reading []
-  pub as_lines : lines ≡ lines_of (mark_len file) reading
-  pub as_last : last ≡ physical_lines (text_of file)
+  pub whole : Reads text reading []
+  pub as_lines : lines ≡ lines_of at reading
+  pub as_last : last ≡ physical_lines text
+
+abbrev pub Lexes : List ℕ → List LogicalLine → ℕ → Type 0
+Lexes file lines last = LexesFrom (mark_len file) (text_of file) lines last
 
 -- ---- broken rules
 
@@ -114,10 +120,24 @@ pub record IsFirstBroken (text : List ℕ) (place : ℕ) (r : LexRule) : Type 0 
 
 -- no rule is broken anywhere
 abbrev pub IsUnbroken : List ℕ → Type 0
-IsUnbroken file = (length file ≤ 1048576) × ((place : ℕ) (r : LexRule) → IsBroken (text_of file) place r → ⊥)
+IsUnbroken text = (place : ℕ) (r : LexRule) → IsBroken text place r → ⊥
 
--- The first broken rule of the file with its line. A file of more than 1 MiB breaks the last rule before all others.
+-- the first broken rule of a text, with the physical line of its place
 abbrev pub FirstBreak : List ℕ → ℕ → LexRule → Type 0
-FirstBreak file line r =
+FirstBreak text line r = (place : ℕ) × IsFirstBroken text place r × (line ≡ 1 + line_ends (take place text))
+
+-- A file of more than 1 MiB breaks the last rule at line 0, before all others.
+abbrev pub LexBreak : List ℕ → ℕ → LexRule → Type 0
+LexBreak file line r =
     ((1048576 < length file) × (line ≡ 0) × (r ≡ rule.TooLarge))
-    ⊎ ((length file ≤ 1048576) × ((place : ℕ) × IsFirstBroken (text_of file) place r × (line ≡ 1 + line_ends (take place (text_of file)))))
+    ⊎ ((length file ≤ 1048576) × FirstBreak (text_of file) line r)
+
+-- what the lexer answers, but for memory
+pub data Answer : Type 0 where
+  Cut : (lines : List LogicalLine) (last : ℕ) → Answer
+  Refused : (line : ℕ) (r : LexRule) → Answer
+
+-- the one answer for a file
+abbrev pub IsAnswer : List ℕ → Answer → Type 0
+IsAnswer file (Cut lines last) = (length file ≤ 1048576) × IsUnbroken (text_of file) × Lexes file lines last
+IsAnswer file (Refused line r) = LexBreak file line r

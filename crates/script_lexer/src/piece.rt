@@ -1,7 +1,7 @@
 ghost use Rattle.std.specs.Prelude.{◌≡◌, ◌<◌, length};
 ghost use Rattle.script_lexer.specs.declared.piece.PieceFault.TheVariants.{OutOfMemory as NoMemory};
 
-use crate::fault::LexRule;
+use crate::fault::{LexFault, LexRule};
 use crate::token::Token;
 use papy_base::OutOfMemory;
 use std::alloc::{AllocError, AllocFailed};
@@ -30,6 +30,21 @@ pub enum PieceFault {
     /// The lowest rule that is broken there.
     Broken(LexRule),
     OutOfMemory,
+}
+
+impl PieceFault {
+    ghost use Rattle.std.specs.Prelude.{◌≡◌};
+    ghost use Rattle.script_lexer.specs.Steps.{at_line};
+
+    /// The fault of a file, where the place stands on this physical line.
+    pub fn at_line(self, line: u32) -> LexFault
+        ensures { result ≡ at_line self line }
+    {
+        match self {
+            PieceFault::Broken(rule) => LexFault::Broken { line, rule },
+            PieceFault::OutOfMemory => LexFault::OutOfMemory,
+        }
+    }
 }
 
 impl From<OutOfMemory> for PieceFault {
