@@ -1,5 +1,5 @@
 -- How keywords and signs are spelled.
-use Rattle.std.specs.Prelude.{ℕ, List, [], ◌∷◌}
+use Rattle.std.specs.Prelude.{ℕ, List, [], ◌∷◌, Option, Some, None, ◌==◌, if◌then◌else◌}
 use Rattle.script_lexer.specs.declared.keyword.Keyword.{Keyword}
 use Rattle.script_lexer.specs.declared.keyword.Keyword.TheVariants as keyword
 use Rattle.script_lexer.specs.declared.sign.Sign.{Sign}
@@ -69,3 +69,43 @@ sign_spelling sign.MinusAssign = 45 ∷ 61 ∷ []
 sign_spelling sign.StarAssign = 42 ∷ 61 ∷ []
 sign_spelling sign.SlashAssign = 47 ∷ 61 ∷ []
 sign_spelling sign.PercentAssign = 37 ∷ 61 ∷ []
+
+-- the sign that is this byte
+abbrev pub sign_of_byte : ℕ → Option Sign
+sign_of_byte b =
+    if b == 40 then Some sign.OpenParen
+    else (if b == 41 then Some sign.CloseParen
+    else (if b == 91 then Some sign.OpenBracket
+    else (if b == 93 then Some sign.CloseBracket
+    else (if b == 44 then Some sign.Comma
+    else (if b == 46 then Some sign.Dot
+    else (if b == 61 then Some sign.Assign
+    else (if b == 60 then Some sign.Less
+    else (if b == 62 then Some sign.Greater
+    else (if b == 43 then Some sign.Plus
+    else (if b == 45 then Some sign.Minus
+    else (if b == 42 then Some sign.Star
+    else (if b == 47 then Some sign.Slash
+    else (if b == 37 then Some sign.Percent
+    else (if b == 33 then Some sign.Not
+    else None))))))))))))))
+
+-- the sign that is this byte and `=`
+abbrev pub sign_before_equal : ℕ → Option Sign
+sign_before_equal b =
+    if b == 61 then Some sign.Equal
+    else (if b == 33 then Some sign.NotEqual
+    else (if b == 60 then Some sign.LessEqual
+    else (if b == 62 then Some sign.GreaterEqual
+    else (if b == 43 then Some sign.PlusAssign
+    else (if b == 45 then Some sign.MinusAssign
+    else (if b == 42 then Some sign.StarAssign
+    else (if b == 47 then Some sign.SlashAssign
+    else (if b == 37 then Some sign.PercentAssign
+    else None))))))))
+
+-- the sign that is these two bytes
+abbrev pub sign_of_bytes : ℕ → ℕ → Option Sign
+sign_of_bytes b c =
+    if c == 61 then sign_before_equal b
+    else (if b == c then (if b == 38 then Some sign.And else (if b == 124 then Some sign.Or else None)) else None)

@@ -1,4 +1,6 @@
-ghost use Rattle.std.specs.Prelude.{◌≡◌};
+ghost use Rattle.std.specs.Prelude.{◌≡◌, ◌≢◌, MatchOption};
+ghost use Rattle.papy_base.specs.Case.{folded};
+ghost use Rattle.script_lexer.specs.declared.keyword.Keyword.{Keyword};
 ghost use Rattle.script_lexer.specs.Words.{keyword_spelling};
 
 /// A word that Papyrus keeps for itself, in any case of its letters.
@@ -41,6 +43,43 @@ pub enum Keyword {
     While,
 }
 
+static KEYWORDS: [Keyword; 34] = [
+    Keyword::As,
+    Keyword::Auto,
+    Keyword::AutoReadOnly,
+    Keyword::Bool,
+    Keyword::Else,
+    Keyword::ElseIf,
+    Keyword::EndEvent,
+    Keyword::EndFunction,
+    Keyword::EndIf,
+    Keyword::EndProperty,
+    Keyword::EndState,
+    Keyword::EndWhile,
+    Keyword::Event,
+    Keyword::Extends,
+    Keyword::False,
+    Keyword::Float,
+    Keyword::Function,
+    Keyword::Global,
+    Keyword::If,
+    Keyword::Import,
+    Keyword::Int,
+    Keyword::Length,
+    Keyword::Native,
+    Keyword::New,
+    Keyword::None,
+    Keyword::Parent,
+    Keyword::Property,
+    Keyword::Return,
+    Keyword::ScriptName,
+    Keyword::SelfWord,
+    Keyword::State,
+    Keyword::String,
+    Keyword::True,
+    Keyword::While,
+];
+
 impl Keyword {
     /// The keyword's letters, all small.
     pub fn spelling(self) -> &'static [u8]
@@ -82,5 +121,17 @@ impl Keyword {
             Keyword::True => b"true",
             Keyword::While => b"while",
         }
+    }
+
+    /// The keyword that the word is in small letters.
+    pub fn of(word: &[u8]) -> Option<Keyword>
+        ensures { MatchOption result ((k : Keyword) → folded word.now ≢ keyword_spelling k) (λ k. folded word.now ≡ keyword_spelling k) }
+    {
+        for keyword in &KEYWORDS {
+            if word.eq_ignore_ascii_case(keyword.spelling()) {
+                return Some(*keyword);
+            }
+        }
+        None
     }
 }
