@@ -1,6 +1,6 @@
 -- What a device is to the scripts that call it: its kind, its cells and the place of the next cell
 -- to be read.
-use Rattle.std.specs.Prelude.{ℕ, ◌+◌, ◌%◌, ℤ, pos, ◌+ℤ◌, ◌-ℤ◌, List, [], ◌∷◌, length, min, fold, slice_index_or, nat_lt, if◌then◌else◌, ◌||◌, not, int_lt}
+use Rattle.std.specs.Prelude.{ℕ, ◌+◌, ◌-◌, ◌%◌, ℤ, pos, ◌+ℤ◌, ◌-ℤ◌, List, [], ◌∷◌, length, min, fold, slice_index_or, nat_lt, if◌then◌else◌, ◌||◌, not, int_lt}
 use Rattle.std.specs.Int.{w32, int_wrap, cast_unsigned}
 use Rattle.std.specs.Int.RustNames.{unsigned_abs}
 use Rattle.core_tree.specs.declared.DeviceKind.{DeviceKind}
@@ -24,9 +24,7 @@ wrapping_sum numbers = int_wrap w32 (fold ◌+ℤ◌ (pos 0) numbers)
 
 -- the last number, or 0
 abbrev pub last_or_zero : List ℤ → ℤ
-last_or_zero [] = pos 0
-last_or_zero (x ∷ []) = x
-last_or_zero (x ∷ y ∷ rest) = last_or_zero (y ∷ rest)
+last_or_zero numbers = slice_index_or numbers (length numbers - 1) (pos 0)
 
 -- the device after it was loaded with these cells at this place
 abbrev pub load : DeviceKind → List ℤ → ℕ → DeviceState

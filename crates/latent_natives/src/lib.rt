@@ -3,6 +3,20 @@
 
 mod device;
 mod device_list;
+mod dice;
+mod latch;
+mod numbers;
+mod sleepers;
+mod sum;
+mod tape;
 
 pub use device::Device;
 pub use device_list::{call_device, load_device};
+pub use dice::Dice;
+pub use latch::Latch;
+pub use sleepers::Sleepers;
+pub use sum::Sum;
+pub use tape::Tape;
+
+#[cfg(test)]
+mod tests;

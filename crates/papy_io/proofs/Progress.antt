@@ -35,9 +35,11 @@ begins (Writing name) h = absurd h
 behind_more : (left rest : Option (List ℕ)) (items buffer : List ℕ) (n : ℕ) → Behind left items rest → GivesNext rest n buffer → Behind left (items ++ take n buffer) (option_map (drop n) rest)
 behind_more None rest items buffer n h g = ap (option_map (drop n)) h
 behind_more (Some all) rest items buffer n h g =
-    let given : GivesNext (Some h.0) n buffer = subst (λ r. GivesNext r n buffer) h.1 g in
-    (drop n h.0, ap (option_map (drop n)) h.1,
-     h.2 ∙ sym (append_assoc items (take n buffer) (drop n h.0) ∙ ap (λ t. items ++ (t ++ drop n h.0)) given.0 ∙ ap (λ t. items ++ t) (take-append-drop n h.0)))
+    let given : GivesNext (Some h.0) n buffer = subst (λ r. GivesNext r n buffer) h.1 g in (
+      drop n h.0,
+      ap (option_map (drop n)) h.1,
+      h.2 ∙ sym (append_assoc items (take n buffer) (drop n h.0) ∙ ap (λ t. items ++ (t ++ drop n h.0)) given.0 ∙ ap (λ t. items ++ t) (take-append-drop n h.0)),
+    )
 
 pub goes_further : (start now next : Activity) (items buffer : List ℕ) (n : ℕ) → ReadsSoFar start items now → ReadsOn now (Ok n) buffer next → ReadsSoFar start (items ++ take n buffer) next
 goes_further start now next items buffer n r h =

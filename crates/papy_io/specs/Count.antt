@@ -1,11 +1,19 @@
 -- Counts of 64 bits. One that stands at its last value stays there, and counts as risen.
-use Rattle.std.specs.Prelude.{◌≡◌, ℕ, ◌+◌, ◌-◌, ◌^◌, ◌<◌, ◌≤◌, Result, Ok, Err}
+use Rattle.std.specs.Prelude.{◌≡◌, ℕ, ◌+◌, ◌-◌, ◌^◌, ◌<◌, ◌≤◌, min, Result, Ok, Err}
 use Rattle.papy_io.specs.declared.fault.IoFault.{IoFault}
 use Rattle.papy_io.specs.declared.fault.IoFault.TheVariants.{Failed, OutOfMemory}
 use Rattle.papy_io.specs.declared.fault.Failed as unit
 
 abbrev pub last_count : ℕ
 last_count = 2 ^ 64 - 1
+
+-- the count after one more
+abbrev pub counted : ℕ → ℕ
+counted count = min (count + 1) last_count
+
+-- the count after n more
+abbrev pub counted_by : ℕ → ℕ → ℕ
+counted_by count n = min (count + n) last_count
 
 -- it is greater than before, or stands at its last value
 pub record HasRisen (before now : ℕ) : Type 0 where

@@ -1,6 +1,7 @@
 ghost use Rattle.std.specs.Prelude.{◌≡◌};
 ghost use Rattle.papy_io.specs.declared.fault.IoFault.TheVariants as io;
 
+use papy_base::OutOfMemory;
 use std::alloc::{AllocError, AllocFailed};
 use thiserror::Error;
 
@@ -25,6 +26,14 @@ impl From<Failed> for IoFault {
 
     fn from(_: Failed) -> IoFault {
         IoFault::Failed
+    }
+}
+
+impl From<OutOfMemory> for IoFault {
+    ghost from_gives = { λ _ e. e ≡ io.OutOfMemory };
+
+    fn from(_: OutOfMemory) -> IoFault {
+        IoFault::OutOfMemory
     }
 }
 

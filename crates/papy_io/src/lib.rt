@@ -5,14 +5,25 @@
 //! them can say which bytes it read and wrote, and that it gave up only after a failure.
 #![tactic(auto)]
 
-pub mod desk;
-pub mod fault;
-
-pub mod sink;
-pub mod whole_file;
+mod desk;
+mod fault;
+mod folder_desk;
+mod memory_desk;
+mod memory_files;
+mod memory_sink;
+mod numbers;
+mod sink;
+mod stream_sink;
+mod whole_file;
 
 pub use desk::Desk;
 pub use fault::{Failed, IoFault};
-
+pub use folder_desk::FolderDesk;
+pub use memory_desk::MemoryDesk;
+pub use memory_sink::MemorySink;
 pub use sink::Sink;
-pub use whole_file::{ReadAllFault, read_all};
+pub use stream_sink::StreamSink;
+pub use whole_file::{ReadAllFault, read_all, write_file};
+
+#[cfg(test)]
+mod tests;

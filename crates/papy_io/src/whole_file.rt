@@ -1,11 +1,14 @@
-//! A whole file from a desk, up to a limit.
+//! Whole files: read from a desk up to a limit, and written to it.
 ghost use Rattle.std.specs.Prelude.{◌≡◌};
 ghost use Rattle.papy_io.specs.declared.whole_file.ReadAllFault.TheVariants as fault;
 ghost use Rattle.papy_io.specs.Activity.{Idle, IsReading};
 ghost use Rattle.papy_io.specs.ReadAll.{CountsFile, CountsReadFault, MissesFile, MissesLeft, ReadsFile, ReadsLeft};
+ghost use Rattle.papy_io.specs.WriteFile.{WritesFile};
+ghost use Rattle.papy_io.specs.Count.{CountsFaults};
 
 use crate::desk::Desk;
 use crate::fault::{Failed, IoFault};
+use papy_base::OutOfMemory;
 use std::alloc::{AllocError, AllocFailed, Global};
 use thiserror::Error;
 
@@ -44,6 +47,14 @@ impl From<IoFault> for ReadAllFault {
     }
 }
 
+impl From<OutOfMemory> for ReadAllFault {
+    ghost from_gives = { λ _ e. e ≡ fault.OutOfMemory };
+
+    fn from(_: OutOfMemory) -> ReadAllFault {
+        ReadAllFault::OutOfMemory
+    }
+}
+
 impl From<AllocError> for ReadAllFault {
     ghost from_gives = { λ _ e. e ≡ fault.OutOfMemory };
 
@@ -64,11 +75,7 @@ impl<T: Drop> From<AllocFailed<T>> for ReadAllFault {
 const PIECE: usize = 8192;
 
 /// Reads on to the end. The desk goes on reading the name after an error.
-fn read_left<D: Desk>(
-    alloc: Global,
-    desk: &mut D,
-    limit: u32,
-) -> Result<Vec<u8>, ReadAllFault>
+fn read_left<D: Desk>(alloc: Global, desk: &mut D, limit: u32) -> Result<Vec<u8>, ReadAllFault>
     requires { IsReading (D.busy desk.old) }
     ensures holds { D.holds desk.new ≡ D.holds desk.old }
     ensures left { ReadsLeft (D.busy desk.old) limit result (D.busy desk.new) }
@@ -114,4 +121,23 @@ pub fn read_all<D: Desk>(
     let all = read_left(alloc, desk, limit);
     desk.finish()?;
     all
+}
+
+/// Makes a name hold these bytes. The desk is idle afterwards.
+///
+/// After an error the name holds some of the first bytes, or what it held, or is not held, and every
+/// other name is as it was. `Failed` comes only where the desk failed.
+pub fn write_file<D: Desk>(desk: &mut D, name: &[u8], bytes: &[u8]) -> Result<(), IoFault>
+    requires { D.busy desk.old ≡ Idle }
+    ensures holds { WritesFile name.now bytes.now result (D.holds desk.old) (D.holds desk.new) }
+    ensures busy { D.busy desk.new ≡ Idle }
+    ensures taken { D.taken desk.new ≡ D.taken desk.old }
+    ensures read_faults { D.read_faults desk.new ≡ D.read_faults desk.old }
+    ensures write_faults { CountsFaults result (D.write_faults desk.old) (D.write_faults desk.new) }
+    ensures missed { D.missed desk.new ≡ D.missed desk.old }
+{
+    desk.start_write(name)?;
+    let written = desk.write(bytes);
+    desk.finish()?;
+    written
 }
