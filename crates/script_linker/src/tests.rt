@@ -228,7 +228,10 @@ fn broken(file: u16, line: u32, rule: LinkRule) -> Option<LinkFault> {
 #[test]
 fn rules_of_scripts(rt: HostRuntime) -> Result<(), Fail> {
     let cases = [
-        ("script A\nscript a", broken(1, 1, LinkRule::DuplicateScript)),
+        (
+            "script A\nscript a",
+            broken(1, 1, LinkRule::DuplicateScript),
+        ),
         ("script A\nscript a1", None),
         ("script form", broken(0, 1, LinkRule::PreludeName)),
         ("script Forms", None),
@@ -236,9 +239,15 @@ fn rules_of_scripts(rt: HostRuntime) -> Result<(), Fail> {
         ("script A scene", broken(0, 1, LinkRule::UnknownParent)),
         ("script A B\nscript B QUEST", None),
         ("script A A", broken(0, 1, LinkRule::ExtendsCycle)),
-        ("script A B\nscript B C\nscript C B", broken(1, 1, LinkRule::ExtendsCycle)),
+        (
+            "script A B\nscript B C\nscript C B",
+            broken(1, 1, LinkRule::ExtendsCycle),
+        ),
         ("script A B\nscript B C\nscript C Form", None),
-        ("script A\nimport B\nimport a", broken(0, 2, LinkRule::UnknownImport)),
+        (
+            "script A\nimport B\nimport a",
+            broken(0, 2, LinkRule::UnknownImport),
+        ),
         ("script A\nimport debug\nimport a", None),
     ];
     for (text, wanted) in cases {
@@ -250,17 +259,41 @@ fn rules_of_scripts(rt: HostRuntime) -> Result<(), Fail> {
 #[test]
 fn rules_of_names(rt: HostRuntime) -> Result<(), Fail> {
     let cases = [
-        ("script A\nvariable X\nauto x", broken(0, 3, LinkRule::DuplicateMember)),
-        ("script A\nauto x\nvariable X", broken(0, 3, LinkRule::DuplicateMember)),
+        (
+            "script A\nvariable X\nauto x",
+            broken(0, 3, LinkRule::DuplicateMember),
+        ),
+        (
+            "script A\nauto x\nvariable X",
+            broken(0, 3, LinkRule::DuplicateMember),
+        ),
         ("script A\nvariable X\nfunction x", None),
-        ("script A\nfunction F\nfunction f", broken(0, 3, LinkRule::DuplicateMember)),
-        ("script A\nfunction getstate >String", broken(0, 2, LinkRule::DuplicateMember)),
-        ("script A\nstate S\nstate s", broken(0, 3, LinkRule::DuplicateMember)),
-        ("script A\nautostate S\nautostate T", broken(0, 3, LinkRule::TwoAutoStates)),
+        (
+            "script A\nfunction F\nfunction f",
+            broken(0, 3, LinkRule::DuplicateMember),
+        ),
+        (
+            "script A\nfunction getstate >String",
+            broken(0, 2, LinkRule::DuplicateMember),
+        ),
+        (
+            "script A\nstate S\nstate s",
+            broken(0, 3, LinkRule::DuplicateMember),
+        ),
+        (
+            "script A\nautostate S\nautostate T",
+            broken(0, 3, LinkRule::TwoAutoStates),
+        ),
         ("script A\nautostate S\nstate T", None),
-        ("script A Form\nauto P\nscript B A\nauto p", broken(1, 2, LinkRule::PropertyInParent)),
+        (
+            "script A Form\nauto P\nscript B A\nauto p",
+            broken(1, 2, LinkRule::PropertyInParent),
+        ),
         ("script A Form\nauto P\nscript B A\nvariable p", None),
-        ("script A\nfunction F Int= Int", broken(0, 2, LinkRule::DefaultOrder)),
+        (
+            "script A\nfunction F Int= Int",
+            broken(0, 2, LinkRule::DefaultOrder),
+        ),
         ("script A\nfunction F Int Int=", None),
         ("script A\nwords 20001", broken(0, 1, LinkRule::Limit)),
         ("script A\nwords 20000", None),
@@ -274,18 +307,42 @@ fn rules_of_names(rt: HostRuntime) -> Result<(), Fail> {
 #[test]
 fn rules_of_signatures(rt: HostRuntime) -> Result<(), Fail> {
     let cases = [
-        ("script A\nstate S\nmethod F", broken(0, 3, LinkRule::StateFunctionAlone)),
+        (
+            "script A\nstate S\nmethod F",
+            broken(0, 3, LinkRule::StateFunctionAlone),
+        ),
         ("script A\nstate S\nmethod onbeginstate", None),
         ("script A Quest\nstate S\nmethod OnInit", None),
-        ("script A Quest\nfunction OnInit >Int", broken(0, 2, LinkRule::SignatureDiffers)),
+        (
+            "script A Quest\nfunction OnInit >Int",
+            broken(0, 2, LinkRule::SignatureDiffers),
+        ),
         ("script A Quest\nfunction OnInit", None),
-        ("script A\nfunction OnEndState Int", broken(0, 2, LinkRule::SignatureDiffers)),
-        ("script A Form\nfunction OnEndState Int", broken(0, 2, LinkRule::SignatureDiffers)),
+        (
+            "script A\nfunction OnEndState Int",
+            broken(0, 2, LinkRule::SignatureDiffers),
+        ),
+        (
+            "script A Form\nfunction OnEndState Int",
+            broken(0, 2, LinkRule::SignatureDiffers),
+        ),
         ("script A\nfunction F Int\nstate S\nmethod f INT", None),
-        ("script A\nfunction F Int\nstate S\nmethod F Bool", broken(0, 4, LinkRule::SignatureDiffers)),
-        ("script A\nfull P\naccessor Get >int\naccessor SET Int", None),
-        ("script A\nfull P\naccessor Get", broken(0, 3, LinkRule::SignatureDiffers)),
-        ("script A\nfull P\naccessor Have >Int", broken(0, 3, LinkRule::SignatureDiffers)),
+        (
+            "script A\nfunction F Int\nstate S\nmethod F Bool",
+            broken(0, 4, LinkRule::SignatureDiffers),
+        ),
+        (
+            "script A\nfull P\naccessor Get >int\naccessor SET Int",
+            None,
+        ),
+        (
+            "script A\nfull P\naccessor Get",
+            broken(0, 3, LinkRule::SignatureDiffers),
+        ),
+        (
+            "script A\nfull P\naccessor Have >Int",
+            broken(0, 3, LinkRule::SignatureDiffers),
+        ),
     ];
     for (text, wanted) in cases {
         assert_eq!(rt; fault_of(rt.alloc(), text)?, wanted, "{text}");
@@ -297,13 +354,28 @@ fn rules_of_signatures(rt: HostRuntime) -> Result<(), Fail> {
 fn faults_are_in_order(rt: HostRuntime) -> Result<(), Fail> {
     let cases = [
         // The rules of scripts stand before those of members, whatever the files.
-        ("script A\nvariable X\nvariable x\nscript B Zed", broken(1, 1, LinkRule::UnknownParent)),
+        (
+            "script A\nvariable X\nvariable x\nscript B Zed",
+            broken(1, 1, LinkRule::UnknownParent),
+        ),
         // Then files, then lines, then rules.
-        ("script A\nwords 20001\nscript B\nwords 20001", broken(0, 1, LinkRule::Limit)),
-        ("script A\nfunction F Int= Int\nvariable X\nvariable x", broken(0, 2, LinkRule::DefaultOrder)),
-        ("script A\nfunction F\nfunction f Int= Int", broken(0, 3, LinkRule::DuplicateMember)),
+        (
+            "script A\nwords 20001\nscript B\nwords 20001",
+            broken(0, 1, LinkRule::Limit),
+        ),
+        (
+            "script A\nfunction F Int= Int\nvariable X\nvariable x",
+            broken(0, 2, LinkRule::DefaultOrder),
+        ),
+        (
+            "script A\nfunction F\nfunction f Int= Int",
+            broken(0, 3, LinkRule::DuplicateMember),
+        ),
         ("script Form Zed", broken(0, 1, LinkRule::PreludeName)),
-        ("script Form\nscript Form", broken(0, 1, LinkRule::PreludeName)),
+        (
+            "script Form\nscript Form",
+            broken(0, 1, LinkRule::PreludeName),
+        ),
     ];
     for (text, wanted) in cases {
         assert_eq!(rt; fault_of(rt.alloc(), text)?, wanted, "{text}");
@@ -321,14 +393,34 @@ fn names_are_looked_up_upward(rt: HostRuntime) -> Result<(), Fail> {
     let get_state = Name::from_bytes(rt.alloc(), b"GetState")?;
     let p = Name::from_bytes(rt.alloc(), b"p")?;
     let found = set.find_function(7, &on_init);
-    assert_eq!(rt; found, Some(FunctionRef { script: 4, place: 0 }));
+    assert_eq!(rt;
+        found,
+        Some(FunctionRef {
+            script: 4,
+            place: 0
+        })
+    );
     let found = set.find_function(7, &get_state);
-    assert_eq!(rt; found, Some(FunctionRef { script: 3, place: 1 }));
+    assert_eq!(rt;
+        found,
+        Some(FunctionRef {
+            script: 3,
+            place: 1
+        })
+    );
     assert_eq!(rt; set.find_function(7, &p), None);
     let found = set.find_property(7, &p);
-    assert_eq!(rt; found, Some(PropertyRef { script: 6, place: 0 }));
+    assert_eq!(rt;
+        found,
+        Some(PropertyRef {
+            script: 6,
+            place: 0
+        })
+    );
     assert_eq!(rt; set.find_property(4, &p), None);
-    assert!(rt; set.is_child(7, 3) && set.is_child(7, 7) && !set.is_child(3, 7) && !set.is_child(7, 5));
+    assert!(rt;
+        set.is_child(7, 3) && set.is_child(7, 7) && !set.is_child(3, 7) && !set.is_child(7, 5)
+    );
     assert!(rt; set.file_name(6).as_bytes() == b"A.psc".as_slice());
     assert!(rt; set.script(1).name.as_bytes() == b"Utility".as_slice());
     Ok(())
