@@ -45,7 +45,7 @@ seen_queues next firsts lasts seen e queues =
     let P : Lines → Type 0 = λ s. AreQueues next firsts lasts s.room s.lists in subst P e queues
 
 -- ---- a push
-lacks_from : (xs : List ℕ) (k : ℕ) → (Has xs k → ⊥) → Lacks xs k
+pub lacks_from : (xs : List ℕ) (k : ℕ) → (Has xs k → ⊥) → Lacks xs k
 lacks_from [] k none = tt
 lacks_from (x ∷ xs) k none = ((λ e. none (inl e)), lacks_from xs k (λ h. none (inr h)))
 
@@ -107,12 +107,12 @@ apart-set lists i queue within old_apart new_apart a b s has_a has_b =
   P : List ℕ → Type 0
   P = λ q. Has q s
 
-has_cases : (xs : List ℕ) (k s : ℕ) → Has (xs ++ k ∷ []) s → Has xs s ⊎ (k ≡ s)
+pub has_cases : (xs : List ℕ) (k s : ℕ) → Has (xs ++ k ∷ []) s → Has xs s ⊎ (k ≡ s)
 has_cases [] k s has = ⊎_elim (λ e. inr e) (λ none. elim none [ ]) has
 has_cases (x ∷ xs) k s has =
     ⊎_elim (λ e. inl (inl e)) (λ h. ⊎_elim (λ g. inl (inr g)) (λ e. inr e) (has_cases xs k s h)) has
 
-lacks_has : (xs : List ℕ) (k s : ℕ) → Lacks xs k → Has xs s → k ≡ s → ⊥
+pub lacks_has : (xs : List ℕ) (k s : ℕ) → Lacks xs k → Has xs s → k ≡ s → ⊥
 lacks_has xs k s lacks has e = apart xs k s lacks has e
 
 pub AreQueues-push : (next firsts lasts : List (Option ℕ)) (room : ℕ) (lists : List (List ℕ)) (i k : ℕ) → AreQueues next firsts lasts room lists → i < length lists → k < room → ((j : ℕ) → Lacks (queue_at lists j) k) → AreQueues (after_push next (link_at lasts i) k) (set firsts i (end_after (link_at firsts i) (link_at lasts i) (Some k))) (set lasts i (Some k)) room (set lists i (queue_at lists i ++ k ∷ []))
@@ -152,7 +152,7 @@ popped_queue next first last room (x ∷ xs) k is front =
   last_of_rest last x [] link last_is link_is = ap (last_after last) link_is
   last_of_rest last x (y ∷ ys) link last_is link_is = ap (last_after last) link_is ∙ last_is
 
-has_without : (xs : List ℕ) (k s : ℕ) → Has (without xs k) s → Has xs s
+pub has_without : (xs : List ℕ) (k s : ℕ) → Has (without xs k) s → Has xs s
 has_without [] k s has = has
 has_without (x ∷ xs) k s has = has_without_case x xs k s (eqb x k) (has_without xs k s) has where
   has_without_case : (x : ℕ) (xs : List ℕ) (k s : ℕ) (b : Bool) → (Has (without xs k) s → Has xs s) → Has (cond b xs (x ∷ without xs k)) s → Has (x ∷ xs) s
@@ -189,12 +189,12 @@ AreQueues-pop next firsts lasts room lists i k queues front =
     }
 
 -- ---- no stack at all
-get-replicate : {X : Type 0} (n k : ℕ) (a : X) → get_or (replicate n a) k a ≡ a
+pub get-replicate : {X : Type 0} (n k : ℕ) (a : X) → get_or (replicate n a) k a ≡ a
 get-replicate zero k a = get_or_past [] k a (omega arith)
 get-replicate (suc n) zero a = refl
 get-replicate (suc n) (suc k) a = get-replicate n k a
 
-has_none : (instances i k : ℕ) → Has (queue_at (replicate instances []) i) k → ⊥
+pub has_none : (instances i k : ℕ) → Has (queue_at (replicate instances []) i) k → ⊥
 has_none instances i k has =
     let P : List ℕ → Type 0 = λ q. Has q k in subst P (get-replicate instances i []) has
 

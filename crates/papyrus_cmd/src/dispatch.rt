@@ -24,12 +24,7 @@ fn write_text<S: Sink>(out: &mut S, text: &[u8]) -> Ending
 }
 
 /// Runs the command that the words are, and writes what it writes to `out`.
-pub fn run<D: Desk, S: Sink>(
-    alloc: Global,
-    words: &[String],
-    desk: &mut D,
-    out: &mut S,
-) -> Ending
+pub fn run<D: Desk, S: Sink>(alloc: Global, words: &[String], desk: &mut D, out: &mut S) -> Ending
     requires { D.busy desk.old ≡ Idle }
     ensures busy { D.busy desk.new ≡ Idle }
     ensures holds { D.holds desk.new ≡ D.holds desk.old }

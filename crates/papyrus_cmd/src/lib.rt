@@ -13,5 +13,5 @@ mod top;
 
 pub use top::papyrus;
 
-
-
+#[cfg(test)]
+mod tests;

@@ -12,9 +12,13 @@ use papy_io::{IoFault, Sink};
 use std::alloc::Global;
 
 const OUT_OF_MEMORY: &[u8] = b"papyrus: out of memory\n";
+
 const USAGE: &[u8] = b"papyrus: usage\n";
+
 const CANNOT_READ: &[u8] = b"papyrus: cannot read ";
+
 const CANNOT_WRITE: &[u8] = b"papyrus: cannot write\n";
+
 const NOT_BUILT: &[u8] = b"papyrus: not built\n";
 
 /// Writes a line. The status is the wanted one where it was written, 4 where that failed, and 1

@@ -16,12 +16,7 @@ use std::alloc::Global;
 const SCRIPT_LIMIT: u32 = 1 << 20;
 
 /// Reads the one script and runs it where it is of the first form.
-fn run_alone<D: Desk, S: Sink>(
-    alloc: Global,
-    script: &String,
-    desk: &mut D,
-    out: &mut S,
-) -> Ending
+fn run_alone<D: Desk, S: Sink>(alloc: Global, script: &String, desk: &mut D, out: &mut S) -> Ending
     requires { D.busy desk.old ≡ Idle }
     ensures busy { D.busy desk.new ≡ Idle }
     ensures holds { D.holds desk.new ≡ D.holds desk.old }

@@ -15,4 +15,4 @@ pub returns : goal.returns
 returns c =
     let size : length (map string_bytes c.args.words.now) ≡ length c.args.words.now = length-map c.args.words.now string_bytes in
     within_limit (map string_bytes c.args.words.now) c.each_is_script_word.result (grind (arith, nat_tests)) (omega arith)
-        (c.each_is_script_word.ensures ∙ sym (list_all-map is_script_word string_bytes c.args.words.now))
+    (c.each_is_script_word.ensures ∙ sym (list_all-map is_script_word string_bytes c.args.words.now))

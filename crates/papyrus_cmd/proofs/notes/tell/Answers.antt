@@ -9,6 +9,6 @@ returns-in-ReadFault g c =
     let within = rw (c.in-ReadFault.is, length-map) at c.requires in
     let script = c.index-words-word.result in
     let file : word_at (map string_bytes c.args.words.now) c.in-ReadFault.word ≡ string_bytes script =
-        get_or-map string_bytes c.args.words.now c.in-ReadFault.word script [] within ∙ ap string_bytes (sym c.index-words-word.is) in
+    get_or-map string_bytes c.args.words.now c.in-ReadFault.word script [] within ∙ ap string_bytes (sym c.index-words-word.is) in
     let told = rw c.as_bytes.ensures.value at c.tell_unread.ensures in
     rw (c.in-ReadFault.is, file) told

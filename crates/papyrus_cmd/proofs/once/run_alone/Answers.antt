@@ -16,7 +16,7 @@ returns-in-Ok-None-clause-output g c =
     (refl, other_form_is_not_built (g.D.Desk.holds c.args.desk.now) (string_bytes c.args.script.now) c.in-Ok.bytes read other)
 
 pub returns-in-Ok-write_report-clause-output : goal.returns-in-Ok-write_report-clause-output
-returns-in-Ok-write_report-clause-output g c = 
+returns-in-Ok-write_report-clause-output g c =
     let read = rw c.as_bytes.ensures.value at c.in-Ok.ensures.bytes in
     let form = rw (c.in-Ok-Some.field-0-is, c.deref.ensures.value) at c.in-Ok-Some.ensures in
     let run = first_form_is_run (g.D.Desk.holds c.args.desk.now) (string_bytes c.args.script.now) c.in-Ok.bytes read _ _ form in

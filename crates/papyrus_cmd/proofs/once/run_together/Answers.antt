@@ -15,7 +15,7 @@ loop-place-preserved g c =
       holds = c.in-Ok.ensures.holds ∙ so_far.holds;
       write_faults = c.in-Ok.ensures.write_faults ∙ so_far.write_faults;
       read_faults = c.in-Ok.ensures.read_faults ∙ so_far.read_faults;
-      held = rw names (held-more (g.D.Desk.holds c.args.desk.now) (map string_bytes (take c.loop-place.place c.args.scripts.now)) (string_bytes script) so_far.held held)
+      held = rw names (held-more (g.D.Desk.holds c.args.desk.now) (map string_bytes (take c.loop-place.place c.args.scripts.now)) (string_bytes script) so_far.held held);
     }
 
 pub returns-clause-output : goal.returns-clause-output

@@ -12,5 +12,5 @@ invariant-loop-place g l = record {
   holds : g.D.Desk.holds l.desk ≡ g.D.Desk.holds l.fn.desk;
   write_faults : g.D.Desk.write_faults l.desk ≡ g.D.Desk.write_faults l.fn.desk;
   read_faults : g.D.Desk.read_faults l.desk ≡ g.D.Desk.read_faults l.fn.desk;
-  held : IfSome (g.D.Desk.holds l.fn.desk) (AreHeld (map string_bytes (take l.place l.scripts)))
+  held : IfSome (g.D.Desk.holds l.fn.desk) (AreHeld (map string_bytes (take l.place l.scripts)));
 }
