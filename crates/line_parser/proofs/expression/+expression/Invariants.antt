@@ -1,0 +1,55 @@
+-- A call goes on to a part of the grammar that binds tighter, or into brackets; each turn of a loop takes a token.
+use Rattle.std.proofs.Common.{◌+◌, ◌*◌, ◌<◌, ◌≤◌, length}
+use Rattle.line_parser.specs.Levels.{looseness}
+use Rattle.line_parser.proofs.expression.+expression.Given as goal
+
+abbrev pub decreases-expression : goal.decreases-expression
+decreases-expression l = 20 * l.depth + 18
+
+abbrev pub decreases-unary : goal.decreases-unary
+decreases-unary l = 20 * l.depth + 6
+
+abbrev pub decreases-cast : goal.decreases-cast
+decreases-cast l = 20 * l.depth + 5
+
+abbrev pub decreases-chain : goal.decreases-chain
+decreases-chain l = 20 * l.depth + 4
+
+abbrev pub decreases-member : goal.decreases-member
+decreases-member l = 20 * l.depth + 3
+
+abbrev pub decreases-bracketed : goal.decreases-bracketed
+decreases-bracketed l = 20 * l.depth + 0
+
+abbrev pub decreases-atom : goal.decreases-atom
+decreases-atom l = 20 * l.depth + 3
+
+abbrev pub decreases-parent_call : goal.decreases-parent_call
+decreases-parent_call l = 20 * l.depth + 2
+
+abbrev pub decreases-word_or_call : goal.decreases-word_or_call
+decreases-word_or_call l = 20 * l.depth + 2
+
+abbrev pub decreases-arguments : goal.decreases-arguments
+decreases-arguments l = 20 * l.depth + 0
+
+abbrev pub decreases-binary : goal.decreases-binary
+decreases-binary l = 20 * l.depth + 7 + looseness l.level
+
+abbrev pub invariant-binary-signs : goal.invariant-binary-signs
+invariant-binary-signs l = length l.cursor.rest.now < length l.fn.cursor.rest.now
+
+abbrev pub decreases-binary-signs : goal.decreases-binary-signs
+decreases-binary-signs l = length l.cursor.rest.now
+
+abbrev pub invariant-chain-links : goal.invariant-chain-links
+invariant-chain-links l = length l.cursor.rest.now < length l.fn.cursor.rest.now
+
+abbrev pub decreases-chain-links : goal.decreases-chain-links
+decreases-chain-links l = length l.cursor.rest.now
+
+abbrev pub invariant-arguments-commas : goal.invariant-arguments-commas
+invariant-arguments-commas l = length l.cursor.rest.now ≤ length l.fn.cursor.rest.now
+
+abbrev pub decreases-arguments-commas : goal.decreases-arguments-commas
+decreases-arguments-commas l = length l.cursor.rest.now

@@ -1,0 +1,194 @@
+// The grammar of expressions, one function for each production.
+ghost use Rattle.std.specs.Prelude.{◌≡◌, ◌+◌, ◌<◌, length, OnOk, IfOk};
+
+use crate::cursor::Cursor;
+use crate::fault::FormFault;
+use crate::level::Level;
+use crate::simple::{leaf, type_name};
+use crate::tree::{Argument, Expr};
+use script_lexer::{Keyword, Sign};
+use std::alloc::Global;
+
+/// An expression. At most `depth` brackets may be open in it.
+#[cycle(expression)]
+pub(crate) fn expression(cursor: &mut Cursor<'_>, depth: u8) -> Result<Expr, FormFault>
+    ensures shorter { OnOk result (length cursor.new.rest.now < length cursor.old.rest.now) }
+{
+    binary(cursor, Level::Or, depth)
+}
+
+// Operands of a level with its signs between them, grouped to the left.
+#[cycle(expression)]
+fn binary(cursor: &mut Cursor<'_>, level: Level, depth: u8) -> Result<Expr, FormFault>
+    ensures shorter { OnOk result (length cursor.new.rest.now < length cursor.old.rest.now) }
+{
+    let Some(tighter) = level.tighter() else {
+        return unary(cursor, depth);
+    };
+    let mut left = binary(cursor, tighter, depth)?;
+    'signs: while let Some(sign) = cursor.take_binary(level) {
+        let right = binary(cursor, tighter, depth)?;
+        left = Expr::Binary {
+            sign,
+            left: boxed(cursor.alloc, left)?,
+            right: boxed(cursor.alloc, right)?,
+        };
+    }
+    Ok(left)
+}
+
+#[cycle(expression)]
+fn unary(cursor: &mut Cursor<'_>, depth: u8) -> Result<Expr, FormFault>
+    ensures shorter { OnOk result (length cursor.new.rest.now < length cursor.old.rest.now) }
+{
+    match cursor.take_unary() {
+        Some(sign) => {
+            let of = cast(cursor, depth)?;
+            Ok(Expr::Unary {
+                sign,
+                of: boxed(cursor.alloc, of)?,
+            })
+        }
+        None => cast(cursor, depth),
+    }
+}
+
+#[cycle(expression)]
+fn cast(cursor: &mut Cursor<'_>, depth: u8) -> Result<Expr, FormFault>
+    ensures shorter { OnOk result (length cursor.new.rest.now < length cursor.old.rest.now) }
+{
+    let of = chain(cursor, depth)?;
+    if !cursor.take_keyword(Keyword::As) {
+        return Ok(of);
+    }
+    let to = type_name(cursor)?;
+    Ok(Expr::Cast {
+        of: boxed(cursor.alloc, of)?,
+        to,
+    })
+}
+
+// An atom with members, calls and indexes behind it.
+#[cycle(expression)]
+fn chain(cursor: &mut Cursor<'_>, depth: u8) -> Result<Expr, FormFault>
+    ensures shorter { OnOk result (length cursor.new.rest.now < length cursor.old.rest.now) }
+{
+    let mut of = atom(cursor, depth)?;
+    'links: loop {
+        if cursor.take_sign(Sign::Dot) {
+            of = member(cursor, of, depth)?;
+        } else if cursor.take_sign(Sign::OpenBracket) {
+            let at = bracketed(cursor, Sign::CloseBracket, depth)?;
+            of = Expr::Index {
+                of: boxed(cursor.alloc, of)?,
+                at: boxed(cursor.alloc, at)?,
+            };
+        } else {
+            return Ok(of);
+        }
+    }
+}
+
+// What stands behind a `.`.
+#[cycle(expression)]
+fn member(cursor: &mut Cursor<'_>, of: Expr, depth: u8) -> Result<Expr, FormFault>
+    ensures shorter { OnOk result (length cursor.new.rest.now < length cursor.old.rest.now) }
+{
+    let of = boxed(cursor.alloc, of)?;
+    if cursor.take_keyword(Keyword::Length) {
+        return Ok(Expr::Length { of });
+    }
+    let name = cursor.expect_word()?;
+    if !cursor.take_sign(Sign::OpenParen) {
+        return Ok(Expr::Member { of, name });
+    }
+    let arguments = arguments(cursor, depth)?;
+    Ok(Expr::MemberCall {
+        of,
+        name,
+        arguments,
+    })
+}
+
+// An expression and the closing sign behind it; the opening one is taken.
+#[cycle(expression)]
+fn bracketed(cursor: &mut Cursor<'_>, close: Sign, depth: u8) -> Result<Expr, FormFault>
+    ensures shorter { OnOk result (length cursor.new.rest.now < length cursor.old.rest.now) }
+{
+    let inner = expression(cursor, one_deeper(depth)?)?;
+    cursor.expect_sign(close)?;
+    Ok(inner)
+}
+
+#[cycle(expression)]
+fn atom(cursor: &mut Cursor<'_>, depth: u8) -> Result<Expr, FormFault>
+    ensures shorter { OnOk result (length cursor.new.rest.now < length cursor.old.rest.now) }
+{
+    if cursor.take_sign(Sign::OpenParen) {
+        bracketed(cursor, Sign::CloseParen, depth)
+    } else if cursor.take_keyword(Keyword::Parent) {
+        parent_call(cursor, depth)
+    } else if cursor.next_is_word() {
+        word_or_call(cursor, depth)
+    } else {
+        leaf(cursor)
+    }
+}
+
+#[cycle(expression)]
+fn parent_call(cursor: &mut Cursor<'_>, depth: u8) -> Result<Expr, FormFault>
+    ensures shorter { OnOk result (length cursor.new.rest.now < length cursor.old.rest.now) }
+{
+    cursor.expect_sign(Sign::Dot)?;
+    let name = cursor.expect_word()?;
+    cursor.expect_sign(Sign::OpenParen)?;
+    let arguments = arguments(cursor, depth)?;
+    Ok(Expr::ParentCall { name, arguments })
+}
+
+#[cycle(expression)]
+fn word_or_call(cursor: &mut Cursor<'_>, depth: u8) -> Result<Expr, FormFault>
+    ensures shorter { OnOk result (length cursor.new.rest.now < length cursor.old.rest.now) }
+{
+    let name = cursor.expect_word()?;
+    if !cursor.take_sign(Sign::OpenParen) {
+        return Ok(Expr::Word(name));
+    }
+    let arguments = arguments(cursor, depth)?;
+    Ok(Expr::Call { name, arguments })
+}
+
+// The arguments of a call and the `)` behind them; the `(` is taken.
+#[cycle(expression)]
+fn arguments(cursor: &mut Cursor<'_>, depth: u8) -> Result<Vec<Argument>, FormFault>
+    ensures shorter { OnOk result (length cursor.new.rest.now < length cursor.old.rest.now) }
+{
+    let depth = one_deeper(depth)?;
+    let mut found = Vec::new(cursor.alloc);
+    if cursor.take_sign(Sign::CloseParen) {
+        return Ok(found);
+    }
+    'commas: loop {
+        let name = cursor.take_argument_name()?;
+        let value = expression(cursor, depth)?;
+        found.push(Argument { name, value })?;
+        if cursor.take_sign(Sign::CloseParen) {
+            return Ok(found);
+        }
+        cursor.expect_sign(Sign::Comma)?;
+    }
+}
+
+// How many brackets may be open behind one more.
+fn one_deeper(depth: u8) -> Result<u8, FormFault>
+    ensures { IfOk result (λ inner. inner + 1 ≡ depth) }
+{
+    match depth.checked_sub(1) {
+        Some(inner) => Ok(inner),
+        None => Err(FormFault::NoForm),
+    }
+}
+
+fn boxed(alloc: Global, of: Expr) -> Result<Box<Expr>, FormFault> {
+    Ok(Box::new(alloc, of)?)
+}

@@ -1,0 +1,93 @@
+// Why a line, or a script of lines, is refused.
+ghost use Rattle.std.specs.Prelude.{◌≡◌};
+
+use papy_base::OutOfMemory;
+use std::alloc::{AllocError, AllocFailed};
+use thiserror::Error;
+
+/// The rules of lines and blocks.
+#[derive(Clone, Copy, Debug, PartialEq, Eq, Error)]
+pub enum LineRule {
+    /// The line has no form.
+    #[error("S1 BadLine")]
+    BadLine,
+    /// Over 64 brackets are open at once in the line, it has over 8,000 tokens, or its block would be
+    /// the 65th `If` or `While` that is open.
+    #[error("S2 TooDeep")]
+    TooDeep,
+    /// The innermost open block doesn't admit the line, or the file ends with a block open or without
+    /// lines.
+    #[error("S3 BadBlock")]
+    BadBlock,
+}
+
+/// Why [`parse_line`](crate::parse_line) gives no form.
+#[derive(Clone, Copy, Debug, PartialEq, Eq, Error)]
+pub enum LineFault {
+    #[error("{rule}")]
+    Broken { rule: LineRule },
+    #[error("out of memory")]
+    OutOfMemory,
+}
+
+// Why the tokens of a line give no form.
+#[derive(Clone, Copy, Debug, PartialEq, Eq)]
+pub(crate) enum FormFault {
+    NoForm,
+    OutOfMemory,
+}
+
+impl From<OutOfMemory> for FormFault {
+    ghost use Rattle.line_parser.specs.declared.fault.FormFault.TheVariants.{OutOfMemory};
+
+    ghost from_gives = { λ _ e. e ≡ OutOfMemory };
+
+    fn from(_e: OutOfMemory) -> FormFault {
+        FormFault::OutOfMemory
+    }
+}
+
+impl From<AllocError> for FormFault {
+    ghost use Rattle.line_parser.specs.declared.fault.FormFault.TheVariants.{OutOfMemory};
+
+    ghost from_gives = { λ _ e. e ≡ OutOfMemory };
+
+    fn from(_e: AllocError) -> FormFault {
+        FormFault::OutOfMemory
+    }
+}
+
+impl<T: Drop> From<AllocFailed<T>> for FormFault {
+    ghost use Rattle.line_parser.specs.declared.fault.FormFault.TheVariants.{OutOfMemory};
+
+    ghost from_gives = { λ _ e. e ≡ OutOfMemory };
+
+    fn from(_e: AllocFailed<T>) -> FormFault {
+        FormFault::OutOfMemory
+    }
+}
+
+impl From<OutOfMemory> for LineFault {
+    ghost use Rattle.line_parser.specs.declared.fault.LineFault.TheVariants.{OutOfMemory};
+
+    ghost from_gives = { λ _ e. e ≡ OutOfMemory };
+
+    fn from(_e: OutOfMemory) -> LineFault {
+        LineFault::OutOfMemory
+    }
+}
+
+impl From<FormFault> for LineFault {
+    ghost use Rattle.line_parser.specs.Fault.{line_fault};
+
+    ghost from_gives = { λ f e. e ≡ line_fault f };
+
+    fn from(fault: FormFault) -> LineFault {
+        match fault {
+            FormFault::NoForm => LineFault::Broken {
+                rule: LineRule::BadLine,
+            },
+            FormFault::OutOfMemory => LineFault::OutOfMemory,
+        }
+    }
+}

@@ -1,0 +1,276 @@
+// The forms of lines, one function for each production.
+ghost use Rattle.std.specs.Prelude.{◌↔◌, ◌≢◌, IsErrOf};
+ghost use Rattle.line_parser.specs.Nesting.{IsTooDeep};
+ghost use Rattle.line_parser.specs.declared.fault.LineFault.TheVariants.{Broken};
+ghost use Rattle.line_parser.specs.declared.fault.LineRule.TheVariants.{TooDeep, BadBlock};
+
+use crate::cursor::Cursor;
+use crate::expression::expression;
+use crate::fault::{FormFault, LineFault, LineRule};
+use crate::nesting::{BRACKET_LIMIT, is_too_deep};
+use crate::simple::{begins_declaration, constant, flags, initial_constant, parameters, type_name};
+use crate::tree::{Heading, LineForm, LineTree, TypeName};
+use papy_base::Text;
+use script_lexer::{Keyword, Line, Sign, Spanned, Token};
+use std::alloc::Global;
+
+/// The form that the line grammar gives a logical line, and the documentation text at its end.
+///
+/// # Errors
+/// `TooDeep` where over 64 brackets are open at once or the line has over 8,000 tokens, else `BadLine`
+/// where the line has no form, and never `BadBlock`. `OutOfMemory` where no memory is found.
+pub fn parse_line(alloc: Global, line: &Line) -> Result<LineTree, LineFault>
+    ensures too_deep { IsErrOf result (Broken TooDeep) ↔ IsTooDeep line.now.tokens.items }
+    ensures no_block { result ≢ Err (Broken BadBlock) }
+{
+    let tokens = line.tokens.as_slice();
+    if is_too_deep(tokens) {
+        return Err(LineFault::Broken {
+            rule: LineRule::TooDeep,
+        });
+    }
+    Ok(line_tree(alloc, tokens)?)
+}
+
+// A form, and a documentation text where one is last.
+fn line_tree(alloc: Global, tokens: &[Spanned]) -> Result<LineTree, FormFault> {
+    match tokens.split_last() {
+        Some((last, others)) if is_doc(&last.token) => {
+            let form = whole_form(alloc, others)?;
+            let doc = doc_text(alloc, &last.token)?;
+            Ok(LineTree { form, doc })
+        }
+        _ => Ok(LineTree {
+            form: whole_form(alloc, tokens)?,
+            doc: None,
+        }),
+    }
+}
+
+fn is_doc(token: &Token) -> bool {
+    matches!(token, Token::Doc(_))
+}
+
+fn doc_text(alloc: Global, token: &Token) -> Result<Option<Text>, FormFault> {
+    match token {
+        Token::Doc(text) => Ok(Some(text.try_clone(alloc)?)),
+        _ => Ok(None),
+    }
+}
+
+// The form that all of the tokens have.
+fn whole_form(alloc: Global, tokens: &[Spanned]) -> Result<LineForm, FormFault> {
+    let mut cursor = Cursor {
+        alloc,
+        rest: tokens,
+    };
+    let form = form(&mut cursor)?;
+    if cursor.is_at_end() {
+        Ok(form)
+    } else {
+        Err(FormFault::NoForm)
+    }
+}
+
+fn form(cursor: &mut Cursor<'_>) -> Result<LineForm, FormFault> {
+    match cursor.next_keyword() {
+        Some(keyword) if !begins_declaration(cursor.rest) => keyword_form(cursor, keyword),
+        _ if cursor.is_at_end() => Ok(LineForm::DocOnly),
+        _ if begins_declaration(cursor.rest) => declaration(cursor),
+        _ => statement(cursor),
+    }
+}
+
+// A line that begins with a keyword, and with no declared type.
+fn keyword_form(cursor: &mut Cursor<'_>, keyword: Keyword) -> Result<LineForm, FormFault> {
+    match keyword {
+        Keyword::ScriptName => script_name(cursor),
+        Keyword::Import => import(cursor),
+        Keyword::Auto | Keyword::State => state(cursor),
+        Keyword::Function => untyped_function(cursor),
+        Keyword::Event => event(cursor),
+        Keyword::If | Keyword::ElseIf | Keyword::While => test_line(cursor, keyword),
+        Keyword::Return => return_line(cursor),
+        _ => match word_form(keyword) {
+            Some(form) => {
+                cursor.take_keyword(keyword);
+                Ok(form)
+            }
+            None => statement(cursor),
+        },
+    }
+}
+
+// The form of a line that is one keyword.
+fn word_form(keyword: Keyword) -> Option<LineForm> {
+    match keyword {
+        Keyword::EndProperty => Some(LineForm::EndProperty),
+        Keyword::EndFunction => Some(LineForm::EndFunction),
+        Keyword::EndEvent => Some(LineForm::EndEvent),
+        Keyword::EndState => Some(LineForm::EndState),
+        Keyword::Else => Some(LineForm::Else),
+        Keyword::EndIf => Some(LineForm::EndIf),
+        Keyword::EndWhile => Some(LineForm::EndWhile),
+        _ => None,
+    }
+}
+
+fn script_name(cursor: &mut Cursor<'_>) -> Result<LineForm, FormFault> {
+    cursor.expect_keyword(Keyword::ScriptName)?;
+    let name = cursor.expect_word()?;
+    let parent = if cursor.take_keyword(Keyword::Extends) {
+        Some(cursor.expect_word()?)
+    } else {
+        None
+    };
+    let flags = flags(cursor)?;
+    Ok(LineForm::ScriptName {
+        name,
+        parent,
+        flags,
+    })
+}
+
+fn import(cursor: &mut Cursor<'_>) -> Result<LineForm, FormFault> {
+    cursor.expect_keyword(Keyword::Import)?;
+    Ok(LineForm::Import(cursor.expect_word()?))
+}
+
+fn state(cursor: &mut Cursor<'_>) -> Result<LineForm, FormFault> {
+    let is_auto = cursor.take_keyword(Keyword::Auto);
+    cursor.expect_keyword(Keyword::State)?;
+    let name = cursor.expect_word()?;
+    Ok(LineForm::State { name, is_auto })
+}
+
+// `If`, `ElseIf` or `While`, and its test.
+fn test_line(cursor: &mut Cursor<'_>, keyword: Keyword) -> Result<LineForm, FormFault> {
+    cursor.expect_keyword(keyword)?;
+    let test = expression(cursor, BRACKET_LIMIT)?;
+    Ok(match keyword {
+        Keyword::If => LineForm::If(test),
+        Keyword::ElseIf => LineForm::ElseIf(test),
+        _ => LineForm::While(test),
+    })
+}
+
+fn return_line(cursor: &mut Cursor<'_>) -> Result<LineForm, FormFault> {
+    cursor.expect_keyword(Keyword::Return)?;
+    if cursor.is_at_end() {
+        return Ok(LineForm::Return(None));
+    }
+    Ok(LineForm::Return(Some(expression(cursor, BRACKET_LIMIT)?)))
+}
+
+// A type, and what it is the type of.
+fn declaration(cursor: &mut Cursor<'_>) -> Result<LineForm, FormFault> {
+    let kind = type_name(cursor)?;
+    match cursor.next_keyword() {
+        Some(Keyword::Property) => property(cursor, kind),
+        Some(Keyword::Function) => function(cursor, Some(kind)),
+        _ => definition(cursor, kind),
+    }
+}
+
+fn definition(cursor: &mut Cursor<'_>, kind: TypeName) -> Result<LineForm, FormFault> {
+    let name = cursor.expect_word()?;
+    let value = if cursor.take_sign(Sign::Assign) {
+        Some(expression(cursor, BRACKET_LIMIT)?)
+    } else {
+        None
+    };
+    let flags = flags(cursor)?;
+    Ok(LineForm::Definition {
+        kind,
+        name,
+        value,
+        flags,
+    })
+}
+
+fn property(cursor: &mut Cursor<'_>, kind: TypeName) -> Result<LineForm, FormFault> {
+    cursor.expect_keyword(Keyword::Property)?;
+    let name = cursor.expect_word()?;
+    let value = initial_constant(cursor)?;
+    let is_auto = cursor.take_keyword(Keyword::Auto);
+    if !is_auto && value.is_none() {
+        let flags = flags(cursor)?;
+        return Ok(LineForm::FullProperty { kind, name, flags });
+    }
+    if !is_auto {
+        cursor.expect_keyword(Keyword::AutoReadOnly)?;
+    }
+    let flags = flags(cursor)?;
+    Ok(LineForm::AutoProperty {
+        kind,
+        name,
+        value,
+        read_only: !is_auto,
+        flags,
+    })
+}
+
+fn untyped_function(cursor: &mut Cursor<'_>) -> Result<LineForm, FormFault> {
+    function(cursor, None)
+}
+
+fn function(cursor: &mut Cursor<'_>, result_type: Option<TypeName>) -> Result<LineForm, FormFault> {
+    cursor.expect_keyword(Keyword::Function)?;
+    let name = cursor.expect_word()?;
+    let parameters = parameters(cursor)?;
+    let (is_global, is_native) = global_and_native(cursor);
+    let flags = flags(cursor)?;
+    Ok(LineForm::Function(Heading {
+        result: result_type,
+        name,
+        parameters,
+        is_event: false,
+        is_global,
+        is_native,
+        flags,
+    }))
+}
+
+// `Global` and `Native`, each at most once, in either order.
+fn global_and_native(cursor: &mut Cursor<'_>) -> (bool, bool) {
+    let is_global = cursor.take_keyword(Keyword::Global);
+    let is_native = cursor.take_keyword(Keyword::Native);
+    if !is_global && is_native {
+        let is_global = cursor.take_keyword(Keyword::Global);
+        return (is_global, true);
+    }
+    (is_global, is_native)
+}
+
+fn event(cursor: &mut Cursor<'_>) -> Result<LineForm, FormFault> {
+    cursor.expect_keyword(Keyword::Event)?;
+    let name = cursor.expect_word()?;
+    let parameters = parameters(cursor)?;
+    let is_native = cursor.take_keyword(Keyword::Native);
+    let flags = flags(cursor)?;
+    Ok(LineForm::Function(Heading {
+        result: None,
+        name,
+        parameters,
+        is_event: true,
+        is_global: false,
+        is_native,
+        flags,
+    }))
+}
+
+// An assignment, or an expression alone.
+fn statement(cursor: &mut Cursor<'_>) -> Result<LineForm, FormFault> {
+    let target = expression(cursor, BRACKET_LIMIT)?;
+    match cursor.take_assignment() {
+        Some(sign) => {
+            let value = expression(cursor, BRACKET_LIMIT)?;
+            Ok(LineForm::Assign {
+                target,
+                sign,
+                value,
+            })
+        }
+        None => Ok(LineForm::Plain(target)),
+    }
+}

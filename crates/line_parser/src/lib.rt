@@ -1,0 +1,19 @@
+//! The form of one logical line of a script, by the line grammar of the Papyrus language reference
+//! (Creation Kit wiki), without the Float type.
+#![tactic(auto)]
+
+mod cursor;
+mod expression;
+mod fault;
+mod form;
+mod level;
+mod nesting;
+mod simple;
+mod tree;
+
+pub use fault::{LineFault, LineRule};
+pub use form::parse_line;
+pub use tree::{Argument, Constant, Expr, Heading, LineForm, LineTree, Parameter, TypeName};
+
+#[cfg(test)]
+mod tests;

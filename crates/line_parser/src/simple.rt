@@ -1,0 +1,200 @@
+// Types, constants and flags: the parts of a line that hold no expression.
+ghost use Rattle.std.specs.Prelude.{◌≡◌, ◌+◌, ◌<◌, ◌≤◌, length, OnOk, IfOk};
+
+use crate::cursor::{Cursor, is_sign_at};
+use crate::fault::FormFault;
+use crate::tree::{Constant, Expr, Parameter, TypeName};
+use papy_base::{Name, neg};
+use script_lexer::{Keyword, Sign, Spanned, Token};
+use std::alloc::Global;
+
+/// The word of a type: a word, `Int`, `Bool` or `String`.
+pub(crate) fn type_word(cursor: &mut Cursor<'_>) -> Result<Name, FormFault>
+    ensures shorter { OnOk result (length cursor.new.rest.now < length cursor.old.rest.now) }
+{
+    let spelling: &[u8] = match cursor.next_keyword() {
+        Some(Keyword::Int) => b"Int",
+        Some(Keyword::Bool) => b"Bool",
+        Some(Keyword::String) => b"String",
+        _ => return cursor.expect_word(),
+    };
+    cursor.skip();
+    Ok(Name::from_bytes(cursor.alloc, spelling)?)
+}
+
+/// A type, with `[]` for an array.
+pub(crate) fn type_name(cursor: &mut Cursor<'_>) -> Result<TypeName, FormFault>
+    ensures shorter { OnOk result (length cursor.new.rest.now < length cursor.old.rest.now) }
+{
+    let word = type_word(cursor)?;
+    let is_array = cursor.take_array_mark();
+    Ok(TypeName { word, is_array })
+}
+
+/// An atom that holds no expression: `Self`, a new array, or a constant without `-`.
+pub(crate) fn leaf(cursor: &mut Cursor<'_>) -> Result<Expr, FormFault>
+    ensures shorter { OnOk result (length cursor.new.rest.now < length cursor.old.rest.now) }
+{
+    if cursor.take_keyword(Keyword::SelfWord) {
+        return Ok(Expr::SelfValue);
+    }
+    if cursor.take_keyword(Keyword::New) {
+        return new_array(cursor);
+    }
+    Ok(expr_of(plain_constant(cursor)?))
+}
+
+fn new_array(cursor: &mut Cursor<'_>) -> Result<Expr, FormFault>
+    ensures shorter { OnOk result (length cursor.new.rest.now < length cursor.old.rest.now) }
+{
+    let element = type_word(cursor)?;
+    cursor.expect_sign(Sign::OpenBracket)?;
+    let count = cursor.expect_int()?;
+    cursor.expect_sign(Sign::CloseBracket)?;
+    Ok(Expr::NewArray { element, count })
+}
+
+fn expr_of(constant: Constant) -> Expr {
+    match constant {
+        Constant::Int(number) => Expr::Int(number),
+        Constant::Bool(truth) => Expr::Bool(truth),
+        Constant::Quoted(text) => Expr::Quoted(text),
+        Constant::NoneValue => Expr::NoneValue,
+    }
+}
+
+// A constant without `-`.
+fn plain_constant(cursor: &mut Cursor<'_>) -> Result<Constant, FormFault>
+    ensures shorter { OnOk result (length cursor.new.rest.now < length cursor.old.rest.now) }
+{
+    let Some((first, others)) = cursor.rest.split_first() else {
+        return Err(FormFault::NoForm);
+    };
+    let found = constant_of(cursor.alloc, &first.token)?;
+    cursor.rest = others;
+    Ok(found)
+}
+
+fn constant_of(alloc: Global, token: &Token) -> Result<Constant, FormFault> {
+    match token {
+        Token::Int(number) => Ok(Constant::Int(*number)),
+        Token::Quoted(text) => Ok(Constant::Quoted(text.try_clone(alloc)?)),
+        Token::Key(Keyword::True) => Ok(Constant::Bool(true)),
+        Token::Key(Keyword::False) => Ok(Constant::Bool(false)),
+        Token::Key(Keyword::None) => Ok(Constant::NoneValue),
+        _ => Err(FormFault::NoForm),
+    }
+}
+
+/// A constant. The least number's negation is itself.
+pub(crate) fn constant(cursor: &mut Cursor<'_>) -> Result<Constant, FormFault>
+    ensures shorter { OnOk result (length cursor.new.rest.now < length cursor.old.rest.now) }
+{
+    if cursor.take_sign(Sign::Minus) {
+        return Ok(Constant::Int(neg(cursor.expect_int()?)));
+    }
+    plain_constant(cursor)
+}
+
+/// `=` and a constant, where `=` is next.
+pub(crate) fn initial_constant(cursor: &mut Cursor<'_>) -> Result<Option<Constant>, FormFault>
+    ensures bound { OnOk result (length cursor.new.rest.now ≤ length cursor.old.rest.now) }
+{
+    if cursor.take_sign(Sign::Assign) {
+        Ok(Some(constant(cursor)?))
+    } else {
+        Ok(None)
+    }
+}
+
+fn parameter(cursor: &mut Cursor<'_>) -> Result<Parameter, FormFault>
+    ensures shorter { OnOk result (length cursor.new.rest.now < length cursor.old.rest.now) }
+{
+    let kind = type_name(cursor)?;
+    let name = cursor.expect_word()?;
+    let default = initial_constant(cursor)?;
+    Ok(Parameter {
+        kind,
+        name,
+        default,
+    })
+}
+
+/// The parameters of a function in their brackets.
+pub(crate) fn parameters(cursor: &mut Cursor<'_>) -> Result<Vec<Parameter>, FormFault> {
+    cursor.expect_sign(Sign::OpenParen)?;
+    let mut found = Vec::new(cursor.alloc);
+    if cursor.take_sign(Sign::CloseParen) {
+        return Ok(found);
+    }
+    'parameters: loop {
+        found.push(parameter(cursor)?)?;
+        if cursor.take_sign(Sign::CloseParen) {
+            return Ok(found);
+        }
+        cursor.expect_sign(Sign::Comma)?;
+    }
+}
+
+const HIDDEN: u32 = 1;
+
+const CONDITIONAL: u32 = 2;
+
+/// The flags `Hidden` and `Conditional`, each at most once.
+pub(crate) fn flags(cursor: &mut Cursor<'_>) -> Result<u32, FormFault> {
+    let mut bits = 0;
+    'flags: while let Some((first, others)) = cursor.rest.split_first() {
+        let Token::Word(name) = &first.token else {
+            break;
+        };
+        let bit = flag_bit(name)?;
+        if bits & bit != 0 {
+            return Err(FormFault::NoForm);
+        }
+        bits |= bit;
+        cursor.rest = others;
+    }
+    Ok(bits)
+}
+
+fn flag_bit(name: &Name) -> Result<u32, FormFault> {
+    if name.as_bytes().eq_ignore_ascii_case(b"hidden") {
+        Ok(HIDDEN)
+    } else if name.as_bytes().eq_ignore_ascii_case(b"conditional") {
+        Ok(CONDITIONAL)
+    } else {
+        Err(FormFault::NoForm)
+    }
+}
+
+/// Whether the tokens begin a declaration: a type, and behind it `Property`, `Function` or a word.
+pub(crate) fn begins_declaration(tokens: &[Spanned]) -> bool {
+    let behind = if is_sign_at(tokens, 1, Sign::OpenBracket)
+        && is_sign_at(tokens, 2, Sign::CloseBracket)
+    {
+        3
+    } else {
+        1
+    };
+    is_type_word_at(tokens, 0) && is_declared_at(tokens, behind)
+}
+
+fn is_type_word_at(tokens: &[Spanned], at: usize) -> bool {
+    match tokens.get(at) {
+        Some(spanned) => matches!(
+            spanned.token,
+            Token::Word(_) | Token::Key(Keyword::Int | Keyword::Bool | Keyword::String)
+        ),
+        None => false,
+    }
+}
+
+fn is_declared_at(tokens: &[Spanned], at: usize) -> bool {
+    match tokens.get(at) {
+        Some(spanned) => matches!(
+            spanned.token,
+            Token::Word(_) | Token::Key(Keyword::Property | Keyword::Function)
+        ),
+        None => false,
+    }
+}

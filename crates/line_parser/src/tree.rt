@@ -1,0 +1,176 @@
+// What a line means: its form, with the trees of its expressions.
+
+use papy_base::{Name, Text};
+use script_lexer::Sign;
+
+/// A type as a script writes it. `Int`, `Bool` and `String` are words of those spellings.
+#[derive(Debug, Drop)]
+pub struct TypeName {
+    pub word: Name,
+    pub is_array: bool,
+}
+
+/// An argument of a call, with the parameter's name where it is written.
+#[derive(Debug, Drop)]
+#[cycle(tree)]
+pub struct Argument {
+    pub name: Option<Name>,
+    pub value: Expr,
+}
+
+/// An expression. Binary signs group to the left, and brackets leave no node.
+///
+/// A tree is at most as deep as its line has tokens, which are at most 8,000.
+#[derive(Debug, Drop)]
+#[cycle(tree)]
+pub enum Expr {
+    Int(i32),
+    Bool(bool),
+    Quoted(Text),
+    NoneValue,
+    SelfValue,
+    Word(Name),
+    /// `name(arguments)`
+    Call {
+        name: Name,
+        arguments: Vec<Argument>,
+    },
+    /// `Parent.name(arguments)`
+    ParentCall {
+        name: Name,
+        arguments: Vec<Argument>,
+    },
+    /// `of.name(arguments)`
+    MemberCall {
+        of: Box<Expr>,
+        name: Name,
+        arguments: Vec<Argument>,
+    },
+    /// `of.name`
+    Member {
+        of: Box<Expr>,
+        name: Name,
+    },
+    /// `of.Length`
+    Length {
+        of: Box<Expr>,
+    },
+    /// `of[at]`
+    Index {
+        of: Box<Expr>,
+        at: Box<Expr>,
+    },
+    /// `New element[count]`
+    NewArray {
+        element: Name,
+        count: i32,
+    },
+    /// `-of` or `!of`
+    Unary {
+        sign: Sign,
+        of: Box<Expr>,
+    },
+    Binary {
+        sign: Sign,
+        left: Box<Expr>,
+        right: Box<Expr>,
+    },
+    /// `of As to`
+    Cast {
+        of: Box<Expr>,
+        to: TypeName,
+    },
+}
+
+/// A parameter of a function or an event.
+#[derive(Debug, Drop)]
+pub struct Parameter {
+    pub kind: TypeName,
+    pub name: Name,
+    pub default: Option<Constant>,
+}
+
+/// A value that is written out.
+#[derive(Debug, Drop)]
+pub enum Constant {
+    Int(i32),
+    Bool(bool),
+    Quoted(Text),
+    NoneValue,
+}
+
+/// The first line of a function or an event.
+#[derive(Debug, Drop)]
+pub struct Heading {
+    pub result: Option<TypeName>,
+    pub name: Name,
+    pub parameters: Vec<Parameter>,
+    pub is_event: bool,
+    pub is_global: bool,
+    pub is_native: bool,
+    /// Bit 0 for `Hidden`, bit 1 for `Conditional`, here and in the other forms.
+    pub flags: u32,
+}
+
+/// The form of a line.
+#[derive(Debug, Drop)]
+pub enum LineForm {
+    ScriptName {
+        name: Name,
+        parent: Option<Name>,
+        flags: u32,
+    },
+    Import(Name),
+    /// A variable of the script, or a local.
+    Definition {
+        kind: TypeName,
+        name: Name,
+        value: Option<Expr>,
+        flags: u32,
+    },
+    AutoProperty {
+        kind: TypeName,
+        name: Name,
+        value: Option<Constant>,
+        read_only: bool,
+        flags: u32,
+    },
+    FullProperty {
+        kind: TypeName,
+        name: Name,
+        flags: u32,
+    },
+    EndProperty,
+    Function(Heading),
+    EndFunction,
+    EndEvent,
+    State {
+        name: Name,
+        is_auto: bool,
+    },
+    EndState,
+    If(Expr),
+    ElseIf(Expr),
+    Else,
+    EndIf,
+    While(Expr),
+    EndWhile,
+    Return(Option<Expr>),
+    /// `target = value`, or with another sign of assignment, as `+=`.
+    Assign {
+        target: Expr,
+        sign: Sign,
+        value: Expr,
+    },
+    /// An expression alone.
+    Plain(Expr),
+    /// Nothing but a documentation text.
+    DocOnly,
+}
+
+/// A line's form, and the documentation text at its end.
+#[derive(Debug, Drop)]
+pub struct LineTree {
+    pub form: LineForm,
+    pub doc: Option<Text>,
+}

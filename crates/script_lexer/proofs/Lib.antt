@@ -1,0 +1,9 @@
+pub mod Runs
+pub mod Standing
+pub mod KeywordLemmas
+pub mod TextLemmas
+pub mod TriviaLemmas
+pub mod WordLemmas
+pub mod NumberLemmas
+pub mod SignLemmas
+pub mod ReadingLemmas

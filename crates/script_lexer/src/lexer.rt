@@ -1,0 +1,130 @@
+ghost use Rattle.std.specs.Prelude.{◌≡◌, ◌+◌, ◌<◌, ◌≤◌, ◌^◌, length, IfOk, IfErr, OnOk};
+ghost use Rattle.script_lexer.specs.Bytes.{line_ends};
+ghost use Rattle.script_lexer.specs.Lines.{mark_len, physical_lines, logical_lines, text_of, IsUnbroken, Lexes, Answer, IsAnswer};
+ghost use Rattle.script_lexer.specs.Progress.{IsReady};
+ghost use Rattle.script_lexer.specs.Steps.{StepAnswer, TextAnswer, FileFault};
+
+use crate::fault::{LexFault, LexRule};
+use crate::line::Lines;
+use crate::next_piece::next_piece;
+use crate::piece::Found;
+use crate::progress::Progress;
+use std::alloc::Global;
+
+/// The most bytes of a file.
+const FILE_LIMIT: usize = 1048576;
+
+/// The most physical lines of a file.
+const LINE_LIMIT: usize = 65535;
+
+// How many physical lines end in the bytes.
+fn count_line_ends(bytes: &[u8]) -> usize
+    ensures count { result ≡ line_ends bytes.now }
+    ensures within { result ≤ length bytes.now }
+{
+    bytes.iter().filter(|byte| **byte == b'\n').count()
+}
+
+// One piece more. Gives what is left behind it.
+fn step<'a>(
+    alloc: Global,
+    progress: &mut Progress,
+    rest: &'a [u8],
+) -> Result<&'a [u8], LexFault>
+    requires nonempty { 0 < length rest.now }
+    requires ready { IsReady progress.old }
+    requires room { progress.old.at + length rest.now < 2 ^ 31 }
+    requires within { progress.old.line ≤ 65536 }
+    ensures { StepAnswer progress.old progress.new rest.now result }
+{
+    let line = progress.line;
+    let Found { piece, len } = match next_piece(alloc, rest) {
+        Ok(found) => found,
+        Err(fault) => return Err(fault.at_line(line)),
+    };
+    let (bytes, after) = rest.split_at(len);
+    let (front, last) = bytes.split_at(len - 1);
+    let before_last = count_line_ends(front);
+    if line as usize + before_last > LINE_LIMIT {
+        return Err(LexFault::Broken {
+            line: 65536,
+            rule: LexRule::TooLarge,
+        });
+    }
+    let ends = before_last + count_line_ends(last);
+    progress.take(alloc, piece, bytes, ends as u32)?;
+    Ok(after)
+}
+
+// How many bytes the mark EF BB BF takes.
+fn mark_len(bytes: &[u8]) -> usize
+    ensures value { result ≡ mark_len bytes.now }
+    ensures within { result ≤ length bytes.now }
+    ensures short { result ≤ 3 }
+{
+    match bytes {
+        [0xef, 0xbb, 0xbf, ..] => 3,
+        _ => 0,
+    }
+}
+
+// The number of physical lines, where one begins behind the last line end.
+fn last_line(text: &[u8], line: u32) -> u32
+    requires { line ≡ 1 + line_ends text.now }
+    ensures { result ≡ physical_lines text.now }
+{
+    if text.is_empty() {
+        return 0;
+    }
+    if text[text.len() - 1] == b'\n' {
+        line - 1
+    } else {
+        line
+    }
+}
+
+// The logical lines of a text that begins at this place of its file.
+fn lex_text(alloc: Global, start: u32, text: &[u8]) -> Result<Lines, LexFault>
+    requires { start + length text.now < 2 ^ 31 }
+    ensures { TextAnswer start text.now result }
+{
+    let mut progress = Progress::new(alloc, start);
+    let mut rest = text;
+    while !rest.is_empty() {
+        match step(alloc, &mut progress, rest) {
+            Ok(after) => rest = after,
+            Err(fault) => return Err(fault),
+        }
+    }
+    let last = last_line(text, progress.line);
+    let lines = progress.finish()?;
+    Ok(Lines { lines, last })
+}
+
+/// Cuts a script's bytes into logical lines, each with its tokens and their places.
+///
+/// The lexical form is that of the Creation Kit wiki's Papyrus reference. Blanks are space, tab and
+/// carriage return; a backslash, blanks and a line end join two physical lines; `;` opens a comment up
+/// to the line's end, `;/` one up to the first `/;`, and `{` a documentation up to the first `}`. A
+/// mark EF BB BF at the file's start is skipped, and places count it.
+///
+/// `Broken` comes exactly where a rule is broken, with the first place's rule and physical line. At
+/// one place the lowest rule counts. A file of more than 1 MiB is refused at line 0.
+pub fn lex(alloc: Global, bytes: &[u8]) -> Result<Lines, LexFault>
+    // The lines are those of a reading of the whole file, and there is no broken rule.
+    ensures cut { IfOk result (λ lines. Lexes bytes.now (logical_lines lines.lines.items) lines.last) }
+    ensures unbroken { OnOk result (IsUnbroken (text_of bytes.now)) }
+    ensures small { OnOk result (length bytes.now ≤ 1048576) }
+    // The first broken rule, with its line.
+    ensures broken { IfErr result (FileFault bytes.now) }
+{
+    if bytes.len() > FILE_LIMIT {
+        return Err(LexFault::Broken {
+            line: 0,
+            rule: LexRule::TooLarge,
+        });
+    }
+    let start = mark_len(bytes);
+    let (_, text) = bytes.split_at(start);
+    lex_text(alloc, start as u32, text)
+}

@@ -1,0 +1,31 @@
+ghost use Rattle.std.specs.Prelude.{◌<◌, length};
+ghost use Rattle.script_lexer.specs.Answers.{Answers};
+
+use crate::fault::LexRule;
+use crate::number::number;
+use crate::opening::Opening;
+use crate::piece::{Found, Piece, PieceFault};
+use crate::punctuation::sign;
+use crate::quoted::text;
+use crate::trivia::{comment, documentation, join};
+use crate::word::word;
+use std::alloc::Global;
+
+/// The longest piece that stands here, or the lowest rule that is broken here.
+pub fn next_piece(alloc: Global, rest: &[u8]) -> Result<Found, PieceFault>
+    requires { 0 < length rest.now }
+    ensures { Answers rest.now result }
+{
+    match Opening::of(rest[0]) {
+        Opening::Blank => Ok(Found { piece: Piece::Blank, len: 1 }),
+        Opening::LineEnd => Ok(Found { piece: Piece::LineEnd, len: 1 }),
+        Opening::Join => join(rest),
+        Opening::Comment => comment(rest),
+        Opening::Documentation => documentation(alloc, rest),
+        Opening::Quote => text(alloc, rest),
+        Opening::Number => number(rest),
+        Opening::Word => word(alloc, rest),
+        Opening::Sign => sign(rest),
+        Opening::Nothing => Err(PieceFault::Broken(LexRule::BadByte)),
+    }
+}

@@ -1,0 +1,43 @@
+ghost use Rattle.std.specs.Prelude.{◌≡◌};
+ghost use Rattle.script_lexer.specs.Bytes.{opening_of, is_sign_start};
+
+/// What the first byte of a piece opens.
+#[derive(Clone, Copy, Debug, PartialEq, Eq)]
+pub enum Opening {
+    /// A blank is one byte.
+    Blank,
+    LineEnd,
+    /// A backslash, which joins two physical lines.
+    Join,
+    Comment,
+    Documentation,
+    /// A quote opens a text.
+    Quote,
+    Number,
+    Word,
+    Sign,
+    /// No piece begins with this byte.
+    Nothing,
+}
+
+impl Opening {
+    /// What a piece opens with this byte.
+    #[tactic(auto, unfolding(crate::specs::Bytes::opening_of))]
+    pub fn of(byte: u8) -> Opening
+        ensures { result ≡ opening_of byte }
+    {
+        match byte {
+            b' ' | b'\t' | b'\r' => Opening::Blank,
+            b'\n' => Opening::LineEnd,
+            b'\\' => Opening::Join,
+            b';' => Opening::Comment,
+            b'{' => Opening::Documentation,
+            b'"' => Opening::Quote,
+            b'0'..=b'9' => Opening::Number,
+            b'a'..=b'z' | b'A'..=b'Z' | b'_' => Opening::Word,
+            b'(' | b')' | b'[' | b']' | b',' | b'.' | b'=' | b'!' | b'<' | b'>' | b'+' | b'-' | b'*'
+            | b'/' | b'%' | b'&' | b'|' => Opening::Sign,
+            _ => Opening::Nothing,
+        }
+    }
+}

@@ -1,0 +1,95 @@
+ghost use Rattle.std.specs.Prelude.{◌≡◌, ◌+◌, ◌<◌, ◌≤◌, ◌^◌, [], ◌++◌, length, IfOk, OnOk};
+ghost use Rattle.script_lexer.specs.Bytes.{line_ends};
+ghost use Rattle.script_lexer.specs.Lines.{logical_lines, nonempty};
+
+use crate::line::Line;
+use crate::piece::Piece;
+use crate::token::Spanned;
+use papy_base::OutOfMemory;
+use std::alloc::Global;
+use std::mem;
+
+/// What was read so far.
+#[derive(Debug, Drop)]
+pub struct Progress {
+    /// The place behind it.
+    pub at: u32,
+    /// The physical line of that place.
+    pub line: u32,
+    /// The physical line on which the current logical line began.
+    pub begun: u32,
+    /// The tokens of the current logical line.
+    pub tokens: Vec<Spanned>,
+    /// The logical lines before it.
+    pub lines: Vec<Line>,
+}
+
+// Ends a logical line, which counts where it has tokens.
+fn end_line(lines: &mut Vec<Line>, mut tokens: Vec<Spanned>, begun: u32) -> Result<(), OutOfMemory>
+    requires { 0 < length tokens.items → begun ≤ 65535 }
+    ensures { OnOk result (logical_lines lines.new.items ≡ logical_lines lines.old.items ++ nonempty begun tokens.items []) }
+{
+    if tokens.is_empty() {
+        return Ok(());
+    }
+    tokens.shrink_to_fit();
+    lines.push(Line { number: begun as u16, tokens })?;
+    Ok(())
+}
+
+impl Progress {
+    ghost use Rattle.std.specs.Prelude.{◌≡◌, ◌+◌, ◌<◌, ◌≤◌, ◌^◌, [], ◌++◌, length, IfOk, OnOk};
+    ghost use Rattle.script_lexer.specs.Bytes.{line_ends};
+    ghost use Rattle.script_lexer.specs.Progress.{IsStart, IsReady, Takes, closed};
+
+    /// Nothing was read, and the text begins at this place.
+    pub fn new(alloc: Global, at: u32) -> Progress
+        ensures { IsStart result at }
+    {
+        Progress {
+            at,
+            line: 1,
+            begun: 1,
+            tokens: Vec::new(alloc),
+            lines: Vec::new(alloc),
+        }
+    }
+
+    /// One piece more, with its bytes and the number of their line ends.
+    pub fn take(&mut self, alloc: Global, piece: Piece, bytes: &[u8], ends: u32) -> Result<(), OutOfMemory>
+        requires ready { IsReady self.old }
+        requires room { self.old.at + length bytes.now < 2 ^ 31 }
+        requires counted { ends ≡ line_ends bytes.now }
+        requires few { self.old.line + ends ≤ 65536 }
+        requires here { self.old.line ≤ 65535 }
+        ensures { OnOk result (Takes self.old self.new piece bytes.now) }
+    {
+        let from = self.at;
+        let until = from + bytes.len() as u32;
+        let line = self.line + ends;
+        match piece {
+            Piece::LineEnd => {
+                let tokens = mem::replace(&mut self.tokens, Vec::new(alloc));
+                end_line(&mut self.lines, tokens, self.begun)?;
+                self.begun = line;
+            }
+            Piece::Token(token) => {
+                self.tokens.push(Spanned { token, from, until })?;
+            }
+            Piece::Blank | Piece::Join | Piece::Comment => {}
+        }
+        self.at = until;
+        self.line = line;
+        Ok(())
+    }
+
+    /// The logical lines, with the last one.
+    pub fn finish(self) -> Result<Vec<Line>, OutOfMemory>
+        requires { IsReady self }
+        ensures { IfOk result (λ lines. closed lines.items self) }
+    {
+        let Progress { at: _, line: _, begun, tokens, mut lines } = self;
+        end_line(&mut lines, tokens, begun)?;
+        Ok(lines)
+    }
+}

@@ -1,0 +1,111 @@
+//! Joins, comments and documentations.
+
+ghost use Rattle.std.specs.Prelude.{◌≡◌, ◌<◌, ◌≤◌, length, drop, Some, None, MatchOption, ⊤, true, false};
+ghost use Rattle.script_lexer.specs.declared.opening.Opening.TheVariants as opening;
+ghost use Rattle.script_lexer.specs.Pieces.{behind_close};
+ghost use Rattle.script_lexer.specs.Answers.{Opens, Answers, Stands, begins_block};
+
+use crate::byte_class::ByteClass;
+use crate::fault::LexRule;
+use crate::piece::{Found, Piece, PieceFault};
+use crate::token::Token;
+use papy_base::Text;
+use std::alloc::Global;
+
+/// The most bytes of a documentation.
+pub const DOCUMENTATION_LIMIT: usize = 65535;
+
+/// A join: a backslash, blanks and a line end.
+pub fn join(rest: &[u8]) -> Result<Found, PieceFault>
+    requires nonempty { 0 < length rest.now }
+    requires opens { Opens opening.Join rest.now }
+    ensures { Answers rest.now result }
+{
+    let (_, behind) = rest.split_at(1);
+    let blanks = ByteClass::Blank.run_len(behind);
+    if blanks < behind.len() && behind[blanks] == b'\n' {
+        Ok(Found { piece: Piece::Join, len: blanks + 2 })
+    } else {
+        Err(PieceFault::Broken(LexRule::BadByte))
+    }
+}
+
+/// Where the first `/;` ends.
+fn close_end(bytes: &[u8]) -> Option<usize>
+    ensures within { MatchOption result ⊤ (λ end. end ≤ length bytes.now) }
+    ensures close { MatchOption result (behind_close bytes.now ≡ None) (λ end. behind_close bytes.now ≡ Some (drop end bytes.now)) }
+{
+    for at in 1..bytes.len() {
+        if bytes[at - 1] == b'/' && bytes[at] == b';' {
+            return Some(at + 1);
+        }
+    }
+    None
+}
+
+// Whether the comment is one of several lines.
+fn begins_block(behind: &[u8]) -> bool
+    ensures { result ≡ begins_block behind.now }
+{
+    match behind {
+        [first, ..] => *first == b'/',
+        [] => false,
+    }
+}
+
+fn line_comment(rest: &[u8]) -> Found
+    requires nonempty { 0 < length rest.now }
+    requires opens { Opens opening.Comment rest.now }
+    requires line { begins_block (drop 1 rest.now) ≡ false }
+    ensures { Stands rest.now result.piece result.len }
+{
+    let (_, behind) = rest.split_at(1);
+    let len = 1 + ByteClass::Comment.run_len(behind);
+    Found { piece: Piece::Comment, len }
+}
+
+fn block_comment(rest: &[u8]) -> Result<Found, PieceFault>
+    requires long { 2 ≤ length rest.now }
+    requires opens { Opens opening.Comment rest.now }
+    requires block { begins_block (drop 1 rest.now) ≡ true }
+    ensures { Answers rest.now result }
+{
+    let (_, body) = rest.split_at(2);
+    match close_end(body) {
+        Some(end) => Ok(Found { piece: Piece::Comment, len: end + 2 }),
+        None => Err(PieceFault::Broken(LexRule::OpenComment)),
+    }
+}
+
+/// A comment, up to the line's end or from `;/` to the first `/;`.
+pub fn comment(rest: &[u8]) -> Result<Found, PieceFault>
+    requires nonempty { 0 < length rest.now }
+    requires opens { Opens opening.Comment rest.now }
+    ensures { Answers rest.now result }
+{
+    let (_, behind) = rest.split_at(1);
+    if begins_block(behind) {
+        block_comment(rest)
+    } else {
+        Ok(line_comment(rest))
+    }
+}
+
+/// A documentation, up to the first closing brace.
+pub fn documentation(alloc: Global, rest: &[u8]) -> Result<Found, PieceFault>
+    requires nonempty { 0 < length rest.now }
+    requires opens { Opens opening.Documentation rest.now }
+    ensures { Answers rest.now result }
+{
+    let (_, behind) = rest.split_at(1);
+    let len = ByteClass::Documentation.run_len(behind);
+    if len > DOCUMENTATION_LIMIT {
+        return Err(PieceFault::Broken(LexRule::TextTooLong));
+    }
+    if len >= behind.len() {
+        return Err(PieceFault::Broken(LexRule::OpenComment));
+    }
+    let (bytes, _) = behind.split_at(len);
+    let text = Text::try_from_bytes(alloc, bytes)?;
+    Ok(Found { piece: Piece::Token(Token::Doc(text)), len: len + 2 })
+}

@@ -1,0 +1,110 @@
+-- Byte lists that go into a set one after another.
+use Rattle.std.proofs.Common.{◌≡◌, ℕ, ◌+◌, ◌<◌, Bool, true, false, ◌||◌, cond, List, [], ◌∷◌, ◌++◌, length, get_or, take, map, refl, sym, ap, ◌∙◌}
+use Rattle.std.specs.List.{IsDistinct, list_any}
+use Rattle.std.specs.Borrow.{Bor}
+use Rattle.std.proofs.lemmas.Cmp.{nat_list_eq_equiv}
+use Rattle.std.proofs.lemmas.List.{take_more, map-append, flat_map_more}
+use Rattle.std.proofs.lemmas.List.Folds.{list_any-append}
+use Rattle.std.proofs.lemmas.List.Sums.{fold-append}
+use Rattle.std.proofs.lemmas.Map.Keys.{IsDistinct-push}
+use Rattle.std.proofs.lemmas.Map.Steps.{list_any_congr}
+use Rattle.indexmap.specs.IndexSet.{insert_key, insert_all}
+use Rattle.script_lexer.specs.declared.token.Spanned.{Spanned}
+use Rattle.script_lexer.specs.declared.line.Line.{Line}
+use Rattle.script_parser.specs.Words.{word_of, words_in, words_of, same_bytes, CountsDifferent}
+
+-- a set of borrowed lists, shown as the lists
+abbrev shown : List (Bor (List ℕ)) → List (List ℕ)
+shown ks = map (λ k. k.now) ks
+
+abbrev borrowed_same : Bor (List ℕ) → Bor (List ℕ) → Bool
+borrowed_same a b = same_bytes a.now b.now
+
+list_any-shown : (word : List ℕ) (ks : List (Bor (List ℕ))) → list_any (λ k. same_bytes word k.now) ks ≡ list_any (same_bytes word) (shown ks)
+list_any-shown word [] = refl
+list_any-shown word (k ∷ ks) = ap (λ t. same_bytes word k.now || t) (list_any-shown word ks)
+
+map_cond : (b : Bool) (xs ys : List (Bor (List ℕ))) → shown (cond b xs ys) ≡ cond b (shown xs) (shown ys)
+map_cond true xs ys = refl
+map_cond false xs ys = refl
+
+pub shown-insert_key : (ks : List (Bor (List ℕ))) (k : Bor (List ℕ)) → shown (insert_key borrowed_same ks k) ≡ insert_key same_bytes (shown ks) k.now
+shown-insert_key ks k =
+    map_cond (list_any (borrowed_same k) ks) ks (ks ++ k ∷ [])
+    ∙ ap (λ t. cond (list_any (borrowed_same k) ks) (shown ks) t) (map-append (λ b. b.now) ks (k ∷ []))
+    ∙ ap (λ b. cond b (shown ks) (shown ks ++ k.now ∷ [])) (list_any-shown k.now ks)
+
+distinct_cases : (b : Bool) (ks : List (List ℕ)) (k : List ℕ) → list_any (same_bytes k) ks ≡ b → IsDistinct same_bytes ks → IsDistinct same_bytes (cond b ks (ks ++ k ∷ []))
+distinct_cases true ks k found distinct = distinct
+distinct_cases false ks k found distinct = IsDistinct-push nat_list_eq_equiv ks k distinct found
+
+IsDistinct-insert_all : (ks xs : List (List ℕ)) → IsDistinct same_bytes ks → IsDistinct same_bytes (insert_all same_bytes ks xs)
+IsDistinct-insert_all ks [] distinct = distinct
+IsDistinct-insert_all ks (x ∷ xs) distinct =
+    IsDistinct-insert_all (insert_key same_bytes ks x) xs (distinct_cases (list_any (same_bytes x) ks) ks x refl distinct)
+
+IsDistinct-none : IsDistinct same_bytes []
+unfolding IsDistinct
+IsDistinct-none = tt
+
+or_false : (b : Bool) → (b || false) ≡ b
+or_false true = refl
+or_false false = refl
+
+or_assoc : (a b c : Bool) → ((a || b) || c) ≡ (a || (b || c))
+or_assoc true b c = refl
+or_assoc false b c = refl
+
+-- an equal list that is there already adds no member
+or_found : (c : Bool) (word k : List ℕ) (ks : List (List ℕ)) → list_any (same_bytes k) ks ≡ true → same_bytes word k ≡ c → list_any (same_bytes word) ks ≡ (list_any (same_bytes word) ks || c)
+or_found false word k ks found same = sym (or_false (list_any (same_bytes word) ks))
+or_found true word k ks found same =
+    let there : list_any (same_bytes word) ks ≡ true = list_any_congr nat_list_eq_equiv word k ks same ∙ found in
+    there ∙ sym (ap (λ b. b || true) there)
+
+member_cases : (b : Bool) (word k : List ℕ) (ks : List (List ℕ)) → list_any (same_bytes k) ks ≡ b → list_any (same_bytes word) (cond b ks (ks ++ k ∷ [])) ≡ (list_any (same_bytes word) ks || same_bytes word k)
+member_cases true word k ks found = or_found (same_bytes word k) word k ks found refl
+member_cases false word k ks found =
+    list_any-append (same_bytes word) ks (k ∷ [])
+    ∙ ap (λ t. list_any (same_bytes word) ks || t) (or_false (same_bytes word k))
+
+members : (word : List ℕ) (ks xs : List (List ℕ)) → list_any (same_bytes word) (insert_all same_bytes ks xs) ≡ (list_any (same_bytes word) ks || list_any (same_bytes word) xs)
+members word ks [] = sym (or_false (list_any (same_bytes word) ks))
+members word ks (x ∷ xs) =
+    members word (insert_key same_bytes ks x) xs
+    ∙ ap (λ t. t || list_any (same_bytes word) xs) (member_cases (list_any (same_bytes x) ks) word x ks refl)
+    ∙ or_assoc (list_any (same_bytes word) ks) (same_bytes word x) (list_any (same_bytes word) xs)
+
+-- what a set holds, into which all of the words went
+pub CountsDifferent-insert_all : (words all : List (List ℕ)) (n : ℕ) → all ≡ insert_all same_bytes [] words → n ≡ length all → CountsDifferent words n
+CountsDifferent-insert_all words all n is count = record {
+  all = insert_all same_bytes [] words;
+  differ = IsDistinct-insert_all [] words IsDistinct-none;
+  members = λ word. members word [] words;
+  count = count ∙ ap length is;
+}
+
+-- the words of one more token, or of one more line, go in
+pub insert_all-token : (start before after : List (List ℕ)) (tokens : List Spanned) (i : ℕ) (s : Spanned) → i < length tokens → s ≡ get_or tokens i s → before ≡ insert_all same_bytes start (words_in (take i tokens)) → after ≡ insert_all same_bytes before (word_of s.token) → after ≡ insert_all same_bytes start (words_in (take (i + 1) tokens))
+insert_all-token start before after tokens i s within is so_far more =
+    let step : words_in (take (i + 1) tokens) ≡ words_in (take i tokens) ++ word_of s.token =
+    ap words_in (take_more tokens i s within)
+    ∙ sym (flat_map_more (λ t. word_of t.token) [] (take i tokens) (get_or tokens i s))
+    ∙ ap (λ t. words_in (take i tokens) ++ word_of t.token) (sym is)
+    in
+    more
+    ∙ ap (λ t. insert_all same_bytes t (word_of s.token)) so_far
+    ∙ sym (fold-append (insert_key same_bytes) start (words_in (take i tokens)) (word_of s.token))
+    ∙ ap (insert_all same_bytes start) (sym step)
+
+pub insert_all-line : (start before after : List (List ℕ)) (lines : List Line) (i : ℕ) (line : Line) → i < length lines → line ≡ get_or lines i line → before ≡ insert_all same_bytes start (words_of (take i lines)) → after ≡ insert_all same_bytes before (words_in line.tokens.items) → after ≡ insert_all same_bytes start (words_of (take (i + 1) lines))
+insert_all-line start before after lines i line within is so_far more =
+    let step : words_of (take (i + 1) lines) ≡ words_of (take i lines) ++ words_in line.tokens.items =
+    ap words_of (take_more lines i line within)
+    ∙ sym (flat_map_more (λ l. words_in l.tokens.items) [] (take i lines) (get_or lines i line))
+    ∙ ap (λ l. words_of (take i lines) ++ words_in l.tokens.items) (sym is)
+    in
+    more
+    ∙ ap (λ t. insert_all same_bytes t (words_in line.tokens.items)) so_far
+    ∙ sym (fold-append (insert_key same_bytes) start (words_of (take i lines)) (words_in line.tokens.items))
+    ∙ ap (insert_all same_bytes start) (sym step)

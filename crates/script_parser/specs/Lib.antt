@@ -1,0 +1,4 @@
+pub mod Faults
+pub mod Held
+pub mod Reader
+pub mod Words

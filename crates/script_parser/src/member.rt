@@ -1,0 +1,206 @@
+// The members of a script, and of its states and properties.
+ghost use Rattle.std.specs.Prelude.{◌≤◌, ◌<◌, OnOk};
+ghost use Rattle.script_parser.specs.Reader.{left};
+
+use crate::block::{Block, EndKind, OPEN_LIMIT, statements};
+use crate::fault::BlockFault;
+use crate::reader::{FormAt, Reader};
+use crate::script::{Body, Function, Property, PropertyForm, Script, State, Variable};
+use line_parser::{Constant, Expr, Heading, LineForm, TypeName};
+use papy_base::{Name, Text, neg};
+use script_lexer::Sign;
+
+/// Puts the member that begins with this line into the script.
+pub(crate) fn member(
+    reader: &mut Reader<'_>,
+    script: &mut Script,
+    first: FormAt,
+) -> Result<(), BlockFault>
+    ensures bound { OnOk result (left reader.new ≤ left reader.old) }
+{
+    let FormAt {
+        at,
+        line,
+        form,
+        doc,
+    } = first;
+    match form {
+        LineForm::Import(name) => script.imports.push((line, name))?,
+        LineForm::Definition {
+            kind,
+            name,
+            value,
+            flags,
+        } => script.variables.push(Variable {
+            kind,
+            name,
+            value: initial_value(at, value)?,
+            flags,
+            line,
+        })?,
+        LineForm::AutoProperty {
+            kind,
+            name,
+            value,
+            read_only,
+            flags,
+        } => script.properties.push(Property {
+            kind,
+            name,
+            form: auto_form(at, value, read_only)?,
+            doc: reader.own_doc(doc)?,
+            flags,
+            line,
+        })?,
+        LineForm::FullProperty { kind, name, flags } => script.properties.push(Property {
+            kind,
+            name,
+            doc: reader.own_doc(doc)?,
+            form: PropertyForm::Full(property_functions(reader)?),
+            flags,
+            line,
+        })?,
+        LineForm::Function(heading) => {
+            script
+                .functions
+                .push(function(reader, line, heading, doc)?)?;
+        }
+        LineForm::State { name, is_auto } => script.states.push(State {
+            name,
+            is_auto,
+            functions: state_functions(reader)?,
+            line,
+        })?,
+        _ => return Err(BlockFault::bad_block(at)),
+    }
+    Ok(())
+}
+
+// The constant whose tree a variable's value is, which has to be one.
+fn initial_value(at: usize, value: Option<Expr>) -> Result<Option<Constant>, BlockFault> {
+    match value {
+        Some(tree) => match constant_of(tree) {
+            Some(constant) => Ok(Some(constant)),
+            None => Err(BlockFault::bad_block(at)),
+        },
+        None => Ok(None),
+    }
+}
+
+fn constant_of(tree: Expr) -> Option<Constant> {
+    match tree {
+        Expr::Int(number) => Some(Constant::Int(number)),
+        Expr::Bool(truth) => Some(Constant::Bool(truth)),
+        Expr::Quoted(text) => Some(Constant::Quoted(text)),
+        Expr::NoneValue => Some(Constant::NoneValue),
+        Expr::Unary {
+            sign: Sign::Minus,
+            of,
+        } => negated(Box::into_inner(of)),
+        _ => None,
+    }
+}
+
+fn negated(tree: Expr) -> Option<Constant> {
+    match tree {
+        Expr::Int(number) => Some(Constant::Int(neg(number))),
+        _ => None,
+    }
+}
+
+fn auto_form(
+    at: usize,
+    value: Option<Constant>,
+    read_only: bool,
+) -> Result<PropertyForm, BlockFault> {
+    match value {
+        Some(constant) if read_only => Ok(PropertyForm::ReadOnly(constant)),
+        None if read_only => Err(BlockFault::bad_block(at)),
+        value => Ok(PropertyForm::Auto(value)),
+    }
+}
+
+// A function with its body and its end, behind its heading.
+fn function(
+    reader: &mut Reader<'_>,
+    line: u16,
+    heading: Heading,
+    doc: Option<Text>,
+) -> Result<Function, BlockFault>
+    ensures bound { OnOk result (left reader.new ≤ left reader.old) }
+{
+    let doc = reader.own_doc(doc)?;
+    if heading.is_native {
+        return Ok(Function {
+            heading,
+            doc,
+            body: Body::Native,
+            line,
+            end_line: line,
+        });
+    }
+    let Block {
+        statements: body,
+        end,
+        end_at,
+        end_line,
+    } = statements(reader, OPEN_LIMIT)?;
+    if !ends_function(&end, heading.is_event) {
+        return Err(BlockFault::bad_block(end_at));
+    }
+    Ok(Function {
+        heading,
+        doc,
+        body: Body::Lines(body),
+        line,
+        end_line,
+    })
+}
+
+fn ends_function(kind: &EndKind, is_event: bool) -> bool {
+    match kind {
+        EndKind::EndFunction => !is_event,
+        EndKind::EndEvent => is_event,
+        _ => false,
+    }
+}
+
+// The functions of a state up to its end.
+fn state_functions(reader: &mut Reader<'_>) -> Result<Vec<Function>, BlockFault>
+    ensures bound { OnOk result (left reader.new ≤ left reader.old) }
+{
+    let mut functions = Vec::new(reader.alloc);
+    'functions: loop {
+        let FormAt {
+            at,
+            line,
+            form,
+            doc,
+        } = reader.next_in_block()?;
+        match form {
+            LineForm::Function(heading) => functions.push(function(reader, line, heading, doc)?)?,
+            LineForm::EndState => return Ok(functions),
+            _ => return Err(BlockFault::bad_block(at)),
+        }
+    }
+}
+
+// The functions of a property up to its end, at least one.
+fn property_functions(reader: &mut Reader<'_>) -> Result<Vec<Function>, BlockFault>
+    ensures bound { OnOk result (left reader.new ≤ left reader.old) }
+{
+    let mut functions = Vec::new(reader.alloc);
+    'functions: loop {
+        let FormAt {
+            at,
+            line,
+            form,
+            doc,
+        } = reader.next_in_block()?;
+        match form {
+            LineForm::Function(heading) => functions.push(function(reader, line, heading, doc)?)?,
+            LineForm::EndProperty if !functions.is_empty() => return Ok(functions),
+            _ => return Err(BlockFault::bad_block(at)),
+        }
+    }
+}

@@ -1,0 +1,87 @@
+// From a file's lines to its script.
+ghost use Rattle.std.specs.Prelude.{◌+◌, ◌^◌, ◌<◌, IfErr, IfOk};
+ghost use Rattle.script_parser.specs.Faults.{IsLineOf, IsFaultOf};
+ghost use Rattle.script_parser.specs.Words.{words_of, CountsDifferent};
+
+use crate::fault::{BlockFault, ParseFault};
+use crate::member::member;
+use crate::reader::{FormAt, Reader};
+use crate::script::Script;
+use crate::words::count_words;
+use line_parser::LineForm;
+use script_lexer::{Line, Lines};
+use std::alloc::Global;
+
+/// The script of a file's logical lines.
+pub fn parse_script(alloc: Global, lines: &Lines) -> Result<Script, ParseFault>
+    requires { lines.now.last + 1 < 2 ^ 32 }
+    ensures words { IfOk result
+        (λ script. CountsDifferent (words_of lines.now.lines.items) script.words) }
+    ensures line { IfErr result (IsFaultOf lines.now) }
+{
+    match script(alloc, lines.lines.as_slice()) {
+        Ok(script) => Ok(script),
+        Err(BlockFault::Broken { at, rule }) => Err(ParseFault::Broken {
+            line: line_at(lines, at),
+            rule,
+        }),
+        Err(BlockFault::OutOfMemory) => Err(ParseFault::OutOfMemory),
+    }
+}
+
+// The physical line on which the logical line at this place begins, or the one after the last.
+fn line_at(lines: &Lines, at: usize) -> u32
+    requires { lines.now.last + 1 < 2 ^ 32 }
+    ensures { IsLineOf lines.now result }
+{
+    match lines.lines.get(at) {
+        Some(line) => u32::from(line.number),
+        None => lines.last + 1,
+    }
+}
+
+fn script(alloc: Global, lines: &[Line]) -> Result<Script, BlockFault>
+    ensures words { IfOk result (λ script. CountsDifferent (words_of lines.now) script.words) }
+{
+    let mut reader = Reader::new(alloc, lines);
+    let mut script = heading(&mut reader)?;
+    'members: while let Some(first) = reader.next_form()? {
+        member(&mut reader, &mut script, first)?;
+    }
+    script.words = count_words(alloc, lines)?;
+    Ok(script)
+}
+
+// The script of the first line, without members yet and with no words counted.
+fn heading(reader: &mut Reader<'_>) -> Result<Script, BlockFault> {
+    let alloc = reader.alloc;
+    let Some(first) = reader.next()? else {
+        return Err(BlockFault::bad_block(0));
+    };
+    let FormAt {
+        at,
+        line,
+        form,
+        doc,
+    } = first;
+    match form {
+        LineForm::ScriptName {
+            name,
+            parent,
+            flags,
+        } => Ok(Script {
+            name,
+            line,
+            parent,
+            flags,
+            doc: reader.own_doc(doc)?,
+            imports: Vec::new(alloc),
+            variables: Vec::new(alloc),
+            properties: Vec::new(alloc),
+            functions: Vec::new(alloc),
+            states: Vec::new(alloc),
+            words: 0,
+        }),
+        _ => Err(BlockFault::bad_block(at)),
+    }
+}

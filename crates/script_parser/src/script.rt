@@ -1,0 +1,119 @@
+// A script as its lines give it.
+
+use line_parser::{Constant, Expr, Heading, TypeName};
+use papy_base::{Name, Text};
+use script_lexer::Sign;
+
+/// A variable of a script.
+#[derive(Debug, Drop)]
+pub struct Variable {
+    pub kind: TypeName,
+    pub name: Name,
+    pub value: Option<Constant>,
+    pub flags: u32,
+    pub line: u16,
+}
+
+/// What a function does.
+#[derive(Debug, Drop)]
+pub enum Body {
+    /// The game, or a device, does it.
+    Native,
+    Lines(Vec<Statement>),
+}
+
+/// A function or an event.
+#[derive(Debug, Drop)]
+pub struct Function {
+    pub heading: Heading,
+    pub doc: Option<Text>,
+    pub body: Body,
+    /// The line of the heading.
+    pub line: u16,
+    /// The line of `EndFunction` or `EndEvent`, or a native function's own line.
+    pub end_line: u16,
+}
+
+/// A statement, and the line on which it begins.
+#[derive(Debug, Drop)]
+#[cycle(statement)]
+pub struct Statement {
+    pub line: u16,
+    pub form: StatementForm,
+}
+
+/// What a statement does. At most 64 `If` and `While` stand inside each other.
+#[derive(Debug, Drop)]
+#[cycle(statement)]
+pub enum StatementForm {
+    /// A local.
+    Definition {
+        kind: TypeName,
+        name: Name,
+        value: Option<Expr>,
+    },
+    Assign {
+        target: Expr,
+        sign: Sign,
+        value: Expr,
+    },
+    Plain(Expr),
+    Return(Option<Expr>),
+    /// The line, the test and the statements of `If` and each `ElseIf`, and the statements of `Else`.
+    If {
+        tests: Vec<(u16, Expr, Vec<Statement>)>,
+        otherwise: Vec<Statement>,
+    },
+    While {
+        test: Expr,
+        body: Vec<Statement>,
+        end_line: u16,
+    },
+}
+
+/// How a property is read and written.
+#[derive(Debug, Drop)]
+pub enum PropertyForm {
+    Auto(Option<Constant>),
+    ReadOnly(Constant),
+    /// By functions, at least one.
+    Full(Vec<Function>),
+}
+
+/// A property of a script.
+#[derive(Debug, Drop)]
+pub struct Property {
+    pub kind: TypeName,
+    pub name: Name,
+    pub form: PropertyForm,
+    pub doc: Option<Text>,
+    pub flags: u32,
+    pub line: u16,
+}
+
+/// A state with its functions.
+#[derive(Debug, Drop)]
+pub struct State {
+    pub name: Name,
+    pub is_auto: bool,
+    pub functions: Vec<Function>,
+    pub line: u16,
+}
+
+/// A script. Each list is in the order of the file.
+#[derive(Debug, Drop)]
+pub struct Script {
+    pub name: Name,
+    pub line: u16,
+    pub parent: Option<Name>,
+    pub flags: u32,
+    pub doc: Option<Text>,
+    /// The line and the name of each import.
+    pub imports: Vec<(u16, Name)>,
+    pub variables: Vec<Variable>,
+    pub properties: Vec<Property>,
+    pub functions: Vec<Function>,
+    pub states: Vec<State>,
+    /// How many different words, texts and documentation texts the file has.
+    pub words: u32,
+}

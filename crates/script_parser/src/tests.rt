@@ -1,0 +1,179 @@
+use crate::{Body, ParseFault, PropertyForm, Script, StatementForm, parse_script};
+use script_lexer::lex;
+use std::alloc::Global;
+use std::test::Fail;
+
+fn parse(alloc: Global, text: &str) -> Result<Result<Script, ParseFault>, Fail> {
+    let lines = lex(alloc, text.as_bytes())?;
+    if lines.last > 65535 {
+        return Err(Fail::from("too many lines"));
+    }
+    Ok(parse_script(alloc, &lines))
+}
+
+// `ok`, or the fault's line and rule.
+fn outcome(alloc: Global, text: &str) -> Result<String, Fail> {
+    match parse(alloc, text)? {
+        Ok(_) => Ok(String::from_str(alloc, "ok")?),
+        Err(fault) => Ok(format!(in alloc; "{fault}")?),
+    }
+}
+
+#[test]
+fn blocks_and_their_faults(rt: HostRuntime) -> Result<(), Fail> {
+    let alloc = rt.alloc();
+    for (text, want) in [
+        ("", "line 1: S3 BadBlock"),
+        ("ScriptName A", "ok"),
+        ("{doc}\nScriptName A", "line 1: S3 BadBlock"),
+        ("Import B\n", "line 1: S3 BadBlock"),
+        ("ScriptName A\nScriptName B\n", "line 2: S3 BadBlock"),
+        ("ScriptName A Hidden Hidden\n", "line 1: S1 BadLine"),
+        ("ScriptName A\nWhile True\n", "line 2: S3 BadBlock"),
+        (
+            "ScriptName A\n\nFunction F()\nx = 1\n\n",
+            "line 6: S3 BadBlock",
+        ),
+        (
+            "ScriptName A\nFunction F()\nEndEvent\n",
+            "line 3: S3 BadBlock",
+        ),
+        (
+            "ScriptName A\nEvent E()\nEndFunction\n",
+            "line 3: S3 BadBlock",
+        ),
+        (
+            "ScriptName A\nFunction F()\nInt x Hidden\n",
+            "line 3: S3 BadBlock",
+        ),
+        ("ScriptName A\nInt x = f()\n", "line 2: S3 BadBlock"),
+        ("ScriptName A\nInt x = -(-5)\n", "line 2: S3 BadBlock"),
+        ("ScriptName A\nInt x = (-(5)) Hidden\n", "ok"),
+        (
+            "ScriptName A\nInt Property P\nEndProperty\n",
+            "line 3: S3 BadBlock",
+        ),
+        (
+            "ScriptName A\nInt Property P\nEvent E()\nEndEvent\nEndProperty\n",
+            "ok",
+        ),
+        (
+            "ScriptName A\nState S\nFunction F() Native\nEndState\n",
+            "ok",
+        ),
+        (
+            "ScriptName A\nState S\nInt x\nEndState\n",
+            "line 3: S3 BadBlock",
+        ),
+        (
+            "ScriptName A\nState S\nFunction F() Native\n",
+            "line 4: S3 BadBlock",
+        ),
+        ("ScriptName A\nx = (\ny = (\n", "line 2: S1 BadLine"),
+    ] {
+        let found = outcome(alloc, text)?;
+        assert_eq!(rt; found.as_str(), want, "of {text:?}");
+    }
+    Ok(())
+}
+
+// What stands between a function's lines, and its fault.
+#[test]
+fn tests_and_loops(rt: HostRuntime) -> Result<(), Fail> {
+    let alloc = rt.alloc();
+    for (body, want) in [
+        ("If a\nElseIf b\nElseIf c\nElse\nEndIf\n", "ok"),
+        ("If a\nElse\nElse\nEndIf\n", "line 5: S3 BadBlock"),
+        ("If a\nElse\nElseIf b\nEndIf\n", "line 5: S3 BadBlock"),
+        ("If a\nEndWhile\n", "line 4: S3 BadBlock"),
+        ("While a\nEndIf\n", "line 4: S3 BadBlock"),
+        ("While a\nElse\n", "line 4: S3 BadBlock"),
+        ("EndIf\n", "line 3: S3 BadBlock"),
+        (
+            "While a\nIf b\n{doc}\nReturn\nEndIf {doc}\nEndWhile\n",
+            "ok",
+        ),
+    ] {
+        let text = format!(in alloc; "ScriptName A\nFunction F()\n{body}EndFunction\n")?;
+        let found = outcome(alloc, text.as_str())?;
+        assert_eq!(rt; found.as_str(), want, "of {body:?}");
+    }
+    Ok(())
+}
+
+// A function with so many blocks open at once.
+fn nested(alloc: Global, depth: usize) -> Result<String, Fail> {
+    let mut text = String::from_str(alloc, "ScriptName A\nFunction F()\n")?;
+    for _ in 0..depth {
+        text.push_str("While a\n")?;
+    }
+    for _ in 0..depth {
+        text.push_str("EndWhile\n")?;
+    }
+    text.push_str("EndFunction\n")?;
+    outcome(alloc, text.as_str())
+}
+
+#[test]
+fn sixty_four_blocks_may_be_open(rt: HostRuntime) -> Result<(), Fail> {
+    let most = nested(rt.alloc(), 64)?;
+    assert_eq!(rt; most.as_str(), "ok");
+    let over = nested(rt.alloc(), 65)?;
+    assert_eq!(rt; over.as_str(), "line 67: S2 TooDeep");
+    Ok(())
+}
+
+const EVERYTHING: &str = "ScriptName A Extends B Conditional
+{own}
+{dropped}
+Import Debug
+Int x = -(5) Hidden
+Int Property P = 3 Auto {first}
+Int Property Q = \"A\" AutoReadOnly
+Int Property R
+{full}
+Int Function Get()
+Return x
+EndFunction
+EndProperty
+Event OnInit()
+If x
+x = 1
+ElseIf P
+Else
+P = 2
+EndIf
+EndEvent
+Auto State S
+Function F() Native
+EndState
+";
+
+#[test]
+fn a_script_with_members_of_each_kind(rt: HostRuntime) -> Result<(), Fail> {
+    let script = parse(rt.alloc(), EVERYTHING)??;
+    assert!(rt;
+        script
+            .doc
+            .is_some_and(|doc| doc.as_bytes() == b"own".as_slice())
+    );
+    assert_eq!(rt; (script.line, script.flags, script.words), (1, 2, 17));
+    assert_eq!(rt; script.imports.len(), 1);
+    assert_eq!(rt; script.variables.len(), 1);
+    assert_eq!(rt; script.properties.len(), 3);
+    assert_eq!(rt; script.functions.len(), 1);
+    assert_eq!(rt; script.states.len(), 1);
+    let full = &script.properties[2];
+    assert!(rt; matches!(&full.form, PropertyForm::Full(functions) if functions.len() == 1));
+    let event = &script.functions[0];
+    assert_eq!(rt; (event.line, event.end_line), (14, 21));
+    let Body::Lines(statements) = &event.body else {
+        return Err(Fail::from("no body"));
+    };
+    assert_eq!(rt; statements.len(), 1);
+    let StatementForm::If { tests, otherwise } = &statements[0].form else {
+        return Err(Fail::from("no If"));
+    };
+    assert_eq!(rt; (tests.len(), otherwise.len()), (2, 1));
+    Ok(())
+}
