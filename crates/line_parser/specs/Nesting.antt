@@ -2,7 +2,7 @@
 use Rattle.std.specs.Prelude.{ℕ, ◌+◌, ◌-◌, ◌<◌, ◌⊎◌, Bool, true, false, if◌then◌else◌, List, fold, length, take}
 use Rattle.script_lexer.specs.declared.token.Spanned.{Spanned}
 use Rattle.script_lexer.specs.declared.token.Token.{Token}
-use Rattle.script_lexer.specs.declared.token.Token.TheVariants.{Word, Key, Int, Quoted, Doc, Sign as sign}
+use Rattle.script_lexer.specs.declared.token.Token.TheVariants.{Sign as sign}
 use Rattle.script_lexer.specs.declared.sign.Sign.TheVariants.{OpenParen, OpenBracket, CloseParen, CloseBracket}
 
 -- `(` and `[`

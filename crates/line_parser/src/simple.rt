@@ -1,5 +1,5 @@
 // Types, constants and flags: the parts of a line that hold no expression.
-ghost use Rattle.std.specs.Prelude.{◌≡◌, ◌+◌, ◌<◌, ◌≤◌, length, OnOk, IfOk};
+ghost use Rattle.std.specs.Prelude.{◌<◌, ◌≤◌, length, OnOk};
 
 use crate::cursor::{Cursor, is_sign_at};
 use crate::fault::FormFault;

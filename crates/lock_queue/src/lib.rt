@@ -2,5 +2,14 @@
 #![tactic(auto)]
 
 mod links;
+mod locks;
 mod order;
 mod queues;
+mod ready;
+mod seat;
+
+pub use locks::Locks;
+pub use seat::Seat;
+
+#[cfg(test)]
+mod tests;

@@ -10,7 +10,9 @@ use std::io::ErrorKind;
 use std::process::ExitCode;
 
 const OUT_OF_MEMORY: u8 = 1;
+
 const USAGE: u8 = 2;
+
 const CANNOT_WRITE: u8 = 4;
 
 /// The words of the command line behind the program's name.

@@ -7,3 +7,5 @@ pub mod WordLemmas
 pub mod NumberLemmas
 pub mod SignLemmas
 pub mod ReadingLemmas
+pub mod SpanLemmas
+pub mod LawLemmas

@@ -1,14 +1,12 @@
 -- Numbers.
-use Rattle.std.proofs.Common.{◌≡◌, ℕ, zero, suc, ◌+◌, ◌-◌, ◌*◌, ◌<◌, ◌≤◌, ◌^◌, Bool, true, false, cond, eqb, ltb, List, [], ◌∷◌, ◌++◌, length, get_or, take, drop, map, Option, Some, None, refl, sym, ap, subst, ◌∙◌, ⊎_elim, inl, inr, add-one, one-add, arith, append_assoc, lit≤, rules}
-use Rattle.std.specs.Prelude.{◌≢◌, ◌⊎◌, ◌&&◌, MatchBool, not, ◌==◌}
-use Rattle.std.specs.List.{prefix_len, flat_map, list_all, AllByRecursion}
-use Rattle.std.proofs.lemmas.Bool.{eqb-true, eqb-false, eq-eqb, not-false, cases_Bool, cases_lt, cases_eq, and_parts, false≢true}
-use Rattle.std.proofs.lemmas.List.{length-drop, length-take, length-append, take-append-drop, drop_all, drop_more, drop_at, take_at, take_all, take-take, append-nil, append_cancel_right, length-map}
-use Rattle.std.proofs.lemmas.List.Sums.{prefix_len-le-length, prefix_len_stops}
+use Rattle.std.proofs.Common.{◌≡◌, ℕ, suc, ◌+◌, ◌<◌, ◌≤◌, ◌^◌, Bool, true, false, List, [], ◌∷◌, ◌++◌, length, take, drop, refl, sym, ap, subst, ◌∙◌, ⊎_elim, inl, inr, one-add, arith, lit≤}
+use Rattle.std.specs.Prelude.{◌⊎◌}
+use Rattle.std.specs.List.{prefix_len}
+use Rattle.std.proofs.lemmas.Bool.{eqb-true, cases_Bool, and_parts}
+use Rattle.std.proofs.lemmas.List.{take-append-drop, take-take}
+use Rattle.std.proofs.lemmas.List.Sums.{prefix_len-le-length}
 use Rattle.script_lexer.specs.declared.opening.Opening.TheVariants as opening
-use Rattle.script_lexer.specs.declared.token.Token.{Token}
 use Rattle.script_lexer.specs.declared.token.Token.TheVariants as token
-use Rattle.script_lexer.specs.declared.piece.Piece.{Piece}
 use Rattle.script_lexer.specs.declared.piece.Piece.TheVariants as piece
 use Rattle.script_lexer.specs.declared.fault.LexRule.{LexRule}
 use Rattle.script_lexer.specs.declared.fault.LexRule.TheVariants as rule
@@ -19,10 +17,10 @@ use Rattle.std.specs.Char.{is_ascii_digit, is_ascii_hexdigit}
 use Rattle.std.specs.Int.{w32, cast_signed}
 use Rattle.std.specs.Str.Parse.{digits_value}
 use Rattle.std.proofs.lemmas.Int.{to_z_pos}
-use Rattle.std.specs.Prelude.{ℤ, pos, if◌then◌else◌}
+use Rattle.std.specs.Prelude.{ℤ, pos}
 use Rattle.script_lexer.specs.Bytes.{opening_of, is_word_start}
-use Rattle.script_lexer.specs.Pieces.{Completes, Numeral, numeral, is_hexadecimal, int_of, magnitude}
-use Rattle.script_lexer.specs.Rules.{IsFraction, limit_of}
+use Rattle.script_lexer.specs.Pieces.{Numeral, numeral, is_hexadecimal, int_of}
+use Rattle.script_lexer.specs.Rules.{IsFraction}
 use Rattle.script_lexer.specs.Answers.{is_hexadecimal_at}
 use Rattle.script_lexer.proofs.Runs.{whole_run, run_of_take, behind_front}
 
@@ -69,12 +67,12 @@ hex_most b x hs (y ∷ os) back hex same h =
     let letter : y ≡ 120 = let e : y ≡ x = cc in e ∙ hex_letter b x hs hex in
     ⊎_elim
     (λ (yes : is_hexadecimal b (y ∷ os) ≡ true).
-        let after : drop (prefix_len is_ascii_hexdigit os) os ≡ [] = ap (λ (n : Numeral). n.after) (sym (hex_numeral b (y ∷ os) yes)) ∙ h in
-        let le : length os ≤ prefix_len is_ascii_hexdigit (os ++ back) = whole_run is_ascii_hexdigit os back after in
-        let le' : length os ≤ prefix_len is_ascii_hexdigit hs = rw tail le in
-        omega arith)
+    let after : drop (prefix_len is_ascii_hexdigit os) os ≡ [] = ap (λ (n : Numeral). n.after) (sym (hex_numeral b (y ∷ os) yes)) ∙ h in
+    let le : length os ≤ prefix_len is_ascii_hexdigit (os ++ back) = whole_run is_ascii_hexdigit os back after in
+    let le' : length os ≤ prefix_len is_ascii_hexdigit hs = rw tail le in
+    omega arith)
     (λ (no : is_hexadecimal b (y ∷ os) ≡ false).
-        absurd (decimal_front_of_hex b y os letter (ap (λ (n : Numeral). n.after) (sym (dec_numeral b (y ∷ os) no)) ∙ h)))
+    absurd (decimal_front_of_hex b y os letter (ap (λ (n : Numeral). n.after) (sym (dec_numeral b (y ∷ os) no)) ∙ h)))
     (cases_Bool (is_hexadecimal b (y ∷ os)))
 
 abbrev numeral_base : Numeral → ℕ
@@ -97,9 +95,10 @@ hex_at : (b x : ℕ) (hs : List ℕ) → opening_of b ≡ opening.Number → is_
 hex_at b x hs opens hex small no_word =
     let k = prefix_len is_ascii_hexdigit hs in
     let whole = hex_numeral b (x ∷ take k hs) (hex_take b x hs hex) in
-    stands opening.Number b (x ∷ hs) _ (suc k) (k + 2) (omega arith) (omega (arith, prefix_len-le-length is_ascii_hexdigit hs)) opens
-    (ap (λ (n : Numeral). n.after) whole ∙ behind_front is_ascii_hexdigit hs,
-     sym (ap (λ (n : Numeral). piece.Token (token.Int (int_of n))) whole ∙ ap (λ (t : List ℕ). piece.Token (token.Int (cast_signed w32 (digits_value 16 t)))) (front_front is_ascii_hexdigit hs)))
+    stands opening.Number b (x ∷ hs) _ (suc k) (k + 2) (omega arith) (omega (arith, prefix_len-le-length is_ascii_hexdigit hs)) opens (
+      ap (λ (n : Numeral). n.after) whole ∙ behind_front is_ascii_hexdigit hs,
+      sym (ap (λ (n : Numeral). piece.Token (token.Int (int_of n))) whole ∙ ap (λ (t : List ℕ). piece.Token (token.Int (cast_signed w32 (digits_value 16 t)))) (front_front is_ascii_hexdigit hs)),
+    )
     (λ os back q same h. hex_most b x hs os back hex same h.0)
     (no_hex_rule b (x ∷ hs) hex small no_word)
 
@@ -114,7 +113,7 @@ hexadecimal_stands (b ∷ x ∷ hs) behind digits after k n opens hex is_behind 
     let v : n ≡ digits_value 16 (take (prefix_len is_ascii_hexdigit hs) hs) = value ∙ ap (digits_value 16) d in
     subst (λ (m : ℕ). Stands (b ∷ x ∷ hs) (piece.Token (token.Int (cast_signed w32 m))) (k + 2)) (sym v)
     (subst (λ (m : ℕ). Stands (b ∷ x ∷ hs) (piece.Token (token.Int (cast_signed w32 (digits_value 16 (take (prefix_len is_ascii_hexdigit hs) hs))))) (m + 2)) (sym r)
-        (hex_at b x hs opens hex (omega arith) (subst (λ (t : List ℕ). BeginsWith is_word_start t → ⊥) a no_word)))
+    (hex_at b x hs opens hex (omega arith) (subst (λ (t : List ℕ). BeginsWith is_word_start t → ⊥) a no_word)))
 
 hex_least : (b : ℕ) (bs : List ℕ) → is_hexadecimal b bs ≡ true → (r : LexRule) → BreaksFrom opening.Number r b bs → 6 ≤ rule_number r
 hex_least b bs hex rule.BadByte broken = absurd broken
@@ -144,9 +143,9 @@ hexadecimal_refused (b ∷ x ∷ hs) behind digits after k opens hex is_behind r
 dec_take : (b : ℕ) (bs : List ℕ) → is_hexadecimal b bs ≡ false → (k : ℕ) → is_hexadecimal b (take k bs) ≡ false
 dec_take b bs dec k = ⊎_elim
     (λ (yes : is_hexadecimal b (take k bs) ≡ true).
-        let whole : is_hexadecimal b (take k bs ++ drop k bs) ≡ true = hexadecimal-append b (take k bs) (drop k bs) yes in
-        let e : is_hexadecimal b bs ≡ true = rw take-append-drop at whole in
-        absurd cc)
+    let whole : is_hexadecimal b (take k bs ++ drop k bs) ≡ true = hexadecimal-append b (take k bs) (drop k bs) yes in
+    let e : is_hexadecimal b bs ≡ true = rw take-append-drop at whole in
+    absurd cc)
     (λ no. no)
     (cases_Bool (is_hexadecimal b (take k bs)))
 
@@ -155,9 +154,9 @@ dec_most b bs os back dec same h =
     ⊎_elim
     (λ (yes : is_hexadecimal b os ≡ true). let e : is_hexadecimal b bs ≡ true = ap (is_hexadecimal b) same ∙ hexadecimal-append b os back yes in absurd cc)
     (λ (no : is_hexadecimal b os ≡ false).
-        let after : drop (prefix_len is_ascii_digit os) os ≡ [] = ap (λ (n : Numeral). n.after) (sym (dec_numeral b os no)) ∙ h in
-        let le : length os ≤ prefix_len is_ascii_digit (os ++ back) = whole_run is_ascii_digit os back after in
-        rw same le)
+    let after : drop (prefix_len is_ascii_digit os) os ≡ [] = ap (λ (n : Numeral). n.after) (sym (dec_numeral b os no)) ∙ h in
+    let le : length os ≤ prefix_len is_ascii_digit (os ++ back) = whole_run is_ascii_digit os back after in
+    rw same le)
     (cases_Bool (is_hexadecimal b os))
 
 no_dec_rule : (b : ℕ) (bs : List ℕ) → is_hexadecimal b bs ≡ false → digits_value 10 (b ∷ take (prefix_len is_ascii_digit bs) bs) ≤ 2147483647 → (IsFraction (drop (prefix_len is_ascii_digit bs) bs) → ⊥) → (BeginsWith is_word_start (drop (prefix_len is_ascii_digit bs) bs) → ⊥) → (r : LexRule) → BreaksFrom opening.Number r b bs → ⊥
@@ -177,9 +176,10 @@ dec_at : (b : ℕ) (bs : List ℕ) → opening_of b ≡ opening.Number → is_he
 dec_at b bs opens dec small no_fraction no_word =
     let k = prefix_len is_ascii_digit bs in
     let whole = dec_numeral b (take k bs) (dec_take b bs dec k) in
-    stands opening.Number b bs _ k (1 + k) (omega arith) (prefix_len-le-length is_ascii_digit bs) opens
-    (ap (λ (n : Numeral). n.after) whole ∙ behind_front is_ascii_digit bs,
-     sym (ap (λ (n : Numeral). piece.Token (token.Int (int_of n))) whole ∙ ap (λ (t : List ℕ). piece.Token (token.Int (pos (digits_value 10 (b ∷ t))))) (front_front is_ascii_digit bs)))
+    stands opening.Number b bs _ k (1 + k) (omega arith) (prefix_len-le-length is_ascii_digit bs) opens (
+      ap (λ (n : Numeral). n.after) whole ∙ behind_front is_ascii_digit bs,
+      sym (ap (λ (n : Numeral). piece.Token (token.Int (int_of n))) whole ∙ ap (λ (t : List ℕ). piece.Token (token.Int (pos (digits_value 10 (b ∷ t))))) (front_front is_ascii_digit bs)),
+    )
     (λ os back q same h. dec_most b bs os back dec same h.0)
     (no_dec_rule b bs dec small no_fraction no_word)
 
@@ -200,7 +200,7 @@ decimal_stands (b ∷ bs) behind digits after k n opens dec is_behind run ds res
     let z : cast_signed w32 n ≡ pos (digits_value 10 (b ∷ take (prefix_len is_ascii_digit bs) bs)) = to_z_pos w32 n (omega arith) ∙ ap pos v in
     subst (λ (m : ℤ). Stands (b ∷ bs) (piece.Token (token.Int m)) (1 + k)) (sym z)
     (subst (λ (m : ℕ). Stands (b ∷ bs) (piece.Token (token.Int (pos (digits_value 10 (b ∷ take (prefix_len is_ascii_digit bs) bs))))) (1 + m)) (sym r)
-        (dec_at b bs opens dec (omega arith) (subst (λ (t : List ℕ). IsFraction t → ⊥) a no_fraction) (subst (λ (t : List ℕ). BeginsWith is_word_start t → ⊥) a no_word)))
+    (dec_at b bs opens dec (omega arith) (subst (λ (t : List ℕ). IsFraction t → ⊥) a no_fraction) (subst (λ (t : List ℕ). BeginsWith is_word_start t → ⊥) a no_word)))
 
 dec_least_fraction : (b : ℕ) (bs : List ℕ) → (r : LexRule) → BreaksFrom opening.Number r b bs → 4 ≤ rule_number r
 dec_least_fraction b bs rule.BadByte broken = absurd broken

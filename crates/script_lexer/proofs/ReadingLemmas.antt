@@ -1,10 +1,10 @@
 -- The whole reading, and the places at which rules are broken.
-use Rattle.std.proofs.Common.{◌≡◌, ℕ, zero, suc, ◌+◌, ◌-◌, ◌<◌, ◌≤◌, Bool, true, false, cond, eqb, List, [], ◌∷◌, ◌++◌, length, get_or, take, drop, Result, Ok, Err, refl, sym, ap, subst, ◌∙◌, ⊎_elim, inl, inr, append_assoc, arith, lit≤, zero-add}
+use Rattle.std.proofs.Common.{◌≡◌, ℕ, zero, suc, ◌+◌, ◌-◌, ◌<◌, ◌≤◌, true, false, cond, List, [], ◌∷◌, ◌++◌, length, get_or, take, drop, Result, Ok, Err, refl, sym, ap, subst, ◌∙◌, ⊎_elim, inl, inr, append_assoc, arith, lit≤, zero-add}
 use Rattle.std.specs.Prelude.{◌⊎◌, OnOk}
 use Rattle.script_lexer.specs.declared.line.Lines.{Lines}
-use Rattle.std.specs.List.{flat_map, count_by}
-use Rattle.std.proofs.lemmas.Bool.{cases_lt, cases_Bool, eqb-true, eq-eqb, ne_eqb}
-use Rattle.std.proofs.lemmas.List.{append-nil, append_cancel_left, length-append, length-drop, length-take, take-append-drop, take_at, drop_at, take-take, drop_all, length-take-le, flat_map_more}
+use Rattle.std.specs.List.{flat_map}
+use Rattle.std.proofs.lemmas.Bool.{cases_lt, cases_Bool, eq-eqb, ne_eqb}
+use Rattle.std.proofs.lemmas.List.{append-nil, length-append, length-drop, take-append-drop, take_at, drop_at, take-take, drop_all, length-take-le, flat_map_more}
 use Rattle.std.proofs.lemmas.List.Sums.{sum_by-append, sum_by-cons, count_by-le-length}
 use Rattle.script_lexer.specs.declared.piece.Piece.{Piece}
 use Rattle.script_lexer.specs.declared.progress.Progress.{Progress}
@@ -14,11 +14,11 @@ use Rattle.script_lexer.specs.declared.fault.LexFault.{LexFault}
 use Rattle.script_lexer.specs.declared.fault.LexFault.TheVariants as fault
 use Rattle.script_lexer.specs.declared.line.Line.{Line}
 use Rattle.script_lexer.specs.Bytes.{line_ends, is_line_end}
-use Rattle.script_lexer.specs.Pieces.{Spells, IsLongest}
+use Rattle.script_lexer.specs.Pieces.{IsLongest}
 use Rattle.script_lexer.specs.Rules.{rule_number, Breaks}
-use Rattle.script_lexer.specs.Lines.{Spelled, Reads, LogicalLine, logical_lines, nonempty, Following, following, lines_of, physical_lines, LexesFrom, BreaksAt, IsPastLastLine, IsBroken, IsFirstBroken, IsUnbroken, FirstBreak}
+use Rattle.script_lexer.specs.Lines.{Spelled, Reads, logical_lines, lines_of, physical_lines, LexesFrom, BreaksAt, IsBroken, IsUnbroken, FirstBreak}
 use Rattle.script_lexer.specs.Answers.{IsLowest}
-use Rattle.script_lexer.specs.Progress.{lines_with, IsStart, IsReady, Takes, closed}
+use Rattle.script_lexer.specs.Progress.{lines_with, IsStart, IsReady, closed}
 use Rattle.script_lexer.specs.Steps.{ends_before_last, StandsHere, Steps, Exceeds, StepFault, TextFault, TextAnswer}
 
 -- ---- pieces in a row
@@ -39,16 +39,16 @@ Reads-length : (text : List ℕ) (ps : List Spelled) (rest : List ℕ) → Reads
 Reads-length text ps rest h = let e = ap length (Reads-spelling text ps rest h) in omega (arith, length-append (spelling ps) rest)
 
 -- at one place stands one longest piece
-same_length : (bs after cs back : List ℕ) (p q : Piece) → bs ++ after ≡ cs ++ back → IsLongest bs after p → IsLongest cs back q → length bs ≡ length cs
+pub same_length : (bs after cs back : List ℕ) (p q : Piece) → bs ++ after ≡ cs ++ back → IsLongest bs after p → IsLongest cs back q → length bs ≡ length cs
 same_length bs after cs back p q e h g =
     let le : length cs ≤ length bs = h.longest cs back q e g.spelled in
     let ge : length bs ≤ length cs = g.longest bs after p (sym e) h.spelled in
     omega arith
 
-same_bytes : (bs after cs back : List ℕ) → bs ++ after ≡ cs ++ back → length bs ≡ length cs → bs ≡ cs
+pub same_bytes : (bs after cs back : List ℕ) → bs ++ after ≡ cs ++ back → length bs ≡ length cs → bs ≡ cs
 same_bytes bs after cs back e len = sym (take_at bs after (length cs) len) ∙ ap (take (length cs)) e ∙ take_at cs back (length cs) refl
 
-same_after : (bs after cs back : List ℕ) → bs ++ after ≡ cs ++ back → length bs ≡ length cs → after ≡ back
+pub same_after : (bs after cs back : List ℕ) → bs ++ after ≡ cs ++ back → length bs ≡ length cs → after ≡ back
 same_after bs after cs back e len = sym (drop_at bs after (length cs) len) ∙ ap (drop (length cs)) e ∙ drop_at cs back (length cs) refl
 
 -- Another reading stops before, at or after a longest piece, never inside it.
@@ -106,23 +106,23 @@ least_behind (x ∷ xs) (suc n) zero h = absurd (omega arith)
 least_behind (x ∷ xs) (suc n) (suc m) h =
     ⊎_elim
     (λ (yes : is_line_end x ≡ true).
-        let one : (k : ℕ) → line_ends (take (suc k) (x ∷ xs)) ≡ 1 + line_ends (take k xs) = λ k. line_ends-cons x (take k xs) ∙ rw yes refl in
-        let later = least_behind xs n m (omega (arith, one m)) in
-        record {
-          place = suc later.place;
-          within = omega (arith, later.within);
-          reached = one later.place ∙ omega (arith, later.reached);
-          least = least_more x xs n later.place (λ k g. later.least k (omega (arith, one k)));
-        })
+    let one : (k : ℕ) → line_ends (take (suc k) (x ∷ xs)) ≡ 1 + line_ends (take k xs) = λ k. line_ends-cons x (take k xs) ∙ rw yes refl in
+    let later = least_behind xs n m (omega (arith, one m)) in
+    record {
+      place = suc later.place;
+      within = omega (arith, later.within);
+      reached = one later.place ∙ omega (arith, later.reached);
+      least = least_more x xs n later.place (λ k g. later.least k (omega (arith, one k)));
+    })
     (λ (no : is_line_end x ≡ false).
-        let one : (k : ℕ) → line_ends (take (suc k) (x ∷ xs)) ≡ line_ends (take k xs) = λ k. line_ends-cons x (take k xs) ∙ rw no (zero-add (line_ends (take k xs))) in
-        let later = least_behind xs (suc n) m (omega (arith, one m)) in
-        record {
-          place = suc later.place;
-          within = omega (arith, later.within);
-          reached = one later.place ∙ later.reached;
-          least = least_more x xs n later.place (λ k g. later.least k (omega (arith, one k)));
-        })
+    let one : (k : ℕ) → line_ends (take (suc k) (x ∷ xs)) ≡ line_ends (take k xs) = λ k. line_ends-cons x (take k xs) ∙ rw no (zero-add (line_ends (take k xs))) in
+    let later = least_behind xs (suc n) m (omega (arith, one m)) in
+    record {
+      place = suc later.place;
+      within = omega (arith, later.within);
+      reached = one later.place ∙ later.reached;
+      least = least_more x xs n later.place (λ k g. later.least k (omega (arith, one k)));
+    })
     (cases_Bool (is_line_end x))
 
 -- ---- what was read so far
@@ -171,17 +171,17 @@ module _ (start : ℕ) (text : List ℕ) (p : Progress) (rest : List ℕ) (so_fa
       let size = ap length here.split in
       ⊎_elim
       (λ (at_most : length rest ≤ length (drop place text)).
-          let bound : length (drop place text) ≡ length text - place = length-drop place text in
-          ⊎_elim
-          (λ (inside : place < length text).
-              let same : place ≡ length (spelling so_far.reading) = omega (arith, text_length) in
-              let begins : drop place text ≡ rest = ap (λ (n : ℕ). drop n text) same ∙ sym rest_is in
-              absurd (here.unbroken r (subst (Breaks r) begins broken.broken)))
-          (λ (past : length text ≤ place). absurd (subst (Breaks r) (drop_all place text past) broken.broken))
-          (cases_lt place (length text)))
+      let bound : length (drop place text) ≡ length text - place = length-drop place text in
+      ⊎_elim
+      (λ (inside : place < length text).
+      let same : place ≡ length (spelling so_far.reading) = omega (arith, text_length) in
+      let begins : drop place text ≡ rest = ap (λ (n : ℕ). drop n text) same ∙ sym rest_is in
+      absurd (here.unbroken r (subst (Breaks r) begins broken.broken)))
+      (λ (past : length text ≤ place). absurd (subst (Breaks r) (drop_all place text past) broken.broken))
+      (cases_lt place (length text)))
       (λ (behind : length (drop place text) ≤ length after).
-          let bound : length (drop place text) ≡ length text - place = length-drop place text in
-          omega (arith, text_length, length-append bytes after))
+      let bound : length (drop place text) ≡ length text - place = length-drop place text in
+      omega (arith, text_length, length-append bytes after))
       (not_inside text so_far.reading broken.reading rest bytes after (drop place text) piece so_far.whole here.split here.longest broken.whole)
 
   -- the front of the text up to a place within the piece
@@ -189,7 +189,7 @@ module _ (start : ℕ) (text : List ℕ) (p : Progress) (rest : List ℕ) (so_fa
   front_within after bytes k split le =
       let sp = spelling so_far.reading in
       let parts : text ≡ (sp ++ take k bytes) ++ (drop k bytes ++ after) =
-          text_is ∙ ap (λ (t : List ℕ). sp ++ t) (split ∙ ap (λ (t : List ℕ). t ++ after) (sym (take-append-drop k bytes)) ∙ append_assoc (take k bytes) (drop k bytes) after) ∙ sym (append_assoc sp (take k bytes) (drop k bytes ++ after)) in
+      text_is ∙ ap (λ (t : List ℕ). sp ++ t) (split ∙ ap (λ (t : List ℕ). t ++ after) (sym (take-append-drop k bytes)) ∙ append_assoc (take k bytes) (drop k bytes) after) ∙ sym (append_assoc sp (take k bytes) (drop k bytes ++ after)) in
       let len : length (sp ++ take k bytes) ≡ length sp + k = length-append sp (take k bytes) ∙ ap (λ (n : ℕ). length sp + n) (length-take-le k bytes le) in
       ap (take (length sp + k)) parts ∙ take_at (sp ++ take k bytes) (drop k bytes ++ after) (length sp + k) len
 
@@ -230,13 +230,13 @@ read_more start text old new rest after so_far step =
       unbroken = λ place r broken. ⊎_elim
           (λ at_piece. let far = beyond start text old rest so_far after bytes step.piece step.here place r at_piece in omega arith)
           (λ past. ⊎_elim
-              (λ (near : place < length sp + length bytes).
-                  let k = length bytes - 1 in
-                  let bound = line_ends-take place (length sp + k) text (omega arith) in
-                  let count = ends_within start text old rest so_far after bytes k step.here.split (omega arith) in
-                  absurd (omega (arith, past.1.behind, step.few, so_far.line)))
-              (λ far. omega arith)
-              (cases_lt place (length sp + length bytes)))
+          (λ (near : place < length sp + length bytes).
+          let k = length bytes - 1 in
+          let bound = line_ends-take place (length sp + k) text (omega arith) in
+          let count = ends_within start text old rest so_far after bytes k step.here.split (omega arith) in
+          absurd (omega (arith, past.1.behind, step.few, so_far.line)))
+          (λ far. omega arith)
+          (cases_lt place (length sp + length bytes)))
           broken;
     }
 
@@ -257,15 +257,18 @@ rule_number-le rule.TooLarge = lit≤ tt
 break_here : (start : ℕ) (text : List ℕ) (p : Progress) (rest : List ℕ) (line : ℕ) (r : LexRule) → ReadSoFar start text p rest → line ≡ p.line → IsLowest rest r → FirstBreak text line r
 break_here start text p rest line r so_far is_line low =
     let n = length (spelling so_far.reading) in
-    let here = rest_is start text p rest so_far in
-    (n, record {
-      broken = inl (record { reading = so_far.reading; whole = subst (λ (t : List ℕ). Reads text so_far.reading t) here so_far.whole; broken = subst (Breaks r) here low.broken });
-      least = so_far.unbroken;
-      lowest = λ q broken. ⊎_elim
-          (λ at_piece. low.lowest q (subst (Breaks q) (sym here) at_piece.broken))
-          (λ past. subst (λ (x : LexRule). rule_number r ≤ rule_number x) (sym past.0) (rule_number-le r))
-          broken;
-    }, is_line ∙ so_far.line ∙ ap (λ (t : List ℕ). 1 + line_ends t) (sym (front_is start text p rest so_far)))
+    let here = rest_is start text p rest so_far in (
+      n,
+      record {
+        broken = inl (record { reading = so_far.reading; whole = subst (λ (t : List ℕ). Reads text so_far.reading t) here so_far.whole; broken = subst (Breaks r) here low.broken });
+        least = so_far.unbroken;
+        lowest = λ q broken. ⊎_elim
+            (λ at_piece. low.lowest q (subst (Breaks q) (sym here) at_piece.broken))
+            (λ past. subst (λ (x : LexRule). rule_number r ≤ rule_number x) (sym past.0) (rule_number-le r))
+            broken;
+      },
+      is_line ∙ so_far.line ∙ ap (λ (t : List ℕ). 1 + line_ends t) (sym (front_is start text p rest so_far)),
+    )
 
 -- a line past the last one begins within the piece
 break_within : (start : ℕ) (text : List ℕ) (p : Progress) (rest : List ℕ) (line : ℕ) → ReadSoFar start text p rest → line ≡ 65536 → Exceeds p.line rest → FirstBreak text line rule.TooLarge
@@ -277,18 +280,21 @@ break_within start text p rest line so_far is_line over =
     let count = ends_within start text p rest so_far over.after bytes k over.here.split (omega arith) in
     let first = least_behind text 65535 (length sp + k) (omega (arith, over.many, so_far.line)) in
     let size = text_length start text p rest so_far in
-    let parts = ap length over.here.split in
-    (first.place, record {
-      broken = inr (refl, record { within = omega (arith, first.within, length-append bytes over.after); behind = omega (arith, first.reached) });
-      least = λ other q broken. ⊎_elim
-          (λ at_piece. let far = beyond start text p rest so_far over.after bytes over.piece over.here other q at_piece in omega (arith, first.within))
-          (λ past. first.least other past.1.behind)
-          broken;
-      lowest = λ q broken. ⊎_elim
-          (λ at_piece. let far = beyond start text p rest so_far over.after bytes over.piece over.here first.place q at_piece in absurd (omega (arith, first.within)))
-          (λ past. subst (λ (x : LexRule). 9 ≤ rule_number x) (sym past.0) (lit≤ tt))
-          broken;
-    }, is_line ∙ omega (arith, first.reached))
+    let parts = ap length over.here.split in (
+      first.place,
+      record {
+        broken = inr (refl, record { within = omega (arith, first.within, length-append bytes over.after); behind = omega (arith, first.reached) });
+        least = λ other q broken. ⊎_elim
+            (λ at_piece. let far = beyond start text p rest so_far over.after bytes over.piece over.here other q at_piece in omega (arith, first.within))
+            (λ past. first.least other past.1.behind)
+            broken;
+        lowest = λ q broken. ⊎_elim
+            (λ at_piece. let far = beyond start text p rest so_far over.after bytes over.piece over.here first.place q at_piece in absurd (omega (arith, first.within)))
+            (λ past. subst (λ (x : LexRule). 9 ≤ rule_number x) (sym past.0) (lit≤ tt))
+            broken;
+      },
+      is_line ∙ omega (arith, first.reached),
+    )
 
 pub step_fault : (start : ℕ) (text : List ℕ) (p : Progress) (rest : List ℕ) (f : LexFault) → ReadSoFar start text p rest → StepFault p.line rest f → TextFault text f
 step_fault start text p rest fault.OutOfMemory so_far h = tt
@@ -298,19 +304,20 @@ step_fault start text p rest (fault.Broken line r) so_far (inr h) =
 
 pub read_all : (start : ℕ) (text : List ℕ) (p : Progress) (lines : List Line) (last : ℕ) → ReadSoFar start text p [] → closed lines p → last ≡ physical_lines text → IsUnbroken text × LexesFrom start text (logical_lines lines) last
 read_all start text p lines last so_far is_closed is_last =
-    let size = text_length start text p [] so_far in
-    (λ place r broken.
-        let ge = so_far.unbroken place r broken in
-        ⊎_elim
-        (λ at_piece. absurd (subst (Breaks r) (drop_all place text (omega arith)) at_piece.broken))
-        (λ past. absurd (omega (arith, past.1.within)))
-        broken,
-     record {
-       reading = so_far.reading;
-       whole = so_far.whole;
-       as_lines = is_closed ∙ so_far.built [] ∙ ap (lines_of start) (append-nil so_far.reading);
-       as_last = is_last;
-     })
+    let size = text_length start text p [] so_far in (
+      λ place r broken.
+          let ge = so_far.unbroken place r broken in
+          ⊎_elim
+          (λ at_piece. absurd (subst (Breaks r) (drop_all place text (omega arith)) at_piece.broken))
+          (λ past. absurd (omega (arith, past.1.within)))
+          broken,
+      record {
+        reading = so_far.reading;
+        whole = so_far.whole;
+        as_lines = is_closed ∙ so_far.built [] ∙ ap (lines_of start) (append-nil so_far.reading);
+        as_last = is_last;
+      },
+    )
 
 -- ---- the number of physical lines
 

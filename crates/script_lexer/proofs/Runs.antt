@@ -1,8 +1,8 @@
 -- The front of a list whose elements pass a test.
-use Rattle.std.proofs.Common.{◌≡◌, ℕ, suc, ◌+◌, ◌-◌, ◌<◌, ◌≤◌, Bool, true, false, cond, eqb, List, [], ◌∷◌, ◌++◌, length, get_or, take, drop, refl, sym, ap, ◌∙◌, ⊎_elim, inl, inr, add-one, arith}
+use Rattle.std.proofs.Common.{◌≡◌, ℕ, ◌+◌, ◌<◌, ◌≤◌, Bool, true, false, eqb, List, [], ◌∷◌, ◌++◌, length, get_or, take, drop, refl, sym, ap, ◌∙◌, ⊎_elim, arith}
 use Rattle.std.specs.List.{prefix_len}
 use Rattle.std.proofs.lemmas.Bool.{cases_eq, eq-eqb, ne_eqb}
-use Rattle.std.proofs.lemmas.List.{length-drop, length-take, length-append, take-append-drop, take_all, drop_all, drop-take, drop_more}
+use Rattle.std.proofs.lemmas.List.{length-drop, length-take, take-append-drop, take_all, drop_all, drop-take, drop_more}
 use Rattle.std.proofs.lemmas.List.Sums.{prefix_len-le-length}
 use Rattle.std.proofs.lemmas.List.Folds.{prefix_len-append}
 
@@ -27,25 +27,25 @@ module _ (p : ℕ → Bool) where
       ⊎_elim
       (λ same. same ∙ len)
       (λ differs.
-          let stop : prefix_len p (take m bs) < length (take m bs) = omega (arith, prefix_len-le-length p (take m bs)) in
-          let e : prefix_len p (take m bs ++ drop m bs) ≡ prefix_len p (take m bs) = stopped_run (take m bs) (drop m bs) stop in
-          let f : prefix_len p bs ≡ prefix_len p (take m bs) = rw take-append-drop at e in
-          absurd (omega arith))
+      let stop : prefix_len p (take m bs) < length (take m bs) = omega (arith, prefix_len-le-length p (take m bs)) in
+      let e : prefix_len p (take m bs ++ drop m bs) ≡ prefix_len p (take m bs) = stopped_run (take m bs) (drop m bs) stop in
+      let f : prefix_len p bs ≡ prefix_len p (take m bs) = rw take-append-drop at e in
+      absurd (omega arith))
       (cases_eq (prefix_len p (take m bs)) (length (take m bs)))
 
   pub run_past : (bs : List ℕ) (m : ℕ) → prefix_len p bs < m → prefix_len p (take m bs) ≡ prefix_len p bs
   run_past bs m lt =
       ⊎_elim
       (λ same.
-          let short : length bs ≤ m = ⊎_elim (λ (e : length (take m bs) ≡ length bs). omega (arith, length-take m bs)) (λ (ne : length (take m bs) ≡ length bs → ⊥).
-              let whole = whole_run (take m bs) (drop m bs) (drop_all (prefix_len p (take m bs)) (take m bs) (omega arith)) in
-              let w : length (take m bs) ≤ prefix_len p bs = rw take-append-drop at whole in
-              omega (arith, length-take m bs)) (cases_eq (length (take m bs)) (length bs)) in
-          rw (take_all m bs short) refl)
+      let short : length bs ≤ m = ⊎_elim (λ (e : length (take m bs) ≡ length bs). omega (arith, length-take m bs)) (λ (ne : length (take m bs) ≡ length bs → ⊥).
+      let whole = whole_run (take m bs) (drop m bs) (drop_all (prefix_len p (take m bs)) (take m bs) (omega arith)) in
+      let w : length (take m bs) ≤ prefix_len p bs = rw take-append-drop at whole in
+      omega (arith, length-take m bs)) (cases_eq (length (take m bs)) (length bs)) in
+      rw (take_all m bs short) refl)
       (λ differs.
-          let stop : prefix_len p (take m bs) < length (take m bs) = omega (arith, prefix_len-le-length p (take m bs)) in
-          let e : prefix_len p (take m bs ++ drop m bs) ≡ prefix_len p (take m bs) = stopped_run (take m bs) (drop m bs) stop in
-          sym (rw take-append-drop at e))
+      let stop : prefix_len p (take m bs) < length (take m bs) = omega (arith, prefix_len-le-length p (take m bs)) in
+      let e : prefix_len p (take m bs ++ drop m bs) ≡ prefix_len p (take m bs) = stopped_run (take m bs) (drop m bs) stop in
+      sym (rw take-append-drop at e))
       (cases_eq (prefix_len p (take m bs)) (length (take m bs)))
 
   -- the front alone passes whole

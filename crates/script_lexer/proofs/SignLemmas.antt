@@ -1,25 +1,17 @@
 -- Signs.
-use Rattle.std.proofs.Common.{◌≡◌, ℕ, zero, suc, ◌+◌, ◌-◌, ◌*◌, ◌<◌, ◌≤◌, ◌^◌, Bool, true, false, cond, eqb, ltb, List, [], ◌∷◌, ◌++◌, length, get_or, take, drop, map, Option, Some, None, refl, sym, ap, subst, ◌∙◌, ⊎_elim, inl, inr, add-one, one-add, arith, append_assoc, lit≤, rules}
-use Rattle.std.specs.Prelude.{◌≢◌, ◌⊎◌, ◌&&◌, MatchBool, not, ◌==◌}
-use Rattle.std.specs.List.{prefix_len, flat_map, list_all, AllByRecursion}
-use Rattle.std.proofs.lemmas.Bool.{eqb-true, eqb-false, eq-eqb, not-false, cases_Bool, cases_lt, cases_eq, and_parts, false≢true}
-use Rattle.std.proofs.lemmas.List.{length-drop, length-take, length-append, take-append-drop, drop_all, drop_more, drop_at, take_at, take_all, take-take, append-nil, append_cancel_right, length-map}
-use Rattle.std.proofs.lemmas.List.Sums.{prefix_len-le-length, prefix_len_stops}
+use Rattle.std.proofs.Common.{◌≡◌, ℕ, ◌≤◌, true, false, cond, eqb, List, [], ◌∷◌, ◌++◌, length, get_or, Option, Some, None, refl, sym, ap, ◌∙◌, ⊎_elim, arith, lit≤}
+use Rattle.std.proofs.lemmas.Bool.{eqb-true, cases_Bool}
 use Rattle.script_lexer.specs.declared.opening.Opening.TheVariants as opening
-use Rattle.script_lexer.specs.declared.token.Token.{Token}
 use Rattle.script_lexer.specs.declared.token.Token.TheVariants as token
-use Rattle.script_lexer.specs.declared.piece.Piece.{Piece}
 use Rattle.script_lexer.specs.declared.piece.Piece.TheVariants as piece
 use Rattle.script_lexer.specs.declared.fault.LexRule.{LexRule}
 use Rattle.script_lexer.specs.declared.fault.LexRule.TheVariants as rule
-use Rattle.script_lexer.specs.Rules.{rule_number, BreaksFrom, BeginsWith}
+use Rattle.script_lexer.specs.Rules.{rule_number, BreaksFrom}
 use Rattle.script_lexer.specs.Answers.{Opens, Stands, IsLowest, pair_at}
 use Rattle.script_lexer.proofs.Standing.{stands, lowest}
 use Rattle.script_lexer.specs.declared.sign.Sign.{Sign}
 use Rattle.script_lexer.specs.declared.sign.Sign.TheVariants as sign
 use Rattle.script_lexer.specs.Words.{sign_spelling, sign_of_byte, sign_before_equal, sign_of_bytes}
-use Rattle.script_lexer.specs.Bytes.{opening_of}
-use Rattle.script_lexer.specs.Pieces.{Completes}
 
 -- a sign has one byte or two, and is found by them
 data Form (s : Sign) : Type 0 where
@@ -59,9 +51,9 @@ found_if : (t s : Sign) (b k : ℕ) (rest : Option Sign) → sign_spelling t ≡
 found_if t s b k rest spelled others h =
     ⊎_elim
     (λ (yes : eqb b k ≡ true).
-        let same : Some t ≡ Some s = rw yes at h in
-        let is_t : t ≡ s = cc in
-        ap (λ (x : ℕ). x ∷ []) (eqb-true b k yes) ∙ sym spelled ∙ ap sign_spelling is_t)
+    let same : Some t ≡ Some s = rw yes at h in
+    let is_t : t ≡ s = cc in
+    ap (λ (x : ℕ). x ∷ []) (eqb-true b k yes) ∙ sym spelled ∙ ap sign_spelling is_t)
     (λ (no : eqb b k ≡ false). let later : rest ≡ Some s = rw no at h in others later)
     (cases_Bool (eqb b k))
 
@@ -69,9 +61,9 @@ found_pair_if : (t s : Sign) (b c k : ℕ) (rest : Option Sign) → sign_spellin
 found_pair_if t s b c k rest spelled others h =
     ⊎_elim
     (λ (yes : eqb b k ≡ true).
-        let same : Some t ≡ Some s = rw yes at h in
-        let is_t : t ≡ s = cc in
-        ap (λ (x : ℕ). x ∷ c ∷ []) (eqb-true b k yes) ∙ sym spelled ∙ ap sign_spelling is_t)
+    let same : Some t ≡ Some s = rw yes at h in
+    let is_t : t ≡ s = cc in
+    ap (λ (x : ℕ). x ∷ c ∷ []) (eqb-true b k yes) ∙ sym spelled ∙ ap sign_spelling is_t)
     (λ (no : eqb b k ≡ false). let later : rest ≡ Some s = rw no at h in others later)
     (cases_Bool (eqb b k))
 
@@ -111,35 +103,35 @@ pub bytes_found : (s : Sign) (b c : ℕ) → sign_of_bytes b c ≡ Some s → b 
 bytes_found s b c h =
     ⊎_elim
     (λ (yes : eqb c 61 ≡ true).
-        let equal : sign_before_equal b ≡ Some s = rw yes at h in
-        ap (λ (x : ℕ). b ∷ x ∷ []) (eqb-true c 61 yes) ∙ equal_found s b equal)
+    let equal : sign_before_equal b ≡ Some s = rw yes at h in
+    ap (λ (x : ℕ). b ∷ x ∷ []) (eqb-true c 61 yes) ∙ equal_found s b equal)
     (λ (no : eqb c 61 ≡ false).
-        let rest : cond (eqb b c) (cond (eqb b 38) (Some sign.And) (cond (eqb b 124) (Some sign.Or) None)) None ≡ Some s = rw no at h in
-        ⊎_elim
-        (λ (twice : eqb b c ≡ true).
-            let either : cond (eqb b 38) (Some sign.And) (cond (eqb b 124) (Some sign.Or) None) ≡ Some s = rw twice at rest in
-            let same : b ≡ c = eqb-true b c twice in
-            ⊎_elim
-            (λ (is_and : eqb b 38 ≡ true).
-                let e : Some sign.And ≡ Some s = rw is_and at either in
-                let is_s : sign.And ≡ s = cc in
-                let b-is : b ≡ 38 = eqb-true b 38 is_and in
-                let c-is : c ≡ 38 = sym same ∙ b-is in
-                rw (b-is, c-is) (ap sign_spelling is_s))
-            (λ (not_and : eqb b 38 ≡ false).
-                let or : cond (eqb b 124) (Some sign.Or) None ≡ Some s = rw not_and at either in
-                ⊎_elim
-                (λ (is_or : eqb b 124 ≡ true).
-                    let e : Some sign.Or ≡ Some s = rw is_or at or in
-                    let is_s : sign.Or ≡ s = cc in
-                    let b-is : b ≡ 124 = eqb-true b 124 is_or in
-                    let c-is : c ≡ 124 = sym same ∙ b-is in
-                    rw (b-is, c-is) (ap sign_spelling is_s))
-                (λ (not_or : eqb b 124 ≡ false). let e : None ≡ Some s = rw not_or at or in absurd cc)
-                (cases_Bool (eqb b 124)))
-            (cases_Bool (eqb b 38)))
-        (λ (differ : eqb b c ≡ false). let e : None ≡ Some s = rw differ at rest in absurd cc)
-        (cases_Bool (eqb b c)))
+    let rest : cond (eqb b c) (cond (eqb b 38) (Some sign.And) (cond (eqb b 124) (Some sign.Or) None)) None ≡ Some s = rw no at h in
+    ⊎_elim
+    (λ (twice : eqb b c ≡ true).
+    let either : cond (eqb b 38) (Some sign.And) (cond (eqb b 124) (Some sign.Or) None) ≡ Some s = rw twice at rest in
+    let same : b ≡ c = eqb-true b c twice in
+    ⊎_elim
+    (λ (is_and : eqb b 38 ≡ true).
+    let e : Some sign.And ≡ Some s = rw is_and at either in
+    let is_s : sign.And ≡ s = cc in
+    let b-is : b ≡ 38 = eqb-true b 38 is_and in
+    let c-is : c ≡ 38 = sym same ∙ b-is in
+    rw (b-is, c-is) (ap sign_spelling is_s))
+    (λ (not_and : eqb b 38 ≡ false).
+    let or : cond (eqb b 124) (Some sign.Or) None ≡ Some s = rw not_and at either in
+    ⊎_elim
+    (λ (is_or : eqb b 124 ≡ true).
+    let e : Some sign.Or ≡ Some s = rw is_or at or in
+    let is_s : sign.Or ≡ s = cc in
+    let b-is : b ≡ 124 = eqb-true b 124 is_or in
+    let c-is : c ≡ 124 = sym same ∙ b-is in
+    rw (b-is, c-is) (ap sign_spelling is_s))
+    (λ (not_or : eqb b 124 ≡ false). let e : None ≡ Some s = rw not_or at or in absurd cc)
+    (cases_Bool (eqb b 124)))
+    (cases_Bool (eqb b 38)))
+    (λ (differ : eqb b c ≡ false). let e : None ≡ Some s = rw differ at rest in absurd cc)
+    (cases_Bool (eqb b c)))
     (cases_Bool (eqb c 61))
 
 -- two signs of one spelling are one

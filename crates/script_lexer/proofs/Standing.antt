@@ -1,12 +1,12 @@
 -- A piece stands where it is completed, no front completes a longer one, and no rule is broken.
-use Rattle.std.proofs.Common.{◌≡◌, ℕ, suc, ◌+◌, ◌<◌, ◌≤◌, List, [], ◌∷◌, ◌++◌, length, take, drop, refl, sym, ap, subst, ◌∙◌, arith}
+use Rattle.std.proofs.Common.{◌≡◌, ℕ, suc, ◌≤◌, List, [], ◌∷◌, ◌++◌, length, take, drop, sym, subst, ◌∙◌, arith}
 use Rattle.std.proofs.lemmas.List.{length-take, take-append-drop}
 use Rattle.script_lexer.specs.declared.opening.Opening.{Opening}
 use Rattle.script_lexer.specs.declared.piece.Piece.{Piece}
 use Rattle.script_lexer.specs.declared.fault.LexRule.{LexRule}
 use Rattle.script_lexer.specs.Bytes.{opening_of}
-use Rattle.script_lexer.specs.Pieces.{Completes, Spells, IsLongest}
-use Rattle.script_lexer.specs.Rules.{rule_number, BreaksFrom, Breaks}
+use Rattle.script_lexer.specs.Pieces.{Completes, Spells}
+use Rattle.script_lexer.specs.Rules.{rule_number, BreaksFrom}
 use Rattle.script_lexer.specs.Answers.{Stands, IsLowest}
 
 no_longer : (o : Opening) (b : ℕ) (bs : List ℕ) (n : ℕ) → n ≤ length bs → opening_of b ≡ o

@@ -1,24 +1,21 @@
 -- The items of a text.
-use Rattle.std.proofs.Common.{◌≡◌, ℕ, zero, suc, ◌+◌, ◌-◌, ◌*◌, ◌<◌, ◌≤◌, ◌^◌, Bool, true, false, cond, eqb, ltb, List, [], ◌∷◌, ◌++◌, length, get_or, take, drop, map, Option, Some, None, refl, sym, ap, subst, ◌∙◌, ⊎_elim, inl, inr, add-one, one-add, arith, append_assoc, lit≤, rules}
-use Rattle.std.specs.Prelude.{◌≢◌, ◌⊎◌, ◌&&◌, MatchBool, not, ◌==◌}
-use Rattle.std.specs.List.{prefix_len, flat_map, list_all, AllByRecursion}
-use Rattle.std.proofs.lemmas.Bool.{eqb-true, eqb-false, eq-eqb, not-false, cases_Bool, cases_lt, cases_eq, and_parts, false≢true}
-use Rattle.std.proofs.lemmas.List.{length-drop, length-take, length-append, take-append-drop, drop_all, drop_more, drop_at, take_at, take_all, take-take, append-nil, append_cancel_right, length-map, map_push}
-use Rattle.std.proofs.lemmas.List.Sums.{prefix_len-le-length, prefix_len_stops}
+use Rattle.std.proofs.Common.{◌≡◌, ℕ, ◌+◌, ◌-◌, ◌<◌, ◌≤◌, Bool, true, false, List, [], ◌∷◌, ◌++◌, length, get_or, take, drop, map, refl, sym, ap, subst, ◌∙◌, inl, inr, arith, append_assoc, lit≤}
+use Rattle.std.specs.Prelude.{◌&&◌}
+use Rattle.std.proofs.lemmas.Bool.{false≢true}
+use Rattle.std.proofs.lemmas.List.{length-drop, length-append, drop_more, drop_at, take_at, append-nil, length-map, map_push}
 use Rattle.script_lexer.specs.declared.opening.Opening.TheVariants as opening
-use Rattle.script_lexer.specs.declared.token.Token.{Token}
 use Rattle.script_lexer.specs.declared.token.Token.TheVariants as token
 use Rattle.script_lexer.specs.declared.piece.Piece.{Piece}
 use Rattle.script_lexer.specs.declared.piece.Piece.TheVariants as piece
 use Rattle.script_lexer.specs.declared.fault.LexRule.{LexRule}
 use Rattle.script_lexer.specs.declared.fault.LexRule.TheVariants as rule
-use Rattle.script_lexer.specs.Rules.{rule_number, BreaksFrom, BeginsWith}
+use Rattle.script_lexer.specs.Rules.{rule_number, BreaksFrom}
 use Rattle.script_lexer.specs.Answers.{Opens, Stands, IsLowest}
 use Rattle.script_lexer.proofs.Standing.{stands, lowest}
 use Rattle.script_lexer.specs.declared.text_item.TextItem.{TextItem}
 use Rattle.script_lexer.specs.declared.text_item.TextItem.TheVariants as item
 use Rattle.script_lexer.specs.Bytes.{opening_of}
-use Rattle.script_lexer.specs.Pieces.{Completes, IsItem, AreItems, item_bytes, items_bytes, item_value, is_good_item, is_escape, are_good}
+use Rattle.script_lexer.specs.Pieces.{Completes, IsItem, AreItems, item_bytes, items_bytes, item_value, is_good_item, are_good}
 use Rattle.script_lexer.specs.Rules.{IsUnclosed}
 use Rattle.script_lexer.specs.Answers.{Stops, BeginsItem, ReadsItems}
 

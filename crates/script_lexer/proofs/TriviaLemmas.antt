@@ -1,14 +1,12 @@
 -- Joins, documentations and comments.
-use Rattle.std.proofs.Common.{◌≡◌, ℕ, zero, suc, ◌+◌, ◌-◌, ◌*◌, ◌<◌, ◌≤◌, ◌^◌, Bool, true, false, cond, eqb, ltb, List, [], ◌∷◌, ◌++◌, length, get_or, take, drop, map, Option, Some, None, refl, sym, ap, subst, ◌∙◌, ⊎_elim, inl, inr, add-one, one-add, arith, append_assoc, lit≤, rules}
-use Rattle.std.specs.Prelude.{◌≢◌, ◌⊎◌, ◌&&◌, MatchBool, not, ◌==◌}
-use Rattle.std.specs.List.{prefix_len, flat_map, list_all, AllByRecursion}
-use Rattle.std.proofs.lemmas.Bool.{eqb-true, eqb-false, eq-eqb, not-false, cases_Bool, cases_lt, cases_eq, and_parts, false≢true}
-use Rattle.std.proofs.lemmas.List.{length-drop, length-take, length-append, take-append-drop, drop_all, drop_more, drop_at, take_at, take_all, take-take, append-nil, append_cancel_right, length-map}
+use Rattle.std.proofs.Common.{◌≡◌, ℕ, zero, suc, ◌+◌, ◌<◌, ◌≤◌, Bool, true, false, eqb, List, [], ◌∷◌, ◌++◌, length, get_or, take, drop, Some, None, refl, sym, ap, subst, ◌∙◌, ⊎_elim, arith, lit≤}
+use Rattle.std.specs.Prelude.{◌&&◌, MatchBool, ◌==◌}
+use Rattle.std.specs.List.{prefix_len}
+use Rattle.std.proofs.lemmas.Bool.{eqb-true, eqb-false, eq-eqb, not-false, cases_Bool, cases_lt, and_parts}
+use Rattle.std.proofs.lemmas.List.{length-drop, length-append, take-append-drop, drop_all, drop_more, take-take, append-nil, append_cancel_right}
 use Rattle.std.proofs.lemmas.List.Sums.{prefix_len-le-length, prefix_len_stops}
 use Rattle.script_lexer.specs.declared.opening.Opening.TheVariants as opening
-use Rattle.script_lexer.specs.declared.token.Token.{Token}
 use Rattle.script_lexer.specs.declared.token.Token.TheVariants as token
-use Rattle.script_lexer.specs.declared.piece.Piece.{Piece}
 use Rattle.script_lexer.specs.declared.piece.Piece.TheVariants as piece
 use Rattle.script_lexer.specs.declared.fault.LexRule.{LexRule}
 use Rattle.script_lexer.specs.declared.fault.LexRule.TheVariants as rule
@@ -16,7 +14,7 @@ use Rattle.script_lexer.specs.Rules.{rule_number, BreaksFrom, BeginsWith}
 use Rattle.script_lexer.specs.Answers.{Opens, Stands, IsLowest}
 use Rattle.script_lexer.proofs.Standing.{stands, lowest}
 use Rattle.script_lexer.specs.Bytes.{opening_of, is_blank, is_comment_byte, is_documentation_byte}
-use Rattle.script_lexer.specs.Pieces.{Completes, IsComment, behind_close}
+use Rattle.script_lexer.specs.Pieces.{IsComment, behind_close}
 use Rattle.script_lexer.specs.Rules.{IsOpenComment}
 use Rattle.script_lexer.specs.Answers.{begins_block}
 use Rattle.script_lexer.proofs.Runs.{whole_run, stopped_run, run_past, behind_front, behind_front_more, stopped_length}
@@ -64,10 +62,10 @@ not_begun : (bs : List ℕ) (k : ℕ) → (k < length bs → get_or bs k 0 ≡ 1
 not_begun bs k none h =
     ⊎_elim
     (λ lt. let begins = drop_more bs k 0 lt in
-        let is_ten : eqb (get_or bs k 0) 10 ≡ true = rw begins at h in
-        none lt (eqb-true _ _ is_ten))
+    let is_ten : eqb (get_or bs k 0) 10 ≡ true = rw begins at h in
+    none lt (eqb-true _ _ is_ten))
     (λ le. let ends = drop_all k bs le in
-        let no : ⊥ = rw ends at h in no)
+    let no : ⊥ = rw ends at h in no)
     (cases_lt k (length bs))
 
 join_least : (b : ℕ) (bs : List ℕ) → (r : LexRule) → BreaksFrom opening.Join r b bs → 1 ≤ rule_number r
@@ -108,7 +106,7 @@ documentation_at b bs opens lt le =
     let k = prefix_len is_documentation_byte bs in
     let is_brace : get_or bs k 0 ≡ 125 = eqb-true _ _ (not-false _ (prefix_len_stops is_documentation_byte bs 0 lt)) in
     let inner : take (prefix_len is_documentation_byte (take (k + 1) bs)) (take (k + 1) bs) ≡ take k bs =
-        rw (run_past is_documentation_byte bs (k + 1) (omega arith)) (take-take k (k + 1) bs (omega arith)) in
+    rw (run_past is_documentation_byte bs (k + 1) (omega arith)) (take-take k (k + 1) bs (omega arith)) in
     stands opening.Documentation b bs (piece.Token (token.Doc (take k bs))) (k + 1) (k + 2) (omega arith) (omega arith) opens
     (behind_front_more is_documentation_byte bs lt ∙ ap (λ (x : ℕ). x ∷ []) is_brace, ap (λ (t : List ℕ). piece.Token (token.Doc t)) (sym inner))
     (λ os back q e h. most_stopped is_documentation_byte bs os back 125 e h.0)
@@ -199,12 +197,12 @@ line_comment_stands (b ∷ bs) behind k opens is_behind run line =
     let r : k ≡ prefix_len is_comment_byte bs = run ∙ ap (prefix_len is_comment_byte) is_behind in
     let n = prefix_len is_comment_byte bs in
     let at_n : Stands (b ∷ bs) piece.Comment (1 + n) = stands opening.Comment b bs piece.Comment n (1 + n) (omega arith) (prefix_len-le-length is_comment_byte bs) opens
-        (is_line_comment (take n bs) (begins_block-take bs n line) (behind_front is_comment_byte bs), refl)
-        (λ os back q e h.
-            let run_os : drop (prefix_len is_comment_byte os) os ≡ [] = line_comment_run os (begins_block-front os back (ap begins_block (sym e) ∙ line)) h.0 in
-            let le : length os ≤ prefix_len is_comment_byte (os ++ back) = whole_run is_comment_byte os back run_os in
-            rw e le)
-        (no_line_comment_rule b bs line) in
+    (is_line_comment (take n bs) (begins_block-take bs n line) (behind_front is_comment_byte bs), refl)
+    (λ os back q e h.
+    let run_os : drop (prefix_len is_comment_byte os) os ≡ [] = line_comment_run os (begins_block-front os back (ap begins_block (sym e) ∙ line)) h.0 in
+    let le : length os ≤ prefix_len is_comment_byte (os ++ back) = whole_run is_comment_byte os back run_os in
+    rw e le)
+    (no_line_comment_rule b bs line) in
     subst (λ (m : ℕ). Stands (b ∷ bs) piece.Comment (1 + m)) (sym r) at_n
 
 -- ---- comments of several lines

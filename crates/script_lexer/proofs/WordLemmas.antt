@@ -1,25 +1,21 @@
 -- Words.
-use Rattle.std.proofs.Common.{◌≡◌, ℕ, zero, suc, ◌+◌, ◌-◌, ◌*◌, ◌<◌, ◌≤◌, ◌^◌, Bool, true, false, cond, eqb, ltb, List, [], ◌∷◌, ◌++◌, length, get_or, take, drop, map, Option, Some, None, refl, sym, ap, subst, ◌∙◌, ⊎_elim, inl, inr, add-one, one-add, arith, append_assoc, lit≤, rules}
-use Rattle.std.specs.Prelude.{◌≢◌, ◌⊎◌, ◌&&◌, MatchBool, not, ◌==◌}
-use Rattle.std.specs.List.{prefix_len, flat_map, list_all, AllByRecursion}
-use Rattle.std.proofs.lemmas.Bool.{eqb-true, eqb-false, eq-eqb, not-false, cases_Bool, cases_lt, cases_eq, and_parts, false≢true}
-use Rattle.std.proofs.lemmas.List.{length-drop, length-take, length-append, take-append-drop, drop_all, drop_more, drop_at, take_at, take_all, take-take, append-nil, append_cancel_right, length-map}
-use Rattle.std.proofs.lemmas.List.Sums.{prefix_len-le-length, prefix_len_stops}
+use Rattle.std.proofs.Common.{◌≡◌, ℕ, ◌+◌, ◌<◌, ◌≤◌, List, [], ◌∷◌, ◌++◌, length, take, drop, refl, sym, ap, subst, ◌∙◌, one-add, arith, lit≤}
+use Rattle.std.specs.List.{prefix_len}
+use Rattle.std.proofs.lemmas.List.{length-take, length-map}
+use Rattle.std.proofs.lemmas.List.Sums.{prefix_len-le-length}
 use Rattle.script_lexer.specs.declared.opening.Opening.TheVariants as opening
 use Rattle.script_lexer.specs.declared.token.Token.{Token}
-use Rattle.script_lexer.specs.declared.token.Token.TheVariants as token
-use Rattle.script_lexer.specs.declared.piece.Piece.{Piece}
 use Rattle.script_lexer.specs.declared.piece.Piece.TheVariants as piece
 use Rattle.script_lexer.specs.declared.fault.LexRule.{LexRule}
 use Rattle.script_lexer.specs.declared.fault.LexRule.TheVariants as rule
-use Rattle.script_lexer.specs.Rules.{rule_number, BreaksFrom, BeginsWith}
+use Rattle.script_lexer.specs.Rules.{rule_number, BreaksFrom}
 use Rattle.script_lexer.specs.Answers.{Opens, Stands, IsLowest}
 use Rattle.script_lexer.proofs.Standing.{stands, lowest}
 use Rattle.papy_base.specs.Case.{folded}
 use Rattle.script_lexer.specs.declared.keyword.Keyword.TheVariants as keyword
 use Rattle.script_lexer.specs.Words.{keyword_spelling}
 use Rattle.script_lexer.specs.Bytes.{opening_of, is_word_byte}
-use Rattle.script_lexer.specs.Pieces.{Completes, IsWord}
+use Rattle.script_lexer.specs.Pieces.{IsWord}
 use Rattle.script_lexer.proofs.Runs.{whole_run, behind_front}
 
 no_word_rule : (b : ℕ) (bs : List ℕ) → (folded (b ∷ take (prefix_len is_word_byte bs) bs) ≡ keyword_spelling keyword.Float → ⊥) → 1 + prefix_len is_word_byte bs ≤ 255 → (r : LexRule) → BreaksFrom opening.Word r b bs → ⊥

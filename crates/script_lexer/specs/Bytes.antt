@@ -1,5 +1,5 @@
 -- Classes of bytes, and what a byte opens.
-use Rattle.std.specs.Prelude.{◌≡◌, ℕ, ◌+◌, Bool, List, length, drop, not, ◌==◌, ◌||◌, if◌then◌else◌}
+use Rattle.std.specs.Prelude.{ℕ, Bool, List, drop, not, ◌==◌, ◌||◌, if◌then◌else◌}
 use Rattle.std.specs.List.{prefix_len, take_while, count_by}
 use Rattle.std.specs.Char.{is_ascii_digit, is_ascii_hexdigit, is_ascii_alphabetic}
 use Rattle.script_lexer.specs.declared.byte_class.ByteClass.{ByteClass}

@@ -6,3 +6,4 @@ pub mod Lines
 pub mod Answers
 pub mod Progress
 pub mod Steps
+pub mod Spans

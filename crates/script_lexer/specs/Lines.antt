@@ -1,8 +1,5 @@
 -- A reading of a script, its logical lines, and its first broken rule.
-use Rattle.std.specs.Prelude.{◌≡◌, ℕ, ◌+◌, ◌<◌, ◌≤◌, List, [], ◌∷◌, ◌++◌, length, take, drop, map, ◌⊎◌, ◌==◌, ◌&&◌, if◌then◌else◌, slice_index}
-use Rattle.std.specs.List.{flat_map}
-use Rattle.std.specs.Global.{Vec}
-use Rattle.script_lexer.specs.declared.token.Token.{Token}
+use Rattle.std.specs.Prelude.{◌≡◌, ℕ, ◌+◌, ◌<◌, ◌≤◌, List, [], ◌∷◌, ◌++◌, length, take, drop, map, ◌⊎◌, ◌==◌, ◌&&◌, if◌then◌else◌}
 use Rattle.script_lexer.specs.declared.token.Spanned.{Spanned}
 use Rattle.script_lexer.specs.declared.line.Line.{Line}
 use Rattle.script_lexer.specs.declared.piece.Piece.{Piece}
@@ -10,7 +7,7 @@ use Rattle.script_lexer.specs.declared.piece.Piece.TheVariants as piece
 use Rattle.script_lexer.specs.declared.fault.LexRule.{LexRule}
 use Rattle.script_lexer.specs.declared.fault.LexRule.TheVariants as rule
 use Rattle.script_lexer.specs.Bytes.{line_ends}
-use Rattle.script_lexer.specs.Pieces.{Spells, IsLongest}
+use Rattle.script_lexer.specs.Pieces.{IsLongest}
 use Rattle.script_lexer.specs.Rules.{rule_number, Breaks}
 
 -- ---- readings

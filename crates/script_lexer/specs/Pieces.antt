@@ -1,6 +1,6 @@
 -- The pieces of a script: blanks, joins, comments, line ends and tokens, and how each is spelled.
-use Rattle.std.specs.Prelude.{◌≡◌, ◌≢◌, ℕ, ◌+◌, ◌<◌, ◌≤◌, ℤ, pos, Bool, true, false, List, [], ◌∷◌, ◌++◌, length, drop, map, Option, Some, None, ◌⊎◌, ◌==◌, ◌&&◌, ◌||◌, IsTrue, MatchBool, if◌then◌else◌}
-use Rattle.std.specs.List.{flat_map, prefix_len, take_while, list_all, AllByRecursion}
+use Rattle.std.specs.Prelude.{◌≡◌, ◌≢◌, ℕ, ◌≤◌, ℤ, pos, Bool, true, false, List, [], ◌∷◌, ◌++◌, length, drop, map, Option, Some, None, ◌⊎◌, ◌==◌, ◌&&◌, ◌||◌, MatchBool, if◌then◌else◌}
+use Rattle.std.specs.List.{flat_map, list_all, AllByRecursion}
 use Rattle.std.specs.Char.{is_ascii_digit, is_ascii_hexdigit}
 use Rattle.std.specs.Int.{w32, cast_signed}
 use Rattle.std.specs.Str.Parse.{digits_value}

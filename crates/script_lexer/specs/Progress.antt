@@ -1,12 +1,10 @@
 -- What was read of a text so far.
 use Rattle.std.specs.Prelude.{◌≡◌, ℕ, ◌+◌, ◌<◌, ◌≤◌, List, [], ◌∷◌, ◌++◌, length}
-use Rattle.std.specs.Global.{Vec}
-use Rattle.script_lexer.specs.declared.token.Spanned.{Spanned}
 use Rattle.script_lexer.specs.declared.line.Line.{Line}
 use Rattle.script_lexer.specs.declared.piece.Piece.{Piece}
 use Rattle.script_lexer.specs.declared.progress.Progress.{Progress}
 use Rattle.script_lexer.specs.Bytes.{line_ends}
-use Rattle.script_lexer.specs.Lines.{LogicalLine, logical_lines, nonempty, Spelled, Following, following}
+use Rattle.script_lexer.specs.Lines.{LogicalLine, logical_lines, nonempty, Spelled, following}
 
 -- the lines of what was read so far and of these pieces behind it
 abbrev pub lines_with : Progress → List Spelled → List LogicalLine

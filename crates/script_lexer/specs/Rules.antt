@@ -1,5 +1,5 @@
 -- What breaks a rule at a place where a piece begins.
-use Rattle.std.specs.Prelude.{◌≡◌, ◌≢◌, ℕ, ◌+◌, ◌<◌, ◌≤◌, Bool, true, false, List, [], ◌∷◌, ◌++◌, length, Option, Some, None, ◌⊎◌, IsTrue, ◌==◌, if◌then◌else◌}
+use Rattle.std.specs.Prelude.{◌≡◌, ℕ, ◌+◌, ◌<◌, Bool, false, List, [], ◌∷◌, ◌++◌, length, None, ◌⊎◌, IsTrue, ◌==◌, if◌then◌else◌}
 use Rattle.std.specs.List.{prefix_len}
 use Rattle.std.specs.Char.{is_ascii_digit}
 use Rattle.papy_base.specs.Case.{folded}
@@ -12,7 +12,7 @@ use Rattle.script_lexer.specs.declared.fault.LexRule.{LexRule}
 use Rattle.script_lexer.specs.declared.fault.LexRule.TheVariants as rule
 use Rattle.script_lexer.specs.Words.{keyword_spelling, sign_spelling}
 use Rattle.script_lexer.specs.Bytes.{opening_of, is_blank, is_documentation_byte, is_word_start, is_word_byte, front, behind}
-use Rattle.script_lexer.specs.Pieces.{Numeral, numeral, magnitude, behind_close, AreItems, are_good, items_bytes}
+use Rattle.script_lexer.specs.Pieces.{numeral, magnitude, behind_close, AreItems, are_good, items_bytes}
 
 abbrev pub rule_number : LexRule → ℕ
 rule_number rule.BadByte = 1

@@ -1,6 +1,5 @@
 -- One step of the lexer, and all of them.
-use Rattle.std.specs.Prelude.{◌≡◌, ℕ, ◌+◌, ◌-◌, ◌<◌, ◌≤◌, List, [], ◌∷◌, ◌++◌, length, take, ◌⊎◌, Result, Ok, Err, ⊤}
-use Rattle.std.specs.Global.{Vec}
+use Rattle.std.specs.Prelude.{◌≡◌, ℕ, ◌+◌, ◌-◌, ◌<◌, ◌≤◌, List, ◌++◌, length, take, ◌⊎◌, Result, Ok, Err, ⊤}
 use Rattle.std.specs.Borrow.{Bor}
 use Rattle.script_lexer.specs.declared.piece.Piece.{Piece}
 use Rattle.script_lexer.specs.declared.piece.PieceFault.{PieceFault}
@@ -14,7 +13,7 @@ use Rattle.script_lexer.specs.declared.fault.LexFault.TheVariants as fault
 use Rattle.script_lexer.specs.Bytes.{line_ends}
 use Rattle.script_lexer.specs.Pieces.{IsLongest}
 use Rattle.script_lexer.specs.Rules.{Breaks}
-use Rattle.script_lexer.specs.Lines.{logical_lines, LexesFrom, IsUnbroken, FirstBreak, LexBreak, Lexes, IsAnswer, Cut, Refused}
+use Rattle.script_lexer.specs.Lines.{logical_lines, LexesFrom, IsUnbroken, FirstBreak, LexBreak}
 use Rattle.script_lexer.specs.Answers.{IsLowest}
 use Rattle.script_lexer.specs.Progress.{Takes}
 

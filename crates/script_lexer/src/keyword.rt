@@ -124,7 +124,7 @@ impl Keyword {
     }
 
     /// The keyword that the word is in small letters.
-    pub fn of(word: &[u8]) -> Option<Keyword>
+    pub(crate) fn of(word: &[u8]) -> Option<Keyword>
         ensures { MatchOption result ((k : Keyword) → folded word.now ≢ keyword_spelling k) (λ k. folded word.now ≡ keyword_spelling k) }
     {
         for keyword in &KEYWORDS {

@@ -1,7 +1,8 @@
 ghost use Rattle.std.specs.Prelude.{◌≡◌, ◌+◌, ◌<◌, ◌≤◌, ◌^◌, length, IfOk, IfErr, OnOk};
 ghost use Rattle.script_lexer.specs.Bytes.{line_ends};
-ghost use Rattle.script_lexer.specs.Lines.{mark_len, physical_lines, logical_lines, text_of, IsUnbroken, Lexes, Answer, IsAnswer};
+ghost use Rattle.script_lexer.specs.Lines.{mark_len, physical_lines, logical_lines, text_of, IsUnbroken, Lexes};
 ghost use Rattle.script_lexer.specs.Progress.{IsReady};
+ghost use Rattle.script_lexer.specs.Spans.{LinesStand};
 ghost use Rattle.script_lexer.specs.Steps.{StepAnswer, TextAnswer, FileFault};
 
 use crate::fault::{LexFault, LexRule};
@@ -26,11 +27,7 @@ fn count_line_ends(bytes: &[u8]) -> usize
 }
 
 // One piece more. Gives what is left behind it.
-fn step<'a>(
-    alloc: Global,
-    progress: &mut Progress,
-    rest: &'a [u8],
-) -> Result<&'a [u8], LexFault>
+fn step<'a>(alloc: Global, progress: &mut Progress, rest: &'a [u8]) -> Result<&'a [u8], LexFault>
     requires nonempty { 0 < length rest.now }
     requires ready { IsReady progress.old }
     requires room { progress.old.at + length rest.now < 2 ^ 31 }
@@ -115,6 +112,8 @@ pub fn lex(alloc: Global, bytes: &[u8]) -> Result<Lines, LexFault>
     ensures cut { IfOk result (λ lines. Lexes bytes.now (logical_lines lines.lines.items) lines.last) }
     ensures unbroken { OnOk result (IsUnbroken (text_of bytes.now)) }
     ensures small { OnOk result (length bytes.now ≤ 1048576) }
+    // Each token is spelled by its bytes, tokens stand in order, and line numbers rise.
+    ensures spelled { IfOk result (λ lines. LinesStand bytes.now 0 1 (logical_lines lines.lines.items)) }
     // The first broken rule, with its line.
     ensures broken { IfErr result (FileFault bytes.now) }
 {

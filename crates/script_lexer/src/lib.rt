@@ -4,6 +4,7 @@
 mod byte_class;
 mod fault;
 mod keyword;
+mod laws;
 mod lexer;
 mod line;
 mod next_piece;
@@ -21,7 +22,11 @@ mod word;
 
 pub use fault::{LexFault, LexRule};
 pub use keyword::Keyword;
+pub use laws::one_answer;
 pub use lexer::lex;
 pub use line::{Line, Lines};
 pub use sign::Sign;
 pub use token::{Spanned, Token};
+
+#[cfg(test)]
+mod tests;

@@ -17,8 +17,14 @@ pub fn next_piece(alloc: Global, rest: &[u8]) -> Result<Found, PieceFault>
     ensures { Answers rest.now result }
 {
     match Opening::of(rest[0]) {
-        Opening::Blank => Ok(Found { piece: Piece::Blank, len: 1 }),
-        Opening::LineEnd => Ok(Found { piece: Piece::LineEnd, len: 1 }),
+        Opening::Blank => Ok(Found {
+            piece: Piece::Blank,
+            len: 1,
+        }),
+        Opening::LineEnd => Ok(Found {
+            piece: Piece::LineEnd,
+            len: 1,
+        }),
         Opening::Join => join(rest),
         Opening::Comment => comment(rest),
         Opening::Documentation => documentation(alloc, rest),

@@ -35,8 +35,23 @@ impl Opening {
             b'"' => Opening::Quote,
             b'0'..=b'9' => Opening::Number,
             b'a'..=b'z' | b'A'..=b'Z' | b'_' => Opening::Word,
-            b'(' | b')' | b'[' | b']' | b',' | b'.' | b'=' | b'!' | b'<' | b'>' | b'+' | b'-' | b'*'
-            | b'/' | b'%' | b'&' | b'|' => Opening::Sign,
+            b'('
+            | b')'
+            | b'['
+            | b']'
+            | b','
+            | b'.'
+            | b'='
+            | b'!'
+            | b'<'
+            | b'>'
+            | b'+'
+            | b'-'
+            | b'*'
+            | b'/'
+            | b'%'
+            | b'&'
+            | b'|' => Opening::Sign,
             _ => Opening::Nothing,
         }
     }

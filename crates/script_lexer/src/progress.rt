@@ -33,7 +33,10 @@ fn end_line(lines: &mut Vec<Line>, mut tokens: Vec<Spanned>, begun: u32) -> Resu
         return Ok(());
     }
     tokens.shrink_to_fit();
-    lines.push(Line { number: begun as u16, tokens })?;
+    lines.push(Line {
+        number: begun as u16,
+        tokens,
+    })?;
     Ok(())
 }
 
@@ -56,7 +59,13 @@ impl Progress {
     }
 
     /// One piece more, with its bytes and the number of their line ends.
-    pub fn take(&mut self, alloc: Global, piece: Piece, bytes: &[u8], ends: u32) -> Result<(), OutOfMemory>
+    pub fn take(
+        &mut self,
+        alloc: Global,
+        piece: Piece,
+        bytes: &[u8],
+        ends: u32,
+    ) -> Result<(), OutOfMemory>
         requires ready { IsReady self.old }
         requires room { self.old.at + length bytes.now < 2 ^ 31 }
         requires counted { ends ≡ line_ends bytes.now }
@@ -88,7 +97,13 @@ impl Progress {
         requires { IsReady self }
         ensures { IfOk result (λ lines. closed lines.items self) }
     {
-        let Progress { at: _, line: _, begun, tokens, mut lines } = self;
+        let Progress {
+            at: _,
+            line: _,
+            begun,
+            tokens,
+            mut lines,
+        } = self;
         end_line(&mut lines, tokens, begun)?;
         Ok(lines)
     }

@@ -49,7 +49,11 @@ fn read_items(alloc: Global, bytes: &[u8]) -> Result<Read, OutOfMemory>
         rest = after;
     }
     let len = bytes.len() - rest.len();
-    Ok(Read { meant, is_good, len })
+    Ok(Read {
+        meant,
+        is_good,
+        len,
+    })
 }
 
 /// A text, up to its closing quote.
@@ -59,7 +63,11 @@ pub fn text(alloc: Global, rest: &[u8]) -> Result<Found, PieceFault>
     ensures { Answers rest.now result }
 {
     let (_, behind) = rest.split_at(1);
-    let Read { meant, is_good, len } = read_items(alloc, behind)?;
+    let Read {
+        meant,
+        is_good,
+        len,
+    } = read_items(alloc, behind)?;
     if len >= behind.len() || behind[len] != b'"' {
         return Err(PieceFault::Broken(LexRule::OpenText));
     }
@@ -70,5 +78,8 @@ pub fn text(alloc: Global, rest: &[u8]) -> Result<Found, PieceFault>
         return Err(PieceFault::Broken(LexRule::TextTooLong));
     }
     let text = Text::try_from_bytes(alloc, &meant)?;
-    Ok(Found { piece: Piece::Token(Token::Quoted(text)), len: len + 2 })
+    Ok(Found {
+        piece: Piece::Token(Token::Quoted(text)),
+        len: len + 2,
+    })
 }

@@ -94,7 +94,7 @@ impl Sign {
     }
 
     /// The sign that is this byte.
-    pub fn of_byte(byte: u8) -> Option<Sign>
+    pub(crate) fn of_byte(byte: u8) -> Option<Sign>
         ensures { result ≡ sign_of_byte byte }
     {
         match byte {
@@ -136,7 +136,7 @@ impl Sign {
     }
 
     /// The sign that is these two bytes.
-    pub fn of_bytes(first: u8, second: u8) -> Option<Sign>
+    pub(crate) fn of_bytes(first: u8, second: u8) -> Option<Sign>
         ensures { result ≡ sign_of_bytes first second }
     {
         if second == b'=' {

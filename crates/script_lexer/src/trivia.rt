@@ -24,7 +24,10 @@ pub fn join(rest: &[u8]) -> Result<Found, PieceFault>
     let (_, behind) = rest.split_at(1);
     let blanks = ByteClass::Blank.run_len(behind);
     if blanks < behind.len() && behind[blanks] == b'\n' {
-        Ok(Found { piece: Piece::Join, len: blanks + 2 })
+        Ok(Found {
+            piece: Piece::Join,
+            len: blanks + 2,
+        })
     } else {
         Err(PieceFault::Broken(LexRule::BadByte))
     }
@@ -61,7 +64,10 @@ fn line_comment(rest: &[u8]) -> Found
 {
     let (_, behind) = rest.split_at(1);
     let len = 1 + ByteClass::Comment.run_len(behind);
-    Found { piece: Piece::Comment, len }
+    Found {
+        piece: Piece::Comment,
+        len,
+    }
 }
 
 fn block_comment(rest: &[u8]) -> Result<Found, PieceFault>
@@ -72,7 +78,10 @@ fn block_comment(rest: &[u8]) -> Result<Found, PieceFault>
 {
     let (_, body) = rest.split_at(2);
     match close_end(body) {
-        Some(end) => Ok(Found { piece: Piece::Comment, len: end + 2 }),
+        Some(end) => Ok(Found {
+            piece: Piece::Comment,
+            len: end + 2,
+        }),
         None => Err(PieceFault::Broken(LexRule::OpenComment)),
     }
 }
@@ -107,5 +116,8 @@ pub fn documentation(alloc: Global, rest: &[u8]) -> Result<Found, PieceFault>
     }
     let (bytes, _) = behind.split_at(len);
     let text = Text::try_from_bytes(alloc, bytes)?;
-    Ok(Found { piece: Piece::Token(Token::Doc(text)), len: len + 2 })
+    Ok(Found {
+        piece: Piece::Token(Token::Doc(text)),
+        len: len + 2,
+    })
 }

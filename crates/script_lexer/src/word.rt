@@ -30,11 +30,17 @@ pub fn word(alloc: Global, rest: &[u8]) -> Result<Found, PieceFault>
     match Keyword::of(bytes) {
         Some(keyword) => match keyword {
             Keyword::Float => Err(PieceFault::Broken(LexRule::FloatWord)),
-            _ => Ok(Found { piece: Piece::Token(Token::Key(keyword)), len }),
+            _ => Ok(Found {
+                piece: Piece::Token(Token::Key(keyword)),
+                len,
+            }),
         },
         None => {
             let name = Name::from_bytes(alloc, bytes)?;
-            Ok(Found { piece: Piece::Token(Token::Word(name)), len })
+            Ok(Found {
+                piece: Piece::Token(Token::Word(name)),
+                len,
+            })
         }
     }
 }

@@ -1,17 +1,14 @@
 -- Byte lists that go into a set one after another.
-use Rattle.std.proofs.Common.{◌≡◌, ℕ, ◌+◌, ◌<◌, Bool, true, false, ◌||◌, cond, List, [], ◌∷◌, ◌++◌, length, get_or, take, map, refl, sym, ap, ◌∙◌}
+use Rattle.std.proofs.Common.{◌≡◌, ℕ, Bool, true, false, ◌||◌, cond, List, [], ◌∷◌, ◌++◌, length, map, refl, sym, ap, ◌∙◌}
 use Rattle.std.specs.List.{IsDistinct, list_any}
 use Rattle.std.specs.Borrow.{Bor}
 use Rattle.std.proofs.lemmas.Cmp.{nat_list_eq_equiv}
-use Rattle.std.proofs.lemmas.List.{take_more, map-append, flat_map_more}
+use Rattle.std.proofs.lemmas.List.{map-append}
 use Rattle.std.proofs.lemmas.List.Folds.{list_any-append}
-use Rattle.std.proofs.lemmas.List.Sums.{fold-append}
 use Rattle.std.proofs.lemmas.Map.Keys.{IsDistinct-push}
 use Rattle.std.proofs.lemmas.Map.Steps.{list_any_congr}
 use Rattle.indexmap.specs.IndexSet.{insert_key, insert_all}
-use Rattle.script_lexer.specs.declared.token.Spanned.{Spanned}
-use Rattle.script_lexer.specs.declared.line.Line.{Line}
-use Rattle.script_parser.specs.Words.{word_of, words_in, words_of, same_bytes, CountsDifferent}
+use Rattle.script_parser.specs.Words.{same_bytes, CountsDifferent}
 
 -- a set of borrowed lists, shown as the lists
 abbrev shown : List (Bor (List ℕ)) → List (List ℕ)
@@ -83,28 +80,3 @@ CountsDifferent-insert_all words all n is count = record {
   members = λ word. members word [] words;
   count = count ∙ ap length is;
 }
-
--- the words of one more token, or of one more line, go in
-pub insert_all-token : (start before after : List (List ℕ)) (tokens : List Spanned) (i : ℕ) (s : Spanned) → i < length tokens → s ≡ get_or tokens i s → before ≡ insert_all same_bytes start (words_in (take i tokens)) → after ≡ insert_all same_bytes before (word_of s.token) → after ≡ insert_all same_bytes start (words_in (take (i + 1) tokens))
-insert_all-token start before after tokens i s within is so_far more =
-    let step : words_in (take (i + 1) tokens) ≡ words_in (take i tokens) ++ word_of s.token =
-    ap words_in (take_more tokens i s within)
-    ∙ sym (flat_map_more (λ t. word_of t.token) [] (take i tokens) (get_or tokens i s))
-    ∙ ap (λ t. words_in (take i tokens) ++ word_of t.token) (sym is)
-    in
-    more
-    ∙ ap (λ t. insert_all same_bytes t (word_of s.token)) so_far
-    ∙ sym (fold-append (insert_key same_bytes) start (words_in (take i tokens)) (word_of s.token))
-    ∙ ap (insert_all same_bytes start) (sym step)
-
-pub insert_all-line : (start before after : List (List ℕ)) (lines : List Line) (i : ℕ) (line : Line) → i < length lines → line ≡ get_or lines i line → before ≡ insert_all same_bytes start (words_of (take i lines)) → after ≡ insert_all same_bytes before (words_in line.tokens.items) → after ≡ insert_all same_bytes start (words_of (take (i + 1) lines))
-insert_all-line start before after lines i line within is so_far more =
-    let step : words_of (take (i + 1) lines) ≡ words_of (take i lines) ++ words_in line.tokens.items =
-    ap words_of (take_more lines i line within)
-    ∙ sym (flat_map_more (λ l. words_in l.tokens.items) [] (take i lines) (get_or lines i line))
-    ∙ ap (λ l. words_of (take i lines) ++ words_in l.tokens.items) (sym is)
-    in
-    more
-    ∙ ap (λ t. insert_all same_bytes t (words_in line.tokens.items)) so_far
-    ∙ sym (fold-append (insert_key same_bytes) start (words_of (take i lines)) (words_in line.tokens.items))
-    ∙ ap (insert_all same_bytes start) (sym step)

@@ -1,5 +1,5 @@
 // The members of a script, and of its states and properties.
-ghost use Rattle.std.specs.Prelude.{◌≤◌, ◌<◌, OnOk};
+ghost use Rattle.std.specs.Prelude.{◌≤◌, OnOk};
 ghost use Rattle.script_parser.specs.Reader.{left};
 
 use crate::block::{Block, EndKind, OPEN_LIMIT, statements};

@@ -34,10 +34,10 @@ fn line_at(lines: &Lines, at: usize) -> u32
     requires { lines.now.last + 1 < 2 ^ 32 }
     ensures { IsLineOf lines.now result }
 {
-    match lines.lines.get(at) {
-        Some(line) => u32::from(line.number),
-        None => lines.last + 1,
+    if at >= lines.lines.len() {
+        return lines.last + 1;
     }
+    lines.lines[at].number as u32
 }
 
 fn script(alloc: Global, lines: &[Line]) -> Result<Script, BlockFault>

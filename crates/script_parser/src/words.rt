@@ -1,6 +1,5 @@
 // How many different words, texts and documentation texts a file has.
-ghost use Rattle.std.specs.Prelude.{◌≡◌, IfOk, OnOk};
-ghost use Rattle.std.specs.Option.{option_copied, option_to_list};
+ghost use Rattle.std.specs.Prelude.{◌≡◌, [], ◌∷◌, IfOk, OnOk};
 ghost use Rattle.indexmap.specs.IndexSet.{insert_all};
 ghost use Rattle.script_parser.specs.Held.{held};
 ghost use Rattle.script_parser.specs.Words.{word_of, words_in, words_of, same_bytes, CountsDifferent};
@@ -18,11 +17,12 @@ pub(crate) fn count_words(alloc: Global, lines: &[Line]) -> Result<u32, BlockFau
     for line in lines {
         add_words(&mut words, line.tokens.as_slice())?;
     }
+    let count = words.len();
     // A set of 2^32 words finds no memory first.
-    match u32::try_from(words.len()) {
-        Ok(count) => Ok(count),
-        Err(_) => Err(BlockFault::OutOfMemory),
+    if count > u32::MAX as usize {
+        return Err(BlockFault::OutOfMemory);
     }
+    Ok(count as u32)
 }
 
 fn add_words<'a>(words: &mut IndexSet<&'a [u8]>, tokens: &'a [Spanned]) -> Result<(), BlockFault>
@@ -30,21 +30,27 @@ fn add_words<'a>(words: &mut IndexSet<&'a [u8]>, tokens: &'a [Spanned]) -> Resul
         (held words.new ≡ insert_all same_bytes (held words.old) (words_in tokens.now)) }
 {
     for spanned in tokens {
-        if let Some(bytes) = word_bytes(&spanned.token) {
-            words.insert(bytes)?;
-        }
+        add_word(words, &spanned.token)?;
     }
     Ok(())
 }
 
-// The bytes that a word, a text or a documentation text holds.
-fn word_bytes(token: &Token) -> Option<&[u8]>
-    ensures { option_to_list (option_copied result) ≡ word_of token.now }
+fn add_word<'a>(words: &mut IndexSet<&'a [u8]>, token: &'a Token) -> Result<(), BlockFault>
+    ensures { OnOk result
+        (held words.new ≡ insert_all same_bytes (held words.old) (word_of token.now)) }
 {
     match token {
-        Token::Word(name) => Some(name.as_bytes()),
-        Token::Quoted(text) => Some(text.as_bytes()),
-        Token::Doc(text) => Some(text.as_bytes()),
-        _ => None,
+        Token::Word(name) => add_bytes(words, name.as_bytes()),
+        Token::Quoted(text) => add_bytes(words, text.as_bytes()),
+        Token::Doc(text) => add_bytes(words, text.as_bytes()),
+        _ => Ok(()),
     }
+}
+
+fn add_bytes<'a>(words: &mut IndexSet<&'a [u8]>, bytes: &'a [u8]) -> Result<(), BlockFault>
+    ensures { OnOk result
+        (held words.new ≡ insert_all same_bytes (held words.old) (bytes.now ∷ [])) }
+{
+    words.insert(bytes)?;
+    Ok(())
 }

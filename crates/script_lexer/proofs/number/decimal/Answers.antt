@@ -1,4 +1,4 @@
-use Rattle.std.proofs.Common.{◌≡◌, ℕ, ◌+◌, ◌*◌, ◌-◌, ◌<◌, ◌≤◌, true, false, take, drop, get_or, length, refl, sym, ap, subst, ◌∙◌, ⊎_elim, inl, inr, arith, rules}
+use Rattle.std.proofs.Common.{sym, ◌∙◌, inr, arith}
 use Rattle.script_lexer.proofs.NumberLemmas.{decimal_stands, decimal_refused}
 use Rattle.std.proofs.lemmas.Bool.{false≢true}
 use Rattle.script_lexer.proofs.number.decimal.Goals as goal

@@ -1,5 +1,5 @@
-use Rattle.std.proofs.Common.{◌≡◌, ℕ, ◌+◌, ◌*◌, ◌-◌, ◌<◌, ◌≤◌, true, false, take, drop, get_or, length, refl, sym, ap, subst, ◌∙◌, ⊎_elim, inl, inr, arith, rules}
-use Rattle.script_lexer.proofs.SignLemmas.{two_byte_sign, one_byte_sign, sign_refused}
+use Rattle.std.proofs.Common.{sym, ◌∙◌}
+use Rattle.script_lexer.proofs.SignLemmas.{two_byte_sign, one_byte_sign}
 use Rattle.script_lexer.proofs.punctuation.sign.Goals as goal
 
 pub returns-in-Some : goal.returns-in-Some

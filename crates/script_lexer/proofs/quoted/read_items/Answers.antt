@@ -1,5 +1,5 @@
-use Rattle.std.proofs.Common.{◌≡◌, ℕ, ◌+◌, ◌*◌, ◌-◌, ◌<◌, ◌≤◌, true, false, take, drop, get_or, length, refl, sym, ap, subst, ◌∙◌, ⊎_elim, inl, inr, arith, rules}
-use Rattle.std.specs.Prelude.{◌&&◌, Bool, ◌++◌, ◌∷◌, []}
+use Rattle.std.proofs.Common.{ℕ, drop, ap, ◌∙◌}
+use Rattle.std.specs.Prelude.{◌++◌, ◌∷◌, []}
 use Rattle.script_lexer.proofs.TextLemmas.{reads_more}
 use Rattle.script_lexer.proofs.quoted.read_items.Goals.{then-is_good, else-is_good}
 use Rattle.script_lexer.proofs.quoted.read_items.Goals as goal

@@ -1,4 +1,4 @@
-use Rattle.std.proofs.Common.{length, ◌-◌}
+use Rattle.std.proofs.Common.{length}
 use Rattle.script_lexer.proofs.quoted.read_items.Given as goal
 use Rattle.script_lexer.proofs.TextLemmas.{ReadSoFar}
 

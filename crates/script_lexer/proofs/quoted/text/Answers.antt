@@ -1,4 +1,4 @@
-use Rattle.std.proofs.Common.{◌≡◌, ℕ, ◌+◌, ◌*◌, ◌-◌, ◌<◌, ◌≤◌, true, false, take, drop, get_or, length, refl, sym, ap, subst, ◌∙◌, ⊎_elim, inl, inr, arith, rules}
+use Rattle.std.proofs.Common.{◌∙◌, arith}
 use Rattle.script_lexer.proofs.TextLemmas.{text_stands, text_bad_escape, text_too_long}
 use Rattle.script_lexer.proofs.quoted.text.Goals as goal
 

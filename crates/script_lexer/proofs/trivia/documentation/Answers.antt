@@ -1,4 +1,4 @@
-use Rattle.std.proofs.Common.{◌≡◌, ℕ, ◌+◌, ◌*◌, ◌-◌, ◌<◌, ◌≤◌, true, false, take, drop, get_or, length, refl, sym, ap, subst, ◌∙◌, ⊎_elim, inl, inr, arith, rules}
+use Rattle.std.proofs.Common.{◌∙◌, arith}
 use Rattle.script_lexer.proofs.TriviaLemmas.{documentation_stands, documentation_too_long, documentation_open}
 use Rattle.script_lexer.proofs.trivia.documentation.Goals as goal
 

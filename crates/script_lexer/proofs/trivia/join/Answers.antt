@@ -1,4 +1,4 @@
-use Rattle.std.proofs.Common.{◌≡◌, ℕ, ◌+◌, ◌*◌, ◌-◌, ◌<◌, ◌≤◌, true, false, take, drop, get_or, length, refl, sym, ap, subst, ◌∙◌, ⊎_elim, inl, inr, arith, rules}
+use Rattle.std.proofs.Common.{arith}
 use Rattle.script_lexer.proofs.TriviaLemmas.{join_stands, join_refused}
 use Rattle.script_lexer.proofs.trivia.join.Goals as goal
 use Rattle.script_lexer.proofs.trivia.join.Goals.{else-blanks-behind-via-then-blanks-behind+else-behind-blanks-eq10, else-blanks-behind-via-else-blanks-behind}

@@ -1,4 +1,3 @@
-use Rattle.std.proofs.Common.{◌≡◌, ℕ, ◌+◌, ◌*◌, ◌-◌, ◌<◌, ◌≤◌, true, false, take, drop, get_or, length, refl, sym, ap, subst, ◌∙◌, ⊎_elim, inl, inr, arith, rules}
 use Rattle.script_lexer.proofs.TriviaLemmas.{line_comment_stands}
 use Rattle.script_lexer.proofs.trivia.line_comment.Goals as goal
 

@@ -1,5 +1,4 @@
 -- Each turn takes a line.
-use Rattle.std.proofs.Common.{◌≤◌}
 use Rattle.script_parser.specs.Reader.{left}
 use Rattle.script_parser.proofs.parser.script.Given as goal
 

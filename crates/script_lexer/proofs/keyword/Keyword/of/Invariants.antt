@@ -1,4 +1,4 @@
-use Rattle.std.proofs.Common.{◌≡◌, ℕ, ◌<◌, get_or}
+use Rattle.std.proofs.Common.{ℕ, ◌<◌, get_or}
 use Rattle.std.specs.Prelude.{◌≢◌}
 use Rattle.papy_base.specs.Case.{folded}
 use Rattle.script_lexer.specs.declared.keyword.Keyword.{Keyword}

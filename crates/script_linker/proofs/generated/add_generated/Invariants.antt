@@ -1,0 +1,5 @@
+use Rattle.script_linker.specs.Link.{AreCompleted}
+use Rattle.script_linker.proofs.generated.add_generated.Given as goal
+
+abbrev pub invariant-loop-number : goal.invariant-loop-number
+invariant-loop-number l = AreCompleted l.initial.files.items l.files.items

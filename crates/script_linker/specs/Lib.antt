@@ -1,0 +1,6 @@
+pub mod Index
+pub mod Link
+pub mod Lookup
+pub mod Refs
+pub mod Rules
+pub mod Table

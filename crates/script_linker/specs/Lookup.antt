@@ -1,0 +1,107 @@
+-- What the look-ups of a set of scripts find, said of the list of its files.
+use Rattle.std.specs.Prelude.{ℕ, ◌≡◌, ◌<◌, ◌≤◌, List, [], ◌∷◌, take, codes, nat_lt, if◌then◌else◌, length, map, Option, Some, None, option_and_then, slice_get, slice_index, slice_index_or}
+use Rattle.papy_base.specs.Case.{folded}
+use Rattle.script_parser.specs.declared.script.Function.{Function}
+use Rattle.script_parser.specs.declared.script.Property.{Property}
+use Rattle.script_linker.specs.declared.set.SourceFile.{SourceFile}
+use Rattle.script_linker.specs.Table.{place_of}
+
+abbrev pub script_name : SourceFile → List ℕ
+script_name file = file.script.name
+
+-- the number of the first script of this name
+abbrev pub script_named : List SourceFile → List ℕ → Option ℕ
+script_named files name = place_of script_name files (folded name)
+
+-- the number of a script's parent
+abbrev pub parent_in : List SourceFile → SourceFile → Option ℕ
+parent_in files file = option_and_then (script_named files) file.script.parent
+
+-- the parent's number of each script
+abbrev pub parents_of : List SourceFile → List (Option ℕ)
+parents_of files = map (parent_in files) files
+
+abbrev pub parent_at : List (Option ℕ) → ℕ → Option ℕ
+parent_at parents n = slice_index_or parents n None
+
+-- the script a is the script n itself or stands above it
+pub data StandsAbove (parents : List (Option ℕ)) : ℕ → ℕ → Type 0 where
+  itself : (n : ℕ) → StandsAbove parents n n
+  further : (n p a : ℕ) → parent_at parents n ≡ Some p → StandsAbove parents p a → StandsAbove parents n a
+
+-- no script stands above itself
+abbrev pub HasNoCircle : List (Option ℕ) → Type 0
+HasNoCircle parents = (n p : ℕ) → parent_at parents n ≡ Some p → ¬ StandsAbove parents p n
+
+-- from the script n upward, the first script that has something of its own, with the place where it has it
+pub data Nearest (parents : List (Option ℕ)) (own : ℕ → Option ℕ) : ℕ → Option (ℕ × ℕ) → Type 0 where
+  here : (n place : ℕ) → own n ≡ Some place → Nearest parents own n (Some (n, place))
+  further : (n p : ℕ) (found : Option (ℕ × ℕ)) → own n ≡ None → parent_at parents n ≡ Some p → Nearest parents own p found → Nearest parents own n found
+  nowhere : (n : ℕ) → own n ≡ None → parent_at parents n ≡ None → Nearest parents own n None
+
+abbrev pub function_name : Function → List ℕ
+function_name function = function.heading.name
+
+abbrev pub property_name : Property → List ℕ
+property_name property = property.name
+
+-- the place of the function of this name in the empty state of the script n
+abbrev pub own_function : List SourceFile → List ℕ → ℕ → Option ℕ
+own_function files name n = option_and_then (λ file. place_of function_name file.script.functions.items (folded name)) (slice_get files n)
+
+-- the place of the property of this name in the script n
+abbrev pub own_property : List SourceFile → List ℕ → ℕ → Option ℕ
+own_property files name n = option_and_then (λ file. place_of property_name file.script.properties.items (folded name)) (slice_get files n)
+
+-- each parent is a script of the set
+abbrev pub IsWithin : List (Option ℕ) → Type 0
+IsWithin parents = (n p : ℕ) → parent_at parents n ≡ Some p → p < length parents
+
+-- scripts have a rank or 0, and where a script has one its parent has a lower one
+pub record RanksSome (parents : List (Option ℕ)) (ranks : List ℕ) : Type 0 where
+  pub one_each : length ranks ≡ length parents
+  pub parent_ranked : (n p : ℕ) → parent_at parents n ≡ Some p → 0 < slice_index ranks n → 0 < slice_index ranks p
+  pub lower : (n p : ℕ) → parent_at parents n ≡ Some p → 0 < slice_index ranks n → slice_index ranks p < slice_index ranks n
+
+-- every script has a rank
+abbrev pub IsRanked : List ℕ → Type 0
+IsRanked ranks = (n : ℕ) → n < length ranks → 0 < slice_index ranks n
+
+-- a script of the set, and a place among its functions
+abbrev pub IsFunctionOf : List SourceFile → ℕ × ℕ → Type 0
+IsFunctionOf files (n, place) = (n < length files) × ((file : SourceFile) → place < length (slice_index_or files n file).script.functions.items)
+
+-- a script of the set, and a place among its properties
+abbrev pub IsPropertyOf : List SourceFile → ℕ × ℕ → Type 0
+IsPropertyOf files (n, place) = (n < length files) × ((file : SourceFile) → place < length (slice_index_or files n file).script.properties.items)
+
+-- the names of the prelude's scripts, and their parents
+abbrev pub prelude_names : List (List ℕ)
+prelude_names =
+    codes "Debug" ∷ codes "Utility" ∷ codes "Scene" ∷ codes "Form" ∷ codes "Quest" ∷ codes "ObjectReference" ∷ []
+
+abbrev pub prelude_parents : List (Option (List ℕ))
+prelude_parents = None ∷ None ∷ None ∷ None ∷ Some (codes "Form") ∷ Some (codes "Form") ∷ []
+
+abbrev pub script_parent : SourceFile → Option (List ℕ)
+script_parent file = file.script.parent
+
+-- the first six scripts have the names and parents of the prelude's
+pub record StartsWithPrelude (files : List SourceFile) : Type 0 where
+  pub count : 6 ≤ length files
+  pub names : map script_name (take 6 files) ≡ prelude_names
+  pub parents : map script_parent (take 6 files) ≡ prelude_parents
+
+-- of the first six scripts only Quest and ObjectReference have a parent, which is Form
+abbrev pub HasPreludeParents : List (Option ℕ) → Type 0
+HasPreludeParents parents = (n p : ℕ) → n < 6 → parent_at parents n ≡ Some p → (3 < n) × (p ≡ 3)
+
+-- the rank that a script has at first: 1 where it is one of the prelude's without parent, 2 where it is another one of the prelude's
+abbrev pub first_rank : ℕ → ℕ
+first_rank n = if nat_lt n 4 then 1 else (if nat_lt n 6 then 2 else 0)
+
+-- the numbers of scripts and the places of their functions and properties have 16 bits
+pub record HasNumbers (files : List SourceFile) : Type 0 where
+  pub scripts : length files < 65536
+  pub functions : (n : ℕ) (file : SourceFile) → n < length files → length (slice_index_or files n file).script.functions.items < 65536
+  pub properties : (n : ℕ) (file : SourceFile) → n < length files → length (slice_index_or files n file).script.properties.items < 65536

@@ -1,0 +1,89 @@
+// What a script declares: things with a name and a line.
+ghost use Rattle.std.specs.Prelude.{◌≡◌, ℕ, List};
+
+use crate::set::SourceFile;
+use papy_base::Name;
+use script_parser::{Function, Property, State, Variable};
+
+/// A thing with a name of its own that a line of a script declares.
+pub(crate) trait Declared {
+    ghost name_of: { Self → List ℕ };
+
+    ghost line_of: { Self → ℕ };
+
+    fn name(&self) -> &Name
+        ensures { result.now ≡ name_of self.now };
+
+    fn line(&self) -> u16
+        ensures { result ≡ line_of self.now };
+}
+
+impl Declared for Variable {
+    ghost name_of = { λ variable. variable.name };
+
+    ghost line_of = { λ variable. variable.line };
+
+    fn name(&self) -> &Name {
+        &self.name
+    }
+
+    fn line(&self) -> u16 {
+        self.line
+    }
+}
+
+impl Declared for Property {
+    ghost name_of = { λ property. property.name };
+
+    ghost line_of = { λ property. property.line };
+
+    fn name(&self) -> &Name {
+        &self.name
+    }
+
+    fn line(&self) -> u16 {
+        self.line
+    }
+}
+
+impl Declared for Function {
+    ghost name_of = { λ function. function.heading.name };
+
+    ghost line_of = { λ function. function.line };
+
+    fn name(&self) -> &Name {
+        &self.heading.name
+    }
+
+    fn line(&self) -> u16 {
+        self.line
+    }
+}
+
+impl Declared for State {
+    ghost name_of = { λ state. state.name };
+
+    ghost line_of = { λ state. state.line };
+
+    fn name(&self) -> &Name {
+        &self.name
+    }
+
+    fn line(&self) -> u16 {
+        self.line
+    }
+}
+
+impl Declared for SourceFile {
+    ghost name_of = { λ file. file.script.name };
+
+    ghost line_of = { λ file. file.script.line };
+
+    fn name(&self) -> &Name {
+        &self.script.name
+    }
+
+    fn line(&self) -> u16 {
+        self.script.line
+    }
+}

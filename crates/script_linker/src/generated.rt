@@ -1,0 +1,102 @@
+// The four members that every script without parent has.
+ghost use Rattle.std.specs.Prelude.{◌≡◌, ◌+◌, ℕ, List, ◌++◌, OnOk, IfOk, vec_len, length};
+ghost use Rattle.script_linker.specs.Link.{IsCompleted, AreCompleted};
+
+use crate::parts::{empty_event, function, heading, parameter, type_name};
+use crate::prelude::LIBRARY_COUNT;
+use crate::set::SourceFile;
+use line_parser::Expr;
+use papy_base::{Name, OutOfMemory};
+use script_lexer::Sign;
+use script_parser::{Body, Function, Statement, StatementForm};
+use std::alloc::Global;
+
+/// The variable that holds the name of an instance's state. No script can write this word.
+const STATE_WORD: &[u8] = b"::State";
+
+/// Adds to each script without parent, but to no library, those of the members GotoState, GetState,
+/// OnBeginState and OnEndState that it doesn't declare, in this order.
+pub(crate) fn add_generated(alloc: Global, files: &mut Vec<SourceFile>) -> Result<(), OutOfMemory>
+    ensures { OnOk result (AreCompleted files.old.items files.new.items) }
+{
+    for number in LIBRARY_COUNT..files.len() {
+        let file = &mut files[number];
+        complete(alloc, file)?;
+    }
+    Ok(())
+}
+
+// Adds the members that the script lacks, where it has no parent.
+fn complete(alloc: Global, file: &mut SourceFile) -> Result<(), OutOfMemory>
+    ensures { OnOk result (IsCompleted file.old file.new) }
+{
+    if file.script.parent.is_none() {
+        let mut added = lacking_members(alloc, file.script.functions.as_slice())?;
+        file.script.functions.append(&mut added)?;
+    }
+    Ok(())
+}
+
+// Those of the four members that these functions lack.
+fn lacking_members(alloc: Global, functions: &[Function]) -> Result<Vec<Function>, OutOfMemory> {
+    let mut added = Vec::with_capacity(alloc, 4)?;
+    if lacks(functions, b"GotoState") {
+        added.push(goto_state(alloc)?)?;
+    }
+    if lacks(functions, b"GetState") {
+        added.push(get_state(alloc)?)?;
+    }
+    if lacks(functions, b"OnBeginState") {
+        added.push(empty_event(alloc, b"OnBeginState")?)?;
+    }
+    if lacks(functions, b"OnEndState") {
+        added.push(empty_event(alloc, b"OnEndState")?)?;
+    }
+    Ok(added)
+}
+
+fn lacks(functions: &[Function], name: &[u8]) -> bool {
+    functions.iter().all(|function| !function.heading.name.as_bytes().eq_ignore_ascii_case(name))
+}
+
+// Calls OnEndState, changes the state, and calls OnBeginState.
+fn goto_state(alloc: Global) -> Result<Function, OutOfMemory> {
+    let mut parameters = Vec::with_capacity(alloc, 1)?;
+    parameters.push(parameter(alloc, b"String", b"asNewState", None)?)?;
+    let heading = heading(alloc, b"GotoState", parameters, false)?;
+    let change = StatementForm::Assign {
+        target: word(alloc, STATE_WORD)?,
+        sign: Sign::Assign,
+        value: word(alloc, b"asNewState")?,
+    };
+    let mut lines = Vec::with_capacity(alloc, 3)?;
+    lines.push(statement(call(alloc, b"OnEndState")?))?;
+    lines.push(statement(change))?;
+    lines.push(statement(call(alloc, b"OnBeginState")?))?;
+    Ok(function(heading, Body::Lines(lines)))
+}
+
+// Gives the name of the state.
+fn get_state(alloc: Global) -> Result<Function, OutOfMemory> {
+    let mut heading = heading(alloc, b"GetState", Vec::new(alloc), false)?;
+    heading.result = Some(type_name(alloc, b"String")?);
+    let mut lines = Vec::with_capacity(alloc, 1)?;
+    lines.push(statement(StatementForm::Return(Some(word(alloc, STATE_WORD)?))))?;
+    Ok(function(heading, Body::Lines(lines)))
+}
+
+fn statement(form: StatementForm) -> Statement {
+    Statement { line: 0, form }
+}
+
+fn word(alloc: Global, bytes: &[u8]) -> Result<Expr, OutOfMemory> {
+    Ok(Expr::Word(Name::from_bytes(alloc, bytes)?))
+}
+
+// A call without arguments as a statement.
+fn call(alloc: Global, name: &[u8]) -> Result<StatementForm, OutOfMemory> {
+    Ok(StatementForm::Plain(Expr::Call {
+        name: Name::from_bytes(alloc, name)?,
+        arguments: Vec::new(alloc),
+    }))
+}

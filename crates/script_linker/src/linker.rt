@@ -1,0 +1,158 @@
+ghost use Rattle.std.specs.Prelude.{◌≡◌, ℕ, ◌-◌, ◌<◌, ◌≤◌, length, slice_index, IfOk, IfErr, OnOk, vec_len};
+ghost use Rattle.script_linker.specs.declared.fault.LinkFault.TheVariants.{Broken, OutOfMemory as LinkOutOfMemory};
+ghost use Rattle.script_linker.specs.Lookup.{IsRanked, StartsWithPrelude};
+ghost use Rattle.script_linker.specs.Link.{AreFilesOf, IsFaultAmong};
+
+use crate::earliest::Found;
+use crate::fault::{LinkFault, LinkRule};
+use crate::generated::add_generated;
+use crate::members::first_member_fault;
+use crate::name_table::NameTable;
+use crate::parents::{Peeled, first_unranked, parent_numbers, peel, ranks};
+use crate::prelude::{PRELUDE_COUNT, prelude_files};
+use crate::script_rules::{Survey, first_script_fault};
+use crate::scripts::Scripts;
+use crate::set::{ScriptSet, SourceFile};
+use papy_base::OutOfMemory;
+use std::alloc::Global;
+
+/// The set of these files, of which there are fewer than 65,530.
+///
+/// `Broken` comes where a rule of a set is broken, with the first one: those of N1 to N5 over all files
+/// stand before those of N6 to N12, and each of the two lists is in order of file, line and rule.
+pub fn link(alloc: Global, files: Vec<SourceFile>) -> Result<ScriptSet, LinkFault>
+    requires { vec_len files < 65530 }
+    ensures files { IfOk result (AreFilesOf files.items) }
+    ensures prelude { IfOk result StartsWithPrelude }
+    ensures broken { IfErr result (IsFaultAmong (vec_len files)) }
+{
+    let mut set = behind_prelude(alloc, files)?;
+    let declared = function_counts(alloc, set.as_slice())?;
+    add_generated(alloc, &mut set)?;
+    link_set(alloc, set, declared.as_slice())
+}
+
+// The prelude's files, and then these.
+fn behind_prelude(alloc: Global, mut files: Vec<SourceFile>) -> Result<Vec<SourceFile>, OutOfMemory>
+    ensures start { IfOk result (λ set. StartsWithPrelude set.items) }
+    ensures files { IfOk result (λ set. AreFilesOf files.items set.items) }
+{
+    let mut set = prelude_files(alloc)?;
+    set.append(&mut files)?;
+    Ok(set)
+}
+
+fn link_set(
+    alloc: Global,
+    files: Vec<SourceFile>,
+    declared: &[usize],
+) -> Result<ScriptSet, LinkFault>
+    requires start { StartsWithPrelude files.items }
+    requires count { vec_len files < 65536 }
+    requires declared { length declared.now ≡ vec_len files }
+    ensures files { IfOk result (λ set. set ≡ files.items) }
+    ensures broken { IfErr result (IsFaultAmong (vec_len files - 6)) }
+{
+    let names = NameTable::of_places(alloc, files.as_slice())?;
+    let parents = parent_numbers(alloc, files.as_slice(), &names)?;
+    let parent_list = parents.as_slice();
+    let peeled = peel(alloc, parent_list)?;
+    let ranks = ranks(alloc, parent_list, peeled.order.as_slice())?;
+    judge_scripts(alloc, files.as_slice(), &names, parent_list, &peeled)?;
+    let rank_list = ranks.as_slice();
+    refuse_circle(files.as_slice(), rank_list)?;
+    let scripts = Scripts::new(alloc, files, parents, ranks)?;
+    judge_members(alloc, &scripts, declared)?;
+    finished(scripts)
+}
+
+fn judge_scripts(
+    alloc: Global,
+    files: &[SourceFile],
+    names: &NameTable,
+    parents: &[Option<usize>],
+    peeled: &Peeled,
+) -> Result<(), LinkFault>
+    requires start { 6 ≤ length files.now }
+    requires count { length files.now < 65536 }
+    requires parents { length parents.now ≡ length files.now }
+    requires children { vec_len peeled.now.children ≡ length files.now }
+    ensures { IfErr result (IsFaultAmong (length files.now - 6)) }
+{
+    let file_names = NameTable::of_places(alloc, &files[PRELUDE_COUNT..])?;
+    let survey = Survey {
+        files,
+        names,
+        file_names: &file_names,
+        parents,
+        peeled,
+    };
+    match first_script_fault(alloc, &survey)? {
+        Some((number, found)) => Err(fault(number, found)),
+        None => Ok(()),
+    }
+}
+
+// Refuses scripts without a rank. They stand on a circle or below one, so the rules of scripts have
+// refused them before.
+fn refuse_circle(files: &[SourceFile], ranks: &[usize]) -> Result<(), LinkFault>
+    requires count { length files.now < 65536 }
+    requires ranks { length ranks.now ≡ length files.now }
+    requires prelude { (n : ℕ) → n < 6 → 0 < slice_index ranks.now n }
+    ensures ranked { OnOk result (IsRanked ranks.now) }
+    ensures broken { IfErr result (IsFaultAmong (length files.now - 6)) }
+{
+    match first_unranked(ranks) {
+        Some(number) => {
+            let line = files[number].script.line;
+            let rule = LinkRule::ExtendsCycle;
+            Err(fault(number, Found { line, rule }))
+        }
+        None => Ok(()),
+    }
+}
+
+fn judge_members(alloc: Global, scripts: &Scripts, declared: &[usize]) -> Result<(), LinkFault>
+    requires count { length scripts.now < 65536 }
+    requires declared { length declared.now ≡ length scripts.now }
+    ensures { IfErr result (IsFaultAmong (length scripts.now - 6)) }
+{
+    match first_member_fault(alloc, scripts, declared)? {
+        Some((number, found)) => Err(fault(number, found)),
+        None => Ok(()),
+    }
+}
+
+fn fault(number: usize, found: Found) -> LinkFault
+    requires file { 6 ≤ number }
+    requires count { number < 65536 }
+    ensures { result ≡ Broken (number - 6) found.line found.rule }
+{
+    LinkFault::Broken {
+        file: (number - PRELUDE_COUNT) as u16,
+        line: u32::from(found.line),
+        rule: found.rule,
+    }
+}
+
+// The set of scripts that break no rule.
+fn finished(scripts: Scripts) -> Result<ScriptSet, LinkFault>
+    ensures files { IfOk result (λ set. set ≡ scripts) }
+    ensures memory { IfErr result (λ fault. fault ≡ LinkOutOfMemory) }
+{
+    if !scripts.fits_numbers() {
+        // It never comes: so many members have over 20,000 names, or a name twice, and have been refused.
+        return Err(LinkFault::OutOfMemory);
+    }
+    Ok(ScriptSet { scripts })
+}
+
+fn function_counts(alloc: Global, files: &[SourceFile]) -> Result<Vec<usize>, OutOfMemory>
+    ensures { IfOk result (λ counts. vec_len counts ≡ length files.now) }
+{
+    let mut counts = Vec::with_capacity(alloc, files.len())?;
+    for file in files {
+        counts.push(file.script.functions.len())?;
+    }
+    Ok(counts)
+}

@@ -1,0 +1,261 @@
+// The rules N6 to N12, which speak of the members of scripts whose parents are known.
+ghost use Rattle.std.specs.Prelude.{◌≡◌, ◌<◌, ◌≤◌, length, take, IfOk, IfSome};
+
+use crate::declared::Declared;
+use crate::earliest::{Earliest, Found};
+use crate::fault::LinkRule;
+use crate::name_table::NameTable;
+use crate::prelude::PRELUDE_COUNT;
+use crate::scripts::Scripts;
+use crate::signatures::{has_late_parameter, is_accessor, is_plain_event, is_word, same_signature};
+use line_parser::TypeName;
+use papy_base::OutOfMemory;
+use script_parser::{Function, Property, PropertyForm, Script, State};
+use std::alloc::Global;
+
+/// How many files a set has at most.
+const FILE_LIMIT: usize = 256;
+
+/// How many different words, texts and documentation texts a file has at most.
+const WORD_LIMIT: u32 = 20_000;
+
+/// The first broken rule of N6 to N12, in order of file, line and rule, with the number of its script.
+/// Of each script the first `declared` functions are its own, and the rest generated.
+pub(crate) fn first_member_fault(
+    alloc: Global,
+    scripts: &Scripts,
+    declared: &[usize],
+) -> Result<Option<(usize, Found)>, OutOfMemory>
+    requires { length declared.now ≡ length scripts.now }
+    ensures { IfOk result (λ fault. IfSome fault (λ f. (6 ≤ f.0) × (f.0 < length scripts.now))) }
+{
+    for number in PRELUDE_COUNT..scripts.count() {
+        if let Some(found) = member_fault(alloc, scripts, number, declared[number])? {
+            return Ok(Some((number, found)));
+        }
+    }
+    Ok(None)
+}
+
+fn member_fault(
+    alloc: Global,
+    scripts: &Scripts,
+    number: usize,
+    declared: usize,
+) -> Result<Option<Found>, OutOfMemory>
+    requires start { 6 ≤ number }
+    requires script { number < length scripts.now }
+{
+    let script = &scripts.file(number).script;
+    let mut first = Earliest::none();
+    let passes_limit = passes_limit(number - PRELUDE_COUNT, script);
+    first.note(passes_limit, script.line, LinkRule::Limit);
+    judge_fields(alloc, script, &mut first)?;
+    let functions = first_functions(script.functions.as_slice(), declared);
+    judge_list(alloc, functions, &mut first)?;
+    for function in functions {
+        let differs = differs_from_replaced(scripts, number, function);
+        first.note(differs, function.line, LinkRule::SignatureDiffers);
+    }
+    judge_states(alloc, scripts, number, script.states.as_slice(), &mut first)?;
+    judge_properties(
+        alloc,
+        scripts,
+        number,
+        script.properties.as_slice(),
+        &mut first,
+    )?;
+    Ok(first.found)
+}
+
+fn first_functions(functions: &[Function], count: usize) -> &[Function]
+    ensures { result.now ≡ take count functions.now }
+{
+    if count < functions.len() {
+        &functions[..count]
+    } else {
+        functions
+    }
+}
+
+// What every list of functions keeps, whatever stands around it.
+fn judge_list(
+    alloc: Global,
+    functions: &[Function],
+    first: &mut Earliest,
+) -> Result<(), OutOfMemory> {
+    let mut lines = NameTable::new(alloc);
+    lines.note_lines(alloc, functions)?;
+    for function in functions {
+        let repeats = repeats(alloc, &lines, function)?;
+        first.note(repeats, function.line, LinkRule::DuplicateMember);
+        let is_reserved = has_reserved_name(function);
+        first.note(is_reserved, function.line, LinkRule::DuplicateMember);
+        let is_late = has_late_parameter(function.heading.parameters.as_slice());
+        first.note(is_late, function.line, LinkRule::DefaultOrder);
+    }
+    Ok(())
+}
+
+// The names of variables and properties, which share one name space.
+fn judge_fields(alloc: Global, script: &Script, first: &mut Earliest) -> Result<(), OutOfMemory> {
+    let mut lines = NameTable::new(alloc);
+    lines.note_lines(alloc, script.variables.as_slice())?;
+    lines.note_lines(alloc, script.properties.as_slice())?;
+    judge_names(alloc, &lines, script.variables.as_slice(), first)?;
+    judge_names(alloc, &lines, script.properties.as_slice(), first)
+}
+
+fn judge_names<T: Declared>(
+    alloc: Global,
+    lines: &NameTable,
+    items: &[T],
+    first: &mut Earliest,
+) -> Result<(), OutOfMemory> {
+    for item in items {
+        let repeats = repeats(alloc, lines, item)?;
+        first.note(repeats, item.line(), LinkRule::DuplicateMember);
+    }
+    Ok(())
+}
+
+fn judge_states(
+    alloc: Global,
+    scripts: &Scripts,
+    number: usize,
+    states: &[State],
+    first: &mut Earliest,
+) -> Result<(), OutOfMemory>
+    requires { number < length scripts.now }
+{
+    let mut lines = NameTable::new(alloc);
+    lines.note_lines(alloc, states)?;
+    judge_names(alloc, &lines, states, first)?;
+    let mut has_auto = false;
+    for state in states {
+        first.note(
+            has_auto && state.is_auto,
+            state.line,
+            LinkRule::TwoAutoStates,
+        );
+        has_auto = has_auto || state.is_auto;
+        judge_list(alloc, state.functions.as_slice(), first)?;
+        judge_state_functions(scripts, number, state.functions.as_slice(), first);
+    }
+    Ok(())
+}
+
+fn judge_state_functions(
+    scripts: &Scripts,
+    number: usize,
+    functions: &[Function],
+    first: &mut Earliest,
+)
+    requires { number < length scripts.now }
+{
+    for function in functions {
+        let is_alone = stands_alone(scripts, number, function);
+        first.note(is_alone, function.line, LinkRule::StateFunctionAlone);
+        let differs = differs_in_state(scripts, number, function);
+        first.note(differs, function.line, LinkRule::SignatureDiffers);
+    }
+}
+
+fn judge_properties(
+    alloc: Global,
+    scripts: &Scripts,
+    number: usize,
+    properties: &[Property],
+    first: &mut Earliest,
+) -> Result<(), OutOfMemory>
+    requires { number < length scripts.now }
+{
+    for property in properties {
+        let repeats = repeats_inherited(scripts, number, property);
+        first.note(repeats, property.line, LinkRule::PropertyInParent);
+        if let PropertyForm::Full(functions) = &property.form {
+            judge_list(alloc, functions.as_slice(), first)?;
+            judge_accessors(&property.kind, functions.as_slice(), first);
+        }
+    }
+    Ok(())
+}
+
+fn judge_accessors(kind: &TypeName, functions: &[Function], first: &mut Earliest) {
+    for function in functions {
+        let differs = !is_accessor(&function.heading, kind);
+        first.note(differs, function.line, LinkRule::SignatureDiffers);
+    }
+}
+
+// N6: whether a thing on an earlier line has the name. `lines` has the least line of each name.
+fn repeats<T: Declared>(alloc: Global, lines: &NameTable, item: &T) -> Result<bool, OutOfMemory> {
+    let least = lines.find(alloc, item.name())?;
+    Ok(matches!(least, Some(line) if line < usize::from(item.line())))
+}
+
+// N6: whether a function has the name of one that every script has.
+fn has_reserved_name(function: &Function) -> bool {
+    is_word(&function.heading.name, b"GotoState") || is_word(&function.heading.name, b"GetState")
+}
+
+// N8: whether no empty state has a function of the name of this function of a state.
+fn stands_alone(scripts: &Scripts, number: usize, function: &Function) -> bool
+    requires { number < length scripts.now }
+{
+    scripts
+        .nearest_function(number, &function.heading.name)
+        .is_none()
+}
+
+// N9: whether this function of a state is Global or Native, or differs from the one it replaces.
+fn differs_in_state(scripts: &Scripts, number: usize, function: &Function) -> bool
+    requires { number < length scripts.now }
+{
+    function.heading.is_global
+        || function.heading.is_native
+        || differs_from_nearest(scripts, number, function)
+}
+
+// N9: whether this function of an empty state differs from the one that it replaces, or is no event
+// of a state change as every script without parent has it.
+fn differs_from_replaced(scripts: &Scripts, number: usize, function: &Function) -> bool
+    requires { number < length scripts.now }
+{
+    match scripts.parent(number) {
+        Some(parent) => differs_from_nearest(scripts, parent, function),
+        None => is_state_event(function) && !is_plain_event(&function.heading),
+    }
+}
+
+fn differs_from_nearest(scripts: &Scripts, from: usize, function: &Function) -> bool
+    requires { from < length scripts.now }
+{
+    match scripts.nearest_function(from, &function.heading.name) {
+        Some((script, place)) => {
+            let replaced = &scripts.file(script).script.functions[place];
+            !same_signature(&replaced.heading, &function.heading)
+        }
+        None => false,
+    }
+}
+
+fn is_state_event(function: &Function) -> bool {
+    is_word(&function.heading.name, b"OnBeginState")
+        || is_word(&function.heading.name, b"OnEndState")
+}
+
+// N10: whether a parent has a property of this one's name.
+fn repeats_inherited(scripts: &Scripts, number: usize, property: &Property) -> bool
+    requires { number < length scripts.now }
+{
+    match scripts.parent(number) {
+        Some(parent) => scripts.nearest_property(parent, &property.name).is_some(),
+        None => false,
+    }
+}
+
+// N12: whether the file comes after the last that a set may have, or has too many words.
+fn passes_limit(file: usize, script: &Script) -> bool {
+    file >= FILE_LIMIT || script.words > WORD_LIMIT
+}

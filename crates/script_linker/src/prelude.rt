@@ -1,0 +1,164 @@
+// The six scripts that every set begins with.
+ghost use Rattle.std.specs.Prelude.{◌≡◌, [], ◌∷◌, map, take, drop, codes, IfOk, vec_len};
+ghost use Rattle.script_linker.specs.Lookup.{StartsWithPrelude, script_name, script_parent, prelude_names, prelude_parents};
+
+use crate::parts::{empty_event, function, heading, parameter, type_name};
+use crate::set::SourceFile;
+use line_parser::{Heading, Parameter};
+use papy_base::{Name, OutOfMemory, Text};
+use script_parser::{Body, Function, Script};
+use std::alloc::Global;
+
+/// How many scripts the prelude has. They have the numbers from 0 on.
+pub(crate) const PRELUDE_COUNT: usize = 6;
+
+/// How many scripts of the prelude, its first ones, are libraries and no types: Debug, Utility and Scene.
+pub(crate) const LIBRARY_COUNT: usize = 3;
+
+/// The scripts Debug, Utility, Scene, Form, Quest and ObjectReference, in files without a name.
+pub(crate) fn prelude_files(alloc: Global) -> Result<Vec<SourceFile>, OutOfMemory>
+    ensures start { IfOk result (λ files. StartsWithPrelude files.items) }
+    ensures count { IfOk result (λ files. vec_len files ≡ 6) }
+{
+    let mut files = libraries(alloc)?;
+    let mut types = types(alloc)?;
+    files.append(&mut types)?;
+    Ok(files)
+}
+
+fn libraries(alloc: Global) -> Result<Vec<SourceFile>, OutOfMemory>
+    ensures names { IfOk result (λ files. map script_name files.items ≡ take 3 prelude_names) }
+    ensures parents { IfOk result (λ files. map script_parent files.items ≡ take 3 prelude_parents) }
+{
+    let debug = file(
+        alloc,
+        b"Debug",
+        None,
+        one(alloc, native(trace_heading(alloc)?))?,
+    )?;
+    let utility = file(
+        alloc,
+        b"Utility",
+        None,
+        one(alloc, native(random_heading(alloc)?))?,
+    )?;
+    let scene = file(
+        alloc,
+        b"Scene",
+        None,
+        one(alloc, native(sleep_heading(alloc)?))?,
+    )?;
+    three(alloc, debug, utility, scene)
+}
+
+fn types(alloc: Global) -> Result<Vec<SourceFile>, OutOfMemory>
+    ensures names { IfOk result (λ files. map script_name files.items ≡ drop 3 prelude_names) }
+    ensures parents { IfOk result (λ files. map script_parent files.items ≡ drop 3 prelude_parents) }
+{
+    let form = file(alloc, b"Form", None, Vec::new(alloc))?;
+    let quest = child_of_form(alloc, b"Quest")?;
+    let reference = child_of_form(alloc, b"ObjectReference")?;
+    three(alloc, form, quest, reference)
+}
+
+// A script that extends Form and has an empty event OnInit.
+fn child_of_form(alloc: Global, name: &[u8]) -> Result<SourceFile, OutOfMemory>
+    ensures names { IfOk result (λ file. file.script.name ≡ name.now) }
+    ensures parents { IfOk result (λ file. file.script.parent ≡ Some (codes "Form")) }
+{
+    let form = Name::from_bytes(alloc, b"Form")?;
+    file(
+        alloc,
+        name,
+        Some(form),
+        one(alloc, empty_event(alloc, b"OnInit")?)?,
+    )
+}
+
+fn three(
+    alloc: Global,
+    first: SourceFile,
+    second: SourceFile,
+    third: SourceFile,
+) -> Result<Vec<SourceFile>, OutOfMemory>
+    ensures { IfOk result (λ files. files.items ≡ first ∷ second ∷ third ∷ []) }
+{
+    let mut files = Vec::with_capacity(alloc, 3)?;
+    files.push(first)?;
+    files.push(second)?;
+    files.push(third)?;
+    Ok(files)
+}
+
+fn one(alloc: Global, function: Function) -> Result<Vec<Function>, OutOfMemory> {
+    let mut functions = Vec::with_capacity(alloc, 1)?;
+    functions.push(function)?;
+    Ok(functions)
+}
+
+// `Trace(String asTextToPrint, Int aiSeverity = 0)`
+fn trace_heading(alloc: Global) -> Result<Heading, OutOfMemory> {
+    let text = parameter(alloc, b"String", b"asTextToPrint", None)?;
+    let severity = parameter(alloc, b"Int", b"aiSeverity", Some(0))?;
+    heading(alloc, b"Trace", two(alloc, text, severity)?, false)
+}
+
+// `Int Function RandomInt(Int aiMin = 0, Int aiMax = 100)`
+fn random_heading(alloc: Global) -> Result<Heading, OutOfMemory> {
+    let least = parameter(alloc, b"Int", b"aiMin", Some(0))?;
+    let most = parameter(alloc, b"Int", b"aiMax", Some(100))?;
+    let mut made = heading(alloc, b"RandomInt", two(alloc, least, most)?, false)?;
+    made.result = Some(type_name(alloc, b"Int")?);
+    Ok(made)
+}
+
+// `Sleep(Int turns)`
+fn sleep_heading(alloc: Global) -> Result<Heading, OutOfMemory> {
+    let mut parameters = Vec::with_capacity(alloc, 1)?;
+    parameters.push(parameter(alloc, b"Int", b"turns", None)?)?;
+    heading(alloc, b"Sleep", parameters, false)
+}
+
+fn two(alloc: Global, first: Parameter, second: Parameter) -> Result<Vec<Parameter>, OutOfMemory> {
+    let mut parameters = Vec::with_capacity(alloc, 2)?;
+    parameters.push(first)?;
+    parameters.push(second)?;
+    Ok(parameters)
+}
+
+// The Global Native function of this heading.
+fn native(mut heading: Heading) -> Function {
+    heading.is_global = true;
+    heading.is_native = true;
+    function(heading, Body::Native)
+}
+
+// A script of the prelude.
+fn file(
+    alloc: Global,
+    name: &[u8],
+    parent: Option<Name>,
+    functions: Vec<Function>,
+) -> Result<SourceFile, OutOfMemory>
+    ensures names { IfOk result (λ file. file.script.name ≡ name.now) }
+    ensures parents { IfOk result (λ file. file.script.parent ≡ parent) }
+    ensures functions { IfOk result (λ file. file.script.functions ≡ functions) }
+{
+    let script = Script {
+        name: Name::from_bytes(alloc, name)?,
+        line: 0,
+        parent,
+        flags: 0,
+        doc: None,
+        imports: Vec::new(alloc),
+        variables: Vec::new(alloc),
+        properties: Vec::new(alloc),
+        functions,
+        states: Vec::new(alloc),
+        words: 0,
+    };
+    Ok(SourceFile {
+        name: Text::try_from_bytes(alloc, b"")?,
+        script,
+    })
+}

@@ -1,0 +1,124 @@
+// The rules N1 to N5, which speak of scripts, parents and imports.
+ghost use Rattle.std.specs.Prelude.{◌≡◌, ◌<◌, ◌≤◌, ◌-◌, ◌↔◌, length, IfOk, IfSome, IsTrue, IsNone, vec_len, Option};
+ghost use Rattle.papy_base.specs.Case.{folded};
+ghost use Rattle.script_linker.specs.Table.{number_in};
+ghost use Rattle.script_linker.specs.Rules.{IsBelow, IsNoParent};
+
+use crate::earliest::{Earliest, Found};
+use crate::fault::LinkRule;
+use crate::name_table::NameTable;
+use crate::parents::Peeled;
+use crate::prelude::{LIBRARY_COUNT, PRELUDE_COUNT};
+use crate::set::SourceFile;
+use papy_base::{Name, OutOfMemory};
+use std::alloc::Global;
+
+/// What is known of a set while its scripts are judged.
+#[derive(Drop)]
+pub(crate) struct Survey<'a> {
+    pub(crate) files: &'a [SourceFile],
+    /// The first script of each name.
+    pub(crate) names: &'a NameTable,
+    /// The first script of each name that is none of the prelude's.
+    pub(crate) file_names: &'a NameTable,
+    pub(crate) parents: &'a [Option<usize>],
+    pub(crate) peeled: &'a Peeled,
+}
+
+/// The first broken rule of N1 to N5, in order of file, line and rule, with the number of its script.
+pub(crate) fn first_script_fault(
+    alloc: Global,
+    survey: &Survey<'_>,
+) -> Result<Option<(usize, Found)>, OutOfMemory>
+    requires start { 6 ≤ length survey.now.files.now }
+    requires parents { length survey.now.parents.now ≡ length survey.now.files.now }
+    requires children { vec_len survey.now.peeled.now.children ≡ length survey.now.files.now }
+    ensures { IfOk result (λ fault. IfSome fault (λ f. (6 ≤ f.0) × (f.0 < length survey.now.files.now))) }
+{
+    for number in PRELUDE_COUNT..survey.files.len() {
+        if let Some(found) = script_fault(alloc, survey, number)? {
+            return Ok(Some((number, found)));
+        }
+    }
+    Ok(None)
+}
+
+fn script_fault(
+    alloc: Global,
+    survey: &Survey<'_>,
+    number: usize,
+) -> Result<Option<Found>, OutOfMemory>
+    requires start { 6 ≤ number }
+    requires file { number < length survey.now.files.now }
+    requires parents { length survey.now.parents.now ≡ length survey.now.files.now }
+    requires children { vec_len survey.now.peeled.now.children ≡ length survey.now.files.now }
+{
+    let script = &survey.files[number].script;
+    let mut first = Earliest::none();
+    let repeats = repeats_script(
+        alloc,
+        survey.file_names,
+        number - PRELUDE_COUNT,
+        &script.name,
+    )?;
+    first.note(repeats, script.line, LinkRule::DuplicateScript);
+    let is_prelude = has_prelude_name(alloc, survey.names, &script.name)?;
+    first.note(is_prelude, script.line, LinkRule::PreludeName);
+    let lacks_parent = script.parent.is_some() && is_no_parent(survey.parents[number]);
+    first.note(lacks_parent, script.line, LinkRule::UnknownParent);
+    let is_above_itself = survey.peeled.children[number] != 0;
+    first.note(is_above_itself, script.line, LinkRule::ExtendsCycle);
+    for (line, name) in &script.imports {
+        let is_unknown = is_unknown_script(alloc, survey.names, name)?;
+        first.note(is_unknown, *line, LinkRule::UnknownImport);
+    }
+    Ok(first.found)
+}
+
+// N1: whether an earlier file has the name.
+fn repeats_script(
+    alloc: Global,
+    file_names: &NameTable,
+    file: usize,
+    name: &Name,
+) -> Result<bool, OutOfMemory>
+    ensures { IfOk result (λ broken. IsTrue broken ↔ IsBelow file (number_in file_names.now (folded name.now))) }
+{
+    let first = file_names.find(alloc, name)?;
+    Ok(is_below(first, file))
+}
+
+fn is_below(found: Option<usize>, limit: usize) -> bool
+    ensures { IsTrue result ↔ IsBelow limit found }
+{
+    match found {
+        Some(number) => number < limit,
+        None => false,
+    }
+}
+
+// N2: whether a script of the prelude has the name.
+fn has_prelude_name(alloc: Global, names: &NameTable, name: &Name) -> Result<bool, OutOfMemory>
+    ensures { IfOk result (λ broken. IsTrue broken ↔ IsBelow 6 (number_in names.now (folded name.now))) }
+{
+    let first = names.find(alloc, name)?;
+    Ok(is_below(first, PRELUDE_COUNT))
+}
+
+// N3: whether a script that names a parent can't have this one: none, or a library.
+fn is_no_parent(parent: Option<usize>) -> bool
+    ensures { IsTrue result ↔ IsNoParent parent }
+{
+    match parent {
+        Some(parent) => parent < LIBRARY_COUNT,
+        None => true,
+    }
+}
+
+// N5: whether no script has the name.
+fn is_unknown_script(alloc: Global, names: &NameTable, name: &Name) -> Result<bool, OutOfMemory>
+    ensures { IfOk result (λ broken. IsTrue broken ↔ (number_in names.now (folded name.now) ≡ None)) }
+{
+    let first = names.find(alloc, name)?;
+    Ok(first.is_none())
+}

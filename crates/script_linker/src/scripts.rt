@@ -1,0 +1,231 @@
+// Scripts with their parents and the tables of their members, whether or not they break a rule.
+ghost use Rattle.std.specs.Prelude.{◌≡◌, ℕ, ◌<◌, ◌↔◌, List, length, IfOk, IfSome, IsTrue, slice_index_or};
+ghost use Rattle.std.specs.Str.{bytes_eq};
+ghost use Rattle.papy_base.specs.Case.{folded};
+ghost use Rattle.script_linker.specs.Index.{HasFunctionTables, HasPropertyTables, Rises};
+ghost use Rattle.script_linker.specs.Lookup.{function_name, property_name, parents_of, parent_at, IsWithin, Nearest, StandsAbove, HasNoCircle, own_function, own_property, IsFunctionOf, IsPropertyOf, HasNumbers};
+ghost use Rattle.script_linker.specs.Table.{place_of};
+
+use crate::name_table::{NameTable, fold_into};
+use crate::set::SourceFile;
+use papy_base::{Name, OutOfMemory};
+use script_parser::{Function, Property, Script};
+use std::alloc::Global;
+use std::marker::Model;
+
+// Numbers of 16 bits are below this.
+const COUNT_LIMIT: usize = 65_536;
+
+// Names of scripts have at most this many bytes.
+const NAME_LIMIT: usize = 255;
+
+/// Scripts whose parents don't run in a circle.
+#[derive(Drop)]
+pub(crate) struct Scripts {
+    files: Vec<SourceFile>,
+    functions: Vec<NameTable>,
+    properties: Vec<NameTable>,
+    parents: Vec<Option<usize>>,
+    // The rank of a parent is lower than its children's.
+    ranks: Vec<usize>,
+}
+
+impl Model for Scripts {
+    ghost use Rattle.std.specs.Prelude.{List};
+    ghost use Rattle.script_linker.specs.declared.set.SourceFile.{SourceFile};
+    ghost use Rattle.script_linker.specs.Index.{IsIndexed};
+    ghost use Rattle.script_linker.specs.contracts.set.SourceFile as source_file;
+    ghost use Rattle.std.specs.Coded.{coded_list};
+
+    ghost Value = { List SourceFile };
+
+    ghost coded = { coded_list source_file.the_row.coded };
+
+    ghost view = { λ s. s.files.items };
+
+    ghost invariant = { λ s. IsIndexed s.files.items s.functions.items s.properties.items s.parents.items s.ranks.items };
+}
+
+impl Scripts {
+    /// The scripts of these files.
+    pub(crate) fn new(
+        alloc: Global,
+        files: Vec<SourceFile>,
+        parents: Vec<Option<usize>>,
+        ranks: Vec<usize>,
+    ) -> Result<Scripts, OutOfMemory>
+        requires parents { parents.items ≡ parents_of files.items }
+        requires within { IsWithin parents.items }
+        requires ranks { Rises parents.items ranks.items }
+        ensures { IfOk result (λ scripts. scripts ≡ files.items) }
+    {
+        let functions = function_tables(alloc, files.as_slice())?;
+        let properties = property_tables(alloc, files.as_slice())?;
+        Ok(Scripts {
+            files,
+            functions,
+            properties,
+            parents,
+            ranks,
+        })
+    }
+
+    pub(crate) fn count(&self) -> usize
+        ensures { result ≡ length self.now }
+    {
+        self.files.len()
+    }
+
+    pub(crate) fn file(&self, number: usize) -> &SourceFile
+        requires { number < length self.now }
+        ensures { result.now ≡ slice_index_or self.now number result.now }
+    {
+        &self.files[number]
+    }
+
+    pub(crate) fn parent(&self, number: usize) -> Option<usize>
+        requires { number < length self.now }
+        ensures parent { result ≡ parent_at (parents_of self.now) number }
+        ensures within { IfSome result (λ p. p < length self.now) }
+    {
+        self.parents[number]
+    }
+
+    /// The script and the place of the nearest function of this name in the empty states, from the
+    /// script upward.
+    pub(crate) fn nearest_function(&self, script: usize, name: &Name) -> Option<(usize, usize)>
+        requires { script < length self.now }
+        ensures nearest { Nearest (parents_of self.now) (own_function self.now name.now) script result }
+        ensures within { IfSome result (IsFunctionOf self.now) }
+    {
+        let mut here = script;
+        'upward: loop {
+            if let Some(place) = self.own_function(here, name) {
+                return Some((here, place));
+            }
+            match self.parents[here] {
+                Some(parent) => here = parent,
+                None => return None,
+            }
+        }
+    }
+
+    /// The same of properties.
+    pub(crate) fn nearest_property(&self, script: usize, name: &Name) -> Option<(usize, usize)>
+        requires { script < length self.now }
+        ensures nearest { Nearest (parents_of self.now) (own_property self.now name.now) script result }
+        ensures within { IfSome result (IsPropertyOf self.now) }
+    {
+        let mut here = script;
+        'upward: loop {
+            if let Some(place) = self.own_property(here, name) {
+                return Some((here, place));
+            }
+            match self.parents[here] {
+                Some(parent) => here = parent,
+                None => return None,
+            }
+        }
+    }
+
+    /// Whether the parent is the script itself or stands above it.
+    pub(crate) fn stands_below(&self, script: usize, parent: usize) -> bool
+        requires { script < length self.now }
+        ensures above { IsTrue result ↔ StandsAbove (parents_of self.now) script parent }
+        ensures no_circle { HasNoCircle (parents_of self.now) }
+    {
+        let mut here = script;
+        'upward: loop {
+            if here == parent {
+                return true;
+            }
+            match self.parents[here] {
+                Some(above) => here = above,
+                None => return false,
+            }
+        }
+    }
+
+    /// Whether the numbers of scripts, and the places of functions and properties, have 16 bits.
+    pub(crate) fn fits_numbers(&self) -> bool
+        ensures { IsTrue result → HasNumbers self.now }
+    {
+        self.files.len() < COUNT_LIMIT
+            && self.files.iter().all(|file| has_few_members(&file.script))
+    }
+
+    // The place of the script's own function of this name.
+    fn own_function(&self, number: usize, name: &Name) -> Option<usize>
+        requires { number < length self.now }
+        ensures { result ≡ own_function self.now name.now number }
+    {
+        let mut buffer = [0u8; NAME_LIMIT];
+        match fold_into(&mut buffer, name) {
+            Some(folded) => self.functions[number].find_folded(folded),
+            None => function_place(self.files[number].script.functions.as_slice(), name),
+        }
+    }
+
+    // The place of the script's own property of this name.
+    fn own_property(&self, number: usize, name: &Name) -> Option<usize>
+        requires { number < length self.now }
+        ensures { result ≡ own_property self.now name.now number }
+    {
+        let mut buffer = [0u8; NAME_LIMIT];
+        match fold_into(&mut buffer, name) {
+            Some(folded) => self.properties[number].find_folded(folded),
+            None => property_place(self.files[number].script.properties.as_slice(), name),
+        }
+    }
+}
+
+fn has_few_members(script: &Script) -> bool
+    ensures { IsTrue result
+        ↔ ((length script.now.functions.items < 65536) × (length script.now.properties.items < 65536)) }
+{
+    script.functions.len() < COUNT_LIMIT && script.properties.len() < COUNT_LIMIT
+}
+
+fn function_tables(alloc: Global, files: &[SourceFile]) -> Result<Vec<NameTable>, OutOfMemory>
+    ensures count { IfOk result (λ tables. length tables.items ≡ length files.now) }
+    ensures tables { IfOk result (λ tables. HasFunctionTables files.now tables.items) }
+{
+    let mut tables = Vec::with_capacity(alloc, files.len())?;
+    for file in files {
+        tables.push(NameTable::of_places(alloc, file.script.functions.as_slice())?)?;
+    }
+    Ok(tables)
+}
+
+fn property_tables(alloc: Global, files: &[SourceFile]) -> Result<Vec<NameTable>, OutOfMemory>
+    ensures count { IfOk result (λ tables. length tables.items ≡ length files.now) }
+    ensures tables { IfOk result (λ tables. HasPropertyTables files.now tables.items) }
+{
+    let mut tables = Vec::with_capacity(alloc, files.len())?;
+    for file in files {
+        tables.push(NameTable::of_places(alloc, file.script.properties.as_slice())?)?;
+    }
+    Ok(tables)
+}
+
+fn function_place(functions: &[Function], name: &Name) -> Option<usize>
+    ensures { result ≡ place_of function_name functions.now (folded name.now) }
+{
+    functions
+        .iter()
+        .position(|function| has_name(&function.heading.name, name))
+}
+
+fn property_place(properties: &[Property], name: &Name) -> Option<usize>
+    ensures { result ≡ place_of property_name properties.now (folded name.now) }
+{
+    properties
+        .iter()
+        .position(|property| has_name(&property.name, name))
+}
+
+fn has_name(found: &Name, name: &Name) -> bool
+    ensures { result ≡ bytes_eq (folded name.now) (folded found.now) }
+{
+    name.same(found)
+}

@@ -1,0 +1,84 @@
+// What a function gives and takes, compared with what it has to.
+use line_parser::{Heading, Parameter, TypeName};
+use papy_base::Name;
+
+pub(crate) fn same_type(a: &TypeName, b: &TypeName) -> bool {
+    a.is_array == b.is_array && a.word.same(&b.word)
+}
+
+fn same_result(a: &Option<TypeName>, b: &Option<TypeName>) -> bool {
+    match (a, b) {
+        (Some(a), Some(b)) => same_type(a, b),
+        (None, None) => true,
+        _ => false,
+    }
+}
+
+fn same_parameters(a: &[Parameter], b: &[Parameter]) -> bool {
+    a.len() == b.len() && a.iter().zip(b).all(|(a, b)| same_type(&a.kind, &b.kind))
+}
+
+/// Whether the two have the same result, parameter types, Global and Native.
+pub(crate) fn same_signature(a: &Heading, b: &Heading) -> bool {
+    same_result(&a.result, &b.result)
+        && same_parameters(a.parameters.as_slice(), b.parameters.as_slice())
+        && a.is_global == b.is_global
+        && a.is_native == b.is_native
+}
+
+/// Whether it has no parameter and no result, and is neither Global nor Native.
+pub(crate) fn is_plain_event(heading: &Heading) -> bool {
+    heading.parameters.is_empty()
+        && heading.result.is_none()
+        && !heading.is_global
+        && !heading.is_native
+}
+
+/// Whether it is a `Get` or a `Set` of a property of this type.
+pub(crate) fn is_accessor(heading: &Heading, kind: &TypeName) -> bool {
+    !heading.is_global && !heading.is_native && (is_get(heading, kind) || is_set(heading, kind))
+}
+
+fn is_get(heading: &Heading, kind: &TypeName) -> bool {
+    is_word(&heading.name, b"Get")
+        && heading.parameters.is_empty()
+        && has_type(&heading.result, kind)
+}
+
+fn is_set(heading: &Heading, kind: &TypeName) -> bool {
+    is_word(&heading.name, b"Set")
+        && heading.result.is_none()
+        && takes_one(heading.parameters.as_slice(), kind)
+}
+
+fn has_type(found: &Option<TypeName>, kind: &TypeName) -> bool {
+    match found {
+        Some(found) => same_type(found, kind),
+        None => false,
+    }
+}
+
+fn takes_one(parameters: &[Parameter], kind: &TypeName) -> bool {
+    match parameters {
+        [only] => same_type(&only.kind, kind),
+        _ => false,
+    }
+}
+
+/// Whether the name is this word, with the case ignored.
+pub(crate) fn is_word(name: &Name, word: &[u8]) -> bool {
+    name.as_bytes().eq_ignore_ascii_case(word)
+}
+
+/// Whether a parameter without default follows one with a default.
+pub(crate) fn has_late_parameter(parameters: &[Parameter]) -> bool {
+    let mut after_default = false;
+    for parameter in parameters {
+        match &parameter.default {
+            Some(_) => after_default = true,
+            None if after_default => return true,
+            None => {}
+        }
+    }
+    false
+}
