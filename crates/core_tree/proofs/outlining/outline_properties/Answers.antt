@@ -1,7 +1,6 @@
-use Rattle.std.proofs.Common.{rules, arith, ◌≡◌, ap, sym, ◌∙◌}
-use Rattle.std.proofs.lemmas.List.{take_more, flat_map_more}
-use Rattle.std.proofs.lemmas.Grind.{flat_map-append, common_steps}
-use Rattle.core_tree.specs.Outlines.{auto_property, auto_only}
+use Rattle.std.proofs.Common.{arith}
+use Rattle.std.proofs.lemmas.Grind.{common_steps, flat_map-append}
+use Rattle.std.proofs.lemmas.List.{take_more}
 use Rattle.core_tree.proofs.outlining.outline_properties.Goals as goal
 use Rattle.core_tree.proofs.outlining.outline_properties.Goals.{in-Auto+in_ok-try_clone+in_ok-push, in_default}
 
