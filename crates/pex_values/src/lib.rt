@@ -15,5 +15,8 @@ pub use values::{
     Datum, Instruction, Pex, PexFunction, PexObject, PexProperty, PexState, PexVariable, SizeForm,
 };
 
+/// The most bytes that a file may have: 16 MiB.
+pub const FILE_LIMIT: u32 = 16_777_216;
+
 #[cfg(test)]
 mod tests;

@@ -1,0 +1,14 @@
+//! Compiled Papyrus files (PEX 3.2): values to bytes and back.
+//!
+//! The format is that of UESP's page "Skyrim Mod:File Formats/PEX" (Compiled Script File).
+#![tactic(auto)]
+
+mod code;
+mod encoding;
+mod faults;
+mod objects;
+mod spelled;
+
+pub use encoding::encode;
+pub use faults::{EncodeFault, PexFault, PexRule};
+
