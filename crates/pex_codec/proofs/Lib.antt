@@ -1,2 +1,4 @@
 pub mod Lists
 pub mod Whole
+pub mod Sizes
+pub mod ObjectSizes

@@ -1,2 +1,6 @@
 pub mod Writing
 pub mod Spells
+pub mod Widths
+pub mod Values
+pub mod FunctionReading
+pub mod ObjectReading

@@ -6,6 +6,9 @@
 mod code;
 mod encoding;
 mod faults;
+mod fields;
+mod function_reader;
+mod object_reader;
 mod objects;
 mod spelled;
 
