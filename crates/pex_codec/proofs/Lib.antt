@@ -2,3 +2,4 @@ pub mod Lists
 pub mod Whole
 pub mod Sizes
 pub mod ObjectSizes
+pub mod FileSizes

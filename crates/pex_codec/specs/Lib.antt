@@ -4,3 +4,4 @@ pub mod Widths
 pub mod Values
 pub mod FunctionReading
 pub mod ObjectReading
+pub mod FileReading

@@ -7,6 +7,7 @@ mod code;
 mod encoding;
 mod faults;
 mod fields;
+mod file_reader;
 mod function_reader;
 mod object_reader;
 mod objects;
