@@ -58,7 +58,8 @@ spelling_size v =
     let f = list flag v.user_flags.items in
     let os = map plain_object v.objects.items in
     let o = list object os in
-    omega (arith,
+    omega (
+      arith,
       length-append (h ++ s ++ u ++ m ++ t ++ d ++ f) o,
       length-append (h ++ s ++ u ++ m ++ t ++ d) f,
       length-append (h ++ s ++ u ++ m ++ t) d,
@@ -72,16 +73,18 @@ spelling_size v =
       length-append (two_bytes (length v.strings.items)) (flat_map string v.strings.items),
       length-append (two_bytes (length v.user_flags.items)) (flat_map flag v.user_flags.items),
       length-append (two_bytes (length os)) (flat_map object os),
-      flags_len v.user_flags.items)
+      flags_len v.user_flags.items,
+    )
 
 pub untouched_debug : (r : FileReader) → IsUntouched r → HoldsDebug r × HoldsFlags r × (debug_len r ≡ 1)
-untouched_debug r u =
-    (record {
-       shaped = subst (λ (o : Option PexDebug). IfSome (option_map plain_debug o) (IsShapedDebug r.strings)) (sym u.0) tt;
-       fits = subst (λ (o : Option PexDebug). IfSome (option_map plain_debug o) FitsDebug) (sym u.0) tt;
-     },
-     subst (λ (fs : List (ℕ × ℕ)). AllByRecursion (IsShapedFlag r.strings) fs) (sym u.1) tt,
-     ap (λ (o : Option PexDebug). length (debug (option_map plain_debug o))) u.0 ∙ no_debug_size)
+untouched_debug r u = (
+  record {
+    shaped = subst (λ (o : Option PexDebug). IfSome (option_map plain_debug o) (IsShapedDebug r.strings)) (sym u.0) tt;
+    fits = subst (λ (o : Option PexDebug). IfSome (option_map plain_debug o) FitsDebug) (sym u.0) tt;
+  },
+  subst (λ (fs : List (ℕ × ℕ)). AllByRecursion (IsShapedFlag r.strings) fs) (sym u.1) tt,
+  ap (λ (o : Option PexDebug). length (debug (option_map plain_debug o))) u.0 ∙ no_debug_size,
+)
 
 pub is_whole_file : (r : FileReader) (n : ℕ) → HoldsHeader r → HasTable r → HoldsDebug r → HoldsFlags r → length r.pex.user_flags.items < 2 ^ 16
     → HoldsObjects r → length r.pex.objects.items < 2 ^ 16 → before_object_item r ≡ n → IsWholeFile r n

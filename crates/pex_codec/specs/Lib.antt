@@ -5,3 +5,6 @@ pub mod Values
 pub mod FunctionReading
 pub mod ObjectReading
 pub mod FileReading
+pub mod Pieces
+pub mod Decoding
+pub mod DecoderState

@@ -117,7 +117,10 @@ impl Spelled for PexFunction {
     }
 }
 
-pub(crate) fn put_optional_function(out: &mut Vec<u8>, function: &Option<PexFunction>) -> Result<(), EncodeFault>
+pub(crate) fn put_optional_function(
+    out: &mut Vec<u8>,
+    function: &Option<PexFunction>,
+) -> Result<(), EncodeFault>
     ensures { Writes result out.old.items out.new.items
         (IfSome (option_map plain_function function.now) FitsFunction)
         (spell.optional spell.function (option_map plain_function function.now)) }

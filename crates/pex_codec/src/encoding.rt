@@ -87,7 +87,7 @@ fn put_versions(out: &mut Vec<u8>, value: &Pex) -> Result<(), AllocError>
 fn put_header(out: &mut Vec<u8>, value: &Pex) -> Result<(), EncodeFault>
     ensures { Writes result out.old.items out.new.items (FitsHeader (plain value.now))
         (spell.heading value.now.minor ++ spell.eight_bytes value.now.time ++ spell.string value.now.source
-            ++ spell.string value.now.user ++ spell.string value.now.machine) }
+        ++ spell.string value.now.user ++ spell.string value.now.machine) }
 {
     put_versions(out, value)?;
     value.source.write(out)?;
@@ -100,7 +100,7 @@ fn put_header(out: &mut Vec<u8>, value: &Pex) -> Result<(), EncodeFault>
 fn put_tables(out: &mut Vec<u8>, value: &Pex) -> Result<(), EncodeFault>
     ensures { Writes result out.old.items out.new.items (FitsTables (plain value.now))
         (spell.list spell.string value.now.strings.items ++ spell.debug (option_map plain_debug value.now.debug)
-            ++ spell.list spell.flag value.now.user_flags.items) }
+        ++ spell.list spell.flag value.now.user_flags.items) }
 {
     put_list(out, &value.strings)?;
     put_debug(out, &value.debug)?;

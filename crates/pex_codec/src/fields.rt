@@ -156,11 +156,8 @@ impl Field {
     {
         match self {
             Field::Bytes(_) => 0,
-            Field::Major
-            | Field::Minor
-            | Field::DebugFlag
-            | Field::LinesKind
-            | Field::FlagIndex => 1,
+            Field::Major | Field::Minor | Field::DebugFlag | Field::LinesKind | Field::FlagIndex =>
+                1,
             Field::Magic | Field::ObjectSize => 4,
             Field::Time | Field::DebugTime => 8,
             Field::Object(field) => field.width(),

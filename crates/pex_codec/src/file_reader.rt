@@ -87,7 +87,12 @@ impl FileReader {
 
     /// Takes the bytes of a field, which begins at the offset `at`, and gives the next one, or None where the
     /// value is complete.
-    pub(crate) fn accept(&mut self, field: Field, bytes: &[u8], at: u32) -> Result<Option<Field>, PexFault>
+    pub(crate) fn accept(
+        &mut self,
+        field: Field,
+        bytes: &[u8],
+        at: u32,
+    ) -> Result<Option<Field>, PexFault>
         requires before { IsBeforeField field self.old }
         requires width { length bytes.now ≡ field_width field }
         requires some { 0 < field_width field }
@@ -202,7 +207,11 @@ impl FileReader {
     }
 
     /// Takes bytes of the open string, no more than are still to come.
-    pub(crate) fn accept_text(&mut self, field: TextField, bytes: &[u8]) -> Result<Option<Field>, PexFault>
+    pub(crate) fn accept_text(
+        &mut self,
+        field: TextField,
+        bytes: &[u8],
+    ) -> Result<Option<Field>, PexFault>
         requires before { IsBeforeField (Field.Bytes field) self.old }
         requires most { length bytes.now ≤ self.old.text_left }
         ensures { ReachesField (before_field (Field.Bytes field) self.old + length bytes.now) result self.new }
@@ -472,7 +481,12 @@ impl FileReader {
         Ok(Some(Field::Object(ObjectField::Parent)))
     }
 
-    fn object(&mut self, field: ObjectField, bytes: &[u8], place: Place) -> Result<Option<Field>, PexFault>
+    fn object(
+        &mut self,
+        field: ObjectField,
+        bytes: &[u8],
+        place: Place,
+    ) -> Result<Option<Field>, PexFault>
         requires before { IsBeforeField (Field.Object field) self.old }
         requires width { length bytes.now ≡ object_width field }
         requires strings { self.old.strings ≡ place.strings }

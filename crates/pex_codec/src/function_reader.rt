@@ -78,7 +78,12 @@ impl FunctionReader {
     }
 
     /// Takes the bytes of a field, and gives the next one, or None where the function is complete.
-    pub(crate) fn accept(&mut self, field: FunctionField, bytes: &[u8], place: Place) -> Result<Option<FunctionField>, PexFault>
+    pub(crate) fn accept(
+        &mut self,
+        field: FunctionField,
+        bytes: &[u8],
+        place: Place,
+    ) -> Result<Option<FunctionField>, PexFault>
         requires before { IsBefore place.strings field self.old }
         requires width { length bytes.now ≡ function_width field }
         ensures { Reaches place.strings (before_function field self.old + function_width field) result self.new }
@@ -139,7 +144,11 @@ impl FunctionReader {
         Ok(Some(FunctionField::ParameterCount))
     }
 
-    fn parameter_count(&mut self, bytes: &[u8], place: Place) -> Result<Option<FunctionField>, PexFault>
+    fn parameter_count(
+        &mut self,
+        bytes: &[u8],
+        place: Place,
+    ) -> Result<Option<FunctionField>, PexFault>
         requires before { IsBefore place.strings FunctionField.ParameterCount self.old }
         requires width { length bytes.now ≡ 2 }
         ensures { Reaches place.strings (before_function FunctionField.ParameterCount self.old + 2) result self.new }
@@ -152,7 +161,11 @@ impl FunctionReader {
         Ok(Some(FunctionField::ParameterName))
     }
 
-    fn parameter_name(&mut self, bytes: &[u8], place: Place) -> Result<Option<FunctionField>, PexFault>
+    fn parameter_name(
+        &mut self,
+        bytes: &[u8],
+        place: Place,
+    ) -> Result<Option<FunctionField>, PexFault>
         requires before { IsBefore place.strings FunctionField.ParameterName self.old }
         requires width { length bytes.now ≡ 2 }
         ensures { Reaches place.strings (before_function FunctionField.ParameterName self.old + 2) result self.new }
@@ -161,7 +174,11 @@ impl FunctionReader {
         Ok(Some(FunctionField::ParameterType))
     }
 
-    fn parameter_type(&mut self, bytes: &[u8], place: Place) -> Result<Option<FunctionField>, PexFault>
+    fn parameter_type(
+        &mut self,
+        bytes: &[u8],
+        place: Place,
+    ) -> Result<Option<FunctionField>, PexFault>
         requires before { IsBefore place.strings FunctionField.ParameterType self.old }
         requires width { length bytes.now ≡ 2 }
         ensures { Reaches place.strings (before_function FunctionField.ParameterType self.old + 2) result self.new }
@@ -241,7 +258,12 @@ impl FunctionReader {
         self.after_fixed(place.strings)
     }
 
-    fn fixed(&mut self, field: ValueField, bytes: &[u8], place: Place) -> Result<Option<FunctionField>, PexFault>
+    fn fixed(
+        &mut self,
+        field: ValueField,
+        bytes: &[u8],
+        place: Place,
+    ) -> Result<Option<FunctionField>, PexFault>
         requires before { IsBefore place.strings (FunctionField.Fixed field) self.old }
         requires width { length bytes.now ≡ function_width (FunctionField.Fixed field) }
         ensures { Reaches place.strings (before_function (FunctionField.Fixed field) self.old + function_width (FunctionField.Fixed field)) result self.new }
@@ -287,7 +309,12 @@ impl FunctionReader {
         self.after_more(place.strings)
     }
 
-    fn more(&mut self, field: ValueField, bytes: &[u8], place: Place) -> Result<Option<FunctionField>, PexFault>
+    fn more(
+        &mut self,
+        field: ValueField,
+        bytes: &[u8],
+        place: Place,
+    ) -> Result<Option<FunctionField>, PexFault>
         requires before { IsBefore place.strings (FunctionField.More field) self.old }
         requires width { length bytes.now ≡ function_width (FunctionField.More field) }
         ensures { Reaches place.strings (before_function (FunctionField.More field) self.old + function_width (FunctionField.More field)) result self.new }

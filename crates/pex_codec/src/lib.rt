@@ -4,6 +4,7 @@
 #![tactic(auto)]
 
 mod code;
+mod decoder;
 mod encoding;
 mod faults;
 mod fields;
@@ -11,8 +12,14 @@ mod file_reader;
 mod function_reader;
 mod object_reader;
 mod objects;
+mod pieces;
+mod progress;
 mod spelled;
 
+pub use decoder::Decoder;
 pub use encoding::encode;
 pub use faults::{EncodeFault, PexFault, PexRule};
+pub use progress::Fed;
 
+#[cfg(test)]
+mod tests;

@@ -11,7 +11,9 @@ ghost use Rattle.pex_codec.specs.ObjectReading.{IsBeforeObject, ReachesObject, H
 ghost use Rattle.pex_codec.specs.Widths.{object_width, function_width};
 
 use crate::faults::{PexFault, PexRule};
-use crate::fields::{FunctionField, ObjectField, Place, ValueField, ValueStep, reference, value_field};
+use crate::fields::{
+    FunctionField, ObjectField, Place, ValueField, ValueStep, reference, value_field,
+};
 use crate::function_reader::FunctionReader;
 use byteorder::{BigEndian, ByteOrder};
 use pex_values::{
@@ -101,7 +103,12 @@ impl ObjectReader {
     }
 
     /// Takes the bytes of a field, and gives the next one, or None where the data is complete.
-    pub(crate) fn accept(&mut self, field: ObjectField, bytes: &[u8], place: Place) -> Result<Option<ObjectField>, PexFault>
+    pub(crate) fn accept(
+        &mut self,
+        field: ObjectField,
+        bytes: &[u8],
+        place: Place,
+    ) -> Result<Option<ObjectField>, PexFault>
         requires before { IsBeforeObject place.strings field self.old }
         requires width { length bytes.now ≡ object_width field }
         requires at { self.old.size_at + 4 + before_object field self.old ≡ place.at }
@@ -171,7 +178,11 @@ impl ObjectReader {
         Ok(Some(ObjectField::VariableCount))
     }
 
-    fn variable_count(&mut self, bytes: &[u8], place: Place) -> Result<Option<ObjectField>, PexFault>
+    fn variable_count(
+        &mut self,
+        bytes: &[u8],
+        place: Place,
+    ) -> Result<Option<ObjectField>, PexFault>
         requires before { IsBeforeObject place.strings ObjectField.VariableCount self.old }
         requires width { length bytes.now ≡ 2 }
         ensures { ReachesObject place.strings self.old.size_at (before_object ObjectField.VariableCount self.old + 2) result self.new }
@@ -202,7 +213,11 @@ impl ObjectReader {
         Ok(Some(ObjectField::VariableFlags))
     }
 
-    fn variable_flags(&mut self, bytes: &[u8], place: Place) -> Result<Option<ObjectField>, PexFault>
+    fn variable_flags(
+        &mut self,
+        bytes: &[u8],
+        place: Place,
+    ) -> Result<Option<ObjectField>, PexFault>
         requires before { IsBeforeObject place.strings ObjectField.VariableFlags self.old }
         requires width { length bytes.now ≡ 4 }
         ensures { ReachesObject place.strings self.old.size_at (before_object ObjectField.VariableFlags self.old + 4) result self.new }
@@ -211,7 +226,12 @@ impl ObjectReader {
         Ok(Some(ObjectField::VariableValue(ValueField::Kind)))
     }
 
-    fn variable_value(&mut self, field: ValueField, bytes: &[u8], place: Place) -> Result<Option<ObjectField>, PexFault>
+    fn variable_value(
+        &mut self,
+        field: ValueField,
+        bytes: &[u8],
+        place: Place,
+    ) -> Result<Option<ObjectField>, PexFault>
         requires before { IsBeforeObject place.strings (ObjectField.VariableValue field) self.old }
         requires width { length bytes.now ≡ object_width (ObjectField.VariableValue field) }
         ensures { ReachesObject place.strings self.old.size_at (before_object (ObjectField.VariableValue field) self.old + object_width (ObjectField.VariableValue field)) result self.new }
@@ -234,7 +254,11 @@ impl ObjectReader {
         }
     }
 
-    fn property_count(&mut self, bytes: &[u8], place: Place) -> Result<Option<ObjectField>, PexFault>
+    fn property_count(
+        &mut self,
+        bytes: &[u8],
+        place: Place,
+    ) -> Result<Option<ObjectField>, PexFault>
         requires before { IsBeforeObject place.strings ObjectField.PropertyCount self.old }
         requires width { length bytes.now ≡ 2 }
         ensures { ReachesObject place.strings self.old.size_at (before_object ObjectField.PropertyCount self.old + 2) result self.new }
@@ -274,7 +298,11 @@ impl ObjectReader {
         Ok(Some(ObjectField::PropertyFlags))
     }
 
-    fn property_flags(&mut self, bytes: &[u8], place: Place) -> Result<Option<ObjectField>, PexFault>
+    fn property_flags(
+        &mut self,
+        bytes: &[u8],
+        place: Place,
+    ) -> Result<Option<ObjectField>, PexFault>
         requires before { IsBeforeObject place.strings ObjectField.PropertyFlags self.old }
         requires width { length bytes.now ≡ 4 }
         ensures { ReachesObject place.strings self.old.size_at (before_object ObjectField.PropertyFlags self.old + 4) result self.new }
@@ -296,7 +324,11 @@ impl ObjectReader {
         self.after_variable(place.strings)
     }
 
-    fn property_variable(&mut self, bytes: &[u8], place: Place) -> Result<Option<ObjectField>, PexFault>
+    fn property_variable(
+        &mut self,
+        bytes: &[u8],
+        place: Place,
+    ) -> Result<Option<ObjectField>, PexFault>
         requires before { IsBeforeObject place.strings ObjectField.PropertyVariable self.old }
         requires width { length bytes.now ≡ 2 }
         ensures { ReachesObject place.strings self.old.size_at (before_object ObjectField.PropertyVariable self.old + 2) result self.new }
@@ -305,7 +337,12 @@ impl ObjectReader {
         self.after_variable(place.strings)
     }
 
-    fn read(&mut self, field: FunctionField, bytes: &[u8], place: Place) -> Result<Option<ObjectField>, PexFault>
+    fn read(
+        &mut self,
+        field: FunctionField,
+        bytes: &[u8],
+        place: Place,
+    ) -> Result<Option<ObjectField>, PexFault>
         requires before { IsBeforeObject place.strings (ObjectField.Read field) self.old }
         requires width { length bytes.now ≡ object_width (ObjectField.Read field) }
         ensures { ReachesObject place.strings self.old.size_at (before_object (ObjectField.Read field) self.old + object_width (ObjectField.Read field)) result self.new }
@@ -319,7 +356,12 @@ impl ObjectReader {
         }
     }
 
-    fn write(&mut self, field: FunctionField, bytes: &[u8], place: Place) -> Result<Option<ObjectField>, PexFault>
+    fn write(
+        &mut self,
+        field: FunctionField,
+        bytes: &[u8],
+        place: Place,
+    ) -> Result<Option<ObjectField>, PexFault>
         requires before { IsBeforeObject place.strings (ObjectField.Write field) self.old }
         requires width { length bytes.now ≡ object_width (ObjectField.Write field) }
         ensures { ReachesObject place.strings self.old.size_at (before_object (ObjectField.Write field) self.old + object_width (ObjectField.Write field)) result self.new }
@@ -366,7 +408,11 @@ impl ObjectReader {
     }
 
     /// Adds the open property, with its write function.
-    fn finish_property(&mut self, write: Option<PexFunction>, strings: u16) -> Result<Option<ObjectField>, PexFault>
+    fn finish_property(
+        &mut self,
+        write: Option<PexFunction>,
+        strings: u16,
+    ) -> Result<Option<ObjectField>, PexFault>
         requires holds { Holds strings self.old }
         requires room { HasProperties self.old }
         requires bits { HasBits strings self.old }
@@ -420,7 +466,11 @@ impl ObjectReader {
         Ok(Some(ObjectField::FunctionCount))
     }
 
-    fn function_count(&mut self, bytes: &[u8], place: Place) -> Result<Option<ObjectField>, PexFault>
+    fn function_count(
+        &mut self,
+        bytes: &[u8],
+        place: Place,
+    ) -> Result<Option<ObjectField>, PexFault>
         requires before { IsBeforeObject place.strings ObjectField.FunctionCount self.old }
         requires width { length bytes.now ≡ 2 }
         requires at { self.old.size_at + 4 + before_object ObjectField.FunctionCount self.old ≡ place.at }
@@ -445,7 +495,12 @@ impl ObjectReader {
         Ok(Some(ObjectField::Function(FunctionField::Result)))
     }
 
-    fn function(&mut self, field: FunctionField, bytes: &[u8], place: Place) -> Result<Option<ObjectField>, PexFault>
+    fn function(
+        &mut self,
+        field: FunctionField,
+        bytes: &[u8],
+        place: Place,
+    ) -> Result<Option<ObjectField>, PexFault>
         requires before { IsBeforeObject place.strings (ObjectField.Function field) self.old }
         requires width { length bytes.now ≡ object_width (ObjectField.Function field) }
         requires at { self.old.size_at + 4 + before_object (ObjectField.Function field) self.old ≡ place.at }

@@ -9,7 +9,9 @@ ghost use Rattle.pex_codec.specs.Writing.{Writes, FitEach, HasSize};
 use crate::code::{put_datum, put_optional_function};
 use crate::faults::EncodeFault;
 use crate::spelled::{Spelled, put_byte, put_list, put_u16, put_u32};
-use pex_values::{FILE_LIMIT, PexFunction, PexObject, PexProperty, PexState, PexVariable, SizeForm};
+use pex_values::{
+    FILE_LIMIT, PexFunction, PexObject, PexProperty, PexState, PexVariable, SizeForm,
+};
 use std::alloc::AllocError;
 
 impl Spelled for PexVariable {

@@ -16,11 +16,19 @@ returns c =
     let u = untouched_debug c.args.self.now b.1 in
     let value = c.replace-functions.ensures.value in
     let d : PexDebug = record { time = c.args.self.now.debug_time; functions = c.replace-functions.result } in
-    let size : length (flat_map lines (map plain_lines c.replace-functions.result.items)) ≡ length (flat_map lines (map plain_lines old)) = rw value refl in
-    (((record { minor = h.minor; time = h.time; source = h.source; user = h.user; machine = h.machine; each_string = h.each_string },
-       b.2,
-       record {
-         shaped = record { time = q.time; functions = rw value q.shaped };
-         fits = record { functions = rw (value, length-map old plain_lines) q.count; each = rw value q.fits };
-       },
-       u.1, b.1.2), b.1.1), omega (arith, debug_size d, size))
+    let size : length (flat_map lines (map plain_lines c.replace-functions.result.items)) ≡ length (flat_map lines (map plain_lines old)) = rw value refl in (
+      (
+        (
+          record { minor = h.minor; time = h.time; source = h.source; user = h.user; machine = h.machine; each_string = h.each_string },
+          b.2,
+          record {
+            shaped = record { time = q.time; functions = rw value q.shaped };
+            fits = record { functions = rw (value, length-map old plain_lines) q.count; each = rw value q.fits };
+          },
+          u.1,
+          b.1.2,
+        ),
+        b.1.1,
+      ),
+      omega (arith, debug_size d, size),
+    )

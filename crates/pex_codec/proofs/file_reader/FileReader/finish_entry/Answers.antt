@@ -26,13 +26,18 @@ returns c =
     let old = c.args.self.now.entries.items in
     let e = c.args.self.now.lines in
     let items = rw c.replace-lines.ensures.value at c.in_ok-push.ensures.items in
-    let size = ap (λ (x : List PexLines). length (flat_map lines (map plain_lines x))) items in
-    ((record { minor = h.minor; time = h.time; source = h.source; user = h.user; machine = h.machine; each_string = h.each_string },
-      b.1, b.2,
-      record {
-        left = omega (arith, c.if-self-eq0.false);
-        room = omega (arith, t.room, c.in_ok-push.ensures.len, c.if-self-eq0.false);
-        time = t.time;
-        shaped = rw items (each_pushed (IsShapedLines c.args.self.now.strings) plain_lines old e t.shaped c.requires.shaped);
-        each = rw items (each_pushed (λ (x : PlainLines). IsCounted x.lines) plain_lines old e t.each c.requires.fits);
-      }), omega (arith, size, len_pushed lines plain_lines old e, lines_size e))
+    let size = ap (λ (x : List PexLines). length (flat_map lines (map plain_lines x))) items in (
+      (
+        record { minor = h.minor; time = h.time; source = h.source; user = h.user; machine = h.machine; each_string = h.each_string },
+        b.1,
+        b.2,
+        record {
+          left = omega (arith, c.if-self-eq0.false);
+          room = omega (arith, t.room, c.in_ok-push.ensures.len, c.if-self-eq0.false);
+          time = t.time;
+          shaped = rw items (each_pushed (IsShapedLines c.args.self.now.strings) plain_lines old e t.shaped c.requires.shaped);
+          each = rw items (each_pushed (λ (x : PlainLines). IsCounted x.lines) plain_lines old e t.each c.requires.fits);
+        },
+      ),
+      omega (arith, size, len_pushed lines plain_lines old e, lines_size e),
+    )

@@ -32,9 +32,16 @@ returns c =
     let old = c.args.self.now.pex.objects.items in
     let o = c.args.self.now.object.object in
     let items = rw c.take-object.ensures at c.in_ok-push.ensures.items in
-    let size = ap (λ (x : List PexObject). length (flat_map object (map plain_object x))) items in
-    ((record { minor = h.minor; time = h.time; source = h.source; user = h.user; machine = h.machine; each_string = h.each_string },
-      b.1, record { shaped = b.2.shaped; fits = b.2.fits }, b.3, b.4,
-      record { shaped = rw items (each_pushed (IsShapedObject c.args.self.now.strings) plain_object old o b.5.shaped c.requires.shaped); each = rw items (each_pushed FitsObject plain_object old o b.5.each c.requires.fits) },
-      omega (arith, c.if-self-eq0.false), omega (arith, b.7, c.in_ok-push.ensures.len, c.if-self-eq0.false)),
-     omega (arith, size, len_pushed object plain_object old o, object_bytes o))
+    let size = ap (λ (x : List PexObject). length (flat_map object (map plain_object x))) items in (
+      (
+        record { minor = h.minor; time = h.time; source = h.source; user = h.user; machine = h.machine; each_string = h.each_string },
+        b.1,
+        record { shaped = b.2.shaped; fits = b.2.fits },
+        b.3,
+        b.4,
+        record { shaped = rw items (each_pushed (IsShapedObject c.args.self.now.strings) plain_object old o b.5.shaped c.requires.shaped); each = rw items (each_pushed FitsObject plain_object old o b.5.each c.requires.fits) },
+        omega (arith, c.if-self-eq0.false),
+        omega (arith, b.7, c.in_ok-push.ensures.len, c.if-self-eq0.false),
+      ),
+      omega (arith, size, len_pushed object plain_object old o, object_bytes o),
+    )
