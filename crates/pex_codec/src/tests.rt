@@ -24,12 +24,9 @@ fn decoded(alloc: Global, bytes: &[u8], size: usize) -> Result<Pex, PexFault>
     ensures { IfOk result (λ v. IsWellShaped (plain v)) }
 {
     let mut decoder = Decoder::new(alloc)?;
-    let mut rest = bytes;
-    while !rest.is_empty() {
-        let (piece, after) = rest.split_at(size.max(1).min(rest.len()));
+    for piece in bytes.chunks(size.max(1)) {
         decoder.feed(piece)?;
         decoder.feed(b"")?;
-        rest = after;
     }
     decoder.end()
 }
