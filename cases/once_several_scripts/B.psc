@@ -1,0 +1,4 @@
+ScriptName B
+Event OnInit()
+Debug.Trace("a")
+EndEvent

@@ -1,0 +1,109 @@
+#!/usr/bin/env python3
+"""Runs the black-box cases on the built program, side by side, and prints 'N passed, M failed'.
+
+A case is a folder here. `args` holds the words, one a line; a word may have escapes such as \\xff for bytes that aren't text.
+Its other files but those named below are copied into a folder of their own, in which the program runs. `status`, `out` and
+`notes` are what is expected of the exit status, of standard output and of standard error (0 and nothing where there is no such
+file), and the folder `after`, where there is one, holds the files that are there afterwards beside those that were. The file
+`closed` names the streams (out, notes) that refuse every write, and `generate` is a Python program that makes large inputs in
+that folder before the run. Expected files are written by hand: this program never writes one.
+
+  run.py            every case
+  run.py NAME..     these cases
+  run.py -j N       N cases at a time
+"""
+import concurrent.futures
+import difflib
+import os
+import pathlib
+import shutil
+import subprocess
+import sys
+import tempfile
+
+CASES = pathlib.Path(__file__).resolve().parent
+PROGRAM = CASES.parent / "crates" / "papyrus" / "out" / "papyrus"
+EXPECTED = {"args", "status", "out", "notes", "after", "closed", "generate"}
+SECONDS = 60
+
+
+def words_of(case):
+    path = case / "args"
+    lines = path.read_bytes().split(b"\n")[:-1] if path.exists() else []
+    return [line.decode("unicode_escape").encode("latin-1") if b"\\" in line else line for line in lines]
+
+
+def expected_of(case, name):
+    path = case / name
+    return path.read_bytes() if path.exists() else b""
+
+
+def files_in(folder):
+    return {str(path.relative_to(folder)): path.read_bytes() for path in folder.rglob("*") if path.is_file()}
+
+
+def difference(what, wanted, found):
+    if wanted == found:
+        return []
+    lines = [text.decode("utf-8", "backslashreplace").splitlines() for text in (wanted, found)]
+    changed = list(difflib.unified_diff(*lines, f"expected {what}", f"found {what}", lineterm="", n=2))[:40]
+    return changed or [f"{what} differs in the end of its last line"]
+
+
+def run(case):
+    """Returns what is wrong with a case, as lines, none where it passes."""
+    with tempfile.TemporaryDirectory(prefix="papyrus-case-") as room:
+        room = pathlib.Path(room)
+        for path in case.iterdir():
+            if path.name not in EXPECTED:
+                shutil.copy(path, room / path.name)
+        if (case / "generate").exists():
+            subprocess.run([sys.executable, str(case / "generate")], cwd=room, check=True)
+        before = files_in(room)
+        closed = expected_of(case, "closed").split()
+        with open("/dev/full", "wb") as full:
+            try:
+                ran = subprocess.run(
+                    [str(PROGRAM), *words_of(case)], cwd=room, stdin=subprocess.DEVNULL, timeout=SECONDS,
+                    stdout=full if b"out" in closed else subprocess.PIPE,
+                    stderr=full if b"notes" in closed else subprocess.PIPE,
+                )
+            except subprocess.TimeoutExpired:
+                return [f"no end within {SECONDS} seconds"]
+        status = (expected_of(case, "status") or b"0").strip().decode()
+        wrong = [] if str(ran.returncode) == status else [f"status {ran.returncode}, and {status} is expected"]
+        wrong += difference("out", expected_of(case, "out"), ran.stdout or b"")
+        wrong += difference("notes", expected_of(case, "notes"), ran.stderr or b"")
+        wanted = {**before, **(files_in(case / "after") if (case / "after").exists() else {})}
+        found = files_in(room)
+        for name in sorted(wanted.keys() | found.keys()):
+            if name not in wanted or name not in found:
+                wrong.append(f"the file {name} is {'not ' if name in wanted else ''}there afterwards")
+            else:
+                wrong += difference(name, wanted[name], found[name])
+        return wrong
+
+
+def main():
+    words = sys.argv[1:]
+    jobs = os.cpu_count() or 1
+    if "-j" in words:
+        at = words.index("-j")
+        jobs = int(words[at + 1])
+        del words[at : at + 2]
+    cases = [CASES / name for name in words] or sorted(path for path in CASES.iterdir() if (path / "args").exists())
+    if not PROGRAM.exists():
+        print("the program isn't built: run ./papyrus --version or ./test first")
+        return 2
+    failed = 0
+    with concurrent.futures.ThreadPoolExecutor(jobs) as pool:
+        for case, wrong in zip(cases, pool.map(run, cases)):
+            if wrong:
+                failed += 1
+                print(f"{case.name}: failed", *(f"    {line}" for line in wrong), sep="\n")
+    print(f"{len(cases) - failed} passed, {failed} failed")
+    return 1 if failed or not cases else 0
+
+
+if __name__ == "__main__":
+    sys.exit(main())

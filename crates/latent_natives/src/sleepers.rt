@@ -1,0 +1,75 @@
+//! The stacks that sleep, and the turns at which they are due.
+
+ghost use Rattle.std.specs.Prelude.{◌≡◌, ◌<◌, length, IfOk, None, Some, replicate, slice_index_or, slice_set, position};
+ghost use Rattle.latent_natives.specs.Sleepers.{is_due, without_first_due};
+
+use papy_base::OutOfMemory;
+use std::alloc::Global;
+use std::marker::Model;
+
+/// The stacks that sleep. Contracts see, for each stack below the room, the turn at which it is
+/// due, or none where it doesn't sleep.
+#[derive(Debug, Drop)]
+pub struct Sleepers {
+    turns: Vec<Option<u32>>,
+}
+
+impl Model for Sleepers {
+    ghost use Rattle.std.specs.Prelude.{ℕ, ◌<◌, List, Option, vec_len};
+
+    ghost Value = { List (Option ℕ) };
+
+    ghost view = { λ s. s.turns.items };
+
+    ghost invariant = { λ s. vec_len s.turns < 65536 };
+}
+
+impl Sleepers {
+    /// Room for this many stacks, of which none sleeps.
+    ///
+    /// # Errors
+    ///
+    /// `OutOfMemory` comes where there is no room. No other call takes memory.
+    pub fn with_room(alloc: Global, stacks: u16) -> Result<Sleepers, OutOfMemory>
+        ensures { IfOk result (λ s. s ≡ replicate stacks None) }
+    {
+        let turns = vec![in alloc; None; usize::from(stacks)]?;
+        Ok(Sleepers { turns })
+    }
+
+    /// Lets a stack sleep until a turn.
+    pub fn rest(&mut self, stack: u16, until: u32)
+        requires within { stack < length self.old }
+        requires awake { slice_index_or self.old stack None ≡ None }
+        ensures { self.new ≡ slice_set self.old stack (Some until) }
+    {
+        self.turns[usize::from(stack)] = Some(until);
+    }
+
+    /// Takes out the least stack whose turn is not after this one. It is `None` exactly where
+    /// there is none.
+    pub fn due(&mut self, turn: u32) -> Option<u16>
+        ensures least { result ≡ position (is_due turn) self.old }
+        ensures taken { self.new ≡ without_first_due turn self.old }
+    {
+        let stack = first_due(&self.turns, turn)?;
+        self.turns[stack] = None;
+        Some(stack as u16)
+    }
+
+    /// The turn at which a stack is due, or `None` where it doesn't sleep.
+    pub fn until(&self, stack: u16) -> Option<u32>
+        requires { stack < length self.now }
+        ensures { result ≡ slice_index_or self.now stack None }
+    {
+        self.turns[usize::from(stack)]
+    }
+}
+
+fn first_due(turns: &[Option<u32>], turn: u32) -> Option<usize>
+    ensures { result ≡ position (is_due turn) turns.now }
+{
+    turns
+        .iter()
+        .position(|until| matches!(until, Some(due) if *due <= turn))
+}

@@ -1,0 +1,14 @@
+pub mod Count
+pub mod Files
+pub mod Activity
+pub mod Desk
+pub mod Sink
+pub mod ReadAll
+pub mod WriteFile
+pub mod MemoryFiles
+pub mod MemoryWork
+pub mod MemoryDesk
+pub mod MemorySink
+pub mod StreamSink
+pub mod DeskState
+pub mod FolderWork

@@ -1,0 +1,146 @@
+use super::*;
+use std::alloc::Global;
+use std::fs;
+use std::fs::File;
+use std::test::Fail;
+
+/// The file that the tests over real files make in the folder where they run.
+const FILE: &str = "papy_io-test.tmp";
+
+#[test]
+fn a_sink_in_memory_fails_at_the_listed_calls(rt: HostRuntime) -> Result<(), Fail> {
+    let failing = [1, 3].to_vec(rt.alloc())?;
+    let mut sink = MemorySink::new(rt.alloc(), failing);
+    let calls: [(&[u8], Result<(), IoFault>); 5] = [
+        (b"ab", Ok(())),
+        (b"cd", Err(IoFault::Failed)),
+        (b"", Ok(())),
+        (b"ef", Err(IoFault::Failed)),
+        (b"gh", Ok(())),
+    ];
+    for (bytes, answer) in calls {
+        assert!(rt; sink.write(bytes) == answer);
+    }
+    assert!(rt; sink.bytes() == b"abgh".as_slice());
+    Ok(())
+}
+
+/// Reads the file `a`, of three bytes, from a desk whose call of this number fails.
+fn read_with_fault(
+    alloc: Global,
+    name: &[u8],
+    fault: u32,
+    limit: u32,
+) -> Result<Vec<u8>, ReadAllFault> {
+    let mut desk = MemoryDesk::new(alloc, [fault].to_vec(alloc)?);
+    desk.put(b"a", b"abc")?;
+    read_all(alloc, &mut desk, name, limit)
+}
+
+#[test]
+fn a_file_is_read_whole_or_the_fault_is_named(rt: HostRuntime) {
+    // The calls of a whole read are: start, a piece, the end, finish.
+    let cases: [(&[u8], u32, u32, Result<&[u8], ReadAllFault>); 9] = [
+        (b"a", 4, 3, Ok(b"abc")),
+        (b"a", 4, u32::MAX, Ok(b"abc")),
+        (b"a", 4, 2, Err(ReadAllFault::TooLarge)),
+        (b"b", 4, 3, Err(ReadAllFault::ReadFault)),
+        (b"a", 0, 3, Err(ReadAllFault::ReadFault)),
+        (b"a", 1, 3, Err(ReadAllFault::ReadFault)),
+        (b"a", 2, 3, Err(ReadAllFault::ReadFault)),
+        (b"a", 3, 3, Err(ReadAllFault::ReadFault)),
+        (b"a", 2, 2, Err(ReadAllFault::ReadFault)),
+    ];
+    for (name, fault, limit, answer) in cases {
+        match (read_with_fault(rt.alloc(), name, fault, limit), answer) {
+            (Ok(bytes), Ok(wanted)) => assert!(rt; bytes.as_slice() == wanted),
+            (Err(fault), Err(wanted)) => assert!(rt; fault == wanted),
+            (Ok(_), Err(_)) | (Err(_), Ok(_)) => { panic!(rt; "call {fault} fails, limit {limit}") }
+        }
+    }
+}
+
+#[test]
+fn a_failed_write_leaves_what_the_call_left(rt: HostRuntime) -> Result<(), Fail> {
+    // The calls of a whole write are: start, the bytes, finish.
+    let cases: [(u32, Result<(), IoFault>, &[u8]); 4] = [
+        (3, Ok(()), b"new"),
+        (0, Err(IoFault::Failed), b"old"),
+        (1, Err(IoFault::Failed), b""),
+        (2, Err(IoFault::Failed), b"new"),
+    ];
+    for (fault, answer, left) in cases {
+        let mut desk = MemoryDesk::new(rt.alloc(), [fault].to_vec(rt.alloc())?);
+        desk.put(b"a", b"old")?;
+        desk.put(b"b", b"other")?;
+        assert!(rt; write_file(&mut desk, b"a", b"new") == answer);
+        assert!(rt; desk.bytes_of(b"a").ok_or("a is held")? == left);
+        assert!(rt; desk.bytes_of(b"b").ok_or("b is held")? == b"other".as_slice());
+        assert!(rt; desk.bytes_of(b"c").is_none());
+    }
+    Ok(())
+}
+
+#[test]
+fn a_stream_gets_the_bytes(rt: HostRuntime) -> Result<(), Fail> {
+    let mut written = Vec::new(rt.alloc());
+    let mut sink = StreamSink::over(&mut written);
+    sink.write(b"one ")?;
+    sink.write(b"two")?;
+    drop(sink);
+    assert!(rt; written.as_slice() == b"one two".as_slice());
+
+    // A slice takes no more than its length.
+    let mut room = [0u8; 4];
+    let mut sink = StreamSink::over(room.as_mut_slice());
+    assert!(rt; sink.write(b"abc") == Ok(()));
+    assert!(rt; sink.write(b"def") == Err(IoFault::Failed));
+    assert!(rt; sink.write(b"") == Ok(()));
+    drop(sink);
+    assert!(rt; room == *b"abcd");
+
+    let mut sink = StreamSink::over(File::options().write(true).open(&rt, "/dev/full")?);
+    assert!(rt; sink.write(b"a") == Err(IoFault::Failed));
+    Ok(())
+}
+
+/// Reads a file of the current folder.
+fn read_real(rt: &HostRuntime, name: &[u8]) -> Result<Vec<u8>, ReadAllFault> {
+    let mut desk = FolderDesk::over(rt.clone()?, rt.alloc());
+    read_all(rt.alloc(), &mut desk, name, 100_000)
+}
+
+/// Writes a file of the current folder.
+fn write_real(rt: &HostRuntime, name: &[u8], bytes: &[u8]) -> Result<(), IoFault> {
+    let mut desk = FolderDesk::over(rt.clone()?, rt.alloc());
+    write_file(&mut desk, name, bytes)
+}
+
+#[test]
+fn a_real_file_gives_the_bytes_that_were_written(rt: HostRuntime) -> Result<(), Fail> {
+    for written in [b"longer than a line\n".as_slice(), b"short", b""] {
+        write_real(&rt, FILE.as_bytes(), written)?;
+        let read = read_real(&rt, FILE.as_bytes())?;
+        assert!(rt; read.as_slice() == written);
+    }
+    fs::remove_file(&rt, FILE)?;
+    assert!(rt; write_real(&rt, b"papy_io-none/a", b"a") == Err(IoFault::Failed));
+    assert!(rt; write_real(&rt, b"/dev/full", b"a") == Err(IoFault::Failed));
+    Ok(())
+}
+
+#[test]
+fn a_file_that_cannot_be_read_fails(rt: HostRuntime) {
+    let unreadable: [(&[u8], ReadAllFault); 4] = [
+        (b"papy_io-missing.tmp", ReadAllFault::ReadFault),
+        (b"\xff", ReadAllFault::ReadFault),
+        (b".", ReadAllFault::ReadFault),
+        (b"/dev/zero", ReadAllFault::TooLarge),
+    ];
+    for (name, fault) in unreadable {
+        match read_real(&rt, name) {
+            Ok(_) => panic!(rt; "read"),
+            Err(answer) => assert!(rt; answer == fault),
+        }
+    }
+}

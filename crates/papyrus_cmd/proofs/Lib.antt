@@ -1,0 +1,9 @@
+pub mod HeldScripts
+pub mod FormLength
+pub mod OnceAnswered
+pub mod OutputsOf
+pub mod NotedLines
+pub mod CutShort
+pub mod FirstFormLemmas
+pub mod Lines
+pub mod WritesTextLemmas

@@ -1,0 +1,14 @@
+use Rattle.std.proofs.Common.{◌≡◌, ◌∙◌, sym, ap, map, []}
+use Rattle.std.specs.String.{string_bytes}
+use Rattle.std.proofs.lemmas.List.{get_or-map, length-map}
+use Rattle.papyrus_cmd.specs.Ending.{word_at}
+use Rattle.papyrus_cmd.proofs.notes.tell.Goals as goal
+
+pub returns-in-ReadFault : goal.returns-in-ReadFault
+returns-in-ReadFault g c =
+    let within = rw (c.in-ReadFault.is, length-map) at c.requires in
+    let script = c.index-words-word.result in
+    let file : word_at (map string_bytes c.args.words.now) c.in-ReadFault.word ≡ string_bytes script =
+    get_or-map string_bytes c.args.words.now c.in-ReadFault.word script [] within ∙ ap string_bytes (sym c.index-words-word.is) in
+    let told = rw c.as_bytes.ensures.value at c.tell_unread.ensures in
+    rw (c.in-ReadFault.is, file) told

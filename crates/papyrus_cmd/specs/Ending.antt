@@ -1,0 +1,94 @@
+-- How a command ends, and what the devices count and keep then.
+use Rattle.std.specs.Prelude.{◌≡◌, ℕ, suc, ◌<◌, List, [], ◌∷◌, ◌++◌, length, Option, Some, Contains, slice_index_or, codes}
+use Rattle.papy_io.specs.declared.fault.IoFault.{IoFault}
+use Rattle.papy_io.specs.declared.fault.IoFault.TheVariants as io
+use Rattle.papy_io.specs.Count.{HasRisen}
+use Rattle.papyrus_cmd.specs.declared.ending.Ending.{Ending}
+use Rattle.papyrus_cmd.specs.declared.ending.Ending.TheVariants.{Done, OutOfMemory, Usage, ReadFault, WriteFault, NotBuilt}
+use Rattle.papyrus_cmd.specs.Command.{files_read}
+
+-- how a command ends whose output was refused
+abbrev pub write_ending : IoFault → Ending
+write_ending io.Failed = WriteFault
+write_ending io.OutOfMemory = OutOfMemory
+
+-- the status that each ending has
+abbrev pub status_of : Ending → ℕ
+status_of Done = 0
+status_of OutOfMemory = 1
+status_of Usage = 2
+status_of (ReadFault word) = 3
+status_of WriteFault = 4
+status_of NotBuilt = 10
+
+abbrev pub line : List ℕ → List ℕ
+line text = text ++ 10 ∷ []
+
+abbrev pub word_at : List (List ℕ) → ℕ → List ℕ
+word_at words place = slice_index_or words place []
+
+abbrev pub cannot_read : List ℕ → List ℕ
+cannot_read file = line (codes "papyrus: cannot read " ++ file)
+
+abbrev pub out_of_memory : List ℕ
+out_of_memory = line (codes "papyrus: out of memory")
+
+-- the line that tells of each ending
+abbrev pub note_of : List (List ℕ) → Ending → List ℕ
+note_of words Done = []
+note_of words OutOfMemory = out_of_memory
+note_of words Usage = line (codes "papyrus: usage")
+note_of words (ReadFault word) = cannot_read (word_at words word)
+note_of words WriteFault = line (codes "papyrus: cannot write")
+note_of words NotBuilt = line (codes "papyrus: not built")
+
+-- the count of failed reads rises where a file was not read, and nowhere else
+abbrev pub CountsReads : Ending → ℕ → ℕ → Type 0
+CountsReads (ReadFault word) before now = HasRisen before now
+CountsReads Done before now = now ≡ before
+CountsReads OutOfMemory before now = now ≡ before
+CountsReads Usage before now = now ≡ before
+CountsReads WriteFault before now = now ≡ before
+CountsReads NotBuilt before now = now ≡ before
+
+-- the count of failed writes rises where the output was not written, and nowhere else
+abbrev pub CountsWrites : Ending → ℕ → ℕ → Type 0
+CountsWrites WriteFault before now = HasRisen before now
+CountsWrites Done before now = now ≡ before
+CountsWrites OutOfMemory before now = now ≡ before
+CountsWrites Usage before now = now ≡ before
+CountsWrites (ReadFault word) before now = now ≡ before
+CountsWrites NotBuilt before now = now ≡ before
+
+-- the word of this number is the one missed, and names a file that the command reads
+pub record MissesFileAt (words : List (List ℕ)) (word : ℕ) (missed : Option (List ℕ)) : Type 0 where
+  pub within : word < length words
+  pub read : Contains (files_read words) (word_at words word)
+  pub missed_is : missed ≡ Some (word_at words word)
+
+abbrev pub MissesWord : List (List ℕ) → Ending → Option (List ℕ) → Type 0
+MissesWord words (ReadFault word) missed = MissesFileAt words word missed
+MissesWord words Done missed = Unit {0}
+MissesWord words OutOfMemory missed = Unit {0}
+MissesWord words Usage missed = Unit {0}
+MissesWord words WriteFault missed = Unit {0}
+MissesWord words NotBuilt missed = Unit {0}
+
+-- the script of this place is the one missed, and is the word behind it
+abbrev pub MissesScript : List (List ℕ) → Ending → Option (List ℕ) → Type 0
+MissesScript names (ReadFault word) missed =
+    (place : ℕ) × (word ≡ suc place) × (place < length names) × (missed ≡ Some (word_at names place))
+MissesScript names Done missed = Unit {0}
+MissesScript names OutOfMemory missed = Unit {0}
+MissesScript names Usage missed = Unit {0}
+MissesScript names WriteFault missed = Unit {0}
+MissesScript names NotBuilt missed = Unit {0}
+
+-- the word of this number is one of the words
+abbrev pub IsWordOf : List (List ℕ) → Ending → Type 0
+IsWordOf words (ReadFault word) = word < length words
+IsWordOf words Done = Unit {0}
+IsWordOf words OutOfMemory = Unit {0}
+IsWordOf words Usage = Unit {0}
+IsWordOf words WriteFault = Unit {0}
+IsWordOf words NotBuilt = Unit {0}

@@ -1,0 +1,10 @@
+pub mod Answers
+pub mod Command
+pub mod Ending
+pub mod FirstForm
+pub mod FirstLine
+pub mod Help
+pub mod PassesOver
+pub mod Report
+pub mod TopCall
+pub mod WritesText

@@ -1,0 +1,84 @@
+-- What the status of the top call says of its words, its devices and what was written.
+use Rattle.std.specs.Prelude.{◌≡◌, ◌≢◌, ◌⊎◌, ℕ, List, take, Option, Some, Result, Ok, Err, IfSome, Contains}
+use Rattle.papy_io.specs.declared.fault.IoFault.{IoFault}
+use Rattle.papy_io.specs.declared.fault.IoFault.TheVariants as io
+use Rattle.papy_io.specs.Count.{HasRisen, CountsFaults}
+use Rattle.papy_io.specs.Files.{Files}
+use Rattle.papy_io.specs.Sink.{Appended, SinkWrites}
+use Rattle.papyrus_cmd.specs.declared.ending.Ending.{Ending}
+use Rattle.papyrus_cmd.specs.declared.ending.Ending.TheVariants.{Done, OutOfMemory, Usage, ReadFault, WriteFault, NotBuilt}
+use Rattle.papyrus_cmd.specs.Answers.{Answers, IsPart}
+use Rattle.papyrus_cmd.specs.Command.{files_read}
+use Rattle.papyrus_cmd.specs.Ending.{status_of, note_of, cannot_read, out_of_memory, word_at}
+
+-- every status that there is
+abbrev pub IsStatus : ℕ → Type 0
+IsStatus status = (status ≡ 0) ⊎ (status ≡ 1) ⊎ (status ≡ 2) ⊎ (status ≡ 3) ⊎ (status ≡ 4) ⊎ (status ≡ 10)
+
+-- memory was found, and no device failed
+pub record IsAnswer (status : ℕ) : Type 0 where
+  pub memory : status ≢ 1
+  pub was_read : status ≢ 3
+  pub was_written : status ≢ 4
+
+-- no memory was found, or a write failed
+abbrev pub WasCut : ℕ → Type 0
+WasCut status = (status ≡ 1) ⊎ (status ≡ 4)
+
+-- the command ended so: with this status, all of its text on `out` and its line on `notes`
+pub record Answered (words : List (List ℕ)) (holds : Option Files) (status : ℕ) (out_before out_now notes_before notes_now : Option (List ℕ)) : Type 0 where
+  pub ending : Ending
+  pub text : List ℕ
+  pub status_is : status ≡ status_of ending
+  pub out : Appended text out_before out_now
+  pub notes : Appended (note_of words ending) notes_before notes_now
+  pub answers : IfSome holds (λ files. Answers words files ending text)
+
+-- the command was cut short: the first part of its text is on `out`, and the first part of some line on `notes`
+pub record CutShort (words : List (List ℕ)) (holds : Option Files) (out_before out_now notes_before notes_now : Option (List ℕ)) : Type 0 where
+  pub part : List ℕ
+  pub ending : Ending
+  pub length_noted : ℕ
+  pub out : Appended part out_before out_now
+  pub notes : Appended (take length_noted (note_of words ending)) notes_before notes_now
+  pub is_part : IfSome holds (λ files. IsPart (Answers words files) part)
+
+-- a file that the command reads was not read: it is the one missed, and the line names it
+pub record NotRead (words : List (List ℕ)) (missed : Option (List ℕ)) (faults_before faults_now : ℕ) (out_before out_now notes_before notes_now : Option (List ℕ)) : Type 0 where
+  pub file : List ℕ
+  pub read : Contains (files_read words) file
+  pub missed_is : missed ≡ Some file
+  pub faults : HasRisen faults_before faults_now
+  pub out : out_now ≡ out_before
+  pub notes : Appended (cannot_read file) notes_before notes_now
+
+-- the status of a line that should have this one, where writing it gave this
+abbrev pub noted_status : {T : Type 0} → Result T IoFault → ℕ → ℕ
+noted_status (Ok _) status = status
+noted_status (Err io.Failed) status = 4
+noted_status (Err io.OutOfMemory) status = 1
+
+-- the line was written, with this status, or writing it failed or found no memory
+abbrev pub Noted : List ℕ → ℕ → ℕ → Option (List ℕ) → Option (List ℕ) → ℕ → ℕ → Type 0
+Noted line wanted status before now faults_before faults_now =
+    (wrote : Result (Unit {0}) IoFault) × (status ≡ noted_status wrote wanted) × SinkWrites wrote line before now × CountsFaults wrote faults_before faults_now
+
+-- as much of the line was written as could be
+abbrev pub Tried : List ℕ → Option (List ℕ) → Option (List ℕ) → Type 0
+Tried line before now = (n : ℕ) × Appended (take n line) before now
+
+-- the line that names the file was written, or there was no memory for it
+abbrev pub ToldUnread : List ℕ → ℕ → Option (List ℕ) → Option (List ℕ) → ℕ → ℕ → Type 0
+ToldUnread file status before now faults_before faults_now =
+    Noted (cannot_read file) 3 status before now faults_before faults_now
+    ⊎ ((status ≡ 1) × Tried out_of_memory before now)
+
+-- what is told of each ending, and the status after it
+abbrev pub Told : List (List ℕ) → Ending → ℕ → Option (List ℕ) → Option (List ℕ) → ℕ → ℕ → Type 0
+Told words Done status before now faults_before faults_now = (status ≡ 0) × (now ≡ before) × (faults_now ≡ faults_before)
+Told words OutOfMemory status before now faults_before faults_now = (status ≡ 1) × Tried out_of_memory before now
+Told words WriteFault status before now faults_before faults_now = (status ≡ 4) × Tried (note_of words WriteFault) before now
+Told words Usage status before now faults_before faults_now = Noted (note_of words Usage) 2 status before now faults_before faults_now
+Told words NotBuilt status before now faults_before faults_now = Noted (note_of words NotBuilt) 10 status before now faults_before faults_now
+Told words (ReadFault word) status before now faults_before faults_now =
+    ToldUnread (word_at words word) status before now faults_before faults_now

@@ -1,0 +1,44 @@
+//! Which command is run.
+ghost use Rattle.std.specs.Prelude.{◌≡◌, ◌↔◌, ◌∷◌, map, None};
+ghost use Rattle.std.specs.String.{string_bytes};
+ghost use Rattle.papy_io.specs.Activity.{Idle};
+ghost use Rattle.papyrus_cmd.specs.Answers.{Answers, Outputs, WritesOnly};
+ghost use Rattle.papyrus_cmd.specs.Command.{command_of};
+ghost use Rattle.papyrus_cmd.specs.Ending.{CountsReads, CountsWrites, MissesWord};
+
+use crate::command::{Command, command_of};
+use crate::ending::Ending;
+use crate::help::{help, version};
+use crate::once::once;
+use papy_io::{Desk, Sink};
+use std::alloc::Global;
+
+fn write_text<S: Sink>(out: &mut S, text: &[u8]) -> Ending
+    ensures faults { CountsWrites result (S.faults out.old) (S.faults out.new) }
+    ensures output { WritesOnly text.now result (S.written out.old) (S.written out.new) }
+{
+    match out.write(text) {
+        Ok(()) => Ending::Done,
+        Err(fault) => Ending::from(fault),
+    }
+}
+
+/// Runs the command that the words are, and writes what it writes to `out`.
+pub fn run<D: Desk, S: Sink>(alloc: Global, words: &[String], desk: &mut D, out: &mut S) -> Ending
+    requires { D.busy desk.old ≡ Idle }
+    ensures busy { D.busy desk.new ≡ Idle }
+    ensures holds { D.holds desk.new ≡ D.holds desk.old }
+    ensures write_faults { D.write_faults desk.new ≡ D.write_faults desk.old }
+    ensures read_faults { CountsReads result (D.read_faults desk.old) (D.read_faults desk.new) }
+    ensures missed { MissesWord (map string_bytes words.now) result (D.missed desk.new) }
+    ensures faults { CountsWrites result (S.faults out.old) (S.faults out.new) }
+    ensures usage { (result ≡ Ending.Usage) ↔ (command_of (map string_bytes words.now) ≡ None) }
+    ensures output { Outputs (Answers (map string_bytes words.now)) (D.holds desk.old) result (S.written out.old) (S.written out.new) }
+{
+    match command_of(words) {
+        None => Ending::Usage,
+        Some(Command::Help) => write_text(out, help()),
+        Some(Command::Version) => write_text(out, version()),
+        Some(Command::Once) => once(alloc, &words[1..], desk, out),
+    }
+}

@@ -1,0 +1,29 @@
+//! What `--help` and `--version` write.
+ghost use Rattle.std.specs.Prelude.{◌≡◌};
+ghost use Rattle.papyrus_cmd.specs.Help.{help_text, version_text};
+
+const HELP: &[u8] = b"papyrus: compiles Papyrus scripts and runs them under instance locks
+
+  papyrus once SCRIPT..   runs the first script's OnInit and prints the report
+  papyrus --help          prints this text
+  papyrus --version       prints the version
+
+A SCRIPT is a file whose name ends with .psc. The statuses and the lines on
+standard error are described in docs/commands.md.
+";
+
+const VERSION: &[u8] = b"papyrus 0.1.0\n";
+
+/// The commands, each with its words and a line on what it does.
+pub fn help() -> &'static [u8]
+    ensures { result.now ≡ help_text }
+{
+    HELP
+}
+
+/// The name and the version of the program.
+pub fn version() -> &'static [u8]
+    ensures { result.now ≡ version_text }
+{
+    VERSION
+}

@@ -1,0 +1,85 @@
+//! The line that tells how a command ended, and the status after it.
+ghost use Rattle.std.specs.Prelude.{◌≡◌, ◌<◌, IfOk, map};
+ghost use Rattle.std.specs.String.{string_bytes};
+ghost use Rattle.papy_io.specs.Count.{CountsFaults};
+ghost use Rattle.papy_io.specs.Sink.{SinkWrites};
+ghost use Rattle.papyrus_cmd.specs.Ending.{cannot_read, IsWordOf};
+ghost use Rattle.papyrus_cmd.specs.TopCall.{Noted, Told, ToldUnread, Tried, noted_status};
+
+use crate::ending::Ending;
+use papy_base::OutOfMemory;
+use papy_io::{IoFault, Sink};
+use std::alloc::Global;
+
+const OUT_OF_MEMORY: &[u8] = b"papyrus: out of memory\n";
+
+const USAGE: &[u8] = b"papyrus: usage\n";
+
+const CANNOT_READ: &[u8] = b"papyrus: cannot read ";
+
+const CANNOT_WRITE: &[u8] = b"papyrus: cannot write\n";
+
+const NOT_BUILT: &[u8] = b"papyrus: not built\n";
+
+/// Writes a line. The status is the wanted one where it was written, 4 where that failed, and 1
+/// where it found no memory.
+fn note<E: Sink>(notes: &mut E, line: &[u8], wanted: u8) -> u8
+    ensures { Noted line.now wanted result (E.written notes.old) (E.written notes.new) (E.faults notes.old) (E.faults notes.new) }
+{
+    match notes.write(line) {
+        Ok(()) => wanted,
+        Err(IoFault::Failed) => 4,
+        Err(IoFault::OutOfMemory) => 1,
+    }
+}
+
+/// Writes as much of a line as can be.
+fn try_note<E: Sink>(notes: &mut E, line: &[u8])
+    ensures { Tried line.now (E.written notes.old) (E.written notes.new) }
+{
+    let _ = notes.write(line);
+}
+
+fn cannot_read(alloc: Global, file: &[u8]) -> Result<Vec<u8>, OutOfMemory>
+    ensures { IfOk result (λ line. line.items ≡ cannot_read file.now) }
+{
+    let mut line = Vec::with_capacity(alloc, CANNOT_READ.len())?;
+    line.extend_from_slice(CANNOT_READ)?;
+    line.extend_from_slice(file)?;
+    line.push(b'\n')?;
+    Ok(line)
+}
+
+/// Tells that a file was not read, and gives the status.
+fn tell_unread<E: Sink>(alloc: Global, file: &[u8], notes: &mut E) -> u8
+    ensures { ToldUnread file.now result (E.written notes.old) (E.written notes.new) (E.faults notes.old) (E.faults notes.new) }
+{
+    match cannot_read(alloc, file) {
+        Ok(line) => note(notes, &line, 3),
+        Err(_) => {
+            try_note(notes, OUT_OF_MEMORY);
+            1
+        }
+    }
+}
+
+/// Tells in one line on `notes` how the command of these words ended, and gives the status.
+pub fn tell<E: Sink>(alloc: Global, words: &[String], ending: Ending, notes: &mut E) -> u8
+    requires { IsWordOf (map string_bytes words.now) ending }
+    ensures { Told (map string_bytes words.now) ending result (E.written notes.old) (E.written notes.new) (E.faults notes.old) (E.faults notes.new) }
+{
+    match ending {
+        Ending::Done => 0,
+        Ending::OutOfMemory => {
+            try_note(notes, OUT_OF_MEMORY);
+            1
+        }
+        Ending::WriteFault => {
+            try_note(notes, CANNOT_WRITE);
+            4
+        }
+        Ending::Usage => note(notes, USAGE, 2),
+        Ending::NotBuilt => note(notes, NOT_BUILT, 10),
+        Ending::ReadFault { word } => tell_unread(alloc, words[word].as_bytes(), notes),
+    }
+}

@@ -1,0 +1,56 @@
+//! The top call, which the program makes with its command line.
+ghost use Rattle.std.specs.Prelude.{◌≡◌, ◌⊎◌, ◌≤◌, None, map, vec_len};
+ghost use Rattle.std.specs.String.{string_bytes};
+ghost use Rattle.latent_natives.specs.Devices.{SameKinds};
+ghost use Rattle.papy_io.specs.Activity.{Idle};
+ghost use Rattle.papy_io.specs.Count.{HasRisen};
+ghost use Rattle.papyrus_cmd.specs.Command.{command_of};
+ghost use Rattle.papyrus_cmd.specs.TopCall.{Answered, CutShort, IsAnswer, IsStatus, NotRead, WasCut};
+
+use crate::dispatch::run;
+use crate::notes::tell;
+use latent_natives::Device;
+use papy_io::{Desk, Sink};
+use std::alloc::Global;
+
+/// Runs the command that the words are, reads its files from the desk, writes what it writes to
+/// `out` and, where it ends otherwise than well, one line to `notes`. Gives the status.
+///
+/// `words` are the command line without the program's name. The statuses are 0 (done),
+/// 1 (out of memory), 2 (the words are no command), 3 (a file was not read), 4 (the output or the
+/// line was not written) and 10 (the scripts need what isn't built yet).
+pub fn papyrus<D: Desk, S: Sink, E: Sink>(
+    alloc: Global,
+    words: &[String],
+    desk: &mut D,
+    out: &mut S,
+    notes: &mut E,
+    devices: &mut Vec<Box<dyn Device>>,
+) -> u8
+    requires idle { D.busy desk.old ≡ Idle }
+    requires few_devices { vec_len devices.old ≤ 65535 }
+    ensures status { IsStatus result }
+    ensures busy { D.busy desk.new ≡ Idle }
+    ensures holds { D.holds desk.new ≡ D.holds desk.old }
+    ensures write_faults { D.write_faults desk.new ≡ D.write_faults desk.old }
+    ensures devices { SameKinds (map (λ d. device_state d) devices.old.items) (map (λ d. device_state d) devices.new.items) }
+
+    // Any other answer than want of memory or a device's failure is that of the command.
+    ensures answered { IsAnswer result → Answered (map string_bytes words.now) (D.holds desk.old) result
+        (S.written out.old) (S.written out.new) (E.written notes.old) (E.written notes.new) }
+    ensures cut_short { WasCut result → CutShort (map string_bytes words.now) (D.holds desk.old)
+        (S.written out.old) (S.written out.new) (E.written notes.old) (E.written notes.new) }
+    ensures quiet { ¬ WasCut result → (S.faults out.new ≡ S.faults out.old) × (E.faults notes.new ≡ E.faults notes.old) }
+
+    // The causes of 2, 3 and 4.
+    ensures usage { result ≡ 2 → command_of (map string_bytes words.now) ≡ None }
+    ensures no_command { command_of (map string_bytes words.now) ≡ None → (result ≡ 2) ⊎ WasCut result }
+    ensures not_read { result ≡ 3 → NotRead (map string_bytes words.now) (D.missed desk.new)
+        (D.read_faults desk.old) (D.read_faults desk.new)
+        (S.written out.old) (S.written out.new) (E.written notes.old) (E.written notes.new) }
+    ensures not_written { result ≡ 4 →
+        HasRisen (S.faults out.old) (S.faults out.new) ⊎ HasRisen (E.faults notes.old) (E.faults notes.new) }
+{
+    let ending = run(alloc, words, desk, out);
+    tell(alloc, words, ending, notes)
+}
