@@ -3,6 +3,7 @@ ghost use Rattle.pex_values.specs.Plain.{plain};
 ghost use Rattle.pex_values.specs.Shape.{IsWellShaped};
 
 use super::*;
+use papy_base::Text;
 use pex_values::Pex;
 use std::alloc::Global;
 use std::test::Fail;
@@ -99,18 +100,25 @@ fn written_back(rt: HostRuntime) -> Result<(), Fail> {
     Ok(())
 }
 
+/// The value with another user.
+fn with_user(mut value: Pex, user: Text) -> Pex
+    requires { IsWellShaped (plain value) }
+    ensures { IsWellShaped (plain result) }
+{
+    value.user = user;
+    value
+}
+
 #[test]
 fn longest_string(rt: HostRuntime) -> Result<(), Fail> {
-    let mut value = decoded(rt.alloc(), &EMPTY, 29).ok().ok_or("accepted")?;
     let name = vec![in rt.alloc(); 0x61u8; 65_536]?;
-    value.user = papy_base::Text::try_from_bytes(rt.alloc(), &name[..65_535])
-        .ok()
-        .ok_or("memory")?;
+    let value = decoded(rt.alloc(), &EMPTY, 29).ok().ok_or("accepted")?;
+    let user = Text::try_from_bytes(rt.alloc(), &name[..65_535]).ok().ok_or("memory")?;
+    let value = with_user(value, user);
     let bytes = encode(rt.alloc(), &value).ok().ok_or("fits")?;
     assert_eq!(rt; bytes.len(), 65_564);
-    value.user = papy_base::Text::try_from_bytes(rt.alloc(), &name)
-        .ok()
-        .ok_or("memory")?;
+    let user = Text::try_from_bytes(rt.alloc(), &name).ok().ok_or("memory")?;
+    let value = with_user(value, user);
     assert!(rt; matches!(encode(rt.alloc(), &value), Err(EncodeFault::TooManyItems)));
     Ok(())
 }
