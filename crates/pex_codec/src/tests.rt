@@ -109,16 +109,27 @@ fn with_user(mut value: Pex, user: Text) -> Pex
     value
 }
 
+/// The file without strings and objects, of a user with this name.
+fn encoded_with(alloc: Global, name: &[u8]) -> Result<Vec<u8>, EncodeFault> {
+    let user = Text::try_from_bytes(alloc, name)?;
+    match decoded(alloc, &EMPTY, 29) {
+        Ok(value) => encode(alloc, &with_user(value, user)),
+        Err(_) => Err(EncodeFault::OutOfMemory),
+    }
+}
+
 #[test]
 fn longest_string(rt: HostRuntime) -> Result<(), Fail> {
     let name = vec![in rt.alloc(); 0x61u8; 65_536]?;
-    let value = decoded(rt.alloc(), &EMPTY, 29).ok().ok_or("accepted")?;
-    let user = Text::try_from_bytes(rt.alloc(), &name[..65_535]).ok().ok_or("memory")?;
-    let value = with_user(value, user);
-    let bytes = encode(rt.alloc(), &value).ok().ok_or("fits")?;
+    let bytes = encoded_with(rt.alloc(), &name[..65_535])
+        .ok()
+        .ok_or("fits")?;
     assert_eq!(rt; bytes.len(), 65_564);
-    let user = Text::try_from_bytes(rt.alloc(), &name).ok().ok_or("memory")?;
-    let value = with_user(value, user);
-    assert!(rt; matches!(encode(rt.alloc(), &value), Err(EncodeFault::TooManyItems)));
+    assert!(rt;
+        matches!(
+            encoded_with(rt.alloc(), &name),
+            Err(EncodeFault::TooManyItems)
+        )
+    );
     Ok(())
 }

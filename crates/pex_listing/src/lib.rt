@@ -1,5 +1,4 @@
-//! The listing of compiled Papyrus files: a text with one line for each part, from which the file can be made
-//! again byte for byte.
+//! The listing of compiled Papyrus files: a text with one line for each part, which has all that the file has.
 #![tactic(auto)]
 
 mod faults;
@@ -9,4 +8,3 @@ mod showing;
 
 pub use faults::ShowFault;
 pub use showing::show;
-

@@ -3,8 +3,8 @@
 use crate::names::Names;
 use papy_base::Text;
 use pex_values::{
-    Datum, Instruction, OPCODES, PexDebug, PexFunction, PexLines, PexObject, PexProperty,
-    PexState, PexVariable, SizeForm,
+    Datum, Instruction, OPCODES, PexDebug, PexFunction, PexLines, PexObject, PexProperty, PexState,
+    PexVariable, SizeForm,
 };
 use std::alloc::AllocError;
 use std::fmt::Write;
@@ -100,11 +100,7 @@ fn put_instruction(
 }
 
 /// The rest of the line that a function begins with, and the lines of its parameters, locals and code.
-fn put_function(
-    out: &mut String,
-    names: &Names,
-    function: &PexFunction,
-) -> Result<(), AllocError> {
+fn put_function(out: &mut String, names: &Names, function: &PexFunction) -> Result<(), AllocError> {
     put_reference(out, names, function.result)?;
     put_reference(out, names, function.doc)?;
     let flags = function.flags;
@@ -118,11 +114,7 @@ fn put_function(
     Ok(())
 }
 
-fn put_variable(
-    out: &mut String,
-    names: &Names,
-    variable: &PexVariable,
-) -> Result<(), AllocError> {
+fn put_variable(out: &mut String, names: &Names, variable: &PexVariable) -> Result<(), AllocError> {
     out.push_str("variable")?;
     put_reference(out, names, variable.name)?;
     put_reference(out, names, variable.kind)?;
@@ -133,11 +125,7 @@ fn put_variable(
 }
 
 /// The line of a property, and the lines of its functions.
-fn put_property(
-    out: &mut String,
-    names: &Names,
-    property: &PexProperty,
-) -> Result<(), AllocError> {
+fn put_property(out: &mut String, names: &Names, property: &PexProperty) -> Result<(), AllocError> {
     out.push_str("property")?;
     put_reference(out, names, property.name)?;
     put_reference(out, names, property.kind)?;
@@ -207,10 +195,7 @@ pub(crate) fn put_object(
 }
 
 /// The line `nodebug`, or the first one of the debug information.
-pub(crate) fn put_debug_line(
-    out: &mut String,
-    debug: &Option<PexDebug>,
-) -> Result<(), AllocError> {
+pub(crate) fn put_debug_line(out: &mut String, debug: &Option<PexDebug>) -> Result<(), AllocError> {
     match debug {
         None => out.push_str("nodebug\n"),
         Some(debug) => {
