@@ -1,0 +1,118 @@
+-- How many bytes the parts of a file have, and what a complete value is.
+use Rattle.std.proofs.Common.{◌≡◌, ℕ, ◌+◌, ◌*◌, ◌<◌, ◌^◌, List, [], ◌∷◌, ◌++◌, length, map, Option, Some, None, refl, sym, ap, subst, ◌∙◌, arith}
+use Rattle.std.specs.Prelude.{Result, IfSome, option_map}
+use Rattle.std.specs.List.{flat_map, AllByRecursion}
+use Rattle.std.proofs.lemmas.List.{length-append, length-map, nil_from_length}
+use Rattle.pex_values.specs.declared.debug.PexDebug.{PexDebug}
+use Rattle.pex_values.specs.declared.debug.PexLines.{PexLines}
+use Rattle.pex_values.specs.declared.values.Pex.{Pex}
+use Rattle.pex_values.specs.declared.values.PexObject.{PexObject}
+use Rattle.pex_values.specs.Fit.{FitsDebug}
+use Rattle.pex_values.specs.Plain.{PlainDebug, plain_lines, plain_debug, plain_object, plain}
+use Rattle.pex_values.specs.Shape.{IsShapedDebug, IsShapedFlag, IsShapedObject}
+use Rattle.pex_values.specs.Spelling.{two_bytes, four_bytes, eight_bytes, one_byte, string, list, lines, debug, flag, object, object_data, size_of, heading, spelling}
+use Rattle.pex_codec.specs.declared.faults.PexFault.{PexFault}
+use Rattle.pex_codec.specs.declared.fields.Field.{Field}
+use Rattle.pex_codec.specs.declared.file_reader.FileReader.{FileReader}
+use Rattle.pex_codec.specs.FileReading.{HoldsHeader, HoldsDebug, HoldsFlags, HoldsObjects, HasTable, IsUntouched, IsWholeFile, ReachesField, debug_len, before_object_item}
+
+numbers_len : (ns : List ℕ) → length (flat_map two_bytes ns) ≡ 2 * length ns
+numbers_len [] = refl
+numbers_len (n ∷ ns) = let e = numbers_len ns in omega (arith, length-append (two_bytes n) (flat_map two_bytes ns))
+
+flags_len : (fs : List (ℕ × ℕ)) → length (flat_map flag fs) ≡ 3 * length fs
+flags_len [] = refl
+flags_len (f ∷ fs) = let e = flags_len fs in omega (arith, length-append (flag f) (flat_map flag fs))
+
+pub lines_size : (e : PexLines) → length (lines (plain_lines e)) ≡ 9 + 2 * length e.lines.items
+unfolding lines
+lines_size e =
+    let front = two_bytes e.object ++ two_bytes e.state ++ two_bytes e.function ++ one_byte e.kind in
+    omega (arith, length-append front (list two_bytes e.lines.items), length-append (two_bytes (length e.lines.items)) (flat_map two_bytes e.lines.items), numbers_len e.lines.items)
+
+pub debug_size : (d : PexDebug) → length (debug (Some (plain_debug d))) ≡ 11 + length (flat_map lines (map plain_lines d.functions.items))
+unfolding debug
+debug_size d =
+    let es = map plain_lines d.functions.items in
+    omega (arith, length-append (eight_bytes d.time) (list lines es), length-append (two_bytes (length es)) (flat_map lines es))
+
+no_debug_size : length (debug None) ≡ 1
+unfolding debug
+no_debug_size = refl
+
+pub object_bytes : (o : PexObject) → length (object (plain_object o)) ≡ 6 + length (object_data (plain_object o))
+unfolding object
+object_bytes o =
+    let p = plain_object o in
+    omega (arith, length-append (two_bytes p.name ++ four_bytes (size_of p.size_form (length (object_data p)))) (object_data p))
+
+pub spelling_size : (v : Pex) → length (spelling (plain v)) ≡ 28 + (length v.source + length v.user + length v.machine) + length (flat_map string v.strings.items) + length (debug (option_map plain_debug v.debug)) + 3 * length v.user_flags.items + length (flat_map object (map plain_object v.objects.items))
+unfolding spelling
+spelling_size v =
+    let h = heading v.minor ++ eight_bytes v.time in
+    let s = string v.source in
+    let u = string v.user in
+    let m = string v.machine in
+    let t = list string v.strings.items in
+    let d = debug (option_map plain_debug v.debug) in
+    let f = list flag v.user_flags.items in
+    let os = map plain_object v.objects.items in
+    let o = list object os in
+    omega (
+      arith,
+      length-append (h ++ s ++ u ++ m ++ t ++ d ++ f) o,
+      length-append (h ++ s ++ u ++ m ++ t ++ d) f,
+      length-append (h ++ s ++ u ++ m ++ t) d,
+      length-append (h ++ s ++ u ++ m) t,
+      length-append (h ++ s ++ u) m,
+      length-append (h ++ s) u,
+      length-append h s,
+      length-append (two_bytes (length v.source)) v.source,
+      length-append (two_bytes (length v.user)) v.user,
+      length-append (two_bytes (length v.machine)) v.machine,
+      length-append (two_bytes (length v.strings.items)) (flat_map string v.strings.items),
+      length-append (two_bytes (length v.user_flags.items)) (flat_map flag v.user_flags.items),
+      length-append (two_bytes (length os)) (flat_map object os),
+      flags_len v.user_flags.items,
+    )
+
+pub untouched_debug : (r : FileReader) → IsUntouched r → HoldsDebug r × HoldsFlags r × (debug_len r ≡ 1)
+untouched_debug r u = (
+  record {
+    shaped = subst (λ (o : Option PexDebug). IfSome (option_map plain_debug o) (IsShapedDebug r.strings)) (sym u.0) tt;
+    fits = subst (λ (o : Option PexDebug). IfSome (option_map plain_debug o) FitsDebug) (sym u.0) tt;
+  },
+  subst (λ (fs : List (ℕ × ℕ)). AllByRecursion (IsShapedFlag r.strings) fs) (sym u.1) tt,
+  ap (λ (o : Option PexDebug). length (debug (option_map plain_debug o))) u.0 ∙ no_debug_size,
+)
+
+pub is_whole_file : (r : FileReader) (n : ℕ) → HoldsHeader r → HasTable r → HoldsDebug r → HoldsFlags r → length r.pex.user_flags.items < 2 ^ 16
+    → HoldsObjects r → length r.pex.objects.items < 2 ^ 16 → before_object_item r ≡ n → IsWholeFile r n
+is_whole_file r n h table d flags few_flags objects few size = record {
+  shaped = record {
+    minor = h.minor;
+    time = h.time;
+    debug = rw table.0 d.shaped;
+    user_flags = rw table.0 flags;
+    objects = rw table.0 objects.shaped;
+  };
+  fits = record {
+    source = h.source;
+    user = h.user;
+    machine = h.machine;
+    strings = omega (arith, table.0, table.1);
+    each_string = h.each_string;
+    debug = d.fits;
+    user_flags = few_flags;
+    objects = rw (length-map r.pex.objects.items plain_object) few;
+    each_object = objects.each;
+  };
+  size = omega (arith, spelling_size r.pex, size);
+}
+
+pub no_objects : (r : FileReader) → r.pex.objects.items ≡ [] → HoldsObjects r × (length (flat_map object (map plain_object r.pex.objects.items)) ≡ 0)
+no_objects r none =
+    (record { shaped = rw none tt; each = rw none tt }, ap (λ (x : List PexObject). length (flat_map object (map plain_object x))) none)
+
+pub reaches_field_same : (m n : ℕ) (result : Result (Option Field) PexFault) (r : FileReader) → m ≡ n → ReachesField m result r → ReachesField n result r
+reaches_field_same m n result r same there = subst (λ (k : ℕ). ReachesField k result r) same there

@@ -1,0 +1,5 @@
+pub mod Lists
+pub mod Whole
+pub mod Sizes
+pub mod ObjectSizes
+pub mod FileSizes

@@ -1,0 +1,84 @@
+-- How many bytes the parts of a function have.
+use Rattle.std.proofs.Common.{◌≡◌, ℕ, ◌+◌, ◌*◌, ◌<◌, ◌≤◌, ◌^◌, Bool, true, false, List, [], ◌∷◌, ◌++◌, length, map, Option, Some, None, refl, sym, ap, subst, ◌∙◌, arith}
+use Rattle.std.specs.Prelude.{Result}
+use Rattle.std.specs.List.{flat_map, AllByRecursion}
+use Rattle.std.proofs.lemmas.List.{length-append, length-map, nil_from_length}
+use Rattle.pex_values.specs.declared.values.Instruction.{Instruction}
+use Rattle.pex_values.specs.Fit.{FitsInstruction, FitsFunction}
+use Rattle.pex_values.specs.Opcodes.{operands_of}
+use Rattle.pex_values.specs.Plain.{PlainInstruction, PlainFunction, plain_instruction, plain_function}
+use Rattle.pex_values.specs.Shape.{IsShapedInstruction, IsShapedFunction}
+use Rattle.pex_values.specs.Spelling.{two_bytes, four_bytes, one_byte, pair, list, datum, counted, instruction, function}
+use Rattle.pex_codec.specs.declared.function_reader.FunctionReader.{FunctionReader}
+use Rattle.pex_codec.specs.FunctionReading.{data_len, code_len, before_item, IsWhole, Reaches}
+use Rattle.pex_codec.specs.declared.faults.PexFault.{PexFault}
+use Rattle.pex_codec.specs.declared.fields.FunctionField.{FunctionField}
+
+pub pairs_len : (ps : List (ℕ × ℕ)) → length (flat_map pair ps) ≡ 4 * length ps
+pairs_len [] = refl
+pairs_len (p ∷ ps) = let e = pairs_len ps in omega (arith, length-append (pair p) (flat_map pair ps))
+
+pub function_len : (f : PlainFunction) → length (function f) ≡ 15 + 4 * length f.parameters + 4 * length f.locals + code_len f.code
+unfolding function
+function_len f =
+    let heading = two_bytes f.result ++ two_bytes f.doc ++ four_bytes f.flags ++ one_byte f.bits in
+    let a = length-append (heading ++ list pair f.parameters ++ list pair f.locals) (list instruction f.code) in
+    let b = length-append (heading ++ list pair f.parameters) (list pair f.locals) in
+    let d = length-append heading (list pair f.parameters) in
+    let p = length-append (two_bytes (length f.parameters)) (flat_map pair f.parameters) in
+    let l = length-append (two_bytes (length f.locals)) (flat_map pair f.locals) in
+    let k = length-append (two_bytes (length f.code)) (flat_map instruction f.code) in
+    omega (arith, pairs_len f.parameters, pairs_len f.locals)
+
+pub plain_len : (i : PlainInstruction) (n : ℕ) → operands_of i.opcode ≡ Some (n, false) → length (instruction i) ≡ 1 + data_len i.fixed
+unfolding instruction
+plain_len i n is =
+    let a = length-append (one_byte i.opcode ++ flat_map datum i.fixed) (counted (operands_of i.opcode) i.more) in
+    let b = length-append (one_byte i.opcode) (flat_map datum i.fixed) in
+    let none : length (counted (operands_of i.opcode) i.more) ≡ 0 = ap (λ (o : Option (ℕ × Bool)). length (counted o i.more)) is in
+    omega arith
+
+pub counted_len : (i : PlainInstruction) (n : ℕ) → operands_of i.opcode ≡ Some (n, true) → length (instruction i) ≡ 6 + data_len i.fixed + data_len i.more
+unfolding instruction
+counted_len i n is =
+    let a = length-append (one_byte i.opcode ++ flat_map datum i.fixed) (counted (operands_of i.opcode) i.more) in
+    let b = length-append (one_byte i.opcode) (flat_map datum i.fixed) in
+    let some : length (counted (operands_of i.opcode) i.more) ≡ length (counted (Some (n, true)) i.more) = ap (λ (o : Option (ℕ × Bool)). length (counted o i.more)) is in
+    omega arith
+
+no_code : (is : List Instruction) → length is ≡ 0 → code_len (map plain_instruction is) ≡ 0
+no_code is none = ap (λ (x : List Instruction). code_len (map plain_instruction x)) (nil_from_length is none)
+
+-- the last item of the code, if any, was taken
+pub is_whole : (strings : ℕ) (r : FunctionReader) (n : ℕ) → IsShapedFunction strings (plain_function r.function)
+    → AllByRecursion FitsInstruction (map plain_instruction r.function.code.items)
+    → length r.function.parameters.items < 2 ^ 16 → length r.function.locals.items < 2 ^ 16 → length r.function.code.items < 2 ^ 16
+    → before_item r ≡ n → IsWhole strings r n
+is_whole strings r n shaped each p l k size = record {
+  shaped = shaped;
+  fits = record { parameters = p; locals = l; code = rw (length-map r.function.code.items plain_instruction) k; instructions = each };
+  size = function_len (plain_function r.function) ∙ size;
+}
+
+-- there is no code
+pub is_whole_empty : (strings : ℕ) (r : FunctionReader) (n : ℕ) → IsShapedFunction strings (plain_function r.function)
+    → AllByRecursion FitsInstruction (map plain_instruction r.function.code.items)
+    → length r.function.parameters.items < 2 ^ 16 → length r.function.locals.items < 2 ^ 16 → length r.function.code.items ≡ 0
+    → 15 + 4 * length r.function.parameters.items + 4 * length r.function.locals.items ≡ n → IsWhole strings r n
+is_whole_empty strings r n shaped each p l none size =
+    is_whole strings r n shaped each p l (omega arith) (omega (arith, no_code r.function.code.items none))
+
+pub each_pushed : {X Y : Type 0} (P : Y → Type 0) (view : X → Y) (xs : List X) (x : X) → AllByRecursion P (map view xs) → P (view x) → AllByRecursion P (map view (xs ++ x ∷ []))
+each_pushed P view [] x each here = (here, tt)
+each_pushed P view (y ∷ ys) x each here = (each.0, each_pushed P view ys x each.1 here)
+
+pub code_len_pushed : (is : List Instruction) (i : Instruction) → code_len (map plain_instruction (is ++ i ∷ [])) ≡ code_len (map plain_instruction is) + length (instruction (plain_instruction i))
+code_len_pushed [] i = let e = length-append (instruction (plain_instruction i)) [] in omega arith
+code_len_pushed (j ∷ js) i =
+    let e = code_len_pushed js i in
+    let a = length-append (instruction (plain_instruction j)) (flat_map instruction (map plain_instruction (js ++ i ∷ []))) in
+    let b = length-append (instruction (plain_instruction j)) (flat_map instruction (map plain_instruction js)) in
+    omega arith
+
+pub reaches_same : (strings m n : ℕ) (result : Result (Option FunctionField) PexFault) (r : FunctionReader) → m ≡ n → Reaches strings m result r → Reaches strings n result r
+reaches_same strings m n result r same there = subst (λ (k : ℕ). Reaches strings k result r) same there

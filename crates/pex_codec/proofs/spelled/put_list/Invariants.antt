@@ -1,0 +1,8 @@
+use Rattle.std.proofs.Common.{◌≡◌, ◌<◌, ◌^◌, ◌++◌, length, take}
+use Rattle.std.specs.List.{flat_map, AllByRecursion}
+use Rattle.pex_values.specs.Spelling.{two_bytes}
+use Rattle.pex_codec.proofs.Lists.{WroteFirst}
+use Rattle.pex_codec.proofs.spelled.put_list.Given as goal
+
+abbrev pub invariant-loop-item : goal.invariant-loop-item
+invariant-loop-item g l = WroteFirst g.T.Spelled.fits g.T.Spelled.spelling l.initial.out.items l.items l.item-index l.out.items

@@ -1,0 +1,10 @@
+pub mod Writing
+pub mod Spells
+pub mod Widths
+pub mod Values
+pub mod FunctionReading
+pub mod ObjectReading
+pub mod FileReading
+pub mod Pieces
+pub mod Decoding
+pub mod DecoderState

@@ -1,0 +1,25 @@
+//! Compiled Papyrus files (PEX 3.2): values to bytes and back.
+//!
+//! The format is that of UESP's page "Skyrim Mod:File Formats/PEX" (Compiled Script File).
+#![tactic(auto)]
+
+mod code;
+mod decoder;
+mod encoding;
+mod faults;
+mod fields;
+mod file_reader;
+mod function_reader;
+mod object_reader;
+mod objects;
+mod pieces;
+mod progress;
+mod spelled;
+
+pub use decoder::Decoder;
+pub use encoding::encode;
+pub use faults::{EncodeFault, PexFault, PexRule};
+pub use progress::Fed;
+
+#[cfg(test)]
+mod tests;

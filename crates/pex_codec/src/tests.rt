@@ -1,0 +1,135 @@
+ghost use Rattle.std.specs.Prelude.{IfOk};
+ghost use Rattle.pex_values.specs.Plain.{plain};
+ghost use Rattle.pex_values.specs.Shape.{IsWellShaped};
+
+use super::*;
+use papy_base::Text;
+use pex_values::Pex;
+use std::alloc::Global;
+use std::test::Fail;
+
+/// A file without strings and objects.
+const EMPTY: [u8; 29] = [
+    0xFA, 0x57, 0xC0, 0xDE, 3, 1, 0, 1, 0, 0, 0, 0, 0, 0, 0, 0, 0, 0, 0, 0, 0, 0, 0, 0, 0, 0, 0, 0,
+    0,
+];
+
+/// A file with an object `A` that has no members. Its size counts the field itself.
+const OBJECT: [u8; 56] = [
+    0xFA, 0x57, 0xC0, 0xDE, 3, 1, 0, 1, 0, 0, 0, 0, 0, 0, 0, 0, 0, 0, 0, 0, 0, 0, 0, 2, 0, 0, 0, 1,
+    0x41, 0, 0, 0, 0, 1, 0, 1, 0, 0, 0, 0x14, 0, 0, 0, 0, 0, 0, 0, 0, 0, 0, 0, 0, 0, 0, 0, 0,
+];
+
+/// What the bytes decode to, where they come in pieces of so many bytes with an empty one between any two.
+fn decoded(alloc: Global, bytes: &[u8], size: usize) -> Result<Pex, PexFault>
+    ensures { IfOk result (λ v. IsWellShaped (plain v)) }
+{
+    let mut decoder = Decoder::new(alloc)?;
+    for piece in bytes.chunks(size.max(1)) {
+        decoder.feed(piece)?;
+        decoder.feed(b"")?;
+    }
+    decoder.end()
+}
+
+fn fault(alloc: Global, bytes: &[u8], size: usize) -> Option<(u32, PexRule)> {
+    match decoded(alloc, bytes, size) {
+        Err(PexFault::Broken { offset, rule }) => Some((offset, rule)),
+        _ => None,
+    }
+}
+
+#[test]
+fn cuts_change_nothing(rt: HostRuntime) {
+    for size in [1, 2, 3, 7, 64] {
+        assert!(rt; decoded(rt.alloc(), &EMPTY, size).is_ok());
+        assert!(rt; decoded(rt.alloc(), &OBJECT, size).is_ok());
+        for k in 0..OBJECT.len() {
+            let wanted = Some((k as u32, PexRule::Truncated));
+            assert_eq!(rt; fault(rt.alloc(), &OBJECT[..k], size), wanted);
+        }
+    }
+}
+
+#[test]
+fn rules(rt: HostRuntime) -> Result<(), Fail> {
+    let cases = [
+        (0, 0xFB, 0, PexRule::BadMagic),
+        (4, 2, 4, PexRule::BadVersion),
+        (5, 3, 5, PexRule::BadVersion),
+        (7, 2, 6, PexRule::BadGame),
+        (29, 2, 29, PexRule::BadDebugFlag),
+        (35, 2, 34, PexRule::BadIndex),
+        (39, 0x11, 36, PexRule::BadSize),
+    ];
+    for (at, byte, offset, rule) in cases {
+        let mut bytes = OBJECT;
+        assert!(rt; at < bytes.len());
+        bytes[at] = byte;
+        assert_eq!(rt; fault(rt.alloc(), &bytes, 1), Some((offset, rule)));
+        assert_eq!(rt; fault(rt.alloc(), &bytes, 64), Some((offset, rule)));
+    }
+    Ok(())
+}
+
+#[test]
+fn the_end(rt: HostRuntime) -> Result<(), Fail> {
+    let mut decoder = Decoder::new(rt.alloc()).ok().ok_or("memory")?;
+    assert_eq!(rt; decoder.feed(&EMPTY[..28]), Ok(Fed::More));
+    assert_eq!(rt; decoder.feed(&EMPTY[28..]), Ok(Fed::Done { taken: 1 }));
+    assert_eq!(rt; decoder.feed(b""), Ok(Fed::Done { taken: 0 }));
+    let trailing = PexFault::Broken {
+        offset: 29,
+        rule: PexRule::Trailing,
+    };
+    assert_eq!(rt; decoder.feed(b"x"), Err(trailing));
+    assert_eq!(rt; decoder.feed(b""), Err(trailing));
+    assert!(rt; decoder.end().is_err());
+    Ok(())
+}
+
+#[test]
+fn written_back(rt: HostRuntime) -> Result<(), Fail> {
+    for size in [0x14, 0x10] {
+        let mut bytes = OBJECT;
+        bytes[39] = size;
+        let value = decoded(rt.alloc(), &bytes, 5).ok().ok_or("accepted")?;
+        let again = encode(rt.alloc(), &value).ok().ok_or("fits")?;
+        assert_eq!(rt; again.as_slice(), bytes.as_slice());
+    }
+    Ok(())
+}
+
+/// The value with another user.
+fn with_user(mut value: Pex, user: Text) -> Pex
+    requires { IsWellShaped (plain value) }
+    ensures { IsWellShaped (plain result) }
+{
+    value.user = user;
+    value
+}
+
+/// The file without strings and objects, of a user with this name.
+fn encoded_with(alloc: Global, name: &[u8]) -> Result<Vec<u8>, EncodeFault> {
+    let user = Text::try_from_bytes(alloc, name)?;
+    match decoded(alloc, &EMPTY, 29) {
+        Ok(value) => encode(alloc, &with_user(value, user)),
+        Err(_) => Err(EncodeFault::OutOfMemory),
+    }
+}
+
+#[test]
+fn longest_string(rt: HostRuntime) -> Result<(), Fail> {
+    let name = vec![in rt.alloc(); 0x61u8; 65_536]?;
+    let bytes = encoded_with(rt.alloc(), &name[..65_535])
+        .ok()
+        .ok_or("fits")?;
+    assert_eq!(rt; bytes.len(), 65_564);
+    assert!(rt;
+        matches!(
+            encoded_with(rt.alloc(), &name),
+            Err(EncodeFault::TooManyItems)
+        )
+    );
+    Ok(())
+}

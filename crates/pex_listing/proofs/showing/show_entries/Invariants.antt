@@ -1,0 +1,5 @@
+use Rattle.std.proofs.Common.{◌≡◌}
+use Rattle.pex_listing.proofs.showing.show_entries.Given as goal
+
+abbrev pub invariant-loop-entry : goal.invariant-loop-entry
+invariant-loop-entry g l = g.S.Sink.faults l.sink ≡ g.S.Sink.faults l.initial.sink

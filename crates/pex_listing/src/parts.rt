@@ -1,0 +1,237 @@
+//! The lines of the parts of a file.
+
+use crate::names::Names;
+use papy_base::Text;
+use pex_values::{
+    Datum, Instruction, OPCODES, PexDebug, PexFunction, PexLines, PexObject, PexProperty, PexState,
+    PexVariable, SizeForm,
+};
+use std::alloc::AllocError;
+use std::fmt::Write;
+
+/// A string in quotes: the bytes from 20h to 7Eh as they are, but for `\"` and `\\`, and all others as `\x` and two
+/// hexadecimal digits.
+pub(crate) fn put_string(out: &mut String, text: &Text) -> Result<(), AllocError> {
+    out.push('"')?;
+    for byte in text.as_bytes() {
+        match *byte {
+            b'"' => out.push_str("\\\"")?,
+            b'\\' => out.push_str("\\\\")?,
+            0x20..=0x7E => out.push(char::from(*byte))?,
+            _ => write!(out, "\\x{:02x}", *byte)?,
+        }
+    }
+    out.push('"')
+}
+
+/// A line with a string behind its first word.
+pub(crate) fn put_string_line(out: &mut String, word: &str, text: &Text) -> Result<(), AllocError> {
+    out.push_str(word)?;
+    out.push(' ')?;
+    put_string(out, text)?;
+    out.push('\n')
+}
+
+/// A reference with a space before it: the string, or `#` and its index.
+fn put_reference(out: &mut String, names: &Names, index: u16) -> Result<(), AllocError> {
+    let at = index as usize;
+    if let (Some(text), Some(true)) = (names.strings.get(at), names.spelled.get(at)) {
+        out.push(' ')?;
+        for byte in text.as_bytes() {
+            out.push(char::from(*byte))?;
+        }
+        return Ok(());
+    }
+    write!(out, " #{index}")
+}
+
+/// A value with a space before it.
+fn put_datum(out: &mut String, names: &Names, datum: &Datum) -> Result<(), AllocError> {
+    match *datum {
+        Datum::NoneValue => out.push_str(" none"),
+        Datum::Word(index) => {
+            out.push_str(" id")?;
+            put_reference(out, names, index)
+        }
+        Datum::Quoted(index) => {
+            out.push_str(" text")?;
+            put_reference(out, names, index)
+        }
+        Datum::Int(number) => write!(out, " int {number}"),
+        Datum::Float(bits) => write!(out, " float {bits:08x}"),
+        Datum::Bool(byte) => write!(out, " bool {byte}"),
+    }
+}
+
+fn put_data(out: &mut String, names: &Names, values: &[Datum]) -> Result<(), AllocError> {
+    for value in values {
+        put_datum(out, names, value)?;
+    }
+    Ok(())
+}
+
+/// The `param` or `local` lines of a function.
+fn put_pairs(
+    out: &mut String,
+    names: &Names,
+    word: &str,
+    pairs: &[(u16, u16)],
+) -> Result<(), AllocError> {
+    for (name, kind) in pairs {
+        out.push_str(word)?;
+        put_reference(out, names, *name)?;
+        put_reference(out, names, *kind)?;
+        out.push('\n')?;
+    }
+    Ok(())
+}
+
+fn put_instruction(
+    out: &mut String,
+    names: &Names,
+    instruction: &Instruction,
+) -> Result<(), AllocError> {
+    if let Some(opcode) = OPCODES.get(instruction.opcode as usize) {
+        out.push_str(opcode.name)?;
+    }
+    put_data(out, names, &instruction.fixed)?;
+    put_data(out, names, &instruction.more)?;
+    out.push('\n')
+}
+
+/// The rest of the line that a function begins with, and the lines of its parameters, locals and code.
+fn put_function(out: &mut String, names: &Names, function: &PexFunction) -> Result<(), AllocError> {
+    put_reference(out, names, function.result)?;
+    put_reference(out, names, function.doc)?;
+    let flags = function.flags;
+    let bits = function.bits;
+    write!(out, " {flags} {bits}\n")?;
+    put_pairs(out, names, "param", &function.parameters)?;
+    put_pairs(out, names, "local", &function.locals)?;
+    for instruction in &function.code {
+        put_instruction(out, names, instruction)?;
+    }
+    Ok(())
+}
+
+fn put_variable(out: &mut String, names: &Names, variable: &PexVariable) -> Result<(), AllocError> {
+    out.push_str("variable")?;
+    put_reference(out, names, variable.name)?;
+    put_reference(out, names, variable.kind)?;
+    let flags = variable.flags;
+    write!(out, " {flags}")?;
+    put_datum(out, names, &variable.value)?;
+    out.push('\n')
+}
+
+/// The line of a property, and the lines of its functions.
+fn put_property(out: &mut String, names: &Names, property: &PexProperty) -> Result<(), AllocError> {
+    out.push_str("property")?;
+    put_reference(out, names, property.name)?;
+    put_reference(out, names, property.kind)?;
+    put_reference(out, names, property.doc)?;
+    let flags = property.flags;
+    let bits = property.bits;
+    write!(out, " {flags} {bits}")?;
+    if let Some(variable) = property.variable {
+        put_reference(out, names, variable)?;
+    }
+    out.push('\n')?;
+    if let Some(function) = &property.read {
+        out.push_str("read")?;
+        put_function(out, names, function)?;
+    }
+    if let Some(function) = &property.write {
+        out.push_str("write")?;
+        put_function(out, names, function)?;
+    }
+    Ok(())
+}
+
+fn put_state(out: &mut String, names: &Names, state: &PexState) -> Result<(), AllocError> {
+    out.push_str("state")?;
+    put_reference(out, names, state.name)?;
+    out.push('\n')?;
+    for (name, function) in &state.functions {
+        out.push_str("function")?;
+        put_reference(out, names, *name)?;
+        put_function(out, names, function)?;
+    }
+    Ok(())
+}
+
+fn put_object_line(out: &mut String, names: &Names, object: &PexObject) -> Result<(), AllocError> {
+    out.push_str("object")?;
+    put_reference(out, names, object.name)?;
+    out.push_str(match object.size_form {
+        SizeForm::Counted => " counted",
+        SizeForm::Bare => " bare",
+    })?;
+    put_reference(out, names, object.parent)?;
+    put_reference(out, names, object.doc)?;
+    let flags = object.flags;
+    write!(out, " {flags}")?;
+    put_reference(out, names, object.auto_state)?;
+    out.push('\n')
+}
+
+/// The lines of an object.
+pub(crate) fn put_object(
+    out: &mut String,
+    names: &Names,
+    object: &PexObject,
+) -> Result<(), AllocError> {
+    put_object_line(out, names, object)?;
+    for variable in &object.variables {
+        put_variable(out, names, variable)?;
+    }
+    for property in &object.properties {
+        put_property(out, names, property)?;
+    }
+    for state in &object.states {
+        put_state(out, names, state)?;
+    }
+    Ok(())
+}
+
+/// The line `nodebug`, or the first one of the debug information.
+pub(crate) fn put_debug_line(out: &mut String, debug: &Option<PexDebug>) -> Result<(), AllocError> {
+    match debug {
+        None => out.push_str("nodebug\n"),
+        Some(debug) => {
+            let time = debug.time;
+            write!(out, "debug {time}\n")
+        }
+    }
+}
+
+/// The line of an entry of the debug information.
+pub(crate) fn put_lines(
+    out: &mut String,
+    names: &Names,
+    entry: &PexLines,
+) -> Result<(), AllocError> {
+    out.push_str("lines")?;
+    put_reference(out, names, entry.object)?;
+    put_reference(out, names, entry.state)?;
+    put_reference(out, names, entry.function)?;
+    let kind = entry.kind;
+    write!(out, " {kind}")?;
+    for line in &entry.lines {
+        let number = *line;
+        write!(out, " {number}")?;
+    }
+    out.push('\n')
+}
+
+/// The line of a user flag.
+pub(crate) fn put_flag(
+    out: &mut String,
+    names: &Names,
+    name: u16,
+    index: u8,
+) -> Result<(), AllocError> {
+    out.push_str("flag")?;
+    put_reference(out, names, name)?;
+    write!(out, " {index}\n")
+}

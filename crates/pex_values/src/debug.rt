@@ -1,0 +1,21 @@
+/// Where the instructions stand in the source.
+#[derive(Debug, Drop)]
+pub struct PexDebug {
+    /// When the source was changed last, in seconds since 1970.
+    pub time: u64,
+    pub functions: Vec<PexLines>,
+}
+
+/// The source lines of one function, one for each instruction.
+#[derive(Debug, Drop)]
+pub struct PexLines {
+    /// A reference.
+    pub object: u16,
+    /// A reference.
+    pub state: u16,
+    /// A reference.
+    pub function: u16,
+    /// What kind of function it is.
+    pub kind: u8,
+    pub lines: Vec<u16>,
+}
