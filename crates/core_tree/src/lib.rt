@@ -2,6 +2,30 @@
 //! them means.
 #![tactic(auto)]
 
+mod core_type;
+mod expression;
+mod operator;
+mod outline;
+mod outlining;
+mod scene;
+mod scene_tree;
+mod script;
+mod statement;
+mod value;
+
+pub use core_type::CoreType;
+pub use expression::{Core, FunctionPlace};
+pub use operator::{Arith, Order};
+pub use outline::{Outline, OutlineFunction, OutlineProperty, OutlineScript, OutlineVariable};
+pub use outlining::outline_of;
+pub use scene::{BoundCall, BoundInstance, BoundNative, Scene};
+pub use scene_tree::{Binding, SceneCall, SceneInstance, SceneTree, SceneValue, TurnOrder};
+pub use script::{
+    CoreAccess, CoreFunction, CoreProperty, CoreScript, CoreSet, CoreState, CoreVariable,
+};
+pub use statement::{CoreLine, CoreStatement};
+pub use value::Value;
+
 /// The kind of a device that native functions may call.
 #[derive(Clone, Copy, Debug, PartialEq, Eq)]
 pub enum DeviceKind {

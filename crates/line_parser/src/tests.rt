@@ -281,23 +281,27 @@ fn lines_that_are_too_deep(rt: HostRuntime) -> Result<(), Fail> {
 
 // How many nodes lie along the left side of a tree.
 fn left_depth(tree: &Expr) -> u32 {
-    let mut depth = 0u32;
-    let mut at = tree;
-    while let Some(of) = left_of(at) {
-        depth = depth.saturating_add(1);
-        at = of;
+    match tree {
+        Expr::Binary { left, .. } => left_depth(left).saturating_add(1),
+        Expr::Member { of, .. } => left_depth(of).saturating_add(1),
+        Expr::MemberCall { of, .. } => left_depth(of).saturating_add(1),
+        Expr::Length { of } => left_depth(of).saturating_add(1),
+        Expr::Index { of, .. } => left_depth(of).saturating_add(1),
+        _ => 0,
     }
-    depth
 }
 
-fn left_of(tree: &Expr) -> Option<&Expr> {
-    match tree {
-        Expr::Binary { left, .. } => Some(left),
-        Expr::Member { of, .. }
-        | Expr::MemberCall { of, .. }
-        | Expr::Length { of }
-        | Expr::Index { of, .. } => Some(of),
-        _ => None,
+fn depth_of_line(alloc: Global, line: &Line) -> u32 {
+    match parse_line(alloc, line) {
+        Ok(tree) => depth_of_form(&tree.form),
+        Err(_) => 0,
+    }
+}
+
+fn depth_of_form(form: &LineForm) -> u32 {
+    match form {
+        LineForm::Plain(value) => left_depth(value),
+        _ => 0,
     }
 }
 
@@ -314,13 +318,7 @@ fn longest_chains(rt: HostRuntime) -> Result<(), Fail> {
         (" [ 0 ]", 2666),
     ] {
         let line = long_line(alloc, "a", part, times)?;
-        let Ok(tree) = parse_line(alloc, &line) else {
-            return Err(Fail::from("no tree"));
-        };
-        let LineForm::Plain(value) = tree.form else {
-            return Err(Fail::from("no expression"));
-        };
-        assert_eq!(rt; left_depth(&value) as usize, times, "of {part}");
+        assert_eq!(rt; depth_of_line(alloc, &line) as usize, times, "of {part}");
     }
     Ok(())
 }

@@ -1,21 +1,17 @@
 -- The parts of the locks still agree after each call.
-use Rattle.std.proofs.Common.{◌≡◌, ◌≢◌, ℕ, zero, suc, ◌+◌, ◌-◌, ◌*◌, ◌<◌, ◌≤◌, List, [], ◌∷◌, ◌++◌, length, map, filter, replicate, Option, Some, None, is_none, is_some, not, ◌&&◌, Bool, true, false, cond, eqb, get_or, sym, refl, ap, subst, ◌∙◌, inl, inr, ◌⊎◌, ⊎_elim, arith}
-use Rattle.std.proofs.Math.ListN.{set, length-set}
-use Rattle.std.proofs.lemmas.List.{get_or-set_same, get_or-set_other, get_or_past, length-replicate}
+use Rattle.std.proofs.Common.{◌≡◌, ◌≢◌, ℕ, ◌<◌, List, [], ◌∷◌, ◌++◌, length, filter, Option, Some, None, is_none, Bool, true, false, cond, eqb, sym, refl, ap, subst, ◌∙◌, inl, inr, ⊎_elim}
+use Rattle.std.proofs.Math.ListN.{set}
+use Rattle.std.proofs.lemmas.List.{get_or-set_other}
 use Rattle.std.proofs.lemmas.Grind.{get_or-set_at}
-use Rattle.std.proofs.lemmas.List.Elements.{filter-append}
-use Rattle.std.proofs.lemmas.Bool.{eq-eqb, ne_eqb, eqb-true, false≢true}
+use Rattle.std.proofs.lemmas.Bool.{eq-eqb, ne_eqb, eqb-true}
 use Rattle.std.proofs.lemmas.Bool.Decides.{eqb_tells}
 use Rattle.lock_queue.specs.declared.seat.Seat.{Seat}
 use Rattle.lock_queue.specs.declared.seat.Seat.TheVariants.{Resting, Free, Waits, Holds}
-use Rattle.lock_queue.specs.Links.{link_at, Lacks, Has, AllDiffer, without, first_of}
-use Rattle.lock_queue.specs.Order.{Sequence}
-use Rattle.lock_queue.specs.Queues.{Lines, queue_at}
-use Rattle.lock_queue.specs.Ready.{is_member}
-use Rattle.lock_queue.specs.LockTable.{seat_at, is_first, is_some_of, IsIdle}
-use Rattle.lock_queue.specs.Agreement.{waits, awaited_in, waiters_of, ready_in, Agree}
-use Rattle.lock_queue.proofs.LinkLemmas.{has_left, has_right, differ-push, apart}
-use Rattle.lock_queue.proofs.QueueLemmas.{lacks_from, has_cases, has_without, get-replicate}
+use Rattle.lock_queue.specs.Links.{Lacks, Has, AllDiffer, without, first_of}
+use Rattle.lock_queue.specs.LockTable.{seat_at, is_first, is_some_of, IsIdle, held_by, waits_for}
+use Rattle.lock_queue.specs.Agreement.{waits, awaited_in, waiters_of}
+use Rattle.lock_queue.proofs.LinkLemmas.{apart}
+use Rattle.lock_queue.proofs.QueueLemmas.{lacks_from, has_without}
 
 -- ---- seats
 pub seat_same : (seats : List Seat) (k j : ℕ) (s : Seat) → k < length seats → j ≡ k → seat_at (set seats k s) j ≡ s
@@ -67,16 +63,10 @@ pub none_some : (a : ℕ) → ◌≡◌ {A = Option ℕ} None (Some a) → ⊥
 none_some a e = cc
 
 pub idle_waits : (s : Seat) (i : ℕ) → IsIdle s → s ≡ Waits i → ⊥
-idle_waits Resting i idle e = cc
-idle_waits Free i idle e = cc
-idle_waits (Waits a) i idle e = idle
-idle_waits (Holds a) i idle e = idle
+idle_waits s i idle e = none_some i (sym idle.1 ∙ ap waits_for e)
 
 pub idle_holds : (s : Seat) (i : ℕ) → IsIdle s → s ≡ Holds i → ⊥
-idle_holds Resting i idle e = cc
-idle_holds Free i idle e = cc
-idle_holds (Waits a) i idle e = idle
-idle_holds (Holds a) i idle e = idle
+idle_holds s i idle e = none_some i (sym idle.0 ∙ ap held_by e)
 
 pub waits_true : (i : ℕ) (s : Seat) → waits i s ≡ true → s ≡ Waits i
 waits_true i Resting e = cc
@@ -108,11 +98,11 @@ filter-without_other p [] k fails = refl
 filter-without_other p (x ∷ xs) k fails =
     ⊎_elim
     (λ (same : (eqb x k ≡ true) × (x ≡ k)).
-        ap (λ b. filter p (cond b xs (x ∷ without xs k))) same.0
-        ∙ sym (ap (λ b. cond b (x ∷ filter p xs) (filter p xs)) (ap p same.1 ∙ fails)))
+    ap (λ b. filter p (cond b xs (x ∷ without xs k))) same.0
+    ∙ sym (ap (λ b. cond b (x ∷ filter p xs) (filter p xs)) (ap p same.1 ∙ fails)))
     (λ (other : (eqb x k ≡ false) × (x ≢ k)).
-        ap (λ b. filter p (cond b xs (x ∷ without xs k))) other.0
-        ∙ ap (λ ys. cond (p x) (x ∷ ys) ys) (filter-without_other p xs k fails))
+    ap (λ b. filter p (cond b xs (x ∷ without xs k))) other.0
+    ∙ ap (λ ys. cond (p x) (x ∷ ys) ys) (filter-without_other p xs k fails))
     (eqb_tells x k)
 
 pub without-filter : (p : ℕ → Bool) (xs : List ℕ) (k : ℕ) → p k ≡ true → filter p (without xs k) ≡ without (filter p xs) k
@@ -120,18 +110,18 @@ without-filter p [] k passes = refl
 without-filter p (x ∷ xs) k passes =
     ⊎_elim
     (λ (same : (eqb x k ≡ true) × (x ≡ k)).
-        ap (λ b. filter p (cond b xs (x ∷ without xs k))) same.0
-        ∙ sym (ap (λ b. without (cond b (x ∷ filter p xs) (filter p xs)) k) (ap p same.1 ∙ passes)
-        ∙ ap (λ b. cond b (filter p xs) (x ∷ without (filter p xs) k)) same.0))
+    ap (λ b. filter p (cond b xs (x ∷ without xs k))) same.0
+    ∙ sym (ap (λ b. without (cond b (x ∷ filter p xs) (filter p xs)) k) (ap p same.1 ∙ passes)
+    ∙ ap (λ b. cond b (filter p xs) (x ∷ without (filter p xs) k)) same.0))
     (λ (other : (eqb x k ≡ false) × (x ≢ k)).
-        ap (λ b. filter p (cond b xs (x ∷ without xs k))) other.0
-        ∙ ap (λ ys. cond (p x) (x ∷ ys) ys) (without-filter p xs k passes)
-        ∙ kept (p x) other.0)
+    ap (λ b. filter p (cond b xs (x ∷ without xs k))) other.0
+    ∙ ap (λ ys. cond (p x) (x ∷ ys) ys) (without-filter p xs k passes)
+    ∙ kept (p x) other.0)
     (eqb_tells x k)
   where
-  kept : (b : Bool) → eqb x k ≡ false → cond b (x ∷ without (filter p xs) k) (without (filter p xs) k) ≡ without (cond b (x ∷ filter p xs) (filter p xs)) k
-  kept true e = sym (ap (λ c. cond c (filter p xs) (x ∷ without (filter p xs) k)) e)
-  kept false e = refl
+    kept : (b : Bool) → eqb x k ≡ false → cond b (x ∷ without (filter p xs) k) (without (filter p xs) k) ≡ without (cond b (x ∷ filter p xs) (filter p xs)) k
+    kept true e = sym (ap (λ c. cond c (filter p xs) (x ∷ without (filter p xs) k)) e)
+    kept false e = refl
 
 pub lacks_without_more : (xs : List ℕ) (k j : ℕ) → Lacks xs j → Lacks (without xs k) j
 lacks_without_more xs k j lacks = lacks_from (without xs k) j (λ h. apart xs j j lacks (has_without xs k j h) refl)
@@ -149,12 +139,12 @@ lacks-without [] k differ = tt
 lacks-without (x ∷ xs) k differ =
     ⊎_elim
     (λ (same : (eqb x k ≡ true) × (x ≡ k)).
-        let P : List ℕ → Type 0 = λ ys. Lacks ys k in
-        let Q : ℕ → Type 0 = λ n. Lacks xs n in
-        subst P (sym (ap (λ b. cond b xs (x ∷ without xs k)) same.0)) (subst Q same.1 differ.0))
+    let P : List ℕ → Type 0 = λ ys. Lacks ys k in
+    let Q : ℕ → Type 0 = λ n. Lacks xs n in
+    subst P (sym (ap (λ b. cond b xs (x ∷ without xs k)) same.0)) (subst Q same.1 differ.0))
     (λ (other : (eqb x k ≡ false) × (x ≢ k)).
-        let P : List ℕ → Type 0 = λ ys. Lacks ys k in
-        subst P (sym (ap (λ b. cond b xs (x ∷ without xs k)) other.0)) (other.1, lacks-without xs k differ.1))
+    let P : List ℕ → Type 0 = λ ys. Lacks ys k in
+    subst P (sym (ap (λ b. cond b xs (x ∷ without xs k)) other.0)) (other.1, lacks-without xs k differ.1))
     (eqb_tells x k)
 
 pub has_kept : (xs : List ℕ) (k j : ℕ) → Has xs j → j ≢ k → Has (without xs k) j
@@ -163,11 +153,11 @@ has_kept (x ∷ xs) k j has other =
     let P : List ℕ → Type 0 = λ ys. Has ys j in
     ⊎_elim
     (λ (same : (eqb x k ≡ true) × (x ≡ k)).
-        subst P (sym (ap (λ b. cond b xs (x ∷ without xs k)) same.0))
-        (⊎_elim (λ (e : x ≡ j). absurd (other (sym e ∙ same.1))) (λ h. h) has))
+    subst P (sym (ap (λ b. cond b xs (x ∷ without xs k)) same.0))
+    (⊎_elim (λ (e : x ≡ j). absurd (other (sym e ∙ same.1))) (λ h. h) has))
     (λ (differs : (eqb x k ≡ false) × (x ≢ k)).
-        subst P (sym (ap (λ b. cond b xs (x ∷ without xs k)) differs.0))
-        (⊎_elim (λ e. inl e) (λ h. inr (has_kept xs k j h other)) has))
+    subst P (sym (ap (λ b. cond b xs (x ∷ without xs k)) differs.0))
+    (⊎_elim (λ e. inl e) (λ h. inr (has_kept xs k j h other)) has))
     (eqb_tells x k)
 
 -- ---- the first of a queue

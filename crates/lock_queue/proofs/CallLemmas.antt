@@ -1,5 +1,5 @@
 -- The parts of the locks agree after each call, of what the code read and wrote.
-use Rattle.std.proofs.Common.{◌≡◌, ℕ, ◌*◌, ◌<◌, ◌≤◌, List, [], ◌∷◌, ◌++◌, length, replicate, Option, Some, None, is_none, ◌&&◌, Bool, true, false, cond, eqb, sym, refl, ap, subst, ◌∙◌, arith}
+use Rattle.std.proofs.Common.{◌≡◌, ℕ, ◌*◌, ◌<◌, ◌≤◌, List, [], ◌∷◌, ◌++◌, length, replicate, Option, Some, None, is_none, ◌&&◌, Bool, true, false, cond, eqb, sym, refl, ap, subst, ◌∙◌}
 use Rattle.std.proofs.Math.ListN.{set}
 use Rattle.lock_queue.specs.declared.seat.Seat.{Seat}
 use Rattle.lock_queue.specs.declared.seat.Seat.TheVariants.{Resting, Free, Waits, Holds}
@@ -8,7 +8,7 @@ use Rattle.lock_queue.specs.Order.{Sequence}
 use Rattle.lock_queue.specs.Queues.{Lines, queue_at}
 use Rattle.lock_queue.specs.Ready.{is_member}
 use Rattle.lock_queue.specs.LockTable.{seat_at, is_first, is_some_of, IsIdle}
-use Rattle.lock_queue.specs.Agreement.{Agree, ready_in}
+use Rattle.lock_queue.specs.Agreement.{Agree}
 use Rattle.lock_queue.proofs.TransitionLemmas.{Agree-idle, Agree-join, Agree-take, Agree-release, Agree-resting}
 
 pub joined : (seats : List Seat) (owners : List (Option ℕ)) (order order' : Sequence) (queues queues' : Lines) (words words' : List ℕ) (k i place : ℕ) (b : Bool) → Agree seats owners order queues words → k < length seats → i < length owners → IsIdle (seat_at seats k) → b ≡ is_none (link_at owners i) && is_none (first_of (queue_at queues.lists i)) → length words' ≡ length words → ((j : ℕ) → is_member words' j ≡ cond (eqb j k) b (is_member words j)) → place ≡ k → order' ≡ record order { stacks = order.stacks ++ k ∷ [] } → queues' ≡ record queues { lists = set queues.lists i (queue_at queues.lists i ++ k ∷ []) } → Agree (set seats place (Waits i)) owners order' queues' words'
@@ -31,17 +31,17 @@ released seats owners order queues words between words' k i place owner first ag
     let P : ℕ → Type 0 = λ p. Agree (set seats p Resting) (set owners owner None) order queues words' in
     let Q : ℕ → Type 0 = λ o. Agree (set seats k Resting) (set owners o None) order queues words' in
     subst P (sym place_is) (subst Q (sym owner_is) (Agree-release seats owners order queues words words' k i agree k_in seat room
-        (λ j. put_in j ∙ ap (λ o. cond (is_some_of j o) true (is_member between j)) first_is ∙ ap (cond (is_some_of j (first_of (queue_at queues.lists i))) true) (taken_out j))))
+    (λ j. put_in j ∙ ap (λ o. cond (is_some_of j o) true (is_member between j)) first_is ∙ ap (cond (is_some_of j (first_of (queue_at queues.lists i))) true) (taken_out j))))
 
 pub freed : (seats : List Seat) (owners : List (Option ℕ)) (order : Sequence) (queues : Lines) (words words' : List ℕ) (k place : ℕ) → Agree seats owners order queues words → k < length seats → IsIdle (seat_at seats k) → length words' ≡ length words → ((j : ℕ) → is_member words' j ≡ cond (eqb j k) true (is_member words j)) → place ≡ k → Agree (set seats place Free) owners order queues words'
 freed seats owners order queues words words' k place agree k_in idle room members place_is =
     let P : ℕ → Type 0 = λ p. Agree (set seats p Free) owners order queues words' in
-    subst P (sym place_is) (Agree-idle seats owners order queues words words' k Free true agree k_in idle tt (λ i e. cc) (λ i e. cc) refl room members)
+    subst P (sym place_is) (Agree-idle seats owners order queues words words' k Free true agree k_in idle (refl, refl) (λ i e. cc) (λ i e. cc) refl room members)
 
 pub rested : (seats : List Seat) (owners : List (Option ℕ)) (order : Sequence) (queues : Lines) (words words' : List ℕ) (k place : ℕ) → Agree seats owners order queues words → k < length seats → IsIdle (seat_at seats k) → length words' ≡ length words → ((j : ℕ) → is_member words' j ≡ cond (eqb j k) false (is_member words j)) → place ≡ k → Agree (set seats place Resting) owners order queues words'
 rested seats owners order queues words words' k place agree k_in idle room members place_is =
     let P : ℕ → Type 0 = λ p. Agree (set seats p Resting) owners order queues words' in
-    subst P (sym place_is) (Agree-idle seats owners order queues words words' k Resting false agree k_in idle tt (λ i e. cc) (λ i e. cc) refl room members)
+    subst P (sym place_is) (Agree-idle seats owners order queues words words' k Resting false agree k_in idle (refl, refl) (λ i e. cc) (λ i e. cc) refl room members)
 
 pub made : (seats : List Seat) (owners : List (Option ℕ)) (order : Sequence) (queues : Lines) (words : List ℕ) (stacks instances : ℕ) → seats ≡ replicate stacks Resting → owners ≡ replicate instances None → stacks < 65536 → stacks ≤ 64 * length words → ((j : ℕ) → is_member words j ≡ false) → order ≡ record { room = stacks; stacks = [] } → queues ≡ record { room = stacks; lists = replicate instances [] } → Agree seats owners order queues words
 made seats owners order queues words stacks instances seats_are owners_are bounded room empty order_is queues_is =

@@ -1,12 +1,12 @@
 -- What a write to one link leaves of the lists that the links lead along.
-use Rattle.std.proofs.Common.{◌≡◌, ◌≢◌, ℕ, zero, suc, ◌+◌, ◌<◌, ◌≤◌, List, [], ◌∷◌, ◌++◌, length, Option, Some, None, Bool, true, false, cond, eqb, ◌||◌, get_or, sym, refl, ap, subst, ◌∙◌, inl, inr, ◌⊎◌, ⊎_elim, arith}
+use Rattle.std.proofs.Common.{◌≡◌, ◌≢◌, ℕ, zero, suc, ◌<◌, ◌≤◌, List, [], ◌∷◌, ◌++◌, length, Option, Some, None, Bool, true, false, cond, eqb, ◌||◌, sym, refl, ap, subst, ◌∙◌, inl, inr, ⊎_elim, arith}
 use Rattle.std.proofs.Math.ListN.{set, length-set}
 use Rattle.std.proofs.lemmas.List.{get_or-set_same, get_or-set_other}
 use Rattle.std.proofs.lemmas.Grind.{get_or-set_at}
 use Rattle.std.proofs.lemmas.Bool.{eq-eqb, ne_eqb, eqb-true}
 use Rattle.std.proofs.lemmas.Map.Steps.{length-le_from_distinct_below}
 use Rattle.std.specs.List.{last_or, list_any, IsDistinct, AllByRecursion}
-use Rattle.lock_queue.specs.Links.{link_at, Leads, LeadsBack, Lacks, Has, AllDiffer, AllBelow, without, walk, first_of, stack_after}
+use Rattle.lock_queue.specs.Links.{link_at, Leads, LeadsBack, Lacks, Has, AllDiffer, AllBelow, without, walk}
 
 pub lacks-append : (xs ys : List ℕ) (k : ℕ) → Lacks xs k → Lacks ys k → Lacks (xs ++ ys) k
 lacks-append [] ys k lacks_xs lacks_ys = lacks_ys
@@ -71,11 +71,14 @@ cut_at [] k differ has = elim has [ ]
 cut_at (x ∷ xs) k differ has =
     ⊎_elim
     (λ (e : x ≡ k). ([], xs, record { whole = ap (λ n. n ∷ xs) e; rest = ap (λ b. cond b xs (x ∷ without xs k)) (eq-eqb x k e) }))
-    (λ (h : Has xs k). let found = cut_at xs k differ.1 h in
-        (x ∷ found.0, found.1, record {
-          whole = ap (λ ys. x ∷ ys) found.2.whole;
-          rest = ap (λ b. cond b xs (x ∷ without xs k)) (ne_eqb x k (apart xs x k differ.0 h)) ∙ ap (λ ys. x ∷ ys) found.2.rest;
-        }))
+    (λ (h : Has xs k). let found = cut_at xs k differ.1 h in (
+      x ∷ found.0,
+      found.1,
+      record {
+        whole = ap (λ ys. x ∷ ys) found.2.whole;
+        rest = ap (λ b. cond b xs (x ∷ without xs k)) (ne_eqb x k (apart xs x k differ.0 h)) ∙ ap (λ ys. x ∷ ys) found.2.rest;
+      },
+    ))
     has
 
 -- ---- the last stack
@@ -102,16 +105,20 @@ leads-push links start [] b k leads differ last lacks b_in k_in = cc
 leads-push links start (x ∷ []) b k leads differ last lacks b_in k_in =
     let x_is : x ≡ b = cc in
     let k_other : k ≢ b = λ e. lacks.0 (x_is ∙ sym e) in
-    let b_in_set : b < length (set links k None) = omega (arith, length-set links k None) in
-    (leads.0,
-     (get_or-set_at (set links k None) b x (Some k) None x_is b_in_set,
-      get_or-set_other (set links k None) b k (Some k) None k_other ∙ get_or-set_same links k None None k_in))
+    let b_in_set : b < length (set links k None) = omega (arith, length-set links k None) in (
+      leads.0,
+      (
+        get_or-set_at (set links k None) b x (Some k) None x_is b_in_set,
+        get_or-set_other (set links k None) b k (Some k) None k_other ∙ get_or-set_same links k None None k_in,
+      ),
+    )
 leads-push links start (x ∷ y ∷ ys) b k leads differ last lacks b_in k_in =
     let x_other : x ≢ b = apart (y ∷ ys) x b differ.0 (last_has y ys b last) in
-    let P : Option ℕ → Type 0 = λ s. Leads (pushed_links links b k) s ((y ∷ ys) ++ k ∷ []) in
-    (leads.0,
-     subst P (sym (get_or-set_other (set links k None) b x (Some k) None x_other ∙ get_or-set_other links k x None None lacks.0))
-     (leads-push links (link_at links x) (y ∷ ys) b k leads.1 differ.1 last lacks.1 b_in k_in))
+    let P : Option ℕ → Type 0 = λ s. Leads (pushed_links links b k) s ((y ∷ ys) ++ k ∷ []) in (
+      leads.0,
+      subst P (sym (get_or-set_other (set links k None) b x (Some k) None x_other ∙ get_or-set_other links k x None None lacks.0))
+          (leads-push links (link_at links x) (y ∷ ys) b k leads.1 differ.1 last lacks.1 b_in k_in),
+    )
 
 pub leads_after : (links : List (Option ℕ)) (start : Option ℕ) (front back : List ℕ) (k : ℕ) → Leads links start (front ++ k ∷ back) → Leads links (link_at links k) back
 leads_after links start [] back k leads = leads.1
@@ -122,16 +129,18 @@ leads-remove links start [] back k b leads differ last b_in = cc
 leads-remove links start (x ∷ []) back k b leads differ last b_in =
     let x_is : x ≡ b = cc in
     let P : Option ℕ → Type 0 = λ s. Leads (set links b (link_at links k)) s back in
-    let Q : ℕ → Type 0 = λ n. Lacks back n in
-    (leads.0,
-     subst P (sym (get_or-set_at links b x (link_at links k) None x_is b_in))
-     (leads-frame links b (link_at links k) (link_at links k) back (subst Q x_is differ.0.1) leads.1.1))
+    let Q : ℕ → Type 0 = λ n. Lacks back n in (
+      leads.0,
+      subst P (sym (get_or-set_at links b x (link_at links k) None x_is b_in))
+          (leads-frame links b (link_at links k) (link_at links k) back (subst Q x_is differ.0.1) leads.1.1),
+    )
 leads-remove links start (x ∷ y ∷ ys) back k b leads differ last b_in =
     let x_other : x ≢ b = apart ((y ∷ ys) ++ k ∷ back) x b differ.0 (has_left (y ∷ ys) (k ∷ back) b (last_has y ys b last)) in
-    let P : Option ℕ → Type 0 = λ s. Leads (set links b (link_at links k)) s ((y ∷ ys) ++ back) in
-    (leads.0,
-     subst P (sym (get_or-set_other links b x (link_at links k) None x_other))
-     (leads-remove links (link_at links x) (y ∷ ys) back k b leads.1 differ.1 last b_in))
+    let P : Option ℕ → Type 0 = λ s. Leads (set links b (link_at links k)) s ((y ∷ ys) ++ back) in (
+      leads.0,
+      subst P (sym (get_or-set_other links b x (link_at links k) None x_other))
+          (leads-remove links (link_at links x) (y ∷ ys) back k b leads.1 differ.1 last b_in),
+    )
 
 -- ---- links to the stack before
 pub back-frame : (links : List (Option ℕ)) (k : ℕ) (v before : Option ℕ) (xs : List ℕ) → Lacks xs k → LeadsBack links before xs → LeadsBack (set links k v) before xs

@@ -1,5 +1,5 @@
 -- The linked list after a stack was put at its end or taken out.
-use Rattle.std.proofs.Common.{◌≡◌, ◌≢◌, ℕ, ◌+◌, ◌<◌, ◌≤◌, List, [], ◌∷◌, ◌++◌, length, Option, Some, None, Bool, true, false, cond, eqb, get_or, sym, refl, ap, subst, ◌∙◌, inl, inr, ◌⊎◌, ⊎_elim, arith}
+use Rattle.std.proofs.Common.{◌≡◌, ℕ, ◌<◌, List, [], ◌∷◌, ◌++◌, length, Option, Some, None, cond, get_or, sym, refl, ap, subst, ◌∙◌, inl, inr, arith}
 use Rattle.std.proofs.Math.ListN.{set, length-set}
 use Rattle.std.proofs.lemmas.List.{get_or-set_same, get_or_read}
 use Rattle.std.proofs.lemmas.Bool.{eq-eqb, ne_eqb}
@@ -7,7 +7,7 @@ use Rattle.std.specs.List.{last_or}
 use Rattle.std.specs.Option.{ForSome}
 use Rattle.lock_queue.specs.Links.{link_at, Leads, LeadsBack, Lacks, Has, AllDiffer, AllBelow, without, walk, first_of, stack_after, relinked, end_after}
 use Rattle.lock_queue.specs.Order.{Sequence, IsLinked}
-use Rattle.lock_queue.proofs.LinkLemmas.{lacks-append, lacks_right, has_left, has_right, apart, differ-push, below-push, below_has, differ_without, below_without, cut_at, IsCut, last_or-append, last_has, leads-frame, leads-push, leads_after, leads-remove, back-push, before_is, back-remove_last, back-remove, walk_leads, length-le_room}
+use Rattle.lock_queue.proofs.LinkLemmas.{has_left, has_right, apart, differ-push, below-push, below_has, differ_without, below_without, cut_at, last_or-append, last_has, leads-push, leads_after, leads-remove, back-push, before_is, back-remove_last, back-remove, walk_leads, length-le_room}
 
 -- the links after a push
 abbrev pub after_push : List (Option ℕ) → Option ℕ → ℕ → List (Option ℕ)
@@ -38,9 +38,9 @@ IsLinked-push after before first last room xs k linked lacks within = record {
   before_room = length-set before k last ∙ linked.before_room;
   leads = push_leads after first last xs k room linked.after_room linked.leads linked.last_is linked.differ linked.below lacks within;
   leads_back =
-    let e = linked.before_room in
-    let P : Option ℕ → Type 0 = λ p. LeadsBack (set before k p) None (xs ++ k ∷ []) in
-    subst P (sym linked.last_is) (back-push before None xs k linked.leads_back lacks (omega arith));
+      let e = linked.before_room in
+      let P : Option ℕ → Type 0 = λ p. LeadsBack (set before k p) None (xs ++ k ∷ []) in
+      subst P (sym linked.last_is) (back-push before None xs k linked.leads_back lacks (omega arith));
   last_is = sym (last_or-append None xs (k ∷ []));
   differ = differ-push xs k linked.differ lacks;
   below = below-push room xs k linked.below within;
@@ -140,7 +140,7 @@ before_within after before first last room xs k linked has =
     let P : List ℕ → Type 0 = λ ys. LeadsBack before None ys in
     let Q : List ℕ → Type 0 = λ ys. AllBelow room ys in
     λ b e. last_below room cut.0 b (below_left room cut.0 (k ∷ cut.1) (subst Q cut.2.whole linked.below))
-        (sym (before_is before None cut.0 cut.1 k (subst P cut.2.whole linked.leads_back)) ∙ e)
+    (sym (before_is before None cut.0 cut.1 k (subst P cut.2.whole linked.leads_back)) ∙ e)
 
 pub after_within : (after before : List (Option ℕ)) (first last : Option ℕ) (room : ℕ) (xs : List ℕ) (k : ℕ) → IsLinked after before first last room xs → Has xs k → ForSome (link_at after k) (λ b. b < room)
 after_within after before first last room xs k linked has =
@@ -148,7 +148,7 @@ after_within after before first last room xs k linked has =
     let P : List ℕ → Type 0 = λ ys. Leads after first ys in
     let Q : List ℕ → Type 0 = λ ys. AllBelow room ys in
     λ b e. first_below room cut.1 b (below_right room cut.0 (k ∷ cut.1) (subst Q cut.2.whole linked.below)).1
-        (sym (leads_first after (link_at after k) cut.1 (leads_after after first cut.0 cut.1 k (subst P cut.2.whole linked.leads))) ∙ e)
+    (sym (leads_first after (link_at after k) cut.1 (leads_after after first cut.0 cut.1 k (subst P cut.2.whole linked.leads))) ∙ e)
 
 -- the list is the one that the walk gives
 pub walk_is : (after before : List (Option ℕ)) (first last : Option ℕ) (room : ℕ) (xs : List ℕ) → IsLinked after before first last room xs → walk (length after) after first ≡ xs

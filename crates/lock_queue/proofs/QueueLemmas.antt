@@ -1,15 +1,15 @@
 -- The queues after a stack was put at the end of one, or taken out at its front.
-use Rattle.std.proofs.Common.{◌≡◌, ◌≢◌, ℕ, zero, suc, ◌+◌, ◌<◌, ◌≤◌, List, [], ◌∷◌, ◌++◌, length, map, replicate, Option, Some, None, Bool, true, false, cond, eqb, get_or, sym, refl, ap, subst, ◌∙◌, inl, inr, ◌⊎◌, ⊎_elim, arith}
+use Rattle.std.proofs.Common.{◌≡◌, ◌≢◌, ℕ, zero, suc, ◌<◌, ◌≤◌, List, [], ◌∷◌, ◌++◌, length, map, replicate, Option, Some, None, Bool, true, false, cond, eqb, get_or, sym, refl, ap, subst, ◌∙◌, inl, inr, ◌⊎◌, ⊎_elim, arith}
 use Rattle.std.proofs.Math.ListN.{set, length-set}
-use Rattle.std.proofs.lemmas.List.{get_or-set_same, get_or-set_other, get_or_past, get_or_read, get_or-replicate, length-replicate}
+use Rattle.std.proofs.lemmas.List.{get_or-set_other, get_or_past, length-replicate}
 use Rattle.std.proofs.lemmas.Grind.{get_or-set_at}
-use Rattle.std.proofs.lemmas.Bool.{eq-eqb, ne_eqb}
+use Rattle.std.proofs.lemmas.Bool.{eq-eqb}
 use Rattle.std.proofs.lemmas.Bool.Decides.{eqb_tells}
 use Rattle.std.specs.List.{last_or}
 use Rattle.std.specs.Option.{ForSome}
-use Rattle.lock_queue.specs.Links.{link_at, Leads, Lacks, Has, AllDiffer, AllBelow, without, walk, first_of, relinked, end_after}
+use Rattle.lock_queue.specs.Links.{link_at, Leads, Lacks, Has, AllBelow, without, walk, first_of, relinked, end_after}
 use Rattle.lock_queue.specs.Queues.{Lines, queue_at, IsQueue, AreQueues, last_after, lines_of}
-use Rattle.lock_queue.proofs.LinkLemmas.{lacks-append, apart, differ-push, below-push, below_has, last_or-append, last_has, leads-frame, walk_leads, length-le_room, has_left}
+use Rattle.lock_queue.proofs.LinkLemmas.{apart, differ-push, below-push, below_has, last_or-append, last_has, leads-frame, walk_leads, length-le_room}
 use Rattle.lock_queue.proofs.OrderLemmas.{after_push, push_leads, length-relinked, last_below, leads_first, read_link}
 
 -- ---- the lists are those that the walks give
@@ -25,7 +25,7 @@ pub lines_are : (next firsts lasts : List (Option ℕ)) (room : ℕ) (lists : Li
 lines_are next firsts lasts room lists queues =
     let size = queues.next_room in
     lists_are next (length next) firsts lists queues.firsts_count (λ i.
-        ((queues.each i).leads, omega (arith, length-le_room room (queue_at lists i) (queues.each i).differ (queues.each i).below)))
+    ((queues.each i).leads, omega (arith, length-le_room room (queue_at lists i) (queues.each i).differ (queues.each i).below)))
 
 abbrev pub lines : ℕ → List (List ℕ) → Lines
 lines room lists = record { room = room; lists = lists }
@@ -70,19 +70,19 @@ pub each-set : (next : List (Option ℕ)) (firsts lasts : List (Option ℕ)) (ro
 each-set next firsts lasts room lists i first last queue within firsts_is lasts_is here others j =
     ⊎_elim
     (λ (same : (eqb j i ≡ true) × (j ≡ i)).
-        let P : Option ℕ → Type 0 = λ f. IsQueue next f (link_at (set lasts i last) j) room (queue_at (set lists i queue) j) in
-        let Q : Option ℕ → Type 0 = λ l. IsQueue next first l room (queue_at (set lists i queue) j) in
-        let R : List ℕ → Type 0 = λ q. IsQueue next first last room q in
-        subst P (sym (get_or-set_at firsts i j first None same.1 (omega arith)))
-        (subst Q (sym (get_or-set_at lasts i j last None same.1 (omega arith)))
-        (subst R (sym (get_or-set_at lists i j queue [] same.1 within)) here)))
+    let P : Option ℕ → Type 0 = λ f. IsQueue next f (link_at (set lasts i last) j) room (queue_at (set lists i queue) j) in
+    let Q : Option ℕ → Type 0 = λ l. IsQueue next first l room (queue_at (set lists i queue) j) in
+    let R : List ℕ → Type 0 = λ q. IsQueue next first last room q in
+    subst P (sym (get_or-set_at firsts i j first None same.1 (omega arith)))
+    (subst Q (sym (get_or-set_at lasts i j last None same.1 (omega arith)))
+    (subst R (sym (get_or-set_at lists i j queue [] same.1 within)) here)))
     (λ (other : (eqb j i ≡ false) × (j ≢ i)).
-        let P : Option ℕ → Type 0 = λ f. IsQueue next f (link_at (set lasts i last) j) room (queue_at (set lists i queue) j) in
-        let Q : Option ℕ → Type 0 = λ l. IsQueue next (link_at firsts j) l room (queue_at (set lists i queue) j) in
-        let R : List ℕ → Type 0 = λ q. IsQueue next (link_at firsts j) (link_at lasts j) room q in
-        subst P (sym (get_or-set_other firsts i j first None other.1))
-        (subst Q (sym (get_or-set_other lasts i j last None other.1))
-        (subst R (sym (get_or-set_other lists i j queue [] other.1)) (others j other.1))))
+    let P : Option ℕ → Type 0 = λ f. IsQueue next f (link_at (set lasts i last) j) room (queue_at (set lists i queue) j) in
+    let Q : Option ℕ → Type 0 = λ l. IsQueue next (link_at firsts j) l room (queue_at (set lists i queue) j) in
+    let R : List ℕ → Type 0 = λ q. IsQueue next (link_at firsts j) (link_at lasts j) room q in
+    subst P (sym (get_or-set_other firsts i j first None other.1))
+    (subst Q (sym (get_or-set_other lasts i j last None other.1))
+    (subst R (sym (get_or-set_other lists i j queue [] other.1)) (others j other.1))))
     (eqb_tells j i)
 
 -- every stack of the new queue stood in the old one, or in none
@@ -90,22 +90,22 @@ pub apart-set : (lists : List (List ℕ)) (i : ℕ) (queue : List ℕ) → i < l
 apart-set lists i queue within old_apart new_apart a b s has_a has_b =
     ⊎_elim
     (λ (a_is : (eqb a i ≡ true) × (a ≡ i)).
-        ⊎_elim
-        (λ (b_is : (eqb b i ≡ true) × (b ≡ i)). a_is.1 ∙ sym b_is.1)
-        (λ (b_not : (eqb b i ≡ false) × (b ≢ i)).
-            absurd (b_not.1 (new_apart s b (subst P (get_or-set_at lists i a queue [] a_is.1 within) has_a) (subst P (get_or-set_other lists i b queue [] b_not.1) has_b))))
-        (eqb_tells b i))
+    ⊎_elim
+    (λ (b_is : (eqb b i ≡ true) × (b ≡ i)). a_is.1 ∙ sym b_is.1)
+    (λ (b_not : (eqb b i ≡ false) × (b ≢ i)).
+    absurd (b_not.1 (new_apart s b (subst P (get_or-set_at lists i a queue [] a_is.1 within) has_a) (subst P (get_or-set_other lists i b queue [] b_not.1) has_b))))
+    (eqb_tells b i))
     (λ (a_not : (eqb a i ≡ false) × (a ≢ i)).
-        ⊎_elim
-        (λ (b_is : (eqb b i ≡ true) × (b ≡ i)).
-            absurd (a_not.1 (new_apart s a (subst P (get_or-set_at lists i b queue [] b_is.1 within) has_b) (subst P (get_or-set_other lists i a queue [] a_not.1) has_a))))
-        (λ (b_not : (eqb b i ≡ false) × (b ≢ i)).
-            old_apart a b s (subst P (get_or-set_other lists i a queue [] a_not.1) has_a) (subst P (get_or-set_other lists i b queue [] b_not.1) has_b))
-        (eqb_tells b i))
+    ⊎_elim
+    (λ (b_is : (eqb b i ≡ true) × (b ≡ i)).
+    absurd (a_not.1 (new_apart s a (subst P (get_or-set_at lists i b queue [] b_is.1 within) has_b) (subst P (get_or-set_other lists i a queue [] a_not.1) has_a))))
+    (λ (b_not : (eqb b i ≡ false) × (b ≢ i)).
+    old_apart a b s (subst P (get_or-set_other lists i a queue [] a_not.1) has_a) (subst P (get_or-set_other lists i b queue [] b_not.1) has_b))
+    (eqb_tells b i))
     (eqb_tells a i)
   where
-  P : List ℕ → Type 0
-  P = λ q. Has q s
+    P : List ℕ → Type 0
+    P = λ q. Has q s
 
 pub has_cases : (xs : List ℕ) (k s : ℕ) → Has (xs ++ k ∷ []) s → Has xs s ⊎ (k ≡ s)
 has_cases [] k s has = ⊎_elim (λ e. inr e) (λ none. elim none [ ]) has
@@ -121,15 +121,15 @@ AreQueues-push next firsts lasts room lists i k queues i_in k_in new = record {
   firsts_count = length-set firsts i _ ∙ queues.firsts_count ∙ sym (length-set lists i _);
   lasts_count = length-set lasts i _ ∙ queues.lasts_count ∙ sym (length-set lists i _);
   each = each-set (after_push next (link_at lasts i) k) firsts lasts room lists i _ _ (queue_at lists i ++ k ∷ []) i_in queues.firsts_count queues.lasts_count
-    (pushed_queue next (link_at firsts i) (link_at lasts i) room (queue_at lists i) k queues.next_room (queues.each i) (new i) k_in)
-    (λ j other. record {
-      leads = other_leads next (link_at firsts j) (link_at lasts i) (queue_at lists i) (queue_at lists j) k (queues.each j).leads (new j) (queues.each i).last_is (λ s here there. other (queues.apart j i s there here));
-      last_is = (queues.each j).last_is;
-      differ = (queues.each j).differ;
-      below = (queues.each j).below;
-    });
+      (pushed_queue next (link_at firsts i) (link_at lasts i) room (queue_at lists i) k queues.next_room (queues.each i) (new i) k_in)
+      (λ j other. record {
+        leads = other_leads next (link_at firsts j) (link_at lasts i) (queue_at lists i) (queue_at lists j) k (queues.each j).leads (new j) (queues.each i).last_is (λ s here there. other (queues.apart j i s there here));
+        last_is = (queues.each j).last_is;
+        differ = (queues.each j).differ;
+        below = (queues.each j).below;
+      });
   apart = apart-set lists i (queue_at lists i ++ k ∷ []) i_in queues.apart (λ s j here there.
-    ⊎_elim (λ old. queues.apart j i s there old) (λ e. absurd (lacks_has (queue_at lists j) k s (new j) there e)) (has_cases (queue_at lists i) k s here));
+      ⊎_elim (λ old. queues.apart j i s there old) (λ e. absurd (lacks_has (queue_at lists j) k s (new j) there e)) (has_cases (queue_at lists i) k s here));
 }
 
 -- ---- a pop
@@ -148,9 +148,9 @@ popped_queue next first last room (x ∷ xs) k is front =
       below = is.below.1;
     })
   where
-  last_of_rest : (last : Option ℕ) (x : ℕ) (xs : List ℕ) (link : Option ℕ) → last ≡ last_or (Some x) xs → link ≡ first_of xs → last_after last link ≡ last_or None xs
-  last_of_rest last x [] link last_is link_is = ap (last_after last) link_is
-  last_of_rest last x (y ∷ ys) link last_is link_is = ap (last_after last) link_is ∙ last_is
+    last_of_rest : (last : Option ℕ) (x : ℕ) (xs : List ℕ) (link : Option ℕ) → last ≡ last_or (Some x) xs → link ≡ first_of xs → last_after last link ≡ last_or None xs
+    last_of_rest last x [] link last_is link_is = ap (last_after last) link_is
+    last_of_rest last x (y ∷ ys) link last_is link_is = ap (last_after last) link_is ∙ last_is
 
 pub has_without : (xs : List ℕ) (k s : ℕ) → Has (without xs k) s → Has xs s
 has_without [] k s has = has
@@ -171,9 +171,9 @@ pub front_within : (next firsts lasts : List (Option ℕ)) (room : ℕ) (lists :
 front_within next firsts lasts room lists i k queues front =
     (front_in lists i k front, below_first room (queue_at lists i) (queues.each i).below front)
   where
-  below_first : (room : ℕ) (xs : List ℕ) → AllBelow room xs → first_of xs ≡ Some k → k < room
-  below_first room [] below e = cc
-  below_first room (x ∷ xs) below e = below_has room (x ∷ xs) k below (inl (cc))
+    below_first : (room : ℕ) (xs : List ℕ) → AllBelow room xs → first_of xs ≡ Some k → k < room
+    below_first room [] below e = cc
+    below_first room (x ∷ xs) below e = below_has room (x ∷ xs) k below (inl (cc))
 
 pub AreQueues-pop : (next firsts lasts : List (Option ℕ)) (room : ℕ) (lists : List (List ℕ)) (i k : ℕ) → AreQueues next firsts lasts room lists → first_of (queue_at lists i) ≡ Some k → AreQueues next (set firsts i (link_at next k)) (set lasts i (last_after (link_at lasts i) (link_at next k))) room (set lists i (without (queue_at lists i) k))
 AreQueues-pop next firsts lasts room lists i k queues front =
@@ -183,8 +183,8 @@ AreQueues-pop next firsts lasts room lists i k queues front =
       firsts_count = length-set firsts i _ ∙ queues.firsts_count ∙ sym (length-set lists i _);
       lasts_count = length-set lasts i _ ∙ queues.lasts_count ∙ sym (length-set lists i _);
       each = each-set next firsts lasts room lists i _ _ (without (queue_at lists i) k) i_in queues.firsts_count queues.lasts_count
-        (popped_queue next (link_at firsts i) (link_at lasts i) room (queue_at lists i) k (queues.each i) front)
-        (λ j other. queues.each j);
+          (popped_queue next (link_at firsts i) (link_at lasts i) room (queue_at lists i) k (queues.each i) front)
+          (λ j other. queues.each j);
       apart = apart-set lists i (without (queue_at lists i) k) i_in queues.apart (λ s j here there. queues.apart j i s there (has_without (queue_at lists i) k s here));
     }
 
@@ -204,10 +204,10 @@ AreQueues-empty room instances = record {
   firsts_count = length-replicate instances None ∙ sym (length-replicate instances []);
   lasts_count = length-replicate instances None ∙ sym (length-replicate instances []);
   each = λ i.
-    let P : Option ℕ → Type 0 = λ f. IsQueue (replicate room None) f (link_at (replicate instances None) i) room (queue_at (replicate instances []) i) in
-    let Q : Option ℕ → Type 0 = λ l. IsQueue (replicate room None) None l room (queue_at (replicate instances []) i) in
-    let R : List ℕ → Type 0 = λ q. IsQueue (replicate room None) None None room q in
-    subst P (sym (get-replicate instances i None)) (subst Q (sym (get-replicate instances i None)) (subst R (sym (get-replicate instances i [])) (record { leads = refl; last_is = refl; differ = tt; below = tt })));
+      let P : Option ℕ → Type 0 = λ f. IsQueue (replicate room None) f (link_at (replicate instances None) i) room (queue_at (replicate instances []) i) in
+      let Q : Option ℕ → Type 0 = λ l. IsQueue (replicate room None) None l room (queue_at (replicate instances []) i) in
+      let R : List ℕ → Type 0 = λ q. IsQueue (replicate room None) None None room q in
+      subst P (sym (get-replicate instances i None)) (subst Q (sym (get-replicate instances i None)) (subst R (sym (get-replicate instances i [])) (record { leads = refl; last_is = refl; differ = tt; below = tt })));
   apart = λ a b k here there. absurd (has_none instances a k here);
 }
 
@@ -222,9 +222,9 @@ pushed_queues next firsts lasts room lists i k queue place last first next' firs
     let last_is : last ≡ link_at lasts i = read_link lasts queue i last queue_is (omega arith) last_read in
     let front_is : first ≡ link_at firsts i = read_link firsts queue i first queue_is (omega arith) first_read in
     let next_same : next' ≡ after_push next (link_at lasts i) k =
-        next_is ∙ ap (λ p. relinked (set next p None) last (Some k)) place_is ∙ ap (λ l. relinked (set next k None) l (Some k)) last_is in
+    next_is ∙ ap (λ p. relinked (set next p None) last (Some k)) place_is ∙ ap (λ l. relinked (set next k None) l (Some k)) last_is in
     let first_same : first' ≡ end_after (link_at firsts i) (link_at lasts i) (Some k) =
-        first_is ∙ ap (λ f. end_after f last (Some k)) front_is ∙ ap (λ l. end_after (link_at firsts i) l (Some k)) last_is in
+    first_is ∙ ap (λ f. end_after f last (Some k)) front_is ∙ ap (λ l. end_after (link_at firsts i) l (Some k)) last_is in
     let P : List (Option ℕ) → Type 0 = λ n. AreQueues n (set firsts queue first') (set lasts queue (Some k)) room (set lists i (queue_at lists i ++ k ∷ [])) in
     let Q : Option ℕ → Type 0 = λ f. AreQueues (after_push next (link_at lasts i) k) (set firsts queue f) (set lasts queue (Some k)) room (set lists i (queue_at lists i ++ k ∷ [])) in
     let R : ℕ → Type 0 = λ q. AreQueues (after_push next (link_at lasts i) k) (set firsts q (end_after (link_at firsts i) (link_at lasts i) (Some k))) (set lasts q (Some k)) room (set lists i (queue_at lists i ++ k ∷ [])) in
@@ -238,7 +238,7 @@ popped_queues next firsts lasts room lists i k queue place link last last' queue
     let link_is : link ≡ link_at next k = read_link next place k link place_is (omega arith) link_read in
     let old_last : last ≡ link_at lasts i = read_link lasts queue i last queue_is (omega arith) last_read in
     let last_same : last' ≡ last_after (link_at lasts i) (link_at next k) =
-        last_is ∙ ap (λ l. last_after l link) old_last ∙ ap (last_after (link_at lasts i)) link_is in
+    last_is ∙ ap (λ l. last_after l link) old_last ∙ ap (last_after (link_at lasts i)) link_is in
     let P : Option ℕ → Type 0 = λ l. AreQueues next (set firsts queue l) (set lasts queue last') room (set lists i (without (queue_at lists i) k)) in
     let Q : Option ℕ → Type 0 = λ l. AreQueues next (set firsts queue (link_at next k)) (set lasts queue l) room (set lists i (without (queue_at lists i) k)) in
     let R : ℕ → Type 0 = λ q. AreQueues next (set firsts q (link_at next k)) (set lasts q (last_after (link_at lasts i) (link_at next k))) room (set lists i (without (queue_at lists i) k)) in

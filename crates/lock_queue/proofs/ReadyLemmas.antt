@@ -1,12 +1,12 @@
 -- Bits of words, and the first number that passes a test.
-use Rattle.std.proofs.Common.{◌≡◌, ◌≢◌, ℕ, zero, suc, ◌+◌, ◌-◌, ◌*◌, ◌/◌, ◌%◌, ◌^◌, ◌<◌, ◌≤◌, min, List, [], ◌∷◌, ◌++◌, length, Option, Some, None, Bool, true, false, cond, eqb, get_or, sym, refl, ap, subst, ◌∙◌, inl, inr, ◌⊎◌, ⊎_elim, arith, bit_and, bit_or, w64}
-use Rattle.std.proofs.Math.ListN.{set, length-set}
+use Rattle.std.proofs.Common.{◌≡◌, ◌≢◌, ℕ, zero, suc, ◌+◌, ◌-◌, ◌*◌, ◌/◌, ◌%◌, ◌^◌, ◌<◌, ◌≤◌, min, List, [], ◌∷◌, ◌++◌, length, Option, Some, None, Bool, true, false, cond, eqb, get_or, sym, refl, ap, ◌∙◌, ⊎_elim, arith, bit_and, bit_or, w64}
+use Rattle.std.proofs.Math.ListN.{set}
 use Rattle.std.proofs.lemmas.List.{get_or-set_other, get_or_past}
 use Rattle.std.proofs.lemmas.Grind.{get_or-set_at}
 use Rattle.std.proofs.lemmas.Bool.{eq-eqb, ne_eqb, false≢true, cases_lt}
 use Rattle.std.proofs.lemmas.Bool.Decides.{eqb_tells}
 use Rattle.std.proofs.lemmas.Nat.Bits.{bit_at_set_same, bit_at_set_other, bit_at_clear_same, bit_at_clear_other, bit_at_and, bit_at-lt, bit_at-zero, bit_at-trailing_zeros, bit_at_mask_inside, bit_at_mask_below, ones_shl}
-use Rattle.std.specs.Int.{bit_at, bit_not, trailing_zeros}
+use Rattle.std.specs.Int.{bit_at, trailing_zeros}
 use Rattle.std.specs.List.{find, range_with_len}
 use Rattle.std.specs.Option.{IfSome, IfNone}
 use Rattle.lock_queue.specs.Ready.{is_member}
@@ -17,24 +17,24 @@ pub bit_put : (word place k : ℕ) → place < 64 → eqb (bit_at (bit_or word (
 bit_put word place k within =
     ⊎_elim
     (λ (same : (eqb k place ≡ true) × (k ≡ place)).
-        ap (λ n. eqb (bit_at (bit_or word (1 * 2 ^ place % 18446744073709551616)) n) 1) same.1
-        ∙ ap (λ b. eqb b 1) (bit_at_set_same w64 word place within)
-        ∙ sym (ap (λ b. cond b true (eqb (bit_at word k) 1)) same.0))
+    ap (λ n. eqb (bit_at (bit_or word (1 * 2 ^ place % 18446744073709551616)) n) 1) same.1
+    ∙ ap (λ b. eqb b 1) (bit_at_set_same w64 word place within)
+    ∙ sym (ap (λ b. cond b true (eqb (bit_at word k) 1)) same.0))
     (λ (other : (eqb k place ≡ false) × (k ≢ place)).
-        ap (λ b. eqb b 1) (bit_at_set_other w64 word place within k other.1)
-        ∙ sym (ap (λ b. cond b true (eqb (bit_at word k) 1)) other.0))
+    ap (λ b. eqb b 1) (bit_at_set_other w64 word place within k other.1)
+    ∙ sym (ap (λ b. cond b true (eqb (bit_at word k) 1)) other.0))
     (eqb_tells k place)
 
 pub bit_taken : (word place k : ℕ) → place < 64 → k < 64 → eqb (bit_at (bit_and word (18446744073709551615 - 1 * 2 ^ place % 18446744073709551616)) k) 1 ≡ cond (eqb k place) false (eqb (bit_at word k) 1)
 bit_taken word place k within k_in =
     ⊎_elim
     (λ (same : (eqb k place ≡ true) × (k ≡ place)).
-        ap (λ n. eqb (bit_at (bit_and word (18446744073709551615 - 1 * 2 ^ place % 18446744073709551616)) n) 1) same.1
-        ∙ ap (λ b. eqb b 1) (bit_at_clear_same w64 word place within)
-        ∙ sym (ap (λ b. cond b false (eqb (bit_at word k) 1)) same.0))
+    ap (λ n. eqb (bit_at (bit_and word (18446744073709551615 - 1 * 2 ^ place % 18446744073709551616)) n) 1) same.1
+    ∙ ap (λ b. eqb b 1) (bit_at_clear_same w64 word place within)
+    ∙ sym (ap (λ b. cond b false (eqb (bit_at word k) 1)) same.0))
     (λ (other : (eqb k place ≡ false) × (k ≢ place)).
-        ap (λ b. eqb b 1) (bit_at_clear_other w64 word place within k k_in other.1)
-        ∙ sym (ap (λ b. cond b false (eqb (bit_at word k) 1)) other.0))
+    ap (λ b. eqb b 1) (bit_at_clear_other w64 word place within k k_in other.1)
+    ∙ sym (ap (λ b. cond b false (eqb (bit_at word k) 1)) other.0))
     (eqb_tells k place)
 
 -- ---- the lowest bit from a place on
@@ -44,21 +44,21 @@ high word from = bit_and word (18446744073709551615 * 2 ^ from % 184467440737095
 high_inside : (word from j : ℕ) → from < 64 → from ≤ j → j < 64 → bit_at (high word from) j ≡ bit_at word j
 high_inside word from j within above below =
     let mask : bit_at (18446744073709551615 * 2 ^ from % 18446744073709551616) j ≡ 1 =
-        ap (λ m. bit_at m j) (ones_shl 64 from (omega arith)) ∙ bit_at_mask_inside from 64 j above below in
+    ap (λ m. bit_at m j) (ones_shl 64 from (omega arith)) ∙ bit_at_mask_inside from 64 j above below in
     let two = bit_at-lt word j in
     bit_at_and word (18446744073709551615 * 2 ^ from % 18446744073709551616) j ∙ ap (min (bit_at word j)) mask ∙ min_one (bit_at word j) two
   where
-  min_one : (b : ℕ) → b < 2 → min b 1 ≡ b
-  min_one b two = omega arith
+    min_one : (b : ℕ) → b < 2 → min b 1 ≡ b
+    min_one b two = omega arith
 
 high_below : (word from j : ℕ) → from < 64 → j < from → bit_at (high word from) j ≡ 0
 high_below word from j within below =
     let mask : bit_at (18446744073709551615 * 2 ^ from % 18446744073709551616) j ≡ 0 =
-        ap (λ m. bit_at m j) (ones_shl 64 from (omega arith)) ∙ bit_at_mask_below from 64 j below in
+    ap (λ m. bit_at m j) (ones_shl 64 from (omega arith)) ∙ bit_at_mask_below from 64 j below in
     bit_at_and word (18446744073709551615 * 2 ^ from % 18446744073709551616) j ∙ ap (min (bit_at word j)) mask ∙ min_zero (bit_at word j)
   where
-  min_zero : (b : ℕ) → min b 0 ≡ 0
-  min_zero b = omega arith
+    min_zero : (b : ℕ) → min b 0 ≡ 0
+    min_zero b = omega arith
 
 pub no_bit : (word from : ℕ) → from < 64 → high word from ≡ 0 → (j : ℕ) → from ≤ j → j < 64 → bit_at word j ≡ 0
 no_bit word from within none j above below =
@@ -69,17 +69,19 @@ lowest_is word from within fits some =
     let t = trailing_zeros w64 (high word from) in
     let least = bit_at-trailing_zeros w64 (high word from) (omega arith) fits in
     let above : from ≤ t =
-        ⊎_elim
-        (λ (lower : t < from). absurd (zero_one (sym (high_below word from t within lower) ∙ least.1)))
-        (λ (h : from ≤ t). h)
-        (cases_lt t from) in
-    ((above, least.0, sym (high_inside word from t within above least.0) ∙ least.1),
-     λ j from_j below. sym (high_inside word from j within from_j (lt_trans j t 64 below least.0)) ∙ least.2 j below)
+    ⊎_elim
+    (λ (lower : t < from). absurd (zero_one (sym (high_below word from t within lower) ∙ least.1)))
+    (λ (h : from ≤ t). h)
+    (cases_lt t from) in (
+      (above, least.0, sym (high_inside word from t within above least.0) ∙ least.1),
+      λ j from_j below. sym (high_inside word from j within from_j (lt_trans j t 64 below least.0)) ∙ least.2 j below,
+    )
   where
-  zero_one : ◌≡◌ {A = ℕ} 0 1 → ⊥
-  zero_one e = cc
-  lt_trans : (a b c : ℕ) → a < b → b < c → a < c
-  lt_trans a b c h k = omega arith
+    zero_one : ◌≡◌ {A = ℕ} 0 1 → ⊥
+    zero_one e = cc
+
+    lt_trans : (a b c : ℕ) → a < b → b < c → a < c
+    lt_trans a b c h k = omega arith
 
 -- ---- members
 pub member_at : (words : List ℕ) (index p j : ℕ) → p < 64 → j ≡ 64 * index + p → is_member words j ≡ eqb (bit_at (get_or words index 0) p) 1
@@ -100,22 +102,22 @@ pub member-set : (words : List ℕ) (place stack word k : ℕ) (is_in : Bool) �
 member-set words place stack word k is_in place_is within bits =
     ⊎_elim
     (λ (here : (eqb (k / 64) place ≡ true) × (k / 64 ≡ place)).
-        ap (λ w. eqb (bit_at w (k % 64)) 1) (get_or-set_at words place (k / 64) word 0 here.1 within)
-        ∙ bits (k % 64) (omega arith)
-        ∙ ap (λ q. cond (eqb (k % 64) (stack % 64)) is_in (eqb (bit_at (get_or words q 0) (k % 64)) 1)) (sym here.1)
-        ∙ ap (λ b. cond b is_in (is_member words k)) (same_test (here.1 ∙ place_is)))
+    ap (λ w. eqb (bit_at w (k % 64)) 1) (get_or-set_at words place (k / 64) word 0 here.1 within)
+    ∙ bits (k % 64) (omega arith)
+    ∙ ap (λ q. cond (eqb (k % 64) (stack % 64)) is_in (eqb (bit_at (get_or words q 0) (k % 64)) 1)) (sym here.1)
+    ∙ ap (λ b. cond b is_in (is_member words k)) (same_test (here.1 ∙ place_is)))
     (λ (there : (eqb (k / 64) place ≡ false) × (k / 64 ≢ place)).
-        ap (λ w. eqb (bit_at w (k % 64)) 1) (get_or-set_other words place (k / 64) word 0 there.1)
-        ∙ ap (λ b. cond b is_in (is_member words k)) (sym (ne_eqb k stack (λ (e : k ≡ stack). there.1 (ap (λ n. n / 64) e ∙ sym place_is)))))
+    ap (λ w. eqb (bit_at w (k % 64)) 1) (get_or-set_other words place (k / 64) word 0 there.1)
+    ∙ ap (λ b. cond b is_in (is_member words k)) (sym (ne_eqb k stack (λ (e : k ≡ stack). there.1 (ap (λ n. n / 64) e ∙ sym place_is)))))
     (eqb_tells (k / 64) place)
   where
-  same_test : k / 64 ≡ stack / 64 → eqb (k % 64) (stack % 64) ≡ eqb k stack
-  same_test quotients =
-    ⊎_elim
-    (λ (same : (eqb k stack ≡ true) × (k ≡ stack)). eq-eqb (k % 64) (stack % 64) (ap (λ n. n % 64) same.1) ∙ sym same.0)
-    (λ (other : (eqb k stack ≡ false) × (k ≢ stack)).
+    same_test : k / 64 ≡ stack / 64 → eqb (k % 64) (stack % 64) ≡ eqb k stack
+    same_test quotients =
+        ⊎_elim
+        (λ (same : (eqb k stack ≡ true) × (k ≡ stack)). eq-eqb (k % 64) (stack % 64) (ap (λ n. n % 64) same.1) ∙ sym same.0)
+        (λ (other : (eqb k stack ≡ false) × (k ≢ stack)).
         ne_eqb (k % 64) (stack % 64) (λ (e : k % 64 ≡ stack % 64). other.1 (omega arith)) ∙ sym other.0)
-    (eqb_tells k stack)
+        (eqb_tells k stack)
 
 -- ---- the first number that passes
 find-some : (p : ℕ → Bool) (xs ys : List ℕ) (k : ℕ) → find p xs ≡ Some k → find p (xs ++ ys) ≡ Some k
@@ -142,11 +144,11 @@ find_range p zero start k above below passes least = absurd (omega arith)
 find_range p (suc n) start k above below passes least =
     ⊎_elim
     (λ (later : start < k).
-        ap (λ b. cond b (Some start) (find p (range_with_len (start + 1) n))) (least start (omega arith) later)
-        ∙ find_range p n (start + 1) k (omega arith) (omega arith) passes (λ j h. least j (omega arith)))
+    ap (λ b. cond b (Some start) (find p (range_with_len (start + 1) n))) (least start (omega arith) later)
+    ∙ find_range p n (start + 1) k (omega arith) (omega arith) passes (λ j h. least j (omega arith)))
     (λ (here : k ≤ start).
-        let same : start ≡ k = omega arith in
-        ap (λ b. cond b (Some start) (find p (range_with_len (start + 1) n))) (ap p same ∙ passes) ∙ ap Some same)
+    let same : start ≡ k = omega arith in
+    ap (λ b. cond b (Some start) (find p (range_with_len (start + 1) n))) (ap p same ∙ passes) ∙ ap Some same)
     (cases_lt start k)
 
 find_range_none : (p : ℕ → Bool) (n start : ℕ) → ((j : ℕ) → start ≤ j → j < start + n → p j ≡ false) → find p (range_with_len start n) ≡ None

@@ -1,10 +1,10 @@
 -- The parts of the locks agree at first, and still after each call.
-use Rattle.std.proofs.Common.{◌≡◌, ◌≢◌, ℕ, zero, suc, ◌+◌, ◌-◌, ◌*◌, ◌<◌, ◌≤◌, List, [], ◌∷◌, ◌++◌, length, map, filter, replicate, Option, Some, None, is_none, is_some, not, ◌&&◌, Bool, true, false, cond, eqb, get_or, sym, refl, ap, subst, ◌∙◌, inl, inr, ◌⊎◌, ⊎_elim, arith}
+use Rattle.std.proofs.Common.{◌≡◌, ◌≢◌, ℕ, ◌*◌, ◌<◌, ◌≤◌, List, [], ◌∷◌, ◌++◌, length, filter, replicate, Option, Some, None, is_none, ◌&&◌, Bool, true, false, cond, eqb, sym, refl, ap, subst, ◌∙◌, inl, ⊎_elim, arith}
 use Rattle.std.proofs.Math.ListN.{set, length-set}
 use Rattle.std.proofs.lemmas.List.{get_or-set_same, get_or-set_other, length-replicate, append-nil, get_or_past}
 use Rattle.std.proofs.lemmas.Grind.{get_or-set_at}
 use Rattle.std.proofs.lemmas.List.Elements.{filter-append}
-use Rattle.std.proofs.lemmas.Bool.{eq-eqb, ne_eqb, eqb-true, false≢true, cases_lt}
+use Rattle.std.proofs.lemmas.Bool.{eq-eqb, false≢true, cases_lt}
 use Rattle.std.proofs.lemmas.Bool.Decides.{eqb_tells}
 use Rattle.lock_queue.specs.declared.seat.Seat.{Seat}
 use Rattle.lock_queue.specs.declared.seat.Seat.TheVariants.{Resting, Free, Waits, Holds}
@@ -13,10 +13,10 @@ use Rattle.lock_queue.specs.Order.{Sequence}
 use Rattle.lock_queue.specs.Queues.{Lines, queue_at}
 use Rattle.lock_queue.specs.Ready.{is_member}
 use Rattle.lock_queue.specs.LockTable.{seat_at, is_first, is_some_of, IsIdle}
-use Rattle.lock_queue.specs.Agreement.{waits, awaited_in, waiters_of, ready_in, Agree}
+use Rattle.lock_queue.specs.Agreement.{waits, ready_in, Agree}
 use Rattle.lock_queue.proofs.LinkLemmas.{has_left, has_right, differ-push, apart}
 use Rattle.lock_queue.proofs.QueueLemmas.{lacks_from, has_cases, has_without, get-replicate}
-use Rattle.lock_queue.proofs.AgreementLemmas.{seat_same, seat_other, seat_from, other_stack, waits_holds, holds_waits, resting_waits, resting_holds, free_waits, free_holds, same_waits, same_holds, same_some, none_some, idle_waits, idle_holds, waits_true, waits_is, waits_other, filter-seat, filter-without_other, without-filter, differ-without, lacks-without, has_kept, is_first-push, is_first-new, is_first_some, is_first_other, first_passes, is_some-first}
+use Rattle.lock_queue.proofs.AgreementLemmas.{seat_same, seat_other, seat_from, waits_holds, holds_waits, resting_waits, resting_holds, free_waits, same_waits, same_holds, same_some, none_some, idle_waits, idle_holds, waits_true, waits_is, waits_other, filter-seat, filter-without_other, without-filter, differ-without, lacks-without, has_kept, is_first-push, is_first-new, is_first_other, first_passes, is_some-first}
 
 -- a stack that doesn't wait stands in no list
 pub unlisted : (seats : List Seat) (owners : List (Option ℕ)) (order : Sequence) (queues : Lines) (words : List ℕ) (k : ℕ) → Agree seats owners order queues words → ((i : ℕ) → seat_at seats k ≡ Waits i → ⊥) → Lacks order.stacks k
@@ -42,12 +42,12 @@ ready-set : (seats : List Seat) (owners : List (Option ℕ)) (lists : List (List
 ready-set seats owners lists words words' k s b within members here others j =
     ⊎_elim
     (λ (same : (eqb j k ≡ true) × (j ≡ k)).
-        members j ∙ ap (λ c. cond c b (is_member words j)) same.0 ∙ here
-        ∙ ap (λ n. ready_in owners lists n s) (sym same.1)
-        ∙ ap (ready_in owners lists j) (sym (seat_same seats k j s within same.1)))
+    members j ∙ ap (λ c. cond c b (is_member words j)) same.0 ∙ here
+    ∙ ap (λ n. ready_in owners lists n s) (sym same.1)
+    ∙ ap (ready_in owners lists j) (sym (seat_same seats k j s within same.1)))
     (λ (other : (eqb j k ≡ false) × (j ≢ k)).
-        members j ∙ ap (λ c. cond c b (is_member words j)) other.0 ∙ others j other.1
-        ∙ ap (ready_in owners lists j) (sym (seat_other seats k j s other.1)))
+    members j ∙ ap (λ c. cond c b (is_member words j)) other.0 ∙ others j other.1
+    ∙ ap (ready_in owners lists j) (sym (seat_other seats k j s other.1)))
     (eqb_tells j k)
 
 -- ---- a stack without a lock rests or runs free
@@ -68,10 +68,10 @@ Agree-idle seats owners order queues words words' k s b agree within was_idle id
       holds_within = λ j i e. agree.holds_within j i (seat_from seats k j s (Holds i) within (no_hold i) e).1;
       listed = λ j i e. agree.listed j i (seat_from seats k j s (Waits i) within (no_wait i) e).1;
       waiting = λ j h. let w = agree.waiting j h in
-        (w.0, seat_other seats k j s (λ e. apart order.stacks k j lacks h (sym e)) ∙ w.1);
+          (w.0, seat_other seats k j s (λ e. apart order.stacks k j lacks h (sym e)) ∙ w.1);
       owned = λ j i e. agree.owned j i (seat_from seats k j s (Holds i) within (no_hold i) e).1;
       owner = λ j i e. let held = agree.owner j i e in
-        seat_other seats k j s (λ (f : j ≡ k). idle_holds (seat_at seats k) i was_idle (ap (seat_at seats) (sym f) ∙ held)) ∙ held;
+          seat_other seats k j s (λ (f : j ≡ k). idle_holds (seat_at seats k) i was_idle (ap (seat_at seats) (sym f) ∙ held)) ∙ held;
       lines = λ i. agree.lines i ∙ sym (filter-seat seats k s i order.stacks lacks);
       ready = ready-set seats owners queues.lists words words' k s b within members ready_is (λ j other. agree.ready j);
     }
@@ -94,18 +94,18 @@ lines-push : (seats : List Seat) (lists : List (List ℕ)) (xs : List ℕ) (k i 
 lines-push seats lists xs k i n k_in i_in lacks lines =
     ⊎_elim
     (λ (here : (eqb n i ≡ true) × (n ≡ i)).
-        get_or-set_at lists i n (queue_at lists i ++ k ∷ []) [] here.1 i_in
-        ∙ ap (λ m. queue_at lists m ++ k ∷ []) (sym here.1)
-        ∙ ap (λ q. q ++ k ∷ []) (lines n ∙ sym (filter-seat seats k (Waits i) n xs lacks))
-        ∙ sym (filter-append (λ j. waits n (seat_at (set seats k (Waits i)) j)) xs (k ∷ [])
-        ∙ ap (λ b. filter (λ j. waits n (seat_at (set seats k (Waits i)) j)) xs ++ cond b (k ∷ []) [])
-            (waits_is n (seat_at (set seats k (Waits i)) k) (seat_same seats k k (Waits i) k_in refl ∙ ap Waits (sym here.1)))))
+    get_or-set_at lists i n (queue_at lists i ++ k ∷ []) [] here.1 i_in
+    ∙ ap (λ m. queue_at lists m ++ k ∷ []) (sym here.1)
+    ∙ ap (λ q. q ++ k ∷ []) (lines n ∙ sym (filter-seat seats k (Waits i) n xs lacks))
+    ∙ sym (filter-append (λ j. waits n (seat_at (set seats k (Waits i)) j)) xs (k ∷ [])
+    ∙ ap (λ b. filter (λ j. waits n (seat_at (set seats k (Waits i)) j)) xs ++ cond b (k ∷ []) [])
+    (waits_is n (seat_at (set seats k (Waits i)) k) (seat_same seats k k (Waits i) k_in refl ∙ ap Waits (sym here.1)))))
     (λ (there : (eqb n i ≡ false) × (n ≢ i)).
-        get_or-set_other lists i n (queue_at lists i ++ k ∷ []) [] there.1
-        ∙ lines n ∙ sym (filter-seat seats k (Waits i) n xs lacks) ∙ sym (append-nil (filter (λ j. waits n (seat_at (set seats k (Waits i)) j)) xs))
-        ∙ sym (filter-append (λ j. waits n (seat_at (set seats k (Waits i)) j)) xs (k ∷ [])
-        ∙ ap (λ b. filter (λ j. waits n (seat_at (set seats k (Waits i)) j)) xs ++ cond b (k ∷ []) [])
-            (waits_other i n (seat_at (set seats k (Waits i)) k) (seat_same seats k k (Waits i) k_in refl) there.1)))
+    get_or-set_other lists i n (queue_at lists i ++ k ∷ []) [] there.1
+    ∙ lines n ∙ sym (filter-seat seats k (Waits i) n xs lacks) ∙ sym (append-nil (filter (λ j. waits n (seat_at (set seats k (Waits i)) j)) xs))
+    ∙ sym (filter-append (λ j. waits n (seat_at (set seats k (Waits i)) j)) xs (k ∷ [])
+    ∙ ap (λ b. filter (λ j. waits n (seat_at (set seats k (Waits i)) j)) xs ++ cond b (k ∷ []) [])
+    (waits_other i n (seat_at (set seats k (Waits i)) k) (seat_same seats k k (Waits i) k_in refl) there.1)))
     (eqb_tells n i)
 
 pub Agree-join : (seats : List Seat) (owners : List (Option ℕ)) (order : Sequence) (queues : Lines) (words words' : List ℕ) (k i : ℕ) (b : Bool) → Agree seats owners order queues words → k < length seats → i < length owners → IsIdle (seat_at seats k) → b ≡ is_none (link_at owners i) && is_none (first_of (queue_at queues.lists i)) → length words' ≡ length words → ((j : ℕ) → is_member words' j ≡ cond (eqb j k) b (is_member words j)) → Agree (set seats k (Waits i)) owners (record order { stacks = order.stacks ++ k ∷ [] }) (record queues { lists = set queues.lists i (queue_at queues.lists i ++ k ∷ []) }) words'
@@ -119,8 +119,8 @@ Agree-join seats owners order queues words words' k i b agree k_in i_in idle b_i
     let same_count = agree.queue_count in
     let i_list : i < length queues.lists = omega arith in
     let here : b ≡ ready_in owners (set queues.lists i (queue_at queues.lists i ++ k ∷ [])) k (Waits i) =
-        b_is
-        ∙ ap (λ c. is_none (link_at owners i) && c) (sym (ap (is_first k) (get_or-set_same queues.lists i (queue_at queues.lists i ++ k ∷ []) [] i_list) ∙ is_first-new (queue_at queues.lists i) k queue_lacks)) in
+    b_is
+    ∙ ap (λ c. is_none (link_at owners i) && c) (sym (ap (is_first k) (get_or-set_same queues.lists i (queue_at queues.lists i ++ k ∷ []) [] i_list) ∙ is_first-new (queue_at queues.lists i) k queue_lacks)) in
     record {
       bounded = omega arith;
       order_room = agree.order_room ∙ sym size;
@@ -129,31 +129,31 @@ Agree-join seats owners order queues words words' k i b agree k_in i_in idle b_i
       words_room = omega arith;
       differ = differ-push order.stacks k agree.differ lacks;
       waits_within = λ j n e.
-        ⊎_elim
-        (λ (same : (eqb j k ≡ true) × (j ≡ k)).
-            let P : ℕ → Type 0 = λ m. m < length owners in
-            subst P (same_waits i n (sym (seat_same seats k j (Waits i) k_in same.1) ∙ e)) i_in)
-        (λ (other : (eqb j k ≡ false) × (j ≢ k)). agree.waits_within j n (sym (seat_other seats k j (Waits i) other.1) ∙ e))
-        (eqb_tells j k);
+          ⊎_elim
+          (λ (same : (eqb j k ≡ true) × (j ≡ k)).
+          let P : ℕ → Type 0 = λ m. m < length owners in
+          subst P (same_waits i n (sym (seat_same seats k j (Waits i) k_in same.1) ∙ e)) i_in)
+          (λ (other : (eqb j k ≡ false) × (j ≢ k)). agree.waits_within j n (sym (seat_other seats k j (Waits i) other.1) ∙ e))
+          (eqb_tells j k);
       holds_within = λ j n e. agree.holds_within j n (seat_from seats k j (Waits i) (Holds n) k_in (waits_holds i n) e).1;
       listed = λ j n e.
-        ⊎_elim
-        (λ (same : (eqb j k ≡ true) × (j ≡ k)). has_right order.stacks (k ∷ []) j (inl (sym same.1)))
-        (λ (other : (eqb j k ≡ false) × (j ≢ k)). has_left order.stacks (k ∷ []) j (agree.listed j n (sym (seat_other seats k j (Waits i) other.1) ∙ e)))
-        (eqb_tells j k);
+          ⊎_elim
+          (λ (same : (eqb j k ≡ true) × (j ≡ k)). has_right order.stacks (k ∷ []) j (inl (sym same.1)))
+          (λ (other : (eqb j k ≡ false) × (j ≢ k)). has_left order.stacks (k ∷ []) j (agree.listed j n (sym (seat_other seats k j (Waits i) other.1) ∙ e)))
+          (eqb_tells j k);
       waiting = λ j h.
-        ⊎_elim
-        (λ (old : Has order.stacks j). let w = agree.waiting j old in
-            (w.0, seat_other seats k j (Waits i) (λ e. apart order.stacks k j lacks old (sym e)) ∙ w.1))
-        (λ (new : k ≡ j). (i, seat_same seats k j (Waits i) k_in (sym new)))
-        (has_cases order.stacks k j h);
+          ⊎_elim
+          (λ (old : Has order.stacks j). let w = agree.waiting j old in
+          (w.0, seat_other seats k j (Waits i) (λ e. apart order.stacks k j lacks old (sym e)) ∙ w.1))
+          (λ (new : k ≡ j). (i, seat_same seats k j (Waits i) k_in (sym new)))
+          (has_cases order.stacks k j h);
       owned = λ j n e. agree.owned j n (seat_from seats k j (Waits i) (Holds n) k_in (waits_holds i n) e).1;
       owner = λ j n e. let held = agree.owner j n e in
-        seat_other seats k j (Waits i) (λ (f : j ≡ k). idle_holds (seat_at seats k) n idle (ap (seat_at seats) (sym f) ∙ held)) ∙ held;
+          seat_other seats k j (Waits i) (λ (f : j ≡ k). idle_holds (seat_at seats k) n idle (ap (seat_at seats) (sym f) ∙ held)) ∙ held;
       lines = λ n. lines-push seats queues.lists order.stacks k i n k_in i_list lacks agree.lines;
       ready = ready-set seats owners (set queues.lists i (queue_at queues.lists i ++ k ∷ [])) words words' k (Waits i) b k_in members here
-        (λ j other. agree.ready j ∙ ready_queue owners queues.lists (set queues.lists i (queue_at queues.lists i ++ k ∷ [])) j (seat_at seats j)
-            (λ n. queue-set queues.lists i (queue_at queues.lists i ++ k ∷ []) j n i_list (is_first-push (queue_at queues.lists i) k j other)));
+          (λ j other. agree.ready j ∙ ready_queue owners queues.lists (set queues.lists i (queue_at queues.lists i ++ k ∷ [])) j (seat_at seats j)
+          (λ n. queue-set queues.lists i (queue_at queues.lists i ++ k ∷ []) j n i_list (is_first-push (queue_at queues.lists i) k j other)));
     }
 
 -- ---- the first waiter takes its instance
@@ -177,16 +177,16 @@ lines-take : (seats : List Seat) (lists : List (List ℕ)) (xs : List ℕ) (k i 
 lines-take seats lists xs k i n i_in differ seat lines =
     ⊎_elim
     (λ (here : (eqb n i ≡ true) × (n ≡ i)).
-        get_or-set_at lists i n (without (queue_at lists i) k) [] here.1 i_in
-        ∙ ap (λ m. without (queue_at lists m) k) (sym here.1)
-        ∙ ap (λ q. without q k) (lines n)
-        ∙ sym (filter-seat seats k (Holds i) n (without xs k) (lacks-without xs k differ)
-        ∙ without-filter (λ j. waits n (seat_at seats j)) xs k (waits_is n (seat_at seats k) (seat ∙ ap Waits (sym here.1)))))
+    get_or-set_at lists i n (without (queue_at lists i) k) [] here.1 i_in
+    ∙ ap (λ m. without (queue_at lists m) k) (sym here.1)
+    ∙ ap (λ q. without q k) (lines n)
+    ∙ sym (filter-seat seats k (Holds i) n (without xs k) (lacks-without xs k differ)
+    ∙ without-filter (λ j. waits n (seat_at seats j)) xs k (waits_is n (seat_at seats k) (seat ∙ ap Waits (sym here.1)))))
     (λ (there : (eqb n i ≡ false) × (n ≢ i)).
-        get_or-set_other lists i n (without (queue_at lists i) k) [] there.1
-        ∙ lines n
-        ∙ sym (filter-seat seats k (Holds i) n (without xs k) (lacks-without xs k differ)
-        ∙ filter-without_other (λ j. waits n (seat_at seats j)) xs k (waits_other i n (seat_at seats k) seat there.1)))
+    get_or-set_other lists i n (without (queue_at lists i) k) [] there.1
+    ∙ lines n
+    ∙ sym (filter-seat seats k (Holds i) n (without xs k) (lacks-without xs k differ)
+    ∙ filter-without_other (λ j. waits n (seat_at seats j)) xs k (waits_other i n (seat_at seats k) seat there.1)))
     (eqb_tells n i)
 
 ready_taken : (owners : List (Option ℕ)) (lists : List (List ℕ)) (k i j : ℕ) (queue : List ℕ) (s : Seat) → i < length owners → i < length lists → j ≢ k → is_first k (queue_at lists i) ≡ true → ready_in owners lists j s ≡ ready_in (set owners i (Some k)) (set lists i queue) j s
@@ -196,11 +196,11 @@ ready_taken owners lists k i j queue (Holds n) i_in i_list other first = refl
 ready_taken owners lists k i j queue (Waits n) i_in i_list other first =
     ⊎_elim
     (λ (here : (eqb n i ≡ true) × (n ≡ i)).
-        and_false (is_none (link_at owners n)) (is_first j (queue_at lists n)) (ap (λ m. is_first j (queue_at lists m)) here.1 ∙ is_first_other (queue_at lists i) k j first other)
-        ∙ sym (ap (λ o. is_none o && is_first j (queue_at (set lists i queue) n)) (get_or-set_at owners i n (Some k) None here.1 i_in)))
+    and_false (is_none (link_at owners n)) (is_first j (queue_at lists n)) (ap (λ m. is_first j (queue_at lists m)) here.1 ∙ is_first_other (queue_at lists i) k j first other)
+    ∙ sym (ap (λ o. is_none o && is_first j (queue_at (set lists i queue) n)) (get_or-set_at owners i n (Some k) None here.1 i_in)))
     (λ (there : (eqb n i ≡ false) × (n ≢ i)).
-        ap (λ o. is_none o && is_first j (queue_at lists n)) (sym (get_or-set_other owners i n (Some k) None there.1))
-        ∙ ap (λ q. is_none (link_at (set owners i (Some k)) n) && is_first j q) (sym (get_or-set_other lists i n queue [] there.1)))
+    ap (λ o. is_none o && is_first j (queue_at lists n)) (sym (get_or-set_other owners i n (Some k) None there.1))
+    ∙ ap (λ q. is_none (link_at (set owners i (Some k)) n) && is_first j q) (sym (get_or-set_other lists i n queue [] there.1)))
     (eqb_tells n i)
 
 pub Agree-take : (seats : List Seat) (owners : List (Option ℕ)) (order : Sequence) (queues : Lines) (words : List ℕ) (k i : ℕ) → Agree seats owners order queues words → k < length seats → i < length owners → seat_at seats k ≡ Waits i → is_none (link_at owners i) && is_first k (queue_at queues.lists i) ≡ true → Agree (set seats k (Holds i)) (set owners i (Some k)) (record order { stacks = without order.stacks k }) (record queues { lists = set queues.lists i (without (queue_at queues.lists i) k) }) words
@@ -223,43 +223,43 @@ Agree-take seats owners order queues words k i agree k_in i_in seat may =
       differ = differ-without order.stacks k agree.differ;
       waits_within = λ j n e. let h = agree.waits_within j n (seat_from seats k j (Holds i) (Waits n) k_in (holds_waits i n) e).1 in omega (arith, h, owner_count);
       holds_within = λ j n e.
-        ⊎_elim
-        (λ (same : (eqb j k ≡ true) × (j ≡ k)).
-            let P : ℕ → Type 0 = λ m. m < length (set owners i (Some k)) in
-            subst P (same_holds i n (sym (seat_same seats k j (Holds i) k_in same.1) ∙ e)) (omega (arith, owner_count)))
-        (λ (other : (eqb j k ≡ false) × (j ≢ k)).
-            let h = agree.holds_within j n (sym (seat_other seats k j (Holds i) other.1) ∙ e) in omega (arith, h, owner_count))
-        (eqb_tells j k);
+          ⊎_elim
+          (λ (same : (eqb j k ≡ true) × (j ≡ k)).
+          let P : ℕ → Type 0 = λ m. m < length (set owners i (Some k)) in
+          subst P (same_holds i n (sym (seat_same seats k j (Holds i) k_in same.1) ∙ e)) (omega (arith, owner_count)))
+          (λ (other : (eqb j k ≡ false) × (j ≢ k)).
+          let h = agree.holds_within j n (sym (seat_other seats k j (Holds i) other.1) ∙ e) in omega (arith, h, owner_count))
+          (eqb_tells j k);
       listed = λ j n e. let old = seat_from seats k j (Holds i) (Waits n) k_in (holds_waits i n) e in
-        has_kept order.stacks k j (agree.listed j n old.1) old.0;
+          has_kept order.stacks k j (agree.listed j n old.1) old.0;
       waiting = λ j h. let w = agree.waiting j (has_without order.stacks k j h) in
-        (w.0, seat_other seats k j (Holds i) (λ e. apart (without order.stacks k) k j (lacks-without order.stacks k agree.differ) h (sym e)) ∙ w.1);
+          (w.0, seat_other seats k j (Holds i) (λ e. apart (without order.stacks k) k j (lacks-without order.stacks k agree.differ) h (sym e)) ∙ w.1);
       owned = λ j n e.
-        ⊎_elim
-        (λ (same : (eqb j k ≡ true) × (j ≡ k)).
-            get_or-set_at owners i n (Some k) None (sym (same_holds i n (sym (seat_same seats k j (Holds i) k_in same.1) ∙ e))) i_in ∙ ap Some (sym same.1))
-        (λ (other : (eqb j k ≡ false) × (j ≢ k)).
-            let held = agree.owned j n (sym (seat_other seats k j (Holds i) other.1) ∙ e) in
-            get_or-set_other owners i n (Some k) None (λ (f : n ≡ i). none_some j (sym unowned ∙ ap (link_at owners) (sym f) ∙ held)) ∙ held)
-        (eqb_tells j k);
+          ⊎_elim
+          (λ (same : (eqb j k ≡ true) × (j ≡ k)).
+          get_or-set_at owners i n (Some k) None (sym (same_holds i n (sym (seat_same seats k j (Holds i) k_in same.1) ∙ e))) i_in ∙ ap Some (sym same.1))
+          (λ (other : (eqb j k ≡ false) × (j ≢ k)).
+          let held = agree.owned j n (sym (seat_other seats k j (Holds i) other.1) ∙ e) in
+          get_or-set_other owners i n (Some k) None (λ (f : n ≡ i). none_some j (sym unowned ∙ ap (link_at owners) (sym f) ∙ held)) ∙ held)
+          (eqb_tells j k);
       owner = λ j n e.
-        ⊎_elim
-        (λ (here : (eqb n i ≡ true) × (n ≡ i)).
-            seat_same seats k j (Holds i) k_in (sym (same_some k j (sym (get_or-set_at owners i n (Some k) None here.1 i_in) ∙ e))) ∙ ap Holds (sym here.1))
-        (λ (there : (eqb n i ≡ false) × (n ≢ i)).
-            let held = agree.owner j n (sym (get_or-set_other owners i n (Some k) None there.1) ∙ e) in
-            seat_other seats k j (Holds i) (λ (f : j ≡ k). waits_holds i n (sym seat ∙ ap (seat_at seats) (sym f) ∙ held)) ∙ held)
-        (eqb_tells n i);
+          ⊎_elim
+          (λ (here : (eqb n i ≡ true) × (n ≡ i)).
+          seat_same seats k j (Holds i) k_in (sym (same_some k j (sym (get_or-set_at owners i n (Some k) None here.1 i_in) ∙ e))) ∙ ap Holds (sym here.1))
+          (λ (there : (eqb n i ≡ false) × (n ≢ i)).
+          let held = agree.owner j n (sym (get_or-set_other owners i n (Some k) None there.1) ∙ e) in
+          seat_other seats k j (Holds i) (λ (f : j ≡ k). waits_holds i n (sym seat ∙ ap (seat_at seats) (sym f) ∙ held)) ∙ held)
+          (eqb_tells n i);
       lines = λ n. lines-take seats queues.lists order.stacks k i n i_list agree.differ seat agree.lines;
       ready = λ j.
-        ⊎_elim
-        (λ (same : (eqb j k ≡ true) × (j ≡ k)).
-            ap (is_member words) same.1 ∙ agree.ready k ∙ ap (ready_in owners queues.lists k) seat ∙ may
-            ∙ ap (ready_in (set owners i (Some k)) (set queues.lists i (without (queue_at queues.lists i) k)) j) (sym (seat_same seats k j (Holds i) k_in same.1)))
-        (λ (other : (eqb j k ≡ false) × (j ≢ k)).
-            agree.ready j ∙ ready_taken owners queues.lists k i j (without (queue_at queues.lists i) k) (seat_at seats j) i_in i_list other.1 first
-            ∙ ap (ready_in (set owners i (Some k)) (set queues.lists i (without (queue_at queues.lists i) k)) j) (sym (seat_other seats k j (Holds i) other.1)))
-        (eqb_tells j k);
+          ⊎_elim
+          (λ (same : (eqb j k ≡ true) × (j ≡ k)).
+          ap (is_member words) same.1 ∙ agree.ready k ∙ ap (ready_in owners queues.lists k) seat ∙ may
+          ∙ ap (ready_in (set owners i (Some k)) (set queues.lists i (without (queue_at queues.lists i) k)) j) (sym (seat_same seats k j (Holds i) k_in same.1)))
+          (λ (other : (eqb j k ≡ false) × (j ≢ k)).
+          agree.ready j ∙ ready_taken owners queues.lists k i j (without (queue_at queues.lists i) k) (seat_at seats j) i_in i_list other.1 first
+          ∙ ap (ready_in (set owners i (Some k)) (set queues.lists i (without (queue_at queues.lists i) k)) j) (sym (seat_other seats k j (Holds i) other.1)))
+          (eqb_tells j k);
     }
 
 -- ---- a holder releases its instance
@@ -283,18 +283,18 @@ ready_released owners lists k i j member (Holds n) i_in owned waits_here is =
 ready_released owners lists k i j member (Waits n) i_in owned waits_here is =
     ⊎_elim
     (λ (here : (eqb n i ≡ true) × (n ≡ i)).
-        ap (cond (is_first j (queue_at lists i)) true) (is ∙ ap (λ o. is_none o && is_first j (queue_at lists n)) (ap (link_at owners) here.1 ∙ owned))
-        ∙ cond_true (is_first j (queue_at lists i))
-        ∙ ap (λ m. is_first j (queue_at lists m)) (sym here.1)
-        ∙ sym (ap (λ o. is_none o && is_first j (queue_at lists n)) (get_or-set_at owners i n None None here.1 i_in)))
+    ap (cond (is_first j (queue_at lists i)) true) (is ∙ ap (λ o. is_none o && is_first j (queue_at lists n)) (ap (link_at owners) here.1 ∙ owned))
+    ∙ cond_true (is_first j (queue_at lists i))
+    ∙ ap (λ m. is_first j (queue_at lists m)) (sym here.1)
+    ∙ sym (ap (λ o. is_none o && is_first j (queue_at lists n)) (get_or-set_at owners i n None None here.1 i_in)))
     (λ (there : (eqb n i ≡ false) × (n ≢ i)).
-        ap (λ b. cond b true member) (not_first lists i j (Waits n) waits_here (λ e. there.1 (same_waits n i e)))
-        ∙ is ∙ ap (λ o. is_none o && is_first j (queue_at lists n)) (sym (get_or-set_other owners i n None None there.1)))
+    ap (λ b. cond b true member) (not_first lists i j (Waits n) waits_here (λ e. there.1 (same_waits n i e)))
+    ∙ is ∙ ap (λ o. is_none o && is_first j (queue_at lists n)) (sym (get_or-set_other owners i n None None there.1)))
     (eqb_tells n i)
   where
-  cond_true : (b : Bool) → cond b true false ≡ b
-  cond_true true = refl
-  cond_true false = refl
+    cond_true : (b : Bool) → cond b true false ≡ b
+    cond_true true = refl
+    cond_true false = refl
 
 pub Agree-release : (seats : List Seat) (owners : List (Option ℕ)) (order : Sequence) (queues : Lines) (words words' : List ℕ) (k i : ℕ) → Agree seats owners order queues words → k < length seats → seat_at seats k ≡ Holds i → length words' ≡ length words → ((j : ℕ) → is_member words' j ≡ cond (is_some_of j (first_of (queue_at queues.lists i))) true (cond (eqb j k) false (is_member words j))) → Agree (set seats k Resting) (set owners i None) order queues words'
 Agree-release seats owners order queues words words' k i agree k_in seat same_room members =
@@ -316,32 +316,32 @@ Agree-release seats owners order queues words words' k i agree k_in seat same_ro
       holds_within = λ j n e. let h = agree.holds_within j n (seat_from seats k j Resting (Holds n) k_in (resting_holds n) e).1 in omega (arith, h, owner_count);
       listed = λ j n e. agree.listed j n (seat_from seats k j Resting (Waits n) k_in (resting_waits n) e).1;
       waiting = λ j h. let w = agree.waiting j h in
-        (w.0, seat_other seats k j Resting (λ e. apart order.stacks k j lacks h (sym e)) ∙ w.1);
+          (w.0, seat_other seats k j Resting (λ e. apart order.stacks k j lacks h (sym e)) ∙ w.1);
       owned = λ j n e. let old = seat_from seats k j Resting (Holds n) k_in (resting_holds n) e in
-        let held = agree.owned j n old.1 in
-        get_or-set_other owners i n None None (λ (f : n ≡ i). old.0 (sym (same_some k j (sym owned ∙ ap (link_at owners) (sym f) ∙ held)))) ∙ held;
+          let held = agree.owned j n old.1 in
+          get_or-set_other owners i n None None (λ (f : n ≡ i). old.0 (sym (same_some k j (sym owned ∙ ap (link_at owners) (sym f) ∙ held)))) ∙ held;
       owner = λ j n e.
-        ⊎_elim
-        (λ (here : (eqb n i ≡ true) × (n ≡ i)). absurd (none_some j (sym (get_or-set_at owners i n None None here.1 i_in) ∙ e)))
-        (λ (there : (eqb n i ≡ false) × (n ≢ i)).
-            let held = agree.owner j n (sym (get_or-set_other owners i n None None there.1) ∙ e) in
-            seat_other seats k j Resting (λ (f : j ≡ k). there.1 (sym (same_holds i n (sym seat ∙ ap (seat_at seats) (sym f) ∙ held)))) ∙ held)
-        (eqb_tells n i);
+          ⊎_elim
+          (λ (here : (eqb n i ≡ true) × (n ≡ i)). absurd (none_some j (sym (get_or-set_at owners i n None None here.1 i_in) ∙ e)))
+          (λ (there : (eqb n i ≡ false) × (n ≢ i)).
+          let held = agree.owner j n (sym (get_or-set_other owners i n None None there.1) ∙ e) in
+          seat_other seats k j Resting (λ (f : j ≡ k). there.1 (sym (same_holds i n (sym seat ∙ ap (seat_at seats) (sym f) ∙ held)))) ∙ held)
+          (eqb_tells n i);
       lines = λ n. agree.lines n ∙ sym (filter-seat seats k Resting n order.stacks lacks);
       ready = λ j.
-        ⊎_elim
-        (λ (same : (eqb j k ≡ true) × (j ≡ k)).
-            members j
-            ∙ ap (λ b. cond b true (cond (eqb j k) false (is_member words j))) (is_some-first (queue_at queues.lists i) j ∙ not_first queues.lists i j (seat_at seats j) (first_waits seats owners order queues words i j agree) (λ e. holds_waits i i (sym seat ∙ ap (seat_at seats) (sym same.1) ∙ e)))
-            ∙ ap (λ b. cond b false (is_member words j)) same.0
-            ∙ ap (ready_in (set owners i None) queues.lists j) (sym (seat_same seats k j Resting k_in same.1)))
-        (λ (other : (eqb j k ≡ false) × (j ≢ k)).
-            members j
-            ∙ ap (λ b. cond b true (cond (eqb j k) false (is_member words j))) (is_some-first (queue_at queues.lists i) j)
-            ∙ ap (λ b. cond (is_first j (queue_at queues.lists i)) true (cond b false (is_member words j))) other.0
-            ∙ ready_released owners queues.lists k i j (is_member words j) (seat_at seats j) i_in owned (first_waits seats owners order queues words i j agree) (agree.ready j)
-            ∙ ap (ready_in (set owners i None) queues.lists j) (sym (seat_other seats k j Resting other.1)))
-        (eqb_tells j k);
+          ⊎_elim
+          (λ (same : (eqb j k ≡ true) × (j ≡ k)).
+          members j
+          ∙ ap (λ b. cond b true (cond (eqb j k) false (is_member words j))) (is_some-first (queue_at queues.lists i) j ∙ not_first queues.lists i j (seat_at seats j) (first_waits seats owners order queues words i j agree) (λ e. holds_waits i i (sym seat ∙ ap (seat_at seats) (sym same.1) ∙ e)))
+          ∙ ap (λ b. cond b false (is_member words j)) same.0
+          ∙ ap (ready_in (set owners i None) queues.lists j) (sym (seat_same seats k j Resting k_in same.1)))
+          (λ (other : (eqb j k ≡ false) × (j ≢ k)).
+          members j
+          ∙ ap (λ b. cond b true (cond (eqb j k) false (is_member words j))) (is_some-first (queue_at queues.lists i) j)
+          ∙ ap (λ b. cond (is_first j (queue_at queues.lists i)) true (cond b false (is_member words j))) other.0
+          ∙ ready_released owners queues.lists k i j (is_member words j) (seat_at seats j) i_in owned (first_waits seats owners order queues words i j agree) (agree.ready j)
+          ∙ ap (ready_in (set owners i None) queues.lists j) (sym (seat_other seats k j Resting other.1)))
+          (eqb_tells j k);
     }
 
 -- ---- at first all stacks rest

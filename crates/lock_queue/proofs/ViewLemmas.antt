@@ -1,6 +1,6 @@
 -- What a caller sees of the locks, and what each call changes of it.
-use Rattle.std.proofs.Common.{◌≡◌, ◌≢◌, ℕ, zero, suc, ◌+◌, ◌-◌, ◌*◌, ◌<◌, ◌≤◌, List, [], ◌∷◌, ◌++◌, length, map, filter, Option, Some, None, IsSome, is_none, is_some, not, ◌&&◌, Bool, true, false, cond, eqb, ltb, nat_eq, get_or, sym, refl, ap, subst, ◌∙◌, inl, inr, ◌⊎◌, ⊎_elim, arith}
-use Rattle.std.proofs.Math.ListN.{set, length-set}
+use Rattle.std.proofs.Common.{◌≡◌, ℕ, ◌<◌, ◌≤◌, List, [], ◌∷◌, ◌++◌, length, map, filter, Option, Some, None, IsSome, is_none, is_some, ◌&&◌, Bool, true, false, cond, eqb, ltb, nat_eq, get_or, sym, refl, ap, subst, ◌∙◌, inl, inr, ⊎_elim, arith}
+use Rattle.std.proofs.Math.ListN.{set}
 use Rattle.std.proofs.lemmas.List.{get_or_past, get_or_read, map-append}
 use Rattle.std.proofs.lemmas.List.Sums.{position_or_len_is}
 use Rattle.std.proofs.lemmas.Bool.{eq-eqb, eqb-true, false≢true, cases_lt, lt-ltb, le-ltb}
@@ -12,10 +12,8 @@ use Rattle.lock_queue.specs.Links.{link_at, Lacks, Has, AllDiffer, without, firs
 use Rattle.lock_queue.specs.Order.{Sequence}
 use Rattle.lock_queue.specs.Queues.{Lines, queue_at}
 use Rattle.lock_queue.specs.Ready.{is_member}
-use Rattle.lock_queue.specs.LockTable.{LockTable, seat_at, seat_of, holds, owner_of, queue_of, is_first, may_take, is_ready_in, is_ready, without_stack, first_waiter, waiter_after, waits_for, numbers_from, start_after, ready_after}
+use Rattle.lock_queue.specs.LockTable.{LockTable, seat_at, holds, queue_of, is_first, may_take, is_ready_in, is_ready, without_stack, first_waiter, waiter_after, waits_for, numbers_from, start_after, ready_after}
 use Rattle.lock_queue.specs.Agreement.{waits, awaited_in, waiters_of, ready_in, Agree}
-use Rattle.lock_queue.proofs.LinkLemmas.{apart}
-use Rattle.lock_queue.proofs.OrderLemmas.{read_link}
 use Rattle.lock_queue.proofs.AgreementLemmas.{seat_same, waiters-seat, lacks-without, none_some, same_some, resting_holds}
 use Rattle.lock_queue.proofs.ReadyLemmas.{find_agree}
 
@@ -58,12 +56,12 @@ pub owner_is : (seats : List Seat) (owners : List (Option ℕ)) (order : Sequenc
 owner_is seats owners order queues words i agree = decide (link_at owners i) refl where
   decide : (o : Option ℕ) → link_at owners i ≡ o → position (holds i) seats ≡ link_at owners i
   decide (Some k) e =
-    position_at (holds i) seats k (holder_in seats k i (agree.owner k i e))
-    (λ j below. not_held i (seat_at seats j) (λ held. let same = same_some j k (sym (agree.owned j i held) ∙ e) in absurd (omega arith)))
-    (ap (holds i) (agree.owner k i e) ∙ eq-eqb i i refl)
-    ∙ sym e
+      position_at (holds i) seats k (holder_in seats k i (agree.owner k i e))
+      (λ j below. not_held i (seat_at seats j) (λ held. let same = same_some j k (sym (agree.owned j i held) ∙ e) in absurd (omega arith)))
+      (ap (holds i) (agree.owner k i e) ∙ eq-eqb i i refl)
+      ∙ sym e
   decide None e =
-    position_nowhere (holds i) seats (λ j. not_held i (seat_at seats j) (λ held. none_some j (sym e ∙ agree.owned j i held))) ∙ sym e
+      position_nowhere (holds i) seats (λ j. not_held i (seat_at seats j) (λ held. none_some j (sym e ∙ agree.owned j i held))) ∙ sym e
 
 -- ---- the queues
 map_cond : (b : Bool) (p : ℕ × ℕ) (ps : List (ℕ × ℕ)) → map (λ (w : ℕ × ℕ). w.1) (cond b (p ∷ ps) ps) ≡ cond b (p.1 ∷ map (λ (w : ℕ × ℕ). w.1) ps) (map (λ (w : ℕ × ℕ). w.1) ps)
@@ -75,7 +73,7 @@ queue_of_waiters seats i [] waiting = refl
 queue_of_waiters seats i (x ∷ xs) waiting =
     let w = waiting x (inl refl) in
     let same : eqb (awaited_in (seat_at seats x)) i ≡ waits i (seat_at seats x) =
-        ap (λ s. eqb (awaited_in s) i) w.1 ∙ sym (ap (waits i) w.1) in
+    ap (λ s. eqb (awaited_in s) i) w.1 ∙ sym (ap (waits i) w.1) in
     map_cond (eqb (awaited_in (seat_at seats x)) i) (awaited_in (seat_at seats x), x) (filter (λ (v : ℕ × ℕ). eqb v.0 i) (waiters_of seats xs))
     ∙ ap (λ ys. cond (eqb (awaited_in (seat_at seats x)) i) (x ∷ ys) ys) (queue_of_waiters seats i xs (λ j h. waiting j (inr h)))
     ∙ ap (λ b. cond b (x ∷ filter (λ j. waits i (seat_at seats j)) xs) (filter (λ j. waits i (seat_at seats j)) xs)) same
@@ -152,9 +150,9 @@ join_view seats n order order' k i place seen within lacks place_is order_is vie
     ap (λ p. table (set seats p (Waits i)) n order'.stacks) place_is
     ∙ ap (λ (o : Sequence). table (set seats k (Waits i)) n o.stacks) order_is
     ∙ ap (with_waiters (set seats k (Waits i)) n)
-        (map-append (λ j. (awaited_in (seat_at (set seats k (Waits i)) j), j)) order.stacks (k ∷ [])
-        ∙ ap (λ ws. ws ++ (awaited_in (seat_at (set seats k (Waits i)) k), k) ∷ []) (waiters-seat seats k (Waits i) order.stacks lacks)
-        ∙ ap (λ s. waiters_of seats order.stacks ++ (awaited_in s, k) ∷ []) (seat_same seats k k (Waits i) within refl))
+    (map-append (λ j. (awaited_in (seat_at (set seats k (Waits i)) j), j)) order.stacks (k ∷ [])
+    ∙ ap (λ ws. ws ++ (awaited_in (seat_at (set seats k (Waits i)) k), k) ∷ []) (waiters-seat seats k (Waits i) order.stacks lacks)
+    ∙ ap (λ s. waiters_of seats order.stacks ++ (awaited_in s, k) ∷ []) (seat_same seats k k (Waits i) within refl))
     ∙ ap (λ (t : LockTable). with_waiters (set t.seats k (Waits i)) t.instances (t.waiters ++ (i, k) ∷ [])) view_is
 
 pub take_view : (seats : List Seat) (n n' : ℕ) (order order' : Sequence) (k i place : ℕ) (seen : LockTable) → AllDiffer order.stacks → place ≡ k → n' ≡ n → order' ≡ record order { stacks = without order.stacks k } → table seats n order.stacks ≡ seen → table (set seats place (Holds i)) n' order'.stacks ≡ record seen { seats = set seen.seats k (Holds i); waiters = without_stack seen.waiters k }
@@ -163,8 +161,8 @@ take_view seats n n' order order' k i place seen differ place_is count order_is 
     ∙ ap (λ m. table (set seats k (Holds i)) m order'.stacks) count
     ∙ ap (λ (o : Sequence). table (set seats k (Holds i)) n o.stacks) order_is
     ∙ ap (with_waiters (set seats k (Holds i)) n)
-        (waiters-seat seats k (Holds i) (without order.stacks k) (lacks-without order.stacks k differ)
-        ∙ sym (without_stack-of seats order.stacks k))
+    (waiters-seat seats k (Holds i) (without order.stacks k) (lacks-without order.stacks k differ)
+    ∙ sym (without_stack-of seats order.stacks k))
     ∙ ap (λ (t : LockTable). with_waiters (set t.seats k (Holds i)) t.instances (without_stack t.waiters k)) view_is
 
 -- ---- the next ready stack

@@ -1,5 +1,5 @@
 -- The seats of stacks, and the one list of those that wait.
-use Rattle.std.specs.Prelude.{ℕ, ◌+◌, ◌-◌, ◌==◌, ◌&&◌, ◌++◌, Bool, true, false, List, [], ◌∷◌, Option, Some, None, is_none, length, map, filter, find, position, slice_index_or, if◌then◌else◌}
+use Rattle.std.specs.Prelude.{◌≡◌, ℕ, ◌+◌, ◌-◌, ◌==◌, ◌&&◌, ◌++◌, Bool, true, false, List, [], ◌∷◌, Option, Some, None, is_none, length, map, filter, find, position, slice_index_or, if◌then◌else◌}
 use Rattle.std.specs.List.{range_with_len}
 use Rattle.lock_queue.specs.declared.seat.Seat.{Seat}
 use Rattle.lock_queue.specs.declared.seat.Seat.TheVariants.{Resting, Free, Waits, Holds}
@@ -16,13 +16,6 @@ seat_at seats stack = slice_index_or seats stack Resting
 abbrev pub seat_of : LockTable → ℕ → Seat
 seat_of table stack = seat_at table.seats stack
 
--- neither waits nor holds
-abbrev pub IsIdle : Seat → Type 0
-IsIdle Resting = Unit {0}
-IsIdle Free = Unit {0}
-IsIdle (Waits instance) = ⊥
-IsIdle (Holds instance) = ⊥
-
 abbrev pub held_by : Seat → Option ℕ
 held_by (Holds instance) = Some instance
 held_by Resting = None
@@ -34,6 +27,10 @@ waits_for (Waits instance) = Some instance
 waits_for Resting = None
 waits_for Free = None
 waits_for (Holds instance) = None
+
+-- it holds nothing and waits for nothing
+abbrev pub IsIdle : Seat → Type 0
+IsIdle seat = (held_by seat ≡ None) × (waits_for seat ≡ None)
 
 abbrev pub holds : ℕ → Seat → Bool
 holds instance (Holds held) = held == instance

@@ -1,7 +1,7 @@
 -- For each instance a list of stacks, all kept as links to the next stack.
-use Rattle.std.specs.Prelude.{◌≡◌, ◌<◌, ℕ, List, [], Option, None, Some, length, map, slice_index_or}
+use Rattle.std.specs.Prelude.{◌≡◌, ℕ, List, [], Option, None, Some, length, map, slice_index_or}
 use Rattle.std.specs.List.{last_or}
-use Rattle.lock_queue.specs.Links.{link_at, Leads, Lacks, Has, AllDiffer, AllBelow, walk}
+use Rattle.lock_queue.specs.Links.{link_at, Leads, Has, AllDiffer, AllBelow, walk}
 
 -- the queue of each instance, of stacks below the room
 pub record Lines : Type 0 where

@@ -10,3 +10,6 @@ mod seat;
 
 pub use locks::Locks;
 pub use seat::Seat;
+
+#[cfg(test)]
+mod tests;

@@ -46,8 +46,10 @@ impl Queues {
         requires instance_in { instance < length self.old.lists }
         requires stack_in { stack < self.old.room }
         requires new { (i : ℕ) → Lacks (queue_at self.old.lists i) stack }
-        ensures { self.new ≡ record self.old { lists = slice_set self.old.lists instance
-            (queue_at self.old.lists instance ++ stack ∷ []) } }
+        ensures { self.new ≡ record self.old {
+          lists = slice_set self.old.lists instance
+              (queue_at self.old.lists instance ++ stack ∷ []);
+        } }
     {
         let queue = usize::from(instance);
         let last = self.lasts[queue];
@@ -59,8 +61,10 @@ impl Queues {
     /// Takes the first stack out of an instance's queue.
     pub fn pop(&mut self, instance: u16, stack: u16)
         requires { first_of (queue_at self.old.lists instance) ≡ Some stack }
-        ensures { self.new ≡ record self.old { lists = slice_set self.old.lists instance
-            (without (queue_at self.old.lists instance) stack) } }
+        ensures { self.new ≡ record self.old {
+          lists = slice_set self.old.lists instance
+              (without (queue_at self.old.lists instance) stack);
+        } }
     {
         let queue = usize::from(instance);
         let next = self.next[usize::from(stack)];

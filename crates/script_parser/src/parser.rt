@@ -12,7 +12,15 @@ use line_parser::LineForm;
 use script_lexer::{Line, Lines};
 use std::alloc::Global;
 
-/// The script of a file's logical lines.
+/// The script of a file's logical lines, whose blocks are those of the Creation Kit wiki's Papyrus
+/// reference. Each of its lists is in the order of the file, and `words` counts the different byte lists
+/// of the file's words, texts and documentation texts.
+///
+/// # Errors
+/// `Broken` comes with the first bad line: `BadLine` where it has no form; `TooDeep` where over 64
+/// brackets are open in it, it has over 8,000 tokens, or it is the 65th `If` or `While` that is open;
+/// `BadBlock` where the innermost open block doesn't admit it, and, with the line after the last, where
+/// the file ends with a block open or has no lines. `OutOfMemory` comes where no memory is found.
 pub fn parse_script(alloc: Global, lines: &Lines) -> Result<Script, ParseFault>
     requires { lines.now.last + 1 < 2 ^ 32 }
     ensures words { IfOk result

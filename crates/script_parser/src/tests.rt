@@ -1,6 +1,8 @@
-use crate::{Body, ParseFault, PropertyForm, Script, StatementForm, parse_script};
+use crate::{Body, ParseFault, PropertyForm, Script, Statement, StatementForm, parse_script};
+use papy_base::Text;
 use script_lexer::lex;
 use std::alloc::Global;
+use std::process::Abort;
 use std::test::Fail;
 
 fn parse(alloc: Global, text: &str) -> Result<Result<Script, ParseFault>, Fail> {
@@ -123,6 +125,13 @@ fn sixty_four_blocks_may_be_open(rt: HostRuntime) -> Result<(), Fail> {
     Ok(())
 }
 
+fn holds(doc: &Option<Text>, bytes: &[u8]) -> bool {
+    match doc {
+        Some(text) => text.as_bytes() == bytes,
+        None => false,
+    }
+}
+
 const EVERYTHING: &str = "ScriptName A Extends B Conditional
 {own}
 {dropped}
@@ -151,29 +160,46 @@ EndState
 
 #[test]
 fn a_script_with_members_of_each_kind(rt: HostRuntime) -> Result<(), Fail> {
-    let script = parse(rt.alloc(), EVERYTHING)??;
-    assert!(rt;
-        script
-            .doc
-            .is_some_and(|doc| doc.as_bytes() == b"own".as_slice())
-    );
+    match parse(rt.alloc(), EVERYTHING)? {
+        Ok(script) => has_everything(&rt, &script),
+        Err(_) => Err(Fail::from("refused")),
+    }
+}
+
+fn has_everything(rt: &impl Abort, script: &Script) -> Result<(), Fail> {
+    assert!(rt; holds(&script.doc, b"own"));
     assert_eq!(rt; (script.line, script.flags, script.words), (1, 2, 17));
     assert_eq!(rt; script.imports.len(), 1);
     assert_eq!(rt; script.variables.len(), 1);
     assert_eq!(rt; script.properties.len(), 3);
     assert_eq!(rt; script.functions.len(), 1);
     assert_eq!(rt; script.states.len(), 1);
-    let full = &script.properties[2];
-    assert!(rt; matches!(&full.form, PropertyForm::Full(functions) if functions.len() == 1));
+    assert!(rt; holds(&script.properties[0].doc, b"first"));
+    assert_eq!(rt; functions_of(&script.properties[2].form), 1);
     let event = &script.functions[0];
     assert_eq!(rt; (event.line, event.end_line), (14, 21));
-    let Body::Lines(statements) = &event.body else {
-        return Err(Fail::from("no body"));
-    };
+    match &event.body {
+        Body::Lines(statements) => has_one_test(rt, statements.as_slice()),
+        Body::Native => Err(Fail::from("no body")),
+    }
+}
+
+fn functions_of(form: &PropertyForm) -> usize {
+    match form {
+        PropertyForm::Full(functions) => functions.len(),
+        _ => 0,
+    }
+}
+
+// One `If` with an `ElseIf` and a line behind `Else`.
+fn has_one_test(rt: &impl Abort, statements: &[Statement]) -> Result<(), Fail> {
     assert_eq!(rt; statements.len(), 1);
-    let StatementForm::If { tests, otherwise } = &statements[0].form else {
-        return Err(Fail::from("no If"));
-    };
-    assert_eq!(rt; (tests.len(), otherwise.len()), (2, 1));
-    Ok(())
+    match &statements[0].form {
+        StatementForm::If { tests, otherwise } => {
+            assert_eq!(rt; tests.len(), 2);
+            assert_eq!(rt; otherwise.len(), 1);
+            Ok(())
+        }
+        _ => Err(Fail::from("no If")),
+    }
 }

@@ -1,4 +1,4 @@
-use Rattle.std.proofs.Common.{sym, ap, ◌∙◌, cond, eqb, true, false}
+use Rattle.std.proofs.Common.{sym, ap, ◌∙◌, cond, eqb}
 use Rattle.std.specs.Int.{bit_at}
 use Rattle.lock_queue.proofs.ReadyLemmas.{bit_put, bit_taken}
 use Rattle.lock_queue.proofs.ready.with_bit.Goals as goal

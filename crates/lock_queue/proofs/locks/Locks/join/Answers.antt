@@ -1,6 +1,5 @@
-use Rattle.std.proofs.Common.{◌≡◌, ◌<◌, ◌&&◌, is_none, length, sym, refl, subst, ap, ◌∙◌, arith}
-use Rattle.lock_queue.specs.Links.{link_at, first_of, Lacks}
-use Rattle.lock_queue.specs.Queues.{queue_at}
+use Rattle.std.proofs.Common.{◌<◌, ◌&&◌, is_none, length, sym, subst, ap, ◌∙◌, arith}
+use Rattle.lock_queue.specs.Links.{link_at}
 use Rattle.lock_queue.specs.LockTable.{LockTable, seat_at, IsIdle}
 use Rattle.lock_queue.proofs.AgreementLemmas.{idle_waits}
 use Rattle.lock_queue.proofs.OrderLemmas.{read_link}

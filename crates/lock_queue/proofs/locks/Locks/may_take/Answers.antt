@@ -1,6 +1,6 @@
-use Rattle.std.proofs.Common.{◌≡◌, ◌<◌, length, nat_eq, Some, is_some, false, true, sym, subst, ap, ◌∙◌, arith}
+use Rattle.std.proofs.Common.{◌<◌, length, nat_eq, Some, is_some, sym, subst, ap, ◌∙◌, arith}
 use Rattle.std.specs.Option.{option_eq}
-use Rattle.lock_queue.specs.Links.{link_at, first_of}
+use Rattle.lock_queue.specs.Links.{link_at}
 use Rattle.lock_queue.specs.Queues.{queue_at}
 use Rattle.lock_queue.specs.LockTable.{LockTable, may_take}
 use Rattle.lock_queue.proofs.OrderLemmas.{read_link}

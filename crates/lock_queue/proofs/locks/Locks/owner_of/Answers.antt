@@ -1,4 +1,4 @@
-use Rattle.std.proofs.Common.{◌≡◌, ◌<◌, length, sym, subst, ap, ◌∙◌, arith}
+use Rattle.std.proofs.Common.{◌<◌, length, sym, subst, ap, ◌∙◌, arith}
 use Rattle.lock_queue.specs.LockTable.{LockTable, owner_of}
 use Rattle.lock_queue.proofs.OrderLemmas.{read_link}
 use Rattle.lock_queue.proofs.ViewLemmas.{owner_is}

@@ -1,8 +1,6 @@
-use Rattle.std.proofs.Common.{◌≡◌, ◌<◌, length, sym, refl, subst, ap, ◌∙◌, arith}
+use Rattle.std.proofs.Common.{◌≡◌, ◌<◌, length, sym, subst, ◌∙◌, arith}
 use Rattle.std.proofs.Math.ListN.{length-set}
 use Rattle.lock_queue.specs.declared.seat.Seat.TheVariants.{Resting, Holds}
-use Rattle.lock_queue.specs.Links.{first_of}
-use Rattle.lock_queue.specs.Queues.{queue_at}
 use Rattle.lock_queue.specs.LockTable.{LockTable, seat_at}
 use Rattle.lock_queue.proofs.AgreementLemmas.{holds_waits}
 use Rattle.lock_queue.proofs.TransitionLemmas.{unlisted, first_within}
@@ -14,7 +12,7 @@ pub insert-requires : goal.insert-requires
 insert-requires c =
     let i = c.self.inside in
     λ x e. let h = first_within i.seats.items i.owners.items i.order i.queues i.ready.words.items c.in-Holds.instance x c.self.invariant (sym c.first.ensures ∙ e) in
-        omega (arith, h, c.self.invariant.words_room, c.set.ensures.room, i.ready.words.ok.0)
+    omega (arith, h, c.self.invariant.words_room, c.set.ensures.room, i.ready.words.ok.0)
 
 pub invariant_of-self : goal.invariant_of-self
 invariant_of-self c =

@@ -14,7 +14,7 @@ invariant_of-self c =
     let P : LockTable → Type 0 = λ t. seat_at t.seats k ≡ Free in
     let Q : LockTable → Type 0 = λ t. k < length t.seats in
     let seat : seat_at i.seats.items k ≡ Free = subst P (sym c.self.view_is) c.requires.free in
-    let idle : IsIdle (seat_at i.seats.items k) = subst IsIdle (sym seat) tt in
+    let idle : IsIdle (seat_at i.seats.items k) = subst IsIdle (sym seat) (refl, refl) in
     rested i.seats.items i.owners.items i.order i.queues i.ready.words.items c.set.new.self.words.items k c.from.result c.self.invariant
     (subst Q (sym c.self.view_is) c.requires.stack_in) idle
     (omega (arith, c.set.ensures.room, c.set.new.self.words.ok.0, i.ready.words.ok.0)) c.set.ensures.members c.from.ensures

@@ -1,5 +1,4 @@
-use Rattle.std.proofs.Common.{arith, ℕ, ap, ◌≡◌, ◌∙◌}
-use Rattle.lock_queue.specs.Order.{Sequence}
+use Rattle.std.proofs.Common.{arith}
 use Rattle.lock_queue.proofs.OrderLemmas.{seen_linked, seen_is, pushed, IsLinked-walk, last_within}
 use Rattle.lock_queue.proofs.order.Order.push.Goals as goal
 

@@ -14,4 +14,3 @@ returns c =
     let queues = seen_queues i.next.items i.firsts.items i.lasts.items c.args.self.now c.self.view_is c.self.invariant in
     seen_is _ _ _ _ _
     (popped_queues i.next.items i.firsts.items i.lasts.items _ _ c.args.instance c.args.stack c.from-queue.result c.from.result c.index-next.result.now c.index.result.now c.last_with.result queues c.requires c.from-queue.ensures c.from.ensures c.index-next.ensures c.index.ensures c.last_with.ensures)
-

@@ -21,4 +21,3 @@ returns c =
     let queues = seen_queues i.next.items i.firsts.items i.lasts.items c.args.self.now c.self.view_is c.self.invariant in
     seen_is _ _ _ _ _
     (pushed_queues i.next.items i.firsts.items i.lasts.items _ _ c.args.instance c.args.stack c.from-queue.result c.from.result c.index-last.result.now c.index_mut-2.result.now c.relink.new.links.items c.relink.new.end queues c.requires.instance_in c.requires.stack_in c.requires.new c.from-queue.ensures c.from.ensures c.index-last.ensures c.index_mut-2.ensures.value c.relink.ensures.links c.relink.ensures.end)
-

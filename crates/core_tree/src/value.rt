@@ -1,0 +1,34 @@
+ghost use Rattle.std.specs.Prelude.{◌≡◌, IfOk};
+
+use papy_base::{OutOfMemory, Text};
+use std::alloc::Global;
+
+/// A value of a running script.
+#[derive(Debug, Drop)]
+pub enum Value {
+    /// The None of a script type or an array type.
+    NoneValue,
+    Int(i32),
+    Bool(bool),
+    Text(Text),
+    /// The instance of this number.
+    Instance(u16),
+    /// The array of this number.
+    Array(u16),
+}
+
+impl Value {
+    /// An equal value. `OutOfMemory` comes only of a text.
+    pub fn try_clone(&self, alloc: Global) -> Result<Value, OutOfMemory>
+        ensures { IfOk result (λ value. value ≡ self.now) }
+    {
+        Ok(match self {
+            Value::NoneValue => Value::NoneValue,
+            Value::Int(number) => Value::Int(*number),
+            Value::Bool(truth) => Value::Bool(*truth),
+            Value::Text(text) => Value::Text(text.try_clone(alloc)?),
+            Value::Instance(instance) => Value::Instance(*instance),
+            Value::Array(array) => Value::Array(*array),
+        })
+    }
+}
