@@ -1,5 +1,5 @@
 -- What a step upward is in the list of files, and what it leaves of the look-ups.
-use Rattle.std.proofs.Common.{ℕ, zero, suc, [], ◌∷◌, ◌≡◌, ◌≢◌, ◌<◌, ◌≤◌, List, length, map, get_or, Option, Some, None, IfSome, option_and_then, slice_get, refl, sym, ap, subst, ◌∙◌, ⊎_elim, arith}
+use Rattle.std.proofs.Common.{ℕ, zero, suc, [], ◌∷◌, ◌≡◌, ◌≢◌, ◌<◌, ◌≤◌, List, length, map, get_or, Option, Some, None, IfSome, IsTrue, is_some, not, Bool, true, false, ◌↔◌, option_and_then, slice_get, refl, sym, ap, subst, ◌∙◌, ⊎_elim, arith}
 use Rattle.std.proofs.lemmas.List.{length-map}
 use Rattle.std.proofs.lemmas.List.{get_or_default, get_or_past}
 use Rattle.std.proofs.lemmas.Bool.{cases_lt}
@@ -12,7 +12,7 @@ use Rattle.script_linker.specs.declared.set.SourceFile.{SourceFile}
 use Rattle.script_linker.specs.Index.{IsIndexed, Rises}
 use Rattle.script_linker.specs.Lookup.{HasNumbers, IsFunctionOf, IsPropertyOf, RanksSome, IsRanked, HasPreludeParents, first_rank, script_named}
 use Rattle.std.proofs.lemmas.Bool.Decides.{nat_tests}
-use Rattle.script_linker.specs.Lookup.{own_function, own_property, function_name, property_name, parents_of, parent_at, parent_in, IsWithin, StandsAbove, HasNoCircle, itself, further}
+use Rattle.script_linker.specs.Lookup.{own_function, own_property, function_name, property_name, parents_of, parent_at, parent_in, IsWithin, StandsAbove, HasNoCircle, Nearest, itself, here, further, nowhere}
 
 length-parents_of : (files : List SourceFile) → length (parents_of files) ≡ length files
 length-parents_of files = length-map files (parent_in files)
@@ -164,3 +164,24 @@ property_place-fits files n place numbers of =
     (λ some. omega (arith, numbers.properties n some.0 of.0, of.1 some.0))
     (λ none. absurd (omega (arith, none.0, of.0)))
     (slice_get_cases files n).1
+
+-- a look-up finds one thing at most
+pub Nearest-unique : {parents : List (Option ℕ)} {own : ℕ → Option ℕ} {n : ℕ} {a b : Option (ℕ × ℕ)} → Nearest parents own n a → Nearest parents own n b → a ≡ b
+Nearest-unique (here n k is) (here m l at) = cc
+Nearest-unique (here n k is) (further m p b at up on) = cc
+Nearest-unique (here n k is) (nowhere m at up) = cc
+Nearest-unique (further n p a is up on) (here m k at) = cc
+Nearest-unique {parents} {own} (further n p a is up on) (further m q b at also off) =
+    let same : q ≡ p = cc in
+    Nearest-unique on (subst (λ k. Nearest parents own k b) same off)
+Nearest-unique (further n p a is up on) (nowhere m at also) = cc
+Nearest-unique (nowhere n is up) (here m k at) = cc
+Nearest-unique (nowhere n is up) (further m p b at also on) = cc
+Nearest-unique (nowhere n is up) (nowhere m at also) = refl
+
+-- a look-up that found nothing, where r says so
+pub Nearest-none : {parents : List (Option ℕ)} {own : ℕ → Option ℕ} {n : ℕ} (found : Option (ℕ × ℕ)) (r : Bool) → is_some found ≡ not r → Nearest parents own n found → IsTrue r ↔ Nearest parents own n None
+Nearest-none None true says at = (λ _. at, λ _. refl)
+Nearest-none None false says at = cc
+Nearest-none (Some x) true says at = cc
+Nearest-none (Some x) false says at = (λ y. cc, λ none. let same = Nearest-unique at none in cc)

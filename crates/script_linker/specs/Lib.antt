@@ -3,4 +3,5 @@ pub mod Link
 pub mod Lookup
 pub mod Refs
 pub mod Rules
+pub mod Signature
 pub mod Table

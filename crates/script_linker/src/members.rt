@@ -1,11 +1,16 @@
 // The rules N6 to N12, which speak of the members of scripts whose parents are known.
-ghost use Rattle.std.specs.Prelude.{◌≡◌, ◌<◌, ◌≤◌, length, take, IfOk, IfSome};
+ghost use Rattle.std.specs.Prelude.{◌≡◌, ◌<◌, ◌≤◌, ◌↔◌, ◌⊎◌, length, take, codes, IfOk, IfSome, IsTrue};
+ghost use Rattle.papy_base.specs.Case.{folded, SameIgnoringCase};
+ghost use Rattle.script_linker.specs.Lookup.{Nearest, parents_of, own_function};
+ghost use Rattle.script_linker.specs.Rules.{IsBelow};
+ghost use Rattle.script_linker.specs.Table.{number_in};
 
 use crate::declared::Declared;
 use crate::earliest::{Earliest, Found};
 use crate::fault::LinkRule;
 use crate::name_table::NameTable;
 use crate::prelude::PRELUDE_COUNT;
+use crate::script_rules::is_below;
 use crate::scripts::Scripts;
 use crate::signatures::{has_late_parameter, is_accessor, is_plain_event, is_word, same_signature};
 use line_parser::TypeName;
@@ -189,23 +194,30 @@ fn judge_accessors(kind: &TypeName, functions: &[Function], first: &mut Earliest
 }
 
 // N6: whether a thing on an earlier line has the name. `lines` has the least line of each name.
-fn repeats<T: Declared>(alloc: Global, lines: &NameTable, item: &T) -> Result<bool, OutOfMemory> {
+fn repeats<T: Declared>(alloc: Global, lines: &NameTable, item: &T) -> Result<bool, OutOfMemory>
+    ensures { IfOk result
+        (λ broken. IsTrue broken ↔ IsBelow (T.line_of item.now) (number_in lines.now (folded (T.name_of item.now)))) }
+{
     let least = lines.find(alloc, item.name())?;
-    Ok(matches!(least, Some(line) if line < usize::from(item.line())))
+    Ok(is_below(least, usize::from(item.line())))
 }
 
 // N6: whether a function has the name of one that every script has.
-fn has_reserved_name(function: &Function) -> bool {
+fn has_reserved_name(function: &Function) -> bool
+    ensures { IsTrue result
+        ↔ (SameIgnoringCase function.now.heading.name (codes "GotoState") ⊎ SameIgnoringCase function.now.heading.name (codes "GetState")) }
+{
     is_word(&function.heading.name, b"GotoState") || is_word(&function.heading.name, b"GetState")
 }
 
 // N8: whether no empty state has a function of the name of this function of a state.
 fn stands_alone(scripts: &Scripts, number: usize, function: &Function) -> bool
     requires { number < length scripts.now }
+    ensures { IsTrue result
+        ↔ Nearest (parents_of scripts.now) (own_function scripts.now function.now.heading.name) number None }
 {
-    scripts
-        .nearest_function(number, &function.heading.name)
-        .is_none()
+    let found = scripts.nearest_function(number, &function.heading.name);
+    found.is_none()
 }
 
 // N9: whether this function of a state is Global or Native, or differs from the one it replaces.
@@ -256,6 +268,8 @@ fn repeats_inherited(scripts: &Scripts, number: usize, property: &Property) -> b
 }
 
 // N12: whether the file comes after the last that a set may have, or has too many words.
-fn passes_limit(file: usize, script: &Script) -> bool {
+fn passes_limit(file: usize, script: &Script) -> bool
+    ensures { IsTrue result ↔ ((256 ≤ file) ⊎ (20000 < script.now.words)) }
+{
     file >= FILE_LIMIT || script.words > WORD_LIMIT
 }

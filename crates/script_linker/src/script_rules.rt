@@ -88,7 +88,7 @@ fn repeats_script(
     Ok(is_below(first, file))
 }
 
-fn is_below(found: Option<usize>, limit: usize) -> bool
+pub(crate) fn is_below(found: Option<usize>, limit: usize) -> bool
     ensures { IsTrue result ↔ IsBelow limit found }
 {
     match found {
