@@ -2,11 +2,11 @@
 
 mod show;
 
-use crate::{Expr, LineFault, LineForm, LineRule, parse_line};
+use crate::{Expr, LineFault, LineForm, LineRule, LineTree, parse_line};
 use papy_base::{Name, Text};
 use script_lexer::{Keyword, Line, Sign, Spanned, Token};
 use show::show;
-use std::alloc::Global;
+use std::alloc::{AllocError, Global};
 use std::test::Fail;
 
 const KEYWORDS: [Keyword; 34] = [
@@ -131,13 +131,24 @@ fn long_line(alloc: Global, front: &str, part: &str, times: usize) -> Result<Lin
     line(alloc, text.as_str())
 }
 
-// The form as `show` writes it, or the rule.
-fn form(alloc: Global, line: &Line) -> Result<String, Fail> {
-    match parse_line(alloc, line) {
-        Ok(tree) => Ok(show(alloc, &tree)?),
-        Err(LineFault::Broken { rule }) => Ok(format!(in alloc; "{rule}")?),
-        Err(LineFault::OutOfMemory) => Ok(String::from_str(alloc, "out of memory")?),
+fn rule_text(alloc: Global, fault: LineFault) -> Result<String, AllocError> {
+    match fault {
+        LineFault::Broken { rule } => format!(in alloc; "{rule}"),
+        LineFault::OutOfMemory => String::from_str(alloc, "out of memory"),
     }
+}
+
+// The form as `show` writes it, or the rule.
+fn described(alloc: Global, parsed: &Result<LineTree, LineFault>) -> Result<String, AllocError> {
+    match parsed {
+        Ok(tree) => show(alloc, tree),
+        Err(fault) => rule_text(alloc, *fault),
+    }
+}
+
+fn form(alloc: Global, line: &Line) -> Result<String, AllocError> {
+    let parsed = parse_line(alloc, line);
+    described(alloc, &parsed)
 }
 
 #[test]
