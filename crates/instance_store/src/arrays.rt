@@ -1,0 +1,156 @@
+//! The arrays of a world.
+
+ghost use Rattle.std.specs.Prelude.{◌≡◌, ◌↔◌, ◌⊎◌, ◌<◌, ◌≤◌, [], IfOk, IfErr, IsErrOf, IsTrue, OnErr, not, length};
+ghost use Rattle.std.specs.Option.{ForSome};
+ghost use Rattle.instance_store.specs.Values.{is_array_type};
+ghost use Rattle.instance_store.specs.Arrays.{array_at, length_of, read, write_answer, arrays_with, found, IsRefusal, IsCreated};
+
+use crate::fault::StoreFault;
+use crate::value_array::ValueArray;
+use core_tree::{CoreType, Value};
+use papy_base::StackFault;
+use std::alloc::Global;
+use std::marker::Model;
+
+/// The most arrays that a run may make.
+const ARRAY_LIMIT: usize = 4096;
+
+/// The arrays that scripts have made, numbered from 0. Contracts see, for each, the type of its
+/// elements and the list of their values.
+///
+/// In each call a number that is given is that of an array that is there.
+#[derive(Debug, Drop)]
+pub struct Arrays {
+    arrays: Vec<ValueArray>,
+}
+
+impl Model for Arrays {
+    ghost use Rattle.std.specs.Prelude.{◌≤◌, List, vec_len};
+    ghost use Rattle.instance_store.specs.Arrays.{ArrayState};
+
+    ghost Value = { List ArrayState };
+
+    ghost view = { λ a. a.arrays.items };
+
+    ghost invariant = { λ a. vec_len a.arrays ≤ 4096 };
+}
+
+impl Arrays {
+    /// No arrays.
+    pub fn new(alloc: Global) -> Arrays
+        ensures { result ≡ [] }
+    {
+        Arrays {
+            arrays: Vec::new(alloc),
+        }
+    }
+
+    /// The number of arrays, at most 4,096.
+    pub fn count(&self) -> u16
+        ensures number { result ≡ length self.now }
+        ensures at_most { length self.now ≤ 4096 }
+    {
+        self.arrays.len() as u16
+    }
+
+    /// The type of an array's elements.
+    pub fn kind_of(&self, array: u16) -> &CoreType
+        requires { array < length self.now }
+        ensures { result.now ≡ (array_at self.now array).kind }
+    {
+        self.arrays[usize::from(array)].kind()
+    }
+
+    /// Makes an array of 1 to 128 elements of a type that is no array type, and gives its number.
+    /// The elements are 0, false, the empty text or None.
+    ///
+    /// # Errors
+    ///
+    /// `ArrayLimit` comes exactly where there are 4,096 arrays. `OutOfMemory` comes where there is
+    /// no room. Then nothing has changed.
+    pub fn create(&mut self, kind: CoreType, count: u8) -> Result<u16, StoreFault>
+        requires no_array_type { IsTrue (not (is_array_type kind)) }
+        requires some { 1 ≤ count }
+        requires at_most { count ≤ 128 }
+        ensures ok { IfOk result (λ number. IsCreated self.old self.new kind count number) }
+        ensures limit { IsErrOf result (StoreFault.Fault StackFault.ArrayLimit) ↔ (4096 ≤ length self.old) }
+        ensures fault { IfErr result (λ fault. (fault ≡ StoreFault.Fault StackFault.ArrayLimit) ⊎ (fault ≡ StoreFault.OutOfMemory)) }
+        ensures err { OnErr result (self.new ≡ self.old) }
+    {
+        let number = self.arrays.len();
+        if number >= ARRAY_LIMIT {
+            return Err(StoreFault::Fault(StackFault::ArrayLimit));
+        }
+        let array = ValueArray::filled(*self.arrays.allocator(), kind, count)?;
+        self.arrays.push(array)?;
+        Ok(number as u16)
+    }
+
+    /// The number of an array's elements. `NoneArray` comes exactly where no array is given.
+    pub fn length(&self, array: Option<u16>) -> Result<i32, StackFault>
+        requires { ForSome array (λ number. number < length self.now) }
+        ensures { result ≡ length_of self.now array }
+    {
+        let Some(number) = array else {
+            return Err(StackFault::NoneArray);
+        };
+        Ok(self.arrays[usize::from(number)].length())
+    }
+
+    /// The element at an index.
+    ///
+    /// # Errors
+    ///
+    /// `NoneArray` comes exactly where no array is given, and `IndexRange` exactly where the index
+    /// is below 0 or not below the array's length. `OutOfMemory` comes only of a text.
+    pub fn get_at(&self, array: Option<u16>, at: i32) -> Result<Value, StoreFault>
+        requires { ForSome array (λ number. number < length self.now) }
+        ensures item { IfOk result (λ value. read self.now array at ≡ Ok value) }
+        ensures fault { IfErr result (λ fault. IsRefusal (read self.now array at) fault) }
+    {
+        let Some(number) = array else {
+            return Err(StoreFault::Fault(StackFault::NoneArray));
+        };
+        self.arrays[usize::from(number)].get(*self.arrays.allocator(), at)
+    }
+
+    /// Writes the element at an index, and no other.
+    ///
+    /// # Errors
+    ///
+    /// `NoneArray` and `IndexRange` as in `get_at`. Then nothing has changed.
+    pub fn set_at(&mut self, array: Option<u16>, at: i32, value: Value) -> Result<(), StackFault>
+        requires { ForSome array (λ number. number < length self.old) }
+        ensures answer { result ≡ write_answer self.old array at }
+        ensures after { self.new ≡ arrays_with self.old array at value }
+    {
+        let Some(number) = array else {
+            return Err(StackFault::NoneArray);
+        };
+        self.arrays[usize::from(number)].set(at, value)
+    }
+
+    /// The first place not below the start whose element equals the value, or with `back` the last
+    /// place not above the start, else -1. A start below 0 counts as 0; with `back` a start below 0
+    /// or not below the length counts as the last place. Texts are compared with the case of A to Z
+    /// ignored.
+    ///
+    /// # Errors
+    ///
+    /// `NoneArray` comes exactly where no array is given.
+    pub fn find(
+        &self,
+        array: Option<u16>,
+        value: &Value,
+        start: i32,
+        back: bool,
+    ) -> Result<i32, StackFault>
+        requires { ForSome array (λ number. number < length self.now) }
+        ensures { result ≡ found self.now array value.now start back }
+    {
+        let Some(number) = array else {
+            return Err(StackFault::NoneArray);
+        };
+        Ok(self.arrays[usize::from(number)].find(value, start, back))
+    }
+}

@@ -1,0 +1,91 @@
+//! One instance.
+
+ghost use Rattle.std.specs.Prelude.{◌≡◌, ◌↔◌, ◌<◌, List, ℕ, IfOk, OnErr, IsTrue, length};
+ghost use Rattle.instance_store.specs.Values.{is_text};
+ghost use Rattle.instance_store.specs.Instances.{place_of, values_of, variable_of, instance_with, scripts_with};
+
+use crate::script_variables::ScriptVariables;
+use core_tree::Value;
+use papy_base::{OutOfMemory, Text};
+use std::alloc::Global;
+use std::marker::Model;
+
+/// The text of an instance's state, and its variables. Those of its own script stand first, so they
+/// are found first.
+#[derive(Debug, Drop)]
+pub struct Instance {
+    state: Text,
+    scripts: Vec<ScriptVariables>,
+}
+
+impl Model for Instance {
+    ghost use Rattle.instance_store.specs.Instances.{InstanceState};
+
+    ghost Value = { InstanceState };
+
+    ghost view = { λ i. record { state = i.state; scripts = i.scripts.items } };
+}
+
+impl Instance {
+    pub fn new(state: Text, scripts: Vec<ScriptVariables>) -> Instance
+        ensures { result ≡ record { state = state; scripts = scripts.items } }
+    {
+        Instance { state, scripts }
+    }
+
+    pub fn state(&self) -> &Text
+        ensures { result.now ≡ self.now.state }
+    {
+        &self.state
+    }
+
+    pub fn set_state(&mut self, state: Text)
+        ensures { self.new ≡ record self.old { state = state } }
+    {
+        self.state = state;
+    }
+
+    /// Whether the script declares such a variable.
+    pub fn has(&self, script: u16, variable: u16) -> bool
+        ensures { IsTrue result ↔ (variable < length (values_of self.now.scripts script)) }
+    {
+        match place_of(self.scripts.as_slice(), script) {
+            None => false,
+            Some(place) => usize::from(variable) < self.scripts[place].count(),
+        }
+    }
+
+    /// A copy of a variable's value.
+    pub fn get(&self, alloc: Global, script: u16, variable: u16) -> Result<Value, OutOfMemory>
+        requires { variable < length (values_of self.now.scripts script) }
+        ensures value { IfOk result (λ value. value ≡ variable_of self.now script variable) }
+        ensures memory { OnErr result (IsTrue (is_text (variable_of self.now script variable))) }
+    {
+        let Some(place) = place_of(self.scripts.as_slice(), script) else {
+            unreachable!();
+        };
+        self.scripts[place].get(alloc, variable)
+    }
+
+    /// Writes a variable.
+    pub fn set(&mut self, script: u16, variable: u16, value: Value)
+        ensures { self.new ≡ instance_with self.old script variable value }
+    {
+        write(&mut self.scripts, script, variable, value);
+    }
+}
+
+/// Writes a variable, if there is such a one.
+pub fn write(scripts: &mut Vec<ScriptVariables>, script: u16, variable: u16, value: Value)
+    ensures { scripts.new.items ≡ scripts_with scripts.old.items script variable value }
+{
+    if let Some(place) = place_of(scripts.as_slice(), script) {
+        scripts[place].set(variable, value);
+    }
+}
+
+fn place_of(scripts: &[ScriptVariables], script: u16) -> Option<usize>
+    ensures { result ≡ place_of scripts.now script }
+{
+    scripts.iter().position(|part| part.script() == script)
+}
