@@ -1,0 +1,3 @@
+pub mod Ranges
+pub mod StatementViews
+pub mod Views
