@@ -1,0 +1,222 @@
+-- Engines that do the same on related bodies have the same runs of worlds.
+use Rattle.std.proofs.Common.{◌≡◌, ℕ, zero, suc, pred, ◌+◌, ◌-◌, Bool, true, false, cond, ◌&&◌, List, [], ◌∷◌, ◌++◌, map, Option, Some, None, refl, ap, subst, ◌∙◌}
+use Rattle.std.specs.Prelude.{length, sum, nat_lt, slice_set}
+use Rattle.core_tree.specs.declared.DeviceKind.{DeviceKind}
+use Rattle.core_tree.specs.declared.expression.FunctionPlace.{FunctionPlace}
+use Rattle.core_tree.specs.declared.value.Value.{Value}
+use Rattle.core_tree.specs.Outlines.{ScriptShape}
+use Rattle.core_tree.specs.Scenes.{SceneShape, CallShape}
+use Rattle.script_meaning.specs.First.{first_state}
+use Rattle.script_meaning.specs.Locks.{let_go, goes_to_wait, rests, moves, takes}
+use Rattle.script_meaning.specs.Related.{EnteredAlike, both_open, both_native, both_read, both_write, both_nothing, StopsAlike, EnginesAlike}
+use Rattle.script_meaning.specs.Requests.{Sight, Setting, Request, Method, ParentMethod, GlobalFunction, GlobalNative, Get, Set, LoopPass, Return, binding_in, is_prompt, latency_of, performed_at}
+use Rattle.script_meaning.specs.Stacks.{Way, ByMethod, ByParent, ByGlobal, ByGet, BySet, Frame, ToEnter, Running, Entered, Stop, Engine, State, frame_instance, inner_instance, frames_of, stack_limit, frame_limit, has_room}
+use Rattle.script_meaning.specs.Turns.{sight_of, with_sight, Turn, After, with_reply, returned, native_done, acted, past_pass, run_on, stopped, ran, native_entered, entered, in_turn, turn_of, after_turn, turn_ended, turned, instance_script, call_started, calls_started, is_due, not_due, all_wait, awoken, begun, chosen, has_ended, chosen_turned, step, states_from}
+use Rattle.script_meaning.specs.World.{World, title}
+use Rattle.std.specs.List.{filter}
+use Rattle.std.proofs.Math.Dec.{eqb}
+
+module _ {B C : Type 0} (R : B → C → Type 0) where
+  pub data FramesAlike : Frame B → Frame C → Type 0 where
+    both_enter : (instance : Option ℕ) (way : Way) (arguments : List Value) → FramesAlike (ToEnter instance way arguments) (ToEnter instance way arguments)
+    both_run : {b : B} {c : C} (instance : Option ℕ) (reply : Option Value) → R b c → FramesAlike (Running instance b reply) (Running instance c reply)
+
+  pub data StackAlike : List (Frame B) → List (Frame C) → Type 0 where
+    no_frames : StackAlike [] []
+    more_frames : {f : Frame B} {g : Frame C} {fs : List (Frame B)} {gs : List (Frame C)} → FramesAlike f g → StackAlike fs gs → StackAlike (f ∷ fs) (g ∷ gs)
+
+  pub data StacksAlike : List (List (Frame B)) → List (List (Frame C)) → Type 0 where
+    no_stacks : StacksAlike [] []
+    more_stacks : {s : List (Frame B)} {t : List (Frame C)} {ss : List (List (Frame B))} {ts : List (List (Frame C))} → StackAlike s t → StacksAlike ss ts → StacksAlike (s ∷ ss) (t ∷ ts)
+
+  -- ---- one stack among others
+  frames_alike : (k : ℕ) {ss : List (List (Frame B))} {ts : List (List (Frame C))} → StacksAlike ss ts → StackAlike (frames_of ss k) (frames_of ts k)
+  frames_alike k no_stacks = no_frames
+  frames_alike zero (more_stacks s ss) = s
+  frames_alike (suc k) (more_stacks s ss) = frames_alike k ss
+
+  set_alike : (k : ℕ) {s : List (Frame B)} {t : List (Frame C)} → StackAlike s t → {ss : List (List (Frame B))} {ts : List (List (Frame C))} → StacksAlike ss ts → StacksAlike (slice_set ss k s) (slice_set ts k t)
+  set_alike k new no_stacks = no_stacks
+  set_alike zero new (more_stacks s ss) = more_stacks new ss
+  set_alike (suc k) new (more_stacks s ss) = more_stacks s (set_alike k new ss)
+
+  append_alike : {s : List (Frame B)} {t : List (Frame C)} → StackAlike s t → {ss : List (List (Frame B))} {ts : List (List (Frame C))} → StacksAlike ss ts → StacksAlike (ss ++ s ∷ []) (ts ++ t ∷ [])
+  append_alike new no_stacks = more_stacks new no_stacks
+  append_alike new (more_stacks s ss) = more_stacks s (append_alike new ss)
+
+  same_length : {s : List (Frame B)} {t : List (Frame C)} → StackAlike s t → length s ≡ length t
+  same_length no_frames = refl
+  same_length (more_frames f fs) = ap suc (same_length fs)
+
+  same_sizes : {ss : List (List (Frame B))} {ts : List (List (Frame C))} → StacksAlike ss ts → map (λ s. length s - 1) ss ≡ map (λ t. length t - 1) ts
+  same_sizes no_stacks = refl
+  same_sizes (more_stacks s ss) = λ i. (same_length s i - 1) ∷ same_sizes ss i
+
+  same_room : (k : ℕ) {ss : List (List (Frame B))} {ts : List (List (Frame C))} → StacksAlike ss ts → has_room ss k ≡ has_room ts k
+  same_room k a = λ i. nat_lt (same_length (frames_alike k a) i) stack_limit && nat_lt (sum (same_sizes a i)) frame_limit
+
+  same_instance_of : {f : Frame B} {g : Frame C} → FramesAlike f g → frame_instance f ≡ frame_instance g
+  same_instance_of (both_enter instance way arguments) = refl
+  same_instance_of (both_run instance reply r) = refl
+
+  same_inner : {s : List (Frame B)} {t : List (Frame C)} → StackAlike s t → inner_instance s ≡ inner_instance t
+  same_inner no_frames = refl
+  same_inner (more_frames f fs) = same_instance_of f
+
+  replies_alike : (value : Value) {f : Frame B} {g : Frame C} → FramesAlike f g → FramesAlike (with_reply value f) (with_reply value g)
+  replies_alike value (both_enter instance way arguments) = both_enter instance way arguments
+  replies_alike value (both_run instance reply r) = both_run instance (Some value) r
+
+  -- ---- acts
+  abbrev pub AfterAlike : After B → After C → Type 0
+  AfterAlike a b = (a.0 ≡ b.0) × StackAlike a.1 b.1
+
+  returned_alike : (turn : Turn) (value : Value) (world : World) {below : List (Frame B)} {below' : List (Frame C)} → StackAlike below below' → AfterAlike (returned turn value below world) (returned turn value below' world)
+  returned_alike turn value world no_frames = (refl, no_frames)
+  returned_alike turn value world (more_frames f fs) =
+      (ap (λ o. moves turn.stack turn.own o world) (same_instance_of f), more_frames (replies_alike value f) fs)
+
+  native_alike : (turn : Turn) (at : FunctionPlace) (arguments : List Value) (world : World) {frames : List (Frame B)} {frames' : List (Frame C)} → StackAlike frames frames' → AfterAlike (native_done turn at arguments frames world) (native_done turn at arguments frames' world)
+  native_alike turn at arguments world no_frames = (refl, no_frames)
+  native_alike turn at arguments world (more_frames f fs) =
+      let done : Value × Sight = performed_at turn.setting at arguments (sight_of world turn.own) in
+      (ap (λ o. rests turn.stack o (latency_of (binding_in turn.setting.natives at) arguments) (let_go turn.stack (with_sight world turn.own done.1))) (same_instance_of f), more_frames (replies_alike done.0 f) fs)
+
+  acted_alike : (turn : Turn) (request : Request) (world : World) {f : Frame B} {g : Frame C} {fs : List (Frame B)} {gs : List (Frame C)} → FramesAlike f g → StackAlike fs gs → AfterAlike (acted turn request f fs world) (acted turn request g gs world)
+  acted_alike turn (Method None name arguments otherwise) world f fs = (refl, more_frames f fs)
+  acted_alike turn (Method (Some target) name arguments otherwise) world f fs = (refl, more_frames (both_enter (Some target) (ByMethod name) arguments) (more_frames f fs))
+  acted_alike turn (ParentMethod script name arguments otherwise) world f fs = (refl, more_frames (both_enter turn.own (ByParent script name) arguments) (more_frames f fs))
+  acted_alike turn (GlobalFunction script name arguments otherwise) world f fs = (refl, more_frames (both_enter None (ByGlobal script name) arguments) (more_frames f fs))
+  acted_alike turn (GlobalNative at arguments) world f fs = native_alike turn at arguments world (more_frames f fs)
+  acted_alike turn (Get None name otherwise) world f fs = (refl, more_frames f fs)
+  acted_alike turn (Get (Some target) name otherwise) world f fs = (refl, more_frames (both_enter (Some target) (ByGet name) []) (more_frames f fs))
+  acted_alike turn (Set None name value) world f fs = (refl, more_frames f fs)
+  acted_alike turn (Set (Some target) name value) world f fs = (refl, more_frames (both_enter (Some target) (BySet name) (value ∷ [])) (more_frames f fs))
+  acted_alike turn LoopPass world f fs = (refl, more_frames f fs)
+  acted_alike turn (Return value) world f fs = returned_alike turn value world fs
+
+  -- ---- inner steps
+  passes_alike : (request : Request) (left : Stop B) (right : Stop C) (go : B → Sight → Stop B) (go' : C → Sight → Stop C) → StopsAlike R left right → StopsAlike R (go left.body left.sight) (go' right.body right.sight) → StopsAlike R (past_pass go left request) (past_pass go' right request)
+  passes_alike (Method target name arguments otherwise) left right go go' a b = a
+  passes_alike (ParentMethod script name arguments otherwise) left right go go' a b = a
+  passes_alike (GlobalFunction script name arguments otherwise) left right go go' a b = a
+  passes_alike (GlobalNative at arguments) left right go go' a b = a
+  passes_alike (Get target name otherwise) left right go go' a b = a
+  passes_alike (Set target name value) left right go go' a b = a
+  passes_alike LoopPass left right go go' a b = b
+  passes_alike (Return value) left right go go' a b = a
+
+  module _ (left : Engine B) (right : Engine C) (alike : EnginesAlike R left right) where
+    run_on_alike : (setting : Setting) (passes : ℕ) (b : B) (c : C) (reply : Option Value) (sight : Sight) → R b c → StopsAlike R (run_on left setting passes b reply sight) (run_on right setting passes c reply sight)
+    run_on_alike setting zero b c reply sight r = alike.run setting b c reply sight r
+    run_on_alike setting (suc passes) b c reply sight r =
+        let s : Stop B = left.run setting b reply sight in
+        let t : Stop C = right.run setting c reply sight in
+        let a : StopsAlike R s t = alike.run setting b c reply sight r in
+        let go : B → Sight → Stop B = λ next after. run_on left setting passes next None after in
+        let go' : C → Sight → Stop C = λ next after. run_on right setting passes next None after in
+        let more : StopsAlike R (go s.body s.sight) (go' t.body t.sight) = subst (λ x. StopsAlike R (go s.body s.sight) (go' t.body x)) a.sight (run_on_alike setting passes s.body t.body None s.sight a.bodies) in
+        subst (λ q. StopsAlike R (past_pass go s s.request) (past_pass go' t q)) a.request (passes_alike s.request s t go go' a more)
+
+    stopped_alike : (turn : Turn) (world : World) (s : Stop B) (t : Stop C) {fs : List (Frame B)} {gs : List (Frame C)} → StopsAlike R s t → StackAlike fs gs → AfterAlike (stopped turn world fs s) (stopped turn world gs t)
+    stopped_alike turn world s t {fs} {gs} a below =
+        let here : AfterAlike (acted turn s.request (Running turn.own s.body None) fs (with_sight world turn.own s.sight)) (acted turn s.request (Running turn.own t.body None) gs (with_sight world turn.own s.sight)) = acted_alike turn s.request (with_sight world turn.own s.sight) (both_run turn.own None a.bodies) below in
+        subst (λ x. AfterAlike (stopped turn world fs s) (acted turn t.request (Running turn.own t.body None) gs (with_sight world turn.own x))) a.sight (subst (λ q. AfterAlike (stopped turn world fs s) (acted turn q (Running turn.own t.body None) gs (with_sight world turn.own s.sight))) a.request here)
+
+    ran_alike : (scene : SceneShape) (turn : Turn) (world : World) (b : B) (c : C) (reply : Option Value) {fs : List (Frame B)} {gs : List (Frame C)} → R b c → StackAlike fs gs → AfterAlike (ran scene left turn world fs b reply) (ran scene right turn world gs c reply)
+    ran_alike scene turn world b c reply r below =
+        stopped_alike turn world (run_on left turn.setting (pred scene.quantum) b reply (sight_of world turn.own)) (run_on right turn.setting (pred scene.quantum) c reply (sight_of world turn.own)) (run_on_alike turn.setting (pred scene.quantum) b c reply (sight_of world turn.own) r) below
+
+    native_entered_alike : (turn : Turn) (at : FunctionPlace) (arguments : List Value) (world : World) (prompt : Bool) {fs : List (Frame B)} {gs : List (Frame C)} → StackAlike fs gs → AfterAlike (native_entered turn at arguments world fs prompt) (native_entered turn at arguments world gs prompt)
+    native_entered_alike turn at arguments world true below = returned_alike turn _ _ below
+    native_entered_alike turn at arguments world false below = native_alike turn at arguments world below
+
+    entered_alike : (scene : SceneShape) (turn : Turn) (world : World) (arguments : List Value) {fs : List (Frame B)} {gs : List (Frame C)} → StackAlike fs gs → {e : Entered B} {d : Entered C} → EnteredAlike R e d → AfterAlike (entered scene left turn world fs arguments e) (entered scene right turn world gs arguments d)
+    entered_alike scene turn world arguments below (both_open {b} {c} r) = ran_alike scene turn world b c None r below
+    entered_alike scene turn world arguments below (both_native at) = native_entered_alike turn at arguments world (is_prompt (binding_in turn.setting.natives at)) below
+    entered_alike scene turn world arguments below (both_read script variable) = returned_alike turn _ _ below
+    entered_alike scene turn world arguments below (both_write script variable) = returned_alike turn _ _ below
+    entered_alike scene turn world arguments below both_nothing = returned_alike turn _ _ below
+
+    in_turn_alike : (scene : SceneShape) (turn : Turn) (world : World) {f : Frame B} {g : Frame C} {fs : List (Frame B)} {gs : List (Frame C)} → FramesAlike f g → StackAlike fs gs → AfterAlike (in_turn scene left turn world f fs) (in_turn scene right turn world g gs)
+    in_turn_alike scene turn world (both_enter instance way arguments) below =
+        entered_alike scene turn world arguments below (alike.enter (instance_script world instance) (sight_of world instance).state way arguments)
+    in_turn_alike scene turn world (both_run {b} {c} instance reply r) below = ran_alike scene turn world b c reply r below
+
+    -- ---- turns
+    turn_from : SceneShape → World → ℕ → Option ℕ → Bool → Turn
+    turn_from scene world k own room =
+        record { stack = k; own = own; setting = record { stack = k; self = own; outline = world.outline; instances = map title world.instances; natives = scene.natives; has_room = room } }
+
+    after_alike : (scene : SceneShape) (world : World) (ss : List (List (Frame B))) (ts : List (List (Frame C))) (k : ℕ) → StacksAlike ss ts → {fs : List (Frame B)} {gs : List (Frame C)} → StackAlike fs gs → AfterAlike (after_turn scene left world ss k fs) (after_turn scene right world ts k gs)
+    unfolding turn_from
+    after_alike scene world ss ts k all no_frames = (refl, no_frames)
+    after_alike scene world ss ts k all (more_frames {f} {g} {fs} {gs} a below) =
+        let here : AfterAlike (in_turn scene left (turn_of scene world ss k (frame_instance f)) world f fs) (in_turn scene right (turn_of scene world ss k (frame_instance f)) world g gs) = in_turn_alike scene (turn_of scene world ss k (frame_instance f)) world a below in
+        let room : AfterAlike (in_turn scene left (turn_of scene world ss k (frame_instance f)) world f fs) (in_turn scene right (turn_of scene world ts k (frame_instance f)) world g gs) = subst (λ x. AfterAlike (in_turn scene left (turn_of scene world ss k (frame_instance f)) world f fs) (in_turn scene right (turn_from scene world k (frame_instance f) x) world g gs)) (same_room k all) here in
+        subst (λ o. AfterAlike (in_turn scene left (turn_of scene world ss k (frame_instance f)) world f fs) (in_turn scene right (turn_of scene world ts k o) world g gs)) (same_instance_of a) room
+
+    pub record StatesAlike (s : State B) (t : State C) : Type 0 where
+      pub world : s.world ≡ t.world
+      pub stacks : StacksAlike s.stacks t.stacks
+
+    turned_alike : (scene : SceneShape) (world : World) (k : ℕ) {ss : List (List (Frame B))} {ts : List (List (Frame C))} → StacksAlike ss ts → StatesAlike (turned scene left (record { world = world; stacks = ss }) k) (turned scene right (record { world = world; stacks = ts }) k)
+    turned_alike scene world k {ss} {ts} a =
+        let after : AfterAlike (after_turn scene left (takes k world) ss k (frames_of ss k)) (after_turn scene right (takes k world) ts k (frames_of ts k)) = after_alike scene (takes k world) ss ts k a (frames_alike k a) in
+        record { world = ap (λ w. turn_ended w k) after.0; stacks = set_alike k after.1 a }
+
+    chosen_alike : (scene : SceneShape) (world : World) (o : Option ℕ) {ss : List (List (Frame B))} {ts : List (List (Frame C))} → StacksAlike ss ts → StatesAlike (chosen_turned scene left (record { world = world; stacks = ss }) o) (chosen_turned scene right (record { world = world; stacks = ts }) o)
+    chosen_alike scene world None a = record { world = refl; stacks = a }
+    chosen_alike scene world (Some k) a = turned_alike scene world k a
+
+    -- ---- the start of a turn
+    both_states : (now : Bool) (s s' : State B) (t t' : State C) → StatesAlike s t → StatesAlike s' t' → StatesAlike (cond now s s') (cond now t t')
+    both_states true s s' t t' a b = a
+    both_states false s s' t t' a b = b
+
+    call_alike : (s : State B) (t : State C) (call : CallShape) → StatesAlike s t → StatesAlike (call_started s call) (call_started t call)
+    call_alike s t call a =
+        record { world = ap (λ (w : World). goes_to_wait w.started (Some call.instance) (record w { started = w.started + 1 })) a.world; stacks = append_alike (more_frames (both_enter (Some call.instance) (ByMethod call.function) call.arguments) no_frames) a.stacks }
+
+    calls_alike : (calls : List CallShape) (s : State B) (t : State C) → StatesAlike s t → StatesAlike (calls_started calls s) (calls_started calls t)
+    calls_alike [] s t a = a
+    calls_alike (call ∷ rest) s t a =
+        calls_alike rest _ _ (subst (λ n. StatesAlike (cond (eqb call.turn s.world.turn) (call_started s call) s) (cond (eqb call.turn n) (call_started t call) t)) (ap (λ (w : World). w.turn) a.world) (both_states (eqb call.turn s.world.turn) (call_started s call) s (call_started t call) t (call_alike s t call a) a))
+
+    waits_alike : (sleepers : List (ℕ × ℕ)) (world : World) {ss : List (List (Frame B))} {ts : List (List (Frame C))} → StacksAlike ss ts → all_wait ss sleepers world ≡ all_wait ts sleepers world
+    waits_alike [] world a = refl
+    waits_alike (first ∷ rest) world {ss} {ts} a =
+        ap (λ o. all_wait ss rest (goes_to_wait first.0 o world)) (same_inner (frames_alike first.0 a)) ∙ waits_alike rest (goes_to_wait first.0 (inner_instance (frames_of ts first.0)) world) a
+
+    awoken_world : World → World
+    awoken_world world = record world { asleep = filter (not_due world.turn) world.asleep }
+
+    awoken_alike : (s : State B) (t : State C) → StatesAlike s t → StatesAlike (awoken s) (awoken t)
+    awoken_alike s t a = record {
+      world = waits_alike (filter (is_due s.world.turn) s.world.asleep) (record s.world { asleep = filter (not_due s.world.turn) s.world.asleep }) a.stacks ∙ ap (λ (w : World). all_wait t.stacks (filter (is_due w.turn) w.asleep) (record w { asleep = filter (not_due w.turn) w.asleep })) a.world;
+      stacks = a.stacks;
+    }
+
+    pub step_alike : (scene : SceneShape) (s : State B) (t : State C) → StatesAlike s t → StatesAlike (step scene left s) (step scene right t)
+    step_alike scene s t a =
+        let b : StatesAlike (begun scene s) (begun scene t) = awoken_alike (calls_started scene.calls s) (calls_started scene.calls t) (calls_alike scene.calls s t a) in
+        let here : StatesAlike (step scene left s) (chosen_turned scene right (record { world = (begun scene s).world; stacks = (begun scene t).stacks }) (chosen scene.order (begun scene s).world)) = chosen_alike scene (begun scene s).world (chosen scene.order (begun scene s).world) b.stacks in
+        subst (λ (w : World). StatesAlike (step scene left s) (chosen_turned scene right (record { world = w; stacks = (begun scene t).stacks }) (chosen scene.order w))) b.world here
+
+    -- ---- runs
+    abbrev worlds_of : {Body : Type 0} → List (State Body) → List World
+    worlds_of states = map (λ state. state.world) states
+
+    same_tail : (ended : Bool) (more : List (State B)) (more' : List (State C)) → worlds_of more ≡ worlds_of more' → worlds_of (cond ended [] more) ≡ worlds_of (cond ended [] more')
+    same_tail true more more' e = refl
+    same_tail false more more' e = e
+
+    pub same_worlds : (scene : SceneShape) (turns : ℕ) (s : State B) (t : State C) → StatesAlike s t → worlds_of (states_from scene left turns s) ≡ worlds_of (states_from scene right turns t)
+    same_worlds scene zero s t a = ap (λ (w : World). w ∷ []) a.world
+    same_worlds scene (suc turns) s t a =
+        let more : worlds_of (cond (has_ended scene s.world) [] (states_from scene left turns (step scene left s))) ≡ worlds_of (cond (has_ended scene t.world) [] (states_from scene right turns (step scene right t))) = same_tail (has_ended scene s.world) _ _ (same_worlds scene turns (step scene left s) (step scene right t) (step_alike scene s t a)) ∙ ap (λ (w : World). worlds_of (cond (has_ended scene w) [] (states_from scene right turns (step scene right t)))) a.world in
+        λ i. a.world i ∷ more i
+
+    pub same_runs : (scene : SceneShape) (outline : List ScriptShape) (kinds : List DeviceKind) (turns : ℕ) → worlds_of (states_from scene left turns (first_state outline scene kinds)) ≡ worlds_of (states_from scene right turns (first_state outline scene kinds))
+    same_runs scene outline kinds turns =
+        same_worlds scene turns (first_state outline scene kinds) (first_state outline scene kinds) (record { world = refl; stacks = no_stacks })

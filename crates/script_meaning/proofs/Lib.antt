@@ -1,0 +1,11 @@
+pub mod Alike
+pub mod BodiesFit
+pub mod Counts
+pub mod Examples
+pub mod Rows
+pub mod Runs
+pub mod Standing
+pub mod StepBounds
+pub mod Steps
+pub mod Touches
+pub mod TurnBounds

@@ -1,0 +1,285 @@
+-- Each stack stands once, but for some that stand nowhere while they go from one place to another.
+use Rattle.std.proofs.Common.{◌≡◌, ◌≢◌, ℕ, ◌+◌, ◌<◌, ◌≤◌, Bool, true, false, cond, not, ◌&&◌, ◌||◌, ◌⊎◌, List, [], ◌∷◌, Option, Some, None, refl, sym, ap, subst, ◌∙◌, inl, inr, arith}
+use Rattle.std.specs.Prelude.{length, slice_set}
+use Rattle.std.specs.List.{list_any, AllByRecursion}
+use Rattle.std.proofs.lemmas.Bool.{eqb-true, eqb-false, ltb-true, ltb-false}
+use Rattle.std.proofs.lemmas.List.{get_or-set_other, get_or-set_same, length-set}
+use Rattle.std.proofs.Math.Dec.{eqb, ltb}
+use Rattle.core_tree.specs.Device.{DeviceState}
+use Rattle.script_meaning.specs.Exclusive.{how_many, is_number, first_is, standings, IsOnInstance, IsOnNone, IsEmpty, Exclusive}
+use Rattle.script_meaning.specs.Locks.{with_pair, is_other, second_is, second_is_other, let_go, goes_to_wait, sleeps, ends, waited_for, becomes_owner, takes, stack_of, is_owned, is_stack, is_next, is_ready}
+use Rattle.script_meaning.specs.Stacks.{Frame, State, inner_instance, frames_of}
+use Rattle.script_meaning.specs.World.{World, Instance, ArrayState, Line}
+use Rattle.script_meaning.proofs.Counts.{same_or_not, how_many-append, how_many-without_second, how_many-without_number, how_many-with_number, how_many-with_pair, how_many-filter, some_pass, none_pass, all_step, all-append, all-filter, all-with_number, all-with_pair, all_others, waits_for}
+
+-- each stack stands once in the world or is one of these
+pub record StandsBut {Body : Type 0} (away : List ℕ) (world : World) (stacks : List (List (Frame Body))) : Type 0 where
+  pub one_owner : (instance : ℕ) → how_many (first_is instance) world.owners ≤ 1
+  pub count : length stacks ≡ world.started
+  pub once : (k : ℕ) → k < world.started → standings world k + how_many (is_number k) away ≡ 1
+  pub none_else : (k : ℕ) → world.started ≤ k → standings world k + how_many (is_number k) away ≡ 0
+  pub owners : AllByRecursion (IsOnInstance stacks) world.owners
+  pub waiters : AllByRecursion (IsOnInstance stacks) world.waiters
+  pub free : AllByRecursion (IsOnNone stacks) world.free
+  pub done : AllByRecursion (IsEmpty stacks) world.done
+
+pub started_or_not : (k n : ℕ) → (k < n) ⊎ (n ≤ k)
+started_or_not k n =
+    elim (ltb k n) as (λ t. ltb k n ≡ t → (k < n) ⊎ (n ≤ k)) [
+      | true ↦ λ e. inl (ltb-true k n e)
+      | false ↦ λ e. inr (ltb-false k n e)
+    ] refl
+
+module _ {Body : Type 0} where
+  pub from_exclusive : (state : State Body) → Exclusive state → StandsBut [] state.world state.stacks
+  from_exclusive state e = record {
+    one_owner = e.one_owner;
+    count = e.stacks;
+    once = λ k h. let o = e.once k h in omega arith;
+    none_else = λ k h. let o = e.none_else k h in omega arith;
+    owners = e.owners;
+    waiters = e.waiters;
+    free = e.free;
+    done = e.done;
+  }
+
+  pub to_exclusive : (state : State Body) → StandsBut [] state.world state.stacks → Exclusive state
+  to_exclusive state s = record {
+    one_owner = s.one_owner;
+    stacks = s.count;
+    once = λ k h. let o = s.once k h in omega arith;
+    none_else = λ k h. let o = s.none_else k h in omega arith;
+    owners = s.owners;
+    waiters = s.waiters;
+    free = s.free;
+    done = s.done;
+  }
+
+  -- what else changes in a world changes nothing of this
+  pub with_rest : (away : List ℕ) (world : World) (stacks : List (List (Frame Body))) (turn : ℕ) (last : Option ℕ) (instances : List Instance) (arrays : List ArrayState) (devices : List DeviceState) (output : List Line) → StandsBut away world stacks → StandsBut away (record world { turn = turn; last = last; instances = instances; arrays = arrays; devices = devices; output = output }) stacks
+  with_rest away world stacks turn last instances arrays devices output s = record {
+    one_owner = s.one_owner;
+    count = s.count;
+    once = s.once;
+    none_else = s.none_else;
+    owners = s.owners;
+    waiters = s.waiters;
+    free = s.free;
+    done = s.done;
+  }
+
+-- ---- sums of the five counts
+-- a stack that owns an instance or is free lets go
+went_once : (t : Bool) (o w f a d : ℕ) → (t ≡ true → 1 ≤ o + f) → o + w + f + a + d + 0 ≡ 1 → cond t 0 o + w + cond t 0 f + a + d + (cond t 1 0 + 0) ≡ 1
+went_once true o w f a d r h = let p = r refl in omega arith
+went_once false o w f a d r h = omega arith
+
+went_none : (t : Bool) (o w f a d : ℕ) → (t ≡ true → 1 ≤ o + f) → o + w + f + a + d + 0 ≡ 0 → cond t 0 o + w + cond t 0 f + a + d + (cond t 1 0 + 0) ≡ 0
+went_none true o w f a d r h = let p = r refl in absurd (omega arith)
+went_none false o w f a d r h = omega arith
+
+-- a stack that waits becomes the owner
+took : (t : Bool) (o w f a d n : ℕ) → (t ≡ true → 1 ≤ w) → (n ≤ 1) → o + w + f + a + d + 0 ≡ n → (cond t 1 0 + o) + cond t 0 w + f + a + d + 0 ≡ n
+took true o w f a d n r b h = let p = r refl in omega arith
+took false o w f a d n r b h = omega arith
+
+abbrev pub runs : World → ℕ → Type 0
+runs world k = 1 ≤ how_many (second_is k) world.owners + how_many (is_number k) world.free
+
+runs_as : (world : World) (k n : ℕ) → runs world k → eqb k n ≡ true → runs world n
+runs_as world k n r t = subst (λ m. runs world m) (eqb-true k n t) r
+
+module _ {Body : Type 0} where
+  -- ---- letting go
+  pub let_go_stands : (world : World) (stacks : List (List (Frame Body))) (k : ℕ) → runs world k → StandsBut [] world stacks → StandsBut (k ∷ []) (let_go k world) stacks
+  let_go_stands world stacks k r s = record {
+    one_owner = λ i. let h = how_many-filter (first_is i) (second_is_other k) world.owners in let b = s.one_owner i in omega arith;
+    count = s.count;
+    once = λ n h. rw (how_many-without_second k n world.owners, how_many-without_number k n world.free) (went_once (eqb k n) (how_many (second_is n) world.owners) (how_many (second_is n) world.waiters) (how_many (is_number n) world.free) (how_many (first_is n) world.asleep) (how_many (is_number n) world.done) (runs_as world k n r) (s.once n h));
+    none_else = λ n h. rw (how_many-without_second k n world.owners, how_many-without_number k n world.free) (went_none (eqb k n) (how_many (second_is n) world.owners) (how_many (second_is n) world.waiters) (how_many (is_number n) world.free) (how_many (first_is n) world.asleep) (how_many (is_number n) world.done) (runs_as world k n r) (s.none_else n h));
+    owners = all-filter (IsOnInstance stacks) (second_is_other k) world.owners s.owners;
+    waiters = s.waiters;
+    free = all-filter (IsOnNone stacks) (is_other k) world.free s.free;
+    done = s.done;
+  }
+
+  -- ---- coming to a place
+  pub wait_stands : (world : World) (stacks : List (List (Frame Body))) (k : ℕ) (away : List ℕ) (instance : Option ℕ) → inner_instance (frames_of stacks k) ≡ instance → StandsBut (k ∷ away) world stacks → StandsBut away (goes_to_wait k instance world) stacks
+  wait_stands world stacks k away None e s = record {
+    one_owner = s.one_owner;
+    count = s.count;
+    once = λ n h. let c = how_many-with_number (is_number n) k world.free in let o = s.once n h in omega arith;
+    none_else = λ n h. let c = how_many-with_number (is_number n) k world.free in let o = s.none_else n h in omega arith;
+    owners = s.owners;
+    waiters = s.waiters;
+    free = all-with_number (IsOnNone stacks) k world.free e s.free;
+    done = s.done;
+  }
+  wait_stands world stacks k away (Some i) e s = record {
+    one_owner = s.one_owner;
+    count = s.count;
+    once = λ n h. let c = how_many-append (second_is n) world.waiters ((i, k) ∷ []) in let o = s.once n h in omega arith;
+    none_else = λ n h. let c = how_many-append (second_is n) world.waiters ((i, k) ∷ []) in let o = s.none_else n h in omega arith;
+    owners = s.owners;
+    waiters = all-append (IsOnInstance stacks) world.waiters (i, k) s.waiters e;
+    free = s.free;
+    done = s.done;
+  }
+
+  pub sleep_stands : (world : World) (stacks : List (List (Frame Body))) (k due : ℕ) (away : List ℕ) → StandsBut (k ∷ away) world stacks → StandsBut away (sleeps k due world) stacks
+  sleep_stands world stacks k due away s = record {
+    one_owner = s.one_owner;
+    count = s.count;
+    once = λ n h. let c = how_many-with_pair (first_is n) (k, due) world.asleep in let o = s.once n h in omega arith;
+    none_else = λ n h. let c = how_many-with_pair (first_is n) (k, due) world.asleep in let o = s.none_else n h in omega arith;
+    owners = s.owners;
+    waiters = s.waiters;
+    free = s.free;
+    done = s.done;
+  }
+
+  pub end_stands : (world : World) (stacks : List (List (Frame Body))) (k : ℕ) (away : List ℕ) → IsEmpty stacks k → StandsBut (k ∷ away) world stacks → StandsBut away (ends k world) stacks
+  end_stands world stacks k away e s = record {
+    one_owner = s.one_owner;
+    count = s.count;
+    once = λ n h. let c = how_many-with_number (is_number n) k world.done in let o = s.once n h in omega arith;
+    none_else = λ n h. let c = how_many-with_number (is_number n) k world.done in let o = s.none_else n h in omega arith;
+    owners = s.owners;
+    waiters = s.waiters;
+    free = s.free;
+    done = all-with_number (IsEmpty stacks) k world.done e s.done;
+  }
+
+-- ---- taking an instance
+or_true : (a b : Bool) → a || b ≡ true → (a ≡ true) ⊎ (b ≡ true)
+or_true true b h = inl refl
+or_true false b h = inr h
+
+not_first : (a b : Bool) → not a && b ≡ true → a ≡ false
+not_first true b h = absurd (cc)
+not_first false b h = refl
+
+self_equal : (k : ℕ) → eqb k k ≡ true
+self_equal k = elim (same_or_not k k) [ inl h ↦ h.1 | inr h ↦ absurd (h.0 refl) ]
+
+one_more_owner : (t : Bool) (c : ℕ) → (t ≡ true → c ≡ 0) → c ≤ 1 → cond t 1 0 + c ≤ 1
+one_more_owner true c z h = let e = z refl in omega arith
+one_more_owner false c z h = omega arith
+
+taken_runs : (world : World) (k i : ℕ) → runs (becomes_owner k (Some i) world) k
+taken_runs world k i =
+    let c = how_many-with_pair (second_is k) (i, k) world.owners in
+    let t = self_equal k in
+    let d : how_many (second_is k) (with_pair (i, k) world.owners) ≡ cond true 1 0 + how_many (second_is k) world.owners = subst (λ b. how_many (second_is k) (with_pair (i, k) world.owners) ≡ cond b 1 0 + how_many (second_is k) world.owners) t c in
+    omega arith
+
+module _ {Body : Type 0} where
+  pub has_started : (world : World) (stacks : List (List (Frame Body))) (k : ℕ) → StandsBut [] world stacks → 1 ≤ standings world k → k < world.started
+  has_started world stacks k s r =
+      elim (ltb k world.started) as (λ t. ltb k world.started ≡ t → k < world.started) [
+        | true ↦ λ e. ltb-true k world.started e
+        | false ↦ λ e. let z = s.none_else k (ltb-false k world.started e) in absurd (omega arith)
+      ] refl
+
+  taken_none : (world : World) (stacks : List (List (Frame Body))) (k : ℕ) → waited_for k world.waiters ≡ None → is_ready world k ≡ true → runs world k
+  taken_none world stacks k e ready =
+      elim (or_true (list_any (second_is k) world.owners || list_any (is_number k) world.free) (is_next world k (waited_for k world.waiters)) ready) [
+        | inl ab ↦ elim (or_true (list_any (second_is k) world.owners) (list_any (is_number k) world.free) ab) [
+          | inl a ↦ let n = some_pass (second_is k) world.owners a in omega arith
+          | inr b ↦ let n = some_pass (is_number k) world.free b in omega arith
+        ]
+        | inr c ↦ absurd (let d : is_next world k None ≡ true = subst (λ o. is_next world k o ≡ true) e c in cc)
+      ]
+
+  -- the instance that a ready stack waits for has no owner
+  unowned : (world : World) (stacks : List (List (Frame Body))) (k i : ℕ) → waited_for k world.waiters ≡ Some i → is_ready world k ≡ true → StandsBut [] world stacks → how_many (first_is i) world.owners ≡ 0
+  unowned world stacks k i e ready s =
+      let w = waits_for k world.waiters i (IsOnInstance stacks) s.waiters e in
+      let started : k < world.started = has_started world stacks k s (omega (arith, w.0)) in
+      let o = s.once k started in
+      elim (or_true (list_any (second_is k) world.owners || list_any (is_number k) world.free) (is_next world k (waited_for k world.waiters)) ready) [
+        | inl ab ↦ elim (or_true (list_any (second_is k) world.owners) (list_any (is_number k) world.free) ab) [
+          | inl a ↦ let n = some_pass (second_is k) world.owners a in absurd (omega (arith, w.0))
+          | inr b ↦ let n = some_pass (is_number k) world.free b in absurd (omega (arith, w.0))
+        ]
+        | inr c ↦
+            let d : is_next world k (Some i) ≡ true = subst (λ o. is_next world k o ≡ true) e c in
+            none_pass (first_is i) world.owners (not_first (is_owned world i) (is_stack k (stack_of world.waiters i)) d)
+      ]
+
+  taken_some : (world : World) (stacks : List (List (Frame Body))) (k i : ℕ) → waited_for k world.waiters ≡ Some i → is_ready world k ≡ true → StandsBut [] world stacks → StandsBut [] (becomes_owner k (Some i) world) stacks
+  taken_some world stacks k i e ready s =
+      let w = waits_for k world.waiters i (IsOnInstance stacks) s.waiters e in
+      let z = unowned world stacks k i e ready s in
+      let waiting : (n : ℕ) → eqb k n ≡ true → 1 ≤ how_many (second_is n) world.waiters = λ n t. subst (λ m. 1 ≤ how_many (second_is m) world.waiters) (eqb-true k n t) w.0 in record {
+        one_owner = λ j. rw (how_many-with_pair (first_is j) (i, k) world.owners) (one_more_owner (eqb i j) (how_many (first_is j) world.owners) (λ t. subst (λ m. how_many (first_is m) world.owners ≡ 0) (eqb-true i j t) z) (s.one_owner j));
+        count = s.count;
+        once = λ n h. rw (how_many-with_pair (second_is n) (i, k) world.owners, how_many-without_second k n world.waiters) (took (eqb k n) (how_many (second_is n) world.owners) (how_many (second_is n) world.waiters) (how_many (is_number n) world.free) (how_many (first_is n) world.asleep) (how_many (is_number n) world.done) 1 (waiting n) (omega arith) (s.once n h));
+        none_else = λ n h. rw (how_many-with_pair (second_is n) (i, k) world.owners, how_many-without_second k n world.waiters) (took (eqb k n) (how_many (second_is n) world.owners) (how_many (second_is n) world.waiters) (how_many (is_number n) world.free) (how_many (first_is n) world.asleep) (how_many (is_number n) world.done) 0 (waiting n) (omega arith) (s.none_else n h));
+        owners = all-with_pair (IsOnInstance stacks) (i, k) world.owners w.1 s.owners;
+        waiters = all-filter (IsOnInstance stacks) (second_is_other k) world.waiters s.waiters;
+        free = s.free;
+        done = s.done;
+      }
+
+  taken : (world : World) (stacks : List (List (Frame Body))) (k : ℕ) (o : Option ℕ) → waited_for k world.waiters ≡ o → is_ready world k ≡ true → StandsBut [] world stacks → StandsBut [] (becomes_owner k o world) stacks × runs (becomes_owner k o world) k
+  taken world stacks k None e ready s = (s, taken_none world stacks k e ready)
+  taken world stacks k (Some i) e ready s = (taken_some world stacks k i e ready s, taken_runs world k i)
+
+  pub take_stands : (world : World) (stacks : List (List (Frame Body))) (k : ℕ) → is_ready world k ≡ true → StandsBut [] world stacks → StandsBut [] (takes k world) stacks × runs (takes k world) k
+  take_stands world stacks k ready s = taken world stacks k (waited_for k world.waiters) refl ready s
+
+-- ---- new frames of one stack
+not_equal : (a b : ℕ) → eqb a b ≡ false → a ≢ b
+not_equal a b t = eqb-false a b t
+
+module _ {Body : Type 0} where
+  other_frames : (stacks : List (List (Frame Body))) (k n : ℕ) (frames : List (Frame Body)) → eqb n k ≡ false → frames_of (slice_set stacks k frames) n ≡ frames_of stacks n
+  other_frames stacks k n frames t = get_or-set_other stacks k n frames [] (not_equal n k t)
+
+  pub own_frames : (stacks : List (List (Frame Body))) (k : ℕ) (frames : List (Frame Body)) → k < length stacks → frames_of (slice_set stacks k frames) k ≡ frames
+  own_frames stacks k frames h = get_or-set_same stacks k frames [] h
+
+  same_inner : (stacks : List (List (Frame Body))) (k n : ℕ) (frames : List (Frame Body)) → k < length stacks → inner_instance frames ≡ inner_instance (frames_of stacks k) → inner_instance (frames_of (slice_set stacks k frames) n) ≡ inner_instance (frames_of stacks n)
+  same_inner stacks k n frames h e =
+      elim (same_or_not n k) [
+        | inl (p, t) ↦ subst (λ m. inner_instance (frames_of (slice_set stacks k frames) m) ≡ inner_instance (frames_of stacks m)) (sym p) (ap inner_instance (own_frames stacks k frames h) ∙ e)
+        | inr (p, t) ↦ ap inner_instance (other_frames stacks k n frames t)
+      ]
+
+  -- the innermost frame keeps its instance
+  pub kept_stands : (world : World) (stacks : List (List (Frame Body))) (k : ℕ) (frames : List (Frame Body)) → runs world k → inner_instance frames ≡ inner_instance (frames_of stacks k) → StandsBut [] world stacks → StandsBut [] world (slice_set stacks k frames)
+  kept_stands world stacks k frames r e s =
+      let started : k < world.started = has_started world stacks k s (omega (arith, r)) in
+      let o = s.once k started in
+      let inside : k < length stacks = omega (arith, s.count) in
+      let not_done : how_many (is_number k) world.done ≡ 0 = omega (arith, r) in
+      let inner = λ (n : ℕ). same_inner stacks k n frames inside e in record {
+        one_owner = s.one_owner;
+        count = length-set stacks k frames ∙ s.count;
+        once = s.once;
+        none_else = s.none_else;
+        owners = all_step world.owners (λ p a. inner p.1 ∙ a) s.owners;
+        waiters = all_step world.waiters (λ p a. inner p.1 ∙ a) s.waiters;
+        free = all_step world.free (λ n a. inner n ∙ a) s.free;
+        done = all_others (is_number k) world.done not_done (λ n t a. ap length (other_frames stacks k n frames t) ∙ a) s.done;
+      }
+
+  -- a stack that stands nowhere may have any frames
+  pub away_stands : (world : World) (stacks : List (List (Frame Body))) (k : ℕ) (frames : List (Frame Body)) → k < world.started → StandsBut (k ∷ []) world stacks → StandsBut (k ∷ []) world (slice_set stacks k frames)
+  away_stands world stacks k frames started s =
+      let t = self_equal k in
+      let o : standings world k + (cond true 1 0 + 0) ≡ 1 = subst (λ b. standings world k + (cond b 1 0 + 0) ≡ 1) t (s.once k started) in
+      let no_owner : how_many (second_is k) world.owners ≡ 0 = omega (arith, o) in
+      let no_waiter : how_many (second_is k) world.waiters ≡ 0 = omega (arith, o) in
+      let not_free : how_many (is_number k) world.free ≡ 0 = omega (arith, o) in
+      let not_done : how_many (is_number k) world.done ≡ 0 = omega (arith, o) in record {
+        one_owner = s.one_owner;
+        count = length-set stacks k frames ∙ s.count;
+        once = s.once;
+        none_else = s.none_else;
+        owners = all_others (second_is k) world.owners no_owner (λ p t a. ap inner_instance (other_frames stacks k p.1 frames t) ∙ a) s.owners;
+        waiters = all_others (second_is k) world.waiters no_waiter (λ p t a. ap inner_instance (other_frames stacks k p.1 frames t) ∙ a) s.waiters;
+        free = all_others (is_number k) world.free not_free (λ n t a. ap inner_instance (other_frames stacks k n frames t) ∙ a) s.free;
+        done = all_others (is_number k) world.done not_done (λ n t a. ap length (other_frames stacks k n frames t) ∙ a) s.done;
+      }

@@ -1,0 +1,5 @@
+use Rattle.script_meaning.proofs.Alike.{same_runs}
+use Rattle.script_meaning.proofs.related.related_engines_run_alike.Goals as goal
+
+pub returns : goal.returns
+returns g c = λ left right alike scene outline kinds turns. same_runs g.B.Related.related left right alike scene outline kinds turns

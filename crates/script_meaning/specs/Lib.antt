@@ -1,0 +1,15 @@
+pub mod Arrays
+pub mod Evaluation
+pub mod Exclusive
+pub mod First
+pub mod InnerSteps
+pub mod Locks
+pub mod Related
+pub mod Report
+pub mod Requests
+pub mod Source
+pub mod Stacks
+pub mod Touch
+pub mod Turns
+pub mod Values
+pub mod World
