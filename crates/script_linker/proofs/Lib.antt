@@ -1,3 +1,4 @@
+pub mod FoundLemmas
 pub mod LinkLemmas
 pub mod LookupLemmas
 pub mod TableLemmas

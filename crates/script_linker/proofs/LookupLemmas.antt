@@ -1,5 +1,5 @@
 -- What a step upward is in the list of files, and what it leaves of the look-ups.
-use Rattle.std.proofs.Common.{ℕ, zero, suc, [], ◌∷◌, ◌≡◌, ◌≢◌, ◌<◌, ◌≤◌, List, length, map, get_or, Option, Some, None, IfSome, IsTrue, is_some, not, Bool, true, false, ◌↔◌, option_and_then, slice_get, refl, sym, ap, subst, ◌∙◌, ⊎_elim, arith}
+use Rattle.std.proofs.Common.{ℕ, zero, suc, [], ◌∷◌, ◌≡◌, ◌≢◌, ◌<◌, ◌≤◌, List, length, map, get_or, Option, Some, None, IfSome, IsTrue, is_some, not, Bool, true, false, ◌↔◌, option_and_then, refl, sym, ap, subst, ◌∙◌, ⊎_elim, arith}
 use Rattle.std.proofs.lemmas.List.{length-map}
 use Rattle.std.proofs.lemmas.List.{get_or_default, get_or_past}
 use Rattle.std.proofs.lemmas.Bool.{cases_lt}
@@ -154,14 +154,14 @@ module _ (parents : List (Option ℕ)) (ranks : List ℕ) (same : length ranks �
 pub function_place-fits : (files : List SourceFile) (n place : ℕ) → HasNumbers files → IsFunctionOf files (n, place) → place < 65536
 function_place-fits files n place numbers of =
     ⊎_elim
-    (λ some. omega (arith, numbers.functions n some.0 of.0, of.1 some.0))
+    (λ some. omega (arith, (numbers.members n some.0 of.0).0, of.1 some.0))
     (λ none. absurd (omega (arith, none.0, of.0)))
     (slice_get_cases files n).1
 
 pub property_place-fits : (files : List SourceFile) (n place : ℕ) → HasNumbers files → IsPropertyOf files (n, place) → place < 65536
 property_place-fits files n place numbers of =
     ⊎_elim
-    (λ some. omega (arith, numbers.properties n some.0 of.0, of.1 some.0))
+    (λ some. omega (arith, (numbers.members n some.0 of.0).1, of.1 some.0))
     (λ none. absurd (omega (arith, none.0, of.0)))
     (slice_get_cases files n).1
 

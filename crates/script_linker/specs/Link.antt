@@ -1,6 +1,8 @@
 -- How the scripts of a set come from the files.
-use Rattle.std.specs.Prelude.{ℕ, ◌≡◌, ◌+◌, ◌<◌, List, ◌++◌, length, slice_index_or}
+use Rattle.std.specs.Prelude.{ℕ, ◌≡◌, ◌+◌, ◌<◌, List, ◌++◌, length, slice_index_or, Contains}
 use Rattle.script_parser.specs.declared.script.Function.{Function}
+use Rattle.script_parser.specs.declared.script.Script.{Script}
+use Rattle.script_linker.specs.Lines.{lines_of, own_lines}
 use Rattle.script_linker.specs.declared.set.SourceFile.{SourceFile}
 use Rattle.script_linker.specs.declared.fault.LinkFault.{LinkFault}
 use Rattle.script_linker.specs.declared.fault.LinkFault.TheVariants.{Broken, OutOfMemory}
@@ -22,7 +24,21 @@ pub record AreFilesOf (files set : List SourceFile) : Type 0 where
   pub count : length set ≡ length files + 6
   pub each : (n : ℕ) (file : SourceFile) → n < length files → IsCompleted (slice_index_or files n file) (slice_index_or set (n + 6) file)
 
--- a broken rule stands in one of so many files
-abbrev pub IsFaultAmong : ℕ → LinkFault → Type 0
-IsFaultAmong count (Broken file line rule) = file < count
-IsFaultAmong count OutOfMemory = Unit {0}
+-- a broken rule stands in one of these files, on a line of its script
+abbrev pub IsFaultOf : List SourceFile → LinkFault → Type 0
+IsFaultOf files (Broken file line rule) =
+    (file < length files) × ((source : SourceFile) → Contains (lines_of (slice_index_or files file source).script) line)
+IsFaultOf files OutOfMemory = Unit {0}
+
+-- in a set a broken rule stands in a file behind the prelude, on one of the lines that are given for the file of a number
+abbrev pub IsFaultOn : (ℕ → Script → List ℕ) → List SourceFile → LinkFault → Type 0
+IsFaultOn lines set (Broken file line rule) =
+    (file + 6 < length set) × ((source : SourceFile) → Contains (lines file (slice_index_or set (file + 6) source).script) line)
+IsFaultOn lines set OutOfMemory = Unit {0}
+
+-- the lines of the file of a number, where so many functions of each file are its own
+abbrev pub declared_lines : List ℕ → ℕ → Script → List ℕ
+declared_lines declared file script = own_lines (slice_index_or declared file 0) script
+
+abbrev pub function_count : SourceFile → ℕ
+function_count file = length file.script.functions.items

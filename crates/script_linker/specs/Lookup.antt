@@ -1,6 +1,7 @@
 -- What the look-ups of a set of scripts find, said of the list of its files.
 use Rattle.std.specs.Prelude.{ℕ, ◌≡◌, ◌<◌, ◌≤◌, List, [], ◌∷◌, take, codes, nat_lt, if◌then◌else◌, length, map, Option, Some, None, option_and_then, slice_get, slice_index, slice_index_or}
 use Rattle.papy_base.specs.Case.{folded}
+use Rattle.script_parser.specs.declared.script.Script.{Script}
 use Rattle.script_parser.specs.declared.script.Function.{Function}
 use Rattle.script_parser.specs.declared.script.Property.{Property}
 use Rattle.script_linker.specs.declared.set.SourceFile.{SourceFile}
@@ -100,8 +101,14 @@ HasPreludeParents parents = (n p : ℕ) → n < 6 → parent_at parents n ≡ So
 abbrev pub first_rank : ℕ → ℕ
 first_rank n = if nat_lt n 4 then 1 else (if nat_lt n 6 then 2 else 0)
 
--- the numbers of scripts and the places of their functions and properties have 16 bits
+-- the places of a script's functions and properties have 16 bits
+abbrev pub HasFewMembers : Script → Type 0
+HasFewMembers script = (length script.functions.items < 65536) × (length script.properties.items < 65536)
+
+abbrev pub HasSmallScript : SourceFile → Type 0
+HasSmallScript file = HasFewMembers file.script
+
+-- so do the numbers of scripts
 pub record HasNumbers (files : List SourceFile) : Type 0 where
   pub scripts : length files < 65536
-  pub functions : (n : ℕ) (file : SourceFile) → n < length files → length (slice_index_or files n file).script.functions.items < 65536
-  pub properties : (n : ℕ) (file : SourceFile) → n < length files → length (slice_index_or files n file).script.properties.items < 65536
+  pub members : (n : ℕ) (file : SourceFile) → n < length files → HasSmallScript (slice_index_or files n file)

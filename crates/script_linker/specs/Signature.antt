@@ -1,5 +1,5 @@
 -- When two functions give and take the same, and what the places of functions ask for.
-use Rattle.std.specs.Prelude.{ℕ, ◌≡◌, ◌<◌, ◌⊎◌, true, false, List, [], ◌∷◌, length, codes, Option, Some, None, Bool, IsTrue, is_none, is_some, drop, position, MatchOption, slice_index_or}
+use Rattle.std.specs.Prelude.{ℕ, ◌≡◌, ◌<◌, ◌⊎◌, false, List, [], ◌∷◌, length, codes, Option, Some, None, Bool, IsTrue, is_none, is_some, drop, position, MatchOption, slice_index_or}
 use Rattle.std.specs.List.{list_any}
 use Rattle.papy_base.specs.Case.{SameIgnoringCase}
 use Rattle.line_parser.specs.declared.tree.TypeName.{TypeName}

@@ -1,4 +1,7 @@
 // The order in which broken rules of a file are reported.
+ghost use Rattle.std.specs.Prelude.{◌≡◌, [], ◌∷◌};
+ghost use Rattle.script_linker.specs.Found.{FindsAmong};
+
 use crate::fault::LinkRule;
 
 /// A broken rule, and the line of the thing that breaks it.
@@ -16,12 +19,16 @@ pub(crate) struct Earliest {
 }
 
 impl Earliest {
-    pub(crate) fn none() -> Earliest {
+    pub(crate) fn none() -> Earliest
+        ensures { result.found ≡ None }
+    {
         Earliest { found: None }
     }
 
     /// Notes whether the thing of this line breaks the rule.
-    pub(crate) fn note(&mut self, is_broken: bool, line: u16, rule: LinkRule) {
+    pub(crate) fn note(&mut self, is_broken: bool, line: u16, rule: LinkRule)
+        ensures { FindsAmong (line ∷ []) self.old self.new }
+    {
         if !is_broken {
             return;
         }

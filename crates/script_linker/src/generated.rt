@@ -1,9 +1,8 @@
 // The four members that every script without parent has.
-ghost use Rattle.std.specs.Prelude.{◌≡◌, ◌+◌, ℕ, List, ◌++◌, OnOk, IfOk, vec_len, length};
+ghost use Rattle.std.specs.Prelude.{◌≡◌, ◌≤◌, ◌+◌, ℕ, List, ◌++◌, OnOk, IfOk, vec_len, length};
 ghost use Rattle.script_linker.specs.Link.{IsCompleted, AreCompleted};
 
 use crate::parts::{empty_event, function, heading, parameter, type_name};
-use crate::prelude::LIBRARY_COUNT;
 use crate::set::SourceFile;
 use line_parser::Expr;
 use papy_base::{Name, OutOfMemory};
@@ -14,12 +13,12 @@ use std::alloc::Global;
 /// The variable that holds the name of an instance's state. No script can write this word.
 const STATE_WORD: &[u8] = b"::State";
 
-/// Adds to each script without parent, but to no library, those of the members GotoState, GetState,
-/// OnBeginState and OnEndState that it doesn't declare, in this order.
+/// Adds to each script without parent those of the members GotoState, GetState, OnBeginState and
+/// OnEndState that it doesn't declare, in this order.
 pub(crate) fn add_generated(alloc: Global, files: &mut Vec<SourceFile>) -> Result<(), OutOfMemory>
     ensures { OnOk result (AreCompleted files.old.items files.new.items) }
 {
-    for number in LIBRARY_COUNT..files.len() {
+    for number in 0..files.len() {
         let file = &mut files[number];
         complete(alloc, file)?;
     }
@@ -37,8 +36,13 @@ fn complete(alloc: Global, file: &mut SourceFile) -> Result<(), OutOfMemory>
     Ok(())
 }
 
-// Those of the four members that these functions lack.
-fn lacking_members(alloc: Global, functions: &[Function]) -> Result<Vec<Function>, OutOfMemory> {
+/// Those of the four members that these functions lack.
+pub(crate) fn lacking_members(
+    alloc: Global,
+    functions: &[Function],
+) -> Result<Vec<Function>, OutOfMemory>
+    ensures { IfOk result (λ added. vec_len added ≤ 4) }
+{
     let mut added = Vec::with_capacity(alloc, 4)?;
     if lacks(functions, b"GotoState") {
         added.push(goto_state(alloc)?)?;

@@ -1,7 +1,9 @@
-ghost use Rattle.std.specs.Prelude.{◌≡◌, ℕ, ◌-◌, ◌<◌, ◌≤◌, length, slice_index, IfOk, IfErr, OnOk, vec_len};
-ghost use Rattle.script_linker.specs.declared.fault.LinkFault.TheVariants.{Broken, OutOfMemory as LinkOutOfMemory};
-ghost use Rattle.script_linker.specs.Lookup.{IsRanked, StartsWithPrelude};
-ghost use Rattle.script_linker.specs.Link.{AreFilesOf, IsFaultAmong};
+ghost use Rattle.std.specs.Prelude.{◌≡◌, ℕ, ◌+◌, ◌-◌, ◌<◌, ◌≤◌, All, drop, length, map, slice_index, slice_index_or, take, IfOk, IfErr, OnOk, vec_len};
+ghost use Rattle.script_linker.specs.declared.fault.LinkFault.TheVariants.{Broken};
+ghost use Rattle.script_linker.specs.declared.set.SourceFile.{SourceFile};
+ghost use Rattle.script_linker.specs.Lookup.{HasSmallScript, IsRanked, StartsWithPrelude};
+ghost use Rattle.script_linker.specs.Lines.{heading_lines};
+ghost use Rattle.script_linker.specs.Link.{AreFilesOf, IsFaultOf, IsFaultOn, declared_lines, function_count};
 
 use crate::earliest::Found;
 use crate::fault::{LinkFault, LinkRule};
@@ -20,38 +22,53 @@ use std::alloc::Global;
 ///
 /// `Broken` comes where a rule of a set is broken, with the first one: those of N1 to N5 over all files
 /// stand before those of N6 to N12, and each of the two lists is in order of file, line and rule.
-pub fn link(alloc: Global, files: Vec<SourceFile>) -> Result<ScriptSet, LinkFault>
+pub fn link(alloc: Global, mut files: Vec<SourceFile>) -> Result<ScriptSet, LinkFault>
     requires { vec_len files < 65530 }
     ensures files { IfOk result (AreFilesOf files.items) }
     ensures prelude { IfOk result StartsWithPrelude }
-    ensures broken { IfErr result (IsFaultAmong (vec_len files)) }
+    ensures broken { IfErr result (IsFaultOf files.items) }
 {
-    let mut set = behind_prelude(alloc, files)?;
-    let declared = function_counts(alloc, set.as_slice())?;
-    add_generated(alloc, &mut set)?;
+    let declared = function_counts(alloc, files.as_slice())?;
+    add_generated(alloc, &mut files)?;
+    let set = behind_prelude(alloc, files)?;
     link_set(alloc, set, declared.as_slice())
+}
+
+fn function_counts(alloc: Global, files: &[SourceFile]) -> Result<Vec<usize>, OutOfMemory>
+    ensures { IfOk result (λ counts. counts.items ≡ map function_count files.now) }
+{
+    let mut counts = Vec::with_capacity(alloc, files.len())?;
+    for file in files {
+        counts.push(file.script.functions.len())?;
+    }
+    Ok(counts)
 }
 
 // The prelude's files, and then these.
 fn behind_prelude(alloc: Global, mut files: Vec<SourceFile>) -> Result<Vec<SourceFile>, OutOfMemory>
     ensures start { IfOk result (λ set. StartsWithPrelude set.items) }
-    ensures files { IfOk result (λ set. AreFilesOf files.items set.items) }
+    ensures small { IfOk result (λ set. All HasSmallScript (take 6 set.items)) }
+    ensures count { IfOk result (λ set. vec_len set ≡ vec_len files + 6) }
+    ensures files { IfOk result (λ set. drop 6 set.items ≡ files.items) }
 {
     let mut set = prelude_files(alloc)?;
     set.append(&mut files)?;
     Ok(set)
 }
 
+// The set of these files, of whose functions the first ones, as many as `declared` says of each file
+// behind the prelude, are their own.
 fn link_set(
     alloc: Global,
     files: Vec<SourceFile>,
     declared: &[usize],
 ) -> Result<ScriptSet, LinkFault>
     requires start { StartsWithPrelude files.items }
+    requires small { All HasSmallScript (take 6 files.items) }
     requires count { vec_len files < 65536 }
-    requires declared { length declared.now ≡ vec_len files }
+    requires declared { length declared.now + 6 ≡ vec_len files }
     ensures files { IfOk result (λ set. set ≡ files.items) }
-    ensures broken { IfErr result (IsFaultAmong (vec_len files - 6)) }
+    ensures broken { IfErr result (IsFaultOn (declared_lines declared.now) files.items) }
 {
     let names = NameTable::of_places(alloc, files.as_slice())?;
     let parents = parent_numbers(alloc, files.as_slice(), &names)?;
@@ -63,7 +80,7 @@ fn link_set(
     refuse_circle(files.as_slice(), rank_list)?;
     let scripts = Scripts::new(alloc, files, parents, ranks)?;
     judge_members(alloc, &scripts, declared)?;
-    finished(scripts)
+    Ok(ScriptSet { scripts })
 }
 
 fn judge_scripts(
@@ -77,7 +94,7 @@ fn judge_scripts(
     requires count { length files.now < 65536 }
     requires parents { length parents.now ≡ length files.now }
     requires children { vec_len peeled.now.children ≡ length files.now }
-    ensures { IfErr result (IsFaultAmong (length files.now - 6)) }
+    ensures { IfErr result (IsFaultOn (λ file. heading_lines) files.now) }
 {
     let file_names = NameTable::of_places(alloc, &files[PRELUDE_COUNT..])?;
     let survey = Survey {
@@ -100,7 +117,7 @@ fn refuse_circle(files: &[SourceFile], ranks: &[usize]) -> Result<(), LinkFault>
     requires ranks { length ranks.now ≡ length files.now }
     requires prelude { (n : ℕ) → n < 6 → 0 < slice_index ranks.now n }
     ensures ranked { OnOk result (IsRanked ranks.now) }
-    ensures broken { IfErr result (IsFaultAmong (length files.now - 6)) }
+    ensures broken { IfErr result (IsFaultOn (λ file. heading_lines) files.now) }
 {
     match first_unranked(ranks) {
         Some(number) => {
@@ -114,8 +131,10 @@ fn refuse_circle(files: &[SourceFile], ranks: &[usize]) -> Result<(), LinkFault>
 
 fn judge_members(alloc: Global, scripts: &Scripts, declared: &[usize]) -> Result<(), LinkFault>
     requires count { length scripts.now < 65536 }
-    requires declared { length declared.now ≡ length scripts.now }
-    ensures { IfErr result (IsFaultAmong (length scripts.now - 6)) }
+    requires declared { length declared.now + 6 ≡ length scripts.now }
+    ensures few { OnOk result
+        ((n : ℕ) (file : SourceFile) → 6 ≤ n → n < length scripts.now → HasSmallScript (slice_index_or scripts.now n file)) }
+    ensures broken { IfErr result (IsFaultOn (declared_lines declared.now) scripts.now) }
 {
     match first_member_fault(alloc, scripts, declared)? {
         Some((number, found)) => Err(fault(number, found)),
@@ -133,26 +152,4 @@ fn fault(number: usize, found: Found) -> LinkFault
         line: u32::from(found.line),
         rule: found.rule,
     }
-}
-
-// The set of scripts that break no rule.
-fn finished(scripts: Scripts) -> Result<ScriptSet, LinkFault>
-    ensures files { IfOk result (λ set. set ≡ scripts) }
-    ensures memory { IfErr result (λ fault. fault ≡ LinkOutOfMemory) }
-{
-    if !scripts.fits_numbers() {
-        // It never comes: so many members have over 20,000 names, or a name twice, and have been refused.
-        return Err(LinkFault::OutOfMemory);
-    }
-    Ok(ScriptSet { scripts })
-}
-
-fn function_counts(alloc: Global, files: &[SourceFile]) -> Result<Vec<usize>, OutOfMemory>
-    ensures { IfOk result (λ counts. vec_len counts ≡ length files.now) }
-{
-    let mut counts = Vec::with_capacity(alloc, files.len())?;
-    for file in files {
-        counts.push(file.script.functions.len())?;
-    }
-    Ok(counts)
 }

@@ -1,7 +1,11 @@
 // The rules N6 to N12, which speak of the members of scripts whose parents are known.
-ghost use Rattle.std.specs.Prelude.{◌≡◌, ◌<◌, ◌≤◌, ◌↔◌, ◌⊎◌, length, take, codes, IfOk, IfSome, IsTrue};
+ghost use Rattle.std.specs.Prelude.{◌≡◌, ℕ, ◌+◌, ◌-◌, ◌<◌, ◌≤◌, ◌↔◌, ◌⊎◌, [], ◌∷◌, ◌++◌, length, map, flat_map, take, codes, Contains, IfNone, IfOk, IfSome, OnOk, IsTrue, slice_index_or};
 ghost use Rattle.papy_base.specs.Case.{folded, SameIgnoringCase};
-ghost use Rattle.script_linker.specs.Lookup.{Nearest, parents_of, own_function};
+ghost use Rattle.script_linker.specs.Lookup.{HasFewMembers, HasSmallScript, Nearest, parents_of, own_function};
+ghost use Rattle.script_linker.specs.declared.set.SourceFile.{SourceFile};
+ghost use Rattle.script_linker.specs.Found.{FindsAmong};
+ghost use Rattle.script_linker.specs.Lines.{accessors, function_line, lines_with, own_lines, property_line, property_lines, state_lines, variable_line};
+ghost use Rattle.script_linker.specs.Link.{declared_lines};
 ghost use Rattle.script_linker.specs.Rules.{IsBelow};
 ghost use Rattle.script_linker.specs.Table.{number_in};
 
@@ -21,6 +25,9 @@ use std::alloc::Global;
 /// How many files a set has at most.
 const FILE_LIMIT: usize = 256;
 
+/// Places of functions and properties have 16 bits, and are below this.
+const MEMBER_LIMIT: usize = 65_536;
+
 /// How many different words, texts and documentation texts a file has at most.
 const WORD_LIMIT: u32 = 20_000;
 
@@ -31,11 +38,16 @@ pub(crate) fn first_member_fault(
     scripts: &Scripts,
     declared: &[usize],
 ) -> Result<Option<(usize, Found)>, OutOfMemory>
-    requires { length declared.now ≡ length scripts.now }
-    ensures { IfOk result (λ fault. IfSome fault (λ f. (6 ≤ f.0) × (f.0 < length scripts.now))) }
+    requires { length declared.now + 6 ≡ length scripts.now }
+    ensures file { IfOk result (λ fault. IfSome fault (λ f. (6 ≤ f.0) × (f.0 < length scripts.now))) }
+    ensures line { IfOk result (λ fault. IfSome fault
+        (λ f. (file : SourceFile) → Contains (declared_lines declared.now (f.0 - 6) (slice_index_or scripts.now f.0 file).script) f.1.line)) }
+    ensures few { IfOk result (λ fault. IfNone fault
+        ((n : ℕ) (file : SourceFile) → 6 ≤ n → n < length scripts.now → HasSmallScript (slice_index_or scripts.now n file))) }
 {
     for number in PRELUDE_COUNT..scripts.count() {
-        if let Some(found) = member_fault(alloc, scripts, number, declared[number])? {
+        let count = declared[number - PRELUDE_COUNT];
+        if let Some(found) = member_fault(alloc, scripts, number, count)? {
             return Ok(Some((number, found)));
         }
     }
@@ -50,27 +62,16 @@ fn member_fault(
 ) -> Result<Option<Found>, OutOfMemory>
     requires start { 6 ≤ number }
     requires script { number < length scripts.now }
+    ensures line { IfOk result (λ fault. IfSome fault
+        (λ found. (file : SourceFile) → Contains (own_lines declared (slice_index_or scripts.now number file).script) found.line)) }
+    ensures few { IfOk result (λ fault. IfNone fault
+        ((file : SourceFile) → HasSmallScript (slice_index_or scripts.now number file))) }
 {
     let script = &scripts.file(number).script;
-    let mut first = Earliest::none();
-    let passes_limit = passes_limit(number - PRELUDE_COUNT, script);
-    first.note(passes_limit, script.line, LinkRule::Limit);
-    judge_fields(alloc, script, &mut first)?;
     let functions = first_functions(script.functions.as_slice(), declared);
-    judge_list(alloc, functions, &mut first)?;
-    for function in functions {
-        let differs = differs_from_replaced(scripts, number, function);
-        first.note(differs, function.line, LinkRule::SignatureDiffers);
-    }
-    judge_states(alloc, scripts, number, script.states.as_slice(), &mut first)?;
-    judge_properties(
-        alloc,
-        scripts,
-        number,
-        script.properties.as_slice(),
-        &mut first,
-    )?;
-    Ok(first.found)
+    let mut first = Earliest::none();
+    judge_script(alloc, scripts, number, script, functions, &mut first)?;
+    Ok(found_or_limit(first.found, script))
 }
 
 fn first_functions(functions: &[Function], count: usize) -> &[Function]
@@ -83,27 +84,97 @@ fn first_functions(functions: &[Function], count: usize) -> &[Function]
     }
 }
 
+// The script of this number with these functions as its own.
+fn judge_script(
+    alloc: Global,
+    scripts: &Scripts,
+    number: usize,
+    script: &Script,
+    functions: &[Function],
+    first: &mut Earliest,
+) -> Result<(), OutOfMemory>
+    requires start { 6 ≤ number }
+    requires script { number < length scripts.now }
+    ensures { OnOk result (FindsAmong (lines_with functions.now script.now) first.old first.new) }
+{
+    let passes_limit = passes_limit(number - PRELUDE_COUNT, script);
+    first.note(passes_limit, script.line, LinkRule::Limit);
+    judge_fields(alloc, script, first)?;
+    judge_list(alloc, functions, first)?;
+    judge_replacing(scripts, number, functions, first);
+    judge_states(alloc, scripts, number, script.states.as_slice(), first)?;
+    judge_properties(alloc, scripts, number, script.properties.as_slice(), first)
+}
+
+// N12, where the script breaks no other rule: so many functions or properties have too many names, or
+// a name twice. No file has them.
+fn found_or_limit(found: Option<Found>, script: &Script) -> Option<Found>
+    ensures found { IfSome result (λ one. (found ≡ Some one) ⊎ (one.line ≡ script.now.line)) }
+    ensures few { IfNone result (HasFewMembers script.now) }
+{
+    if found.is_none() && !has_few_members(script) {
+        return Some(Found {
+            line: script.line,
+            rule: LinkRule::Limit,
+        });
+    }
+    found
+}
+
+fn has_few_members(script: &Script) -> bool
+    ensures { IsTrue result ↔ HasFewMembers script.now }
+{
+    script.functions.len() < MEMBER_LIMIT && script.properties.len() < MEMBER_LIMIT
+}
+
 // What every list of functions keeps, whatever stands around it.
 fn judge_list(
     alloc: Global,
     functions: &[Function],
     first: &mut Earliest,
-) -> Result<(), OutOfMemory> {
+) -> Result<(), OutOfMemory>
+    ensures { OnOk result (FindsAmong (map function_line functions.now) first.old first.new) }
+{
     let mut lines = NameTable::new(alloc);
     lines.note_lines(alloc, functions)?;
     for function in functions {
-        let repeats = repeats(alloc, &lines, function)?;
-        first.note(repeats, function.line, LinkRule::DuplicateMember);
-        let is_reserved = has_reserved_name(function);
-        first.note(is_reserved, function.line, LinkRule::DuplicateMember);
-        let is_late = has_late_parameter(function.heading.parameters.as_slice());
-        first.note(is_late, function.line, LinkRule::DefaultOrder);
+        judge_function(alloc, &lines, function, first)?;
     }
     Ok(())
 }
 
+// `lines` has the least line of each name in the function's list.
+fn judge_function(
+    alloc: Global,
+    lines: &NameTable,
+    function: &Function,
+    first: &mut Earliest,
+) -> Result<(), OutOfMemory>
+    ensures { OnOk result (FindsAmong (function.now.line ∷ []) first.old first.new) }
+{
+    let repeats = repeats(alloc, lines, function)?;
+    first.note(repeats, function.line, LinkRule::DuplicateMember);
+    let is_reserved = has_reserved_name(function);
+    first.note(is_reserved, function.line, LinkRule::DuplicateMember);
+    let is_late = has_late_parameter(function.heading.parameters.as_slice());
+    first.note(is_late, function.line, LinkRule::DefaultOrder);
+    Ok(())
+}
+
+fn judge_replacing(scripts: &Scripts, number: usize, functions: &[Function], first: &mut Earliest)
+    requires { number < length scripts.now }
+    ensures { FindsAmong (map function_line functions.now) first.old first.new }
+{
+    for function in functions {
+        let differs = differs_from_replaced(scripts, number, function);
+        first.note(differs, function.line, LinkRule::SignatureDiffers);
+    }
+}
+
 // The names of variables and properties, which share one name space.
-fn judge_fields(alloc: Global, script: &Script, first: &mut Earliest) -> Result<(), OutOfMemory> {
+fn judge_fields(alloc: Global, script: &Script, first: &mut Earliest) -> Result<(), OutOfMemory>
+    ensures { OnOk result (FindsAmong (map variable_line script.now.variables.items ++ map property_line script.now.properties.items) first.old first.new) }
+{
     let mut lines = NameTable::new(alloc);
     lines.note_lines(alloc, script.variables.as_slice())?;
     lines.note_lines(alloc, script.properties.as_slice())?;
@@ -116,7 +187,9 @@ fn judge_names<T: Declared>(
     lines: &NameTable,
     items: &[T],
     first: &mut Earliest,
-) -> Result<(), OutOfMemory> {
+) -> Result<(), OutOfMemory>
+    ensures { OnOk result (FindsAmong (map T.line_of items.now) first.old first.new) }
+{
     for item in items {
         let repeats = repeats(alloc, lines, item)?;
         first.note(repeats, item.line(), LinkRule::DuplicateMember);
@@ -132,17 +205,16 @@ fn judge_states(
     first: &mut Earliest,
 ) -> Result<(), OutOfMemory>
     requires { number < length scripts.now }
+    ensures { OnOk result (FindsAmong (flat_map state_lines states.now) first.old first.new) }
 {
     let mut lines = NameTable::new(alloc);
     lines.note_lines(alloc, states)?;
-    judge_names(alloc, &lines, states, first)?;
     let mut has_auto = false;
     for state in states {
-        first.note(
-            has_auto && state.is_auto,
-            state.line,
-            LinkRule::TwoAutoStates,
-        );
+        let repeats = repeats(alloc, &lines, state)?;
+        first.note(repeats, state.line, LinkRule::DuplicateMember);
+        let is_second = has_auto && state.is_auto;
+        first.note(is_second, state.line, LinkRule::TwoAutoStates);
         has_auto = has_auto || state.is_auto;
         judge_list(alloc, state.functions.as_slice(), first)?;
         judge_state_functions(scripts, number, state.functions.as_slice(), first);
@@ -157,6 +229,7 @@ fn judge_state_functions(
     first: &mut Earliest,
 )
     requires { number < length scripts.now }
+    ensures { FindsAmong (map function_line functions.now) first.old first.new }
 {
     for function in functions {
         let is_alone = stands_alone(scripts, number, function);
@@ -174,19 +247,32 @@ fn judge_properties(
     first: &mut Earliest,
 ) -> Result<(), OutOfMemory>
     requires { number < length scripts.now }
+    ensures { OnOk result (FindsAmong (flat_map property_lines properties.now) first.old first.new) }
 {
     for property in properties {
         let repeats = repeats_inherited(scripts, number, property);
         first.note(repeats, property.line, LinkRule::PropertyInParent);
-        if let PropertyForm::Full(functions) = &property.form {
-            judge_list(alloc, functions.as_slice(), first)?;
-            judge_accessors(&property.kind, functions.as_slice(), first);
-        }
+        judge_form(alloc, property, first)?;
     }
     Ok(())
 }
 
-fn judge_accessors(kind: &TypeName, functions: &[Function], first: &mut Earliest) {
+fn judge_form(alloc: Global, property: &Property, first: &mut Earliest) -> Result<(), OutOfMemory>
+    ensures { OnOk result (FindsAmong (map function_line (accessors property.now.form)) first.old first.new) }
+{
+    match &property.form {
+        PropertyForm::Full(functions) => {
+            judge_list(alloc, functions.as_slice(), first)?;
+            judge_accessors(&property.kind, functions.as_slice(), first);
+            Ok(())
+        }
+        PropertyForm::Auto(_) | PropertyForm::ReadOnly(_) => Ok(()),
+    }
+}
+
+fn judge_accessors(kind: &TypeName, functions: &[Function], first: &mut Earliest)
+    ensures { FindsAmong (map function_line functions.now) first.old first.new }
+{
     for function in functions {
         let differs = !is_accessor(&function.heading, kind);
         first.note(differs, function.line, LinkRule::SignatureDiffers);

@@ -10,13 +10,13 @@ use std::collections::HashMap;
 
 /// The least number that was noted for each name.
 #[derive(Drop)]
-pub(crate) struct NameTable {
+pub struct NameTable {
     numbers: HashMap<Vec<u8>, usize>,
 }
 
 impl NameTable {
     /// A table of no names.
-    pub(crate) fn new(alloc: Global) -> NameTable
+    pub fn new(alloc: Global) -> NameTable
         ensures { (bytes : List ℕ) → number_in result bytes ≡ None }
     {
         NameTable {
@@ -51,12 +51,7 @@ impl NameTable {
     }
 
     /// Notes a number for a name, unless a lesser one was noted before.
-    pub(crate) fn note(
-        &mut self,
-        alloc: Global,
-        name: &Name,
-        number: usize,
-    ) -> Result<(), OutOfMemory>
+    pub fn note(&mut self, alloc: Global, name: &Name, number: usize) -> Result<(), OutOfMemory>
         ensures { OnOk result (Notes self.old self.new name.now number) }
     {
         let folded = folded(alloc, name)?;
@@ -73,7 +68,7 @@ impl NameTable {
     }
 
     /// The least number that was noted for the name.
-    pub(crate) fn find(&self, alloc: Global, name: &Name) -> Result<Option<usize>, OutOfMemory>
+    pub fn find(&self, alloc: Global, name: &Name) -> Result<Option<usize>, OutOfMemory>
         ensures { IfOk result (λ found. found ≡ number_in self.now (folded_bytes name.now)) }
     {
         let folded = folded(alloc, name)?;
@@ -81,7 +76,7 @@ impl NameTable {
     }
 
     /// The same, of the name whose bytes these are once A to Z are read as a to z.
-    pub(crate) fn find_folded(&self, folded: &[u8]) -> Option<usize>
+    pub fn find_folded(&self, folded: &[u8]) -> Option<usize>
         ensures { result ≡ number_in self.now folded.now }
     {
         self.numbers.get(folded).copied()
@@ -98,7 +93,7 @@ fn lesser(number: usize, other: Option<usize>) -> usize
 }
 
 /// The bytes of a name with A to Z read as a to z.
-pub(crate) fn folded(alloc: Global, name: &Name) -> Result<Vec<u8>, OutOfMemory>
+pub fn folded(alloc: Global, name: &Name) -> Result<Vec<u8>, OutOfMemory>
     ensures { IfOk result (λ bytes. bytes.items ≡ folded_bytes name.now) }
 {
     let mut bytes = name.as_bytes().to_vec(alloc)?;
@@ -107,7 +102,7 @@ pub(crate) fn folded(alloc: Global, name: &Name) -> Result<Vec<u8>, OutOfMemory>
 }
 
 /// The same in the front of a buffer, where they fit.
-pub(crate) fn fold_into<'a>(buffer: &'a mut [u8], name: &Name) -> Option<&'a [u8]>
+pub fn fold_into<'a>(buffer: &'a mut [u8], name: &Name) -> Option<&'a [u8]>
     ensures { IfSome result (λ bytes. bytes.now ≡ folded_bytes name.now) }
 {
     let bytes = name.as_bytes();

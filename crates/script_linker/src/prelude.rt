@@ -1,7 +1,8 @@
 // The six scripts that every set begins with.
-ghost use Rattle.std.specs.Prelude.{◌≡◌, [], ◌∷◌, map, take, drop, codes, IfOk, vec_len};
-ghost use Rattle.script_linker.specs.Lookup.{StartsWithPrelude, script_name, script_parent, prelude_names, prelude_parents};
+ghost use Rattle.std.specs.Prelude.{◌≡◌, ◌<◌, [], ◌∷◌, All, map, take, drop, codes, IfOk, vec_len};
+ghost use Rattle.script_linker.specs.Lookup.{HasSmallScript, StartsWithPrelude, script_name, script_parent, prelude_names, prelude_parents};
 
+use crate::generated::lacking_members;
 use crate::parts::{empty_event, function, heading, parameter, type_name};
 use crate::set::SourceFile;
 use line_parser::{Heading, Parameter};
@@ -15,10 +16,12 @@ pub(crate) const PRELUDE_COUNT: usize = 6;
 /// How many scripts of the prelude, its first ones, are libraries and no types: Debug, Utility and Scene.
 pub(crate) const LIBRARY_COUNT: usize = 3;
 
-/// The scripts Debug, Utility, Scene, Form, Quest and ObjectReference, in files without a name.
+/// The scripts Debug, Utility, Scene, Form, Quest and ObjectReference, in files without a name. Form
+/// has the members that every script without parent has.
 pub(crate) fn prelude_files(alloc: Global) -> Result<Vec<SourceFile>, OutOfMemory>
     ensures start { IfOk result (λ files. StartsWithPrelude files.items) }
     ensures count { IfOk result (λ files. vec_len files ≡ 6) }
+    ensures few { IfOk result (λ files. All HasSmallScript files.items) }
 {
     let mut files = libraries(alloc)?;
     let mut types = types(alloc)?;
@@ -29,6 +32,7 @@ pub(crate) fn prelude_files(alloc: Global) -> Result<Vec<SourceFile>, OutOfMemor
 fn libraries(alloc: Global) -> Result<Vec<SourceFile>, OutOfMemory>
     ensures names { IfOk result (λ files. map script_name files.items ≡ take 3 prelude_names) }
     ensures parents { IfOk result (λ files. map script_parent files.items ≡ take 3 prelude_parents) }
+    ensures few { IfOk result (λ files. All HasSmallScript files.items) }
 {
     let debug = file(
         alloc,
@@ -54,8 +58,9 @@ fn libraries(alloc: Global) -> Result<Vec<SourceFile>, OutOfMemory>
 fn types(alloc: Global) -> Result<Vec<SourceFile>, OutOfMemory>
     ensures names { IfOk result (λ files. map script_name files.items ≡ drop 3 prelude_names) }
     ensures parents { IfOk result (λ files. map script_parent files.items ≡ drop 3 prelude_parents) }
+    ensures few { IfOk result (λ files. All HasSmallScript files.items) }
 {
-    let form = file(alloc, b"Form", None, Vec::new(alloc))?;
+    let form = file(alloc, b"Form", None, lacking_members(alloc, &[])?)?;
     let quest = child_of_form(alloc, b"Quest")?;
     let reference = child_of_form(alloc, b"ObjectReference")?;
     three(alloc, form, quest, reference)
@@ -65,6 +70,7 @@ fn types(alloc: Global) -> Result<Vec<SourceFile>, OutOfMemory>
 fn child_of_form(alloc: Global, name: &[u8]) -> Result<SourceFile, OutOfMemory>
     ensures names { IfOk result (λ file. file.script.name ≡ name.now) }
     ensures parents { IfOk result (λ file. file.script.parent ≡ Some (codes "Form")) }
+    ensures few { IfOk result HasSmallScript }
 {
     let form = Name::from_bytes(alloc, b"Form")?;
     file(
@@ -90,7 +96,9 @@ fn three(
     Ok(files)
 }
 
-fn one(alloc: Global, function: Function) -> Result<Vec<Function>, OutOfMemory> {
+fn one(alloc: Global, function: Function) -> Result<Vec<Function>, OutOfMemory>
+    ensures { IfOk result (λ functions. vec_len functions ≡ 1) }
+{
     let mut functions = Vec::with_capacity(alloc, 1)?;
     functions.push(function)?;
     Ok(functions)
@@ -142,7 +150,7 @@ fn file(
 ) -> Result<SourceFile, OutOfMemory>
     ensures names { IfOk result (λ file. file.script.name ≡ name.now) }
     ensures parents { IfOk result (λ file. file.script.parent ≡ parent) }
-    ensures functions { IfOk result (λ file. file.script.functions ≡ functions) }
+    ensures few { vec_len functions < 65536 → IfOk result HasSmallScript }
 {
     let script = Script {
         name: Name::from_bytes(alloc, name)?,

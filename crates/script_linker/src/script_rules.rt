@@ -1,8 +1,11 @@
 // The rules N1 to N5, which speak of scripts, parents and imports.
-ghost use Rattle.std.specs.Prelude.{◌≡◌, ◌<◌, ◌≤◌, ◌-◌, ◌↔◌, length, IfOk, IfSome, IsTrue, IsNone, vec_len, Option};
+ghost use Rattle.std.specs.Prelude.{◌≡◌, ◌<◌, ◌≤◌, ◌-◌, ◌↔◌, length, IfOk, IfSome, IsTrue, IsNone, OnOk, vec_len, Option, map, Contains, slice_index_or};
 ghost use Rattle.papy_base.specs.Case.{folded};
 ghost use Rattle.script_linker.specs.Table.{number_in};
 ghost use Rattle.script_linker.specs.Rules.{IsBelow, IsNoParent};
+ghost use Rattle.script_linker.specs.declared.set.SourceFile.{SourceFile};
+ghost use Rattle.script_linker.specs.Lines.{heading_lines, import_line};
+ghost use Rattle.script_linker.specs.Found.{FindsAmong};
 
 use crate::earliest::{Earliest, Found};
 use crate::fault::LinkRule;
@@ -33,7 +36,9 @@ pub(crate) fn first_script_fault(
     requires start { 6 ≤ length survey.now.files.now }
     requires parents { length survey.now.parents.now ≡ length survey.now.files.now }
     requires children { vec_len survey.now.peeled.now.children ≡ length survey.now.files.now }
-    ensures { IfOk result (λ fault. IfSome fault (λ f. (6 ≤ f.0) × (f.0 < length survey.now.files.now))) }
+    ensures file { IfOk result (λ fault. IfSome fault (λ f. (6 ≤ f.0) × (f.0 < length survey.now.files.now))) }
+    ensures line { IfOk result (λ fault. IfSome fault
+        (λ f. (file : SourceFile) → Contains (heading_lines (slice_index_or survey.now.files.now f.0 file).script) f.1.line)) }
 {
     for number in PRELUDE_COUNT..survey.files.len() {
         if let Some(found) = script_fault(alloc, survey, number)? {
@@ -52,6 +57,8 @@ fn script_fault(
     requires file { number < length survey.now.files.now }
     requires parents { length survey.now.parents.now ≡ length survey.now.files.now }
     requires children { vec_len survey.now.peeled.now.children ≡ length survey.now.files.now }
+    ensures { IfOk result (λ fault. IfSome fault
+        (λ found. (file : SourceFile) → Contains (heading_lines (slice_index_or survey.now.files.now number file).script) found.line)) }
 {
     let script = &survey.files[number].script;
     let mut first = Earliest::none();
@@ -68,11 +75,23 @@ fn script_fault(
     first.note(lacks_parent, script.line, LinkRule::UnknownParent);
     let is_above_itself = survey.peeled.children[number] != 0;
     first.note(is_above_itself, script.line, LinkRule::ExtendsCycle);
-    for (line, name) in &script.imports {
-        let is_unknown = is_unknown_script(alloc, survey.names, name)?;
-        first.note(is_unknown, *line, LinkRule::UnknownImport);
-    }
+    judge_imports(alloc, survey.names, script.imports.as_slice(), &mut first)?;
     Ok(first.found)
+}
+
+fn judge_imports(
+    alloc: Global,
+    names: &NameTable,
+    imports: &[(u16, Name)],
+    first: &mut Earliest,
+) -> Result<(), OutOfMemory>
+    ensures { OnOk result (FindsAmong (map import_line imports.now) first.old first.new) }
+{
+    for import in imports {
+        let is_unknown = is_unknown_script(alloc, names, &import.1)?;
+        first.note(is_unknown, import.0, LinkRule::UnknownImport);
+    }
+    Ok(())
 }
 
 // N1: whether an earlier file has the name.

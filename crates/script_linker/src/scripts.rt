@@ -3,18 +3,15 @@ ghost use Rattle.std.specs.Prelude.{◌≡◌, ℕ, ◌<◌, ◌↔◌, List, le
 ghost use Rattle.std.specs.Str.{bytes_eq};
 ghost use Rattle.papy_base.specs.Case.{folded};
 ghost use Rattle.script_linker.specs.Index.{HasFunctionTables, HasPropertyTables, Rises};
-ghost use Rattle.script_linker.specs.Lookup.{function_name, property_name, parents_of, parent_at, IsWithin, Nearest, StandsAbove, HasNoCircle, own_function, own_property, IsFunctionOf, IsPropertyOf, HasNumbers};
+ghost use Rattle.script_linker.specs.Lookup.{function_name, property_name, parents_of, parent_at, IsWithin, Nearest, StandsAbove, HasNoCircle, own_function, own_property, IsFunctionOf, IsPropertyOf};
 ghost use Rattle.script_linker.specs.Table.{place_of};
 
 use crate::name_table::{NameTable, fold_into};
 use crate::set::SourceFile;
 use papy_base::{Name, OutOfMemory};
-use script_parser::{Function, Property, Script};
+use script_parser::{Function, Property};
 use std::alloc::Global;
 use std::marker::Model;
-
-// Numbers of 16 bits are below this.
-const COUNT_LIMIT: usize = 65_536;
 
 // Names of scripts have at most this many bytes.
 const NAME_LIMIT: usize = 255;
@@ -146,14 +143,6 @@ impl Scripts {
         }
     }
 
-    /// Whether the numbers of scripts, and the places of functions and properties, have 16 bits.
-    pub(crate) fn fits_numbers(&self) -> bool
-        ensures { IsTrue result → HasNumbers self.now }
-    {
-        self.files.len() < COUNT_LIMIT
-            && self.files.iter().all(|file| has_few_members(&file.script))
-    }
-
     // The place of the script's own function of this name.
     fn own_function(&self, number: usize, name: &Name) -> Option<usize>
         requires { number < length self.now }
@@ -177,13 +166,6 @@ impl Scripts {
             None => property_place(self.files[number].script.properties.as_slice(), name),
         }
     }
-}
-
-fn has_few_members(script: &Script) -> bool
-    ensures { IsTrue result
-        ↔ ((length script.now.functions.items < 65536) × (length script.now.properties.items < 65536)) }
-{
-    script.functions.len() < COUNT_LIMIT && script.properties.len() < COUNT_LIMIT
 }
 
 fn function_tables(alloc: Global, files: &[SourceFile]) -> Result<Vec<NameTable>, OutOfMemory>

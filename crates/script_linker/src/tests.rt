@@ -1,224 +1,36 @@
-// Sets are written in short, a thing a line: `script NAME [PARENT]` begins a file, `function` adds to its
-// empty state, `method` to its last state and `accessor` to its last property. A function's other words
-// are `>TYPE` for its result, `global`, `native`, and the types of its parameters, with `=` for a default.
+// Sets are written as the texts of their files, parted by an empty line.
 use super::*;
-use line_parser::{Constant, Heading, Parameter, TypeName};
-use papy_base::{Name, OutOfMemory, Text};
-use script_parser::{Body, Function, Property, PropertyForm, Script, State, Variable};
+use papy_base::{Name, Text};
+use script_lexer::lex;
+use script_parser::parse_script;
 use std::alloc::Global;
+use std::process::Abort;
 use std::test::Fail;
 
-fn name(alloc: Global, word: Option<&str>) -> Result<Name, OutOfMemory> {
-    Name::from_bytes(alloc, word.unwrap_or("").as_bytes())
-}
-
-fn kind(alloc: Global, word: &str) -> Result<TypeName, OutOfMemory> {
-    Ok(TypeName {
-        word: Name::from_bytes(alloc, word.as_bytes())?,
-        is_array: false,
-    })
-}
-
-fn file(
-    alloc: Global,
-    word: Option<&str>,
-    parent: Option<&str>,
-) -> Result<SourceFile, OutOfMemory> {
-    let parent = match parent {
-        Some(parent) => Some(name(alloc, Some(parent))?),
-        None => None,
-    };
-    let script = Script {
-        name: name(alloc, word)?,
-        line: 1,
-        parent,
-        flags: 0,
-        doc: None,
-        imports: Vec::new(alloc),
-        variables: Vec::new(alloc),
-        properties: Vec::new(alloc),
-        functions: Vec::new(alloc),
-        states: Vec::new(alloc),
-        words: 0,
-    };
+fn source_file(alloc: Global, rt: &impl Abort, text: &str) -> Result<SourceFile, Fail> {
+    let lines = lex(alloc, text.as_bytes())?;
+    assert!(rt; lines.last < 65_536);
     Ok(SourceFile {
         name: Text::try_from_bytes(alloc, b"A.psc")?,
-        script,
+        script: parse_script(alloc, &lines)?,
     })
 }
 
-fn parameter(alloc: Global, word: &str) -> Result<Parameter, OutOfMemory> {
-    let (word, default) = match word.strip_suffix('=') {
-        Some(word) => (word, Some(Constant::NoneValue)),
-        None => (word, None),
-    };
-    Ok(Parameter {
-        kind: kind(alloc, word)?,
-        name: name(alloc, Some("p"))?,
-        default,
-    })
-}
-
-fn function(alloc: Global, text: &str, line: u16) -> Result<Function, OutOfMemory> {
-    let mut words = text.split_whitespace();
-    let _kind = words.next();
-    let mut heading = Heading {
-        result: None,
-        name: name(alloc, words.next())?,
-        parameters: Vec::new(alloc),
-        is_event: false,
-        is_global: false,
-        is_native: false,
-        flags: 0,
-    };
-    for word in words {
-        match word {
-            "global" => heading.is_global = true,
-            "native" => heading.is_native = true,
-            _ => match word.strip_prefix('>') {
-                Some(result) => heading.result = Some(kind(alloc, result)?),
-                None => heading.parameters.push(parameter(alloc, word)?)?,
-            },
-        }
-    }
-    Ok(Function {
-        heading,
-        doc: None,
-        body: Body::Native,
-        line,
-        end_line: line,
-    })
-}
-
-fn property(
+fn linked(
     alloc: Global,
-    word: Option<&str>,
-    form: PropertyForm,
-    line: u16,
-) -> Result<Property, OutOfMemory> {
-    Ok(Property {
-        kind: kind(alloc, "Int")?,
-        name: name(alloc, word)?,
-        form,
-        doc: None,
-        flags: 0,
-        line,
-    })
-}
-
-fn add_state(
-    alloc: Global,
-    script: &mut Script,
-    word: Option<&str>,
-    is_auto: bool,
-    line: u16,
-) -> Result<(), OutOfMemory> {
-    script.states.push(State {
-        name: name(alloc, word)?,
-        is_auto,
-        functions: Vec::new(alloc),
-        line,
-    })?;
-    Ok(())
-}
-
-fn add_variable(
-    alloc: Global,
-    script: &mut Script,
-    word: Option<&str>,
-    line: u16,
-) -> Result<(), OutOfMemory> {
-    script.variables.push(Variable {
-        kind: kind(alloc, "Int")?,
-        name: name(alloc, word)?,
-        value: None,
-        flags: 0,
-        line,
-    })?;
-    Ok(())
-}
-
-fn add_method(script: &mut Script, method: Function) -> Result<(), OutOfMemory> {
-    if let Some(state) = script.states.last_mut() {
-        state.functions.push(method)?;
-    }
-    Ok(())
-}
-
-fn add_accessor(script: &mut Script, accessor: Function) -> Result<(), OutOfMemory> {
-    if let Some(property) = script.properties.last_mut() {
-        if let PropertyForm::Full(functions) = &mut property.form {
-            functions.push(accessor)?;
-        }
-    }
-    Ok(())
-}
-
-// Adds the thing that a line says.
-fn add(alloc: Global, script: &mut Script, text: &str, line: u16) -> Result<(), OutOfMemory> {
-    let mut words = text.split_whitespace();
-    let kind = words.next().unwrap_or("");
-    let word = words.next();
-    match kind {
-        "import" => script.imports.push((line, name(alloc, word)?))?,
-        "variable" => add_variable(alloc, script, word, line)?,
-        "auto" => {
-            let form = PropertyForm::Auto(None);
-            script.properties.push(property(alloc, word, form, line)?)?;
-        }
-        "full" => {
-            let form = PropertyForm::Full(Vec::new(alloc));
-            script.properties.push(property(alloc, word, form, line)?)?;
-        }
-        "state" => add_state(alloc, script, word, false, line)?,
-        "autostate" => add_state(alloc, script, word, true, line)?,
-        "function" => script.functions.push(function(alloc, text, line)?)?,
-        "method" => add_method(script, function(alloc, text, line)?)?,
-        "accessor" => add_accessor(script, function(alloc, text, line)?)?,
-        "words" => script.words = word.unwrap_or("0").parse::<u32>().unwrap_or(0),
-        _ => {}
-    }
-    Ok(())
-}
-
-fn read(alloc: Global, text: &str) -> Result<Vec<SourceFile>, OutOfMemory> {
-    let mut files = Vec::new(alloc);
-    let mut line = 0u16;
-    for text in text.lines() {
-        let mut words = text.split_whitespace();
-        line = line.wrapping_add(1);
-        if words.next() == Some("script") {
-            line = 1;
-            let word = words.next();
-            files.push(file(alloc, word, words.next())?)?;
-        } else {
-            add_to_last(alloc, &mut files, text, line)?;
-        }
-    }
-    Ok(files)
-}
-
-fn add_to_last(
-    alloc: Global,
-    files: &mut Vec<SourceFile>,
+    rt: &impl Abort,
     text: &str,
-    line: u16,
-) -> Result<(), OutOfMemory> {
-    match files.last_mut() {
-        Some(file) => add(alloc, &mut file.script, text, line),
-        None => Ok(()),
+) -> Result<Result<ScriptSet, LinkFault>, Fail> {
+    let mut files = Vec::new(alloc);
+    for part in text.split("\n\n") {
+        files.push(source_file(alloc, rt, part)?)?;
     }
+    assert!(rt; files.len() < 65_530);
+    Ok(link(alloc, files))
 }
 
-fn fault_of(alloc: Global, text: &str) -> Result<Option<LinkFault>, Fail> {
-    let files = read(alloc, text)?;
-    if files.len() >= 65_530 {
-        return Ok(None);
-    }
-    match link(alloc, files) {
-        Ok(_) => Ok(None),
-        Err(fault) => Ok(Some(fault)),
-    }
+fn fault_of(alloc: Global, rt: &impl Abort, text: &str) -> Result<Option<LinkFault>, Fail> {
+    Ok(linked(alloc, rt, text)?.err())
 }
 
 fn broken(file: u16, line: u32, rule: LinkRule) -> Option<LinkFault> {
@@ -229,29 +41,51 @@ fn broken(file: u16, line: u32, rule: LinkRule) -> Option<LinkFault> {
 fn rules_of_scripts(rt: HostRuntime) -> Result<(), Fail> {
     let cases = [
         (
-            "script A\nscript a",
+            "ScriptName A\n\nScriptName a",
             broken(1, 1, LinkRule::DuplicateScript),
         ),
-        ("script A\nscript a1", None),
-        ("script form", broken(0, 1, LinkRule::PreludeName)),
-        ("script Forms", None),
-        ("script A Zed", broken(0, 1, LinkRule::UnknownParent)),
-        ("script A scene", broken(0, 1, LinkRule::UnknownParent)),
-        ("script A B\nscript B QUEST", None),
-        ("script A A", broken(0, 1, LinkRule::ExtendsCycle)),
+        ("ScriptName A\n\nScriptName a1", None),
+        ("ScriptName form", broken(0, 1, LinkRule::PreludeName)),
+        ("ScriptName Forms", None),
         (
-            "script A B\nscript B C\nscript C B",
-            broken(1, 1, LinkRule::ExtendsCycle),
+            "ScriptName A extends Zed",
+            broken(0, 1, LinkRule::UnknownParent),
         ),
-        ("script A B\nscript B C\nscript C Form", None),
         (
-            "script A\nimport B\nimport a",
-            broken(0, 2, LinkRule::UnknownImport),
+            "ScriptName A extends scene",
+            broken(0, 1, LinkRule::UnknownParent),
         ),
-        ("script A\nimport debug\nimport a", None),
+        ("ScriptName A extends B\n\nScriptName B extends QUEST", None),
     ];
     for (text, wanted) in cases {
-        assert_eq!(rt; fault_of(rt.alloc(), text)?, wanted, "{text}");
+        assert_eq!(rt; fault_of(rt.alloc(), &rt, text)?, wanted, "{text}");
+    }
+    Ok(())
+}
+
+#[test]
+fn rules_of_parents_and_imports(rt: HostRuntime) -> Result<(), Fail> {
+    let cases = [
+        (
+            "ScriptName A extends A",
+            broken(0, 1, LinkRule::ExtendsCycle),
+        ),
+        (
+            "ScriptName A extends B\n\nScriptName B extends C\n\nScriptName C extends B",
+            broken(1, 1, LinkRule::ExtendsCycle),
+        ),
+        (
+            "ScriptName A extends B\n\nScriptName B extends C\n\nScriptName C extends Form",
+            None,
+        ),
+        (
+            "ScriptName A\nImport B\nImport a",
+            broken(0, 2, LinkRule::UnknownImport),
+        ),
+        ("ScriptName A\nImport debug\nImport a", None),
+    ];
+    for (text, wanted) in cases {
+        assert_eq!(rt; fault_of(rt.alloc(), &rt, text)?, wanted, "{text}");
     }
     Ok(())
 }
@@ -260,46 +94,95 @@ fn rules_of_scripts(rt: HostRuntime) -> Result<(), Fail> {
 fn rules_of_names(rt: HostRuntime) -> Result<(), Fail> {
     let cases = [
         (
-            "script A\nvariable X\nauto x",
+            "ScriptName A\nInt X\nInt Property x Auto",
             broken(0, 3, LinkRule::DuplicateMember),
         ),
         (
-            "script A\nauto x\nvariable X",
+            "ScriptName A\nInt Property x Auto\nInt X",
             broken(0, 3, LinkRule::DuplicateMember),
         ),
-        ("script A\nvariable X\nfunction x", None),
+        ("ScriptName A\nInt X\nFunction x() Native", None),
         (
-            "script A\nfunction F\nfunction f",
+            "ScriptName A\nFunction F() Native\nFunction f() Native",
             broken(0, 3, LinkRule::DuplicateMember),
         ),
         (
-            "script A\nfunction getstate >String",
+            "ScriptName A\nString Function getstate() Native",
             broken(0, 2, LinkRule::DuplicateMember),
         ),
         (
-            "script A\nstate S\nstate s",
-            broken(0, 3, LinkRule::DuplicateMember),
+            "ScriptName A\nState S\nEndState\nState s\nEndState",
+            broken(0, 4, LinkRule::DuplicateMember),
         ),
-        (
-            "script A\nautostate S\nautostate T",
-            broken(0, 3, LinkRule::TwoAutoStates),
-        ),
-        ("script A\nautostate S\nstate T", None),
-        (
-            "script A Form\nauto P\nscript B A\nauto p",
-            broken(1, 2, LinkRule::PropertyInParent),
-        ),
-        ("script A Form\nauto P\nscript B A\nvariable p", None),
-        (
-            "script A\nfunction F Int= Int",
-            broken(0, 2, LinkRule::DefaultOrder),
-        ),
-        ("script A\nfunction F Int Int=", None),
-        ("script A\nwords 20001", broken(0, 1, LinkRule::Limit)),
-        ("script A\nwords 20000", None),
+        ("ScriptName A\nState S\nEndState\nState s1\nEndState", None),
     ];
     for (text, wanted) in cases {
-        assert_eq!(rt; fault_of(rt.alloc(), text)?, wanted, "{text}");
+        assert_eq!(rt; fault_of(rt.alloc(), &rt, text)?, wanted, "{text}");
+    }
+    Ok(())
+}
+
+#[test]
+fn rules_of_states_properties_and_defaults(rt: HostRuntime) -> Result<(), Fail> {
+    let cases = [
+        (
+            "ScriptName A\nAuto State S\nEndState\nAuto State T\nEndState",
+            broken(0, 4, LinkRule::TwoAutoStates),
+        ),
+        (
+            "ScriptName A\nAuto State S\nEndState\nState T\nEndState",
+            None,
+        ),
+        (
+            "ScriptName A\nInt Property P Auto\n\nScriptName B extends A\nInt Property p Auto",
+            broken(1, 2, LinkRule::PropertyInParent),
+        ),
+        (
+            "ScriptName A\nInt Property P Auto\n\nScriptName B extends A\nInt p",
+            None,
+        ),
+        (
+            "ScriptName A\nFunction F(Int a = 1, Int b) Native",
+            broken(0, 2, LinkRule::DefaultOrder),
+        ),
+        ("ScriptName A\nFunction F(Int a, Int b = 1) Native", None),
+    ];
+    for (text, wanted) in cases {
+        assert_eq!(rt; fault_of(rt.alloc(), &rt, text)?, wanted, "{text}");
+    }
+    Ok(())
+}
+
+#[test]
+fn rules_of_state_functions(rt: HostRuntime) -> Result<(), Fail> {
+    let cases = [
+        (
+            "ScriptName A\nState S\nFunction F()\nEndFunction\nEndState",
+            broken(0, 3, LinkRule::StateFunctionAlone),
+        ),
+        (
+            "ScriptName A\nState S\nEvent onbeginstate()\nEndEvent\nEndState",
+            None,
+        ),
+        (
+            "ScriptName A extends Quest\nState S\nEvent OnInit()\nEndEvent\nEndState",
+            None,
+        ),
+        (
+            "ScriptName A\nFunction F(Int x) Native\nState S\nFunction f(INT y) Native\nEndState",
+            broken(0, 4, LinkRule::SignatureDiffers),
+        ),
+        (
+            "ScriptName A\nFunction F(Int x)\nEndFunction\nState S\nFunction f(INT y)\nEndFunction\nEndState",
+            None,
+        ),
+        (
+            "ScriptName A\nFunction F(Int x)\nEndFunction\nState S\nFunction F(Bool x)\nEndFunction\nEndState",
+            broken(0, 5, LinkRule::SignatureDiffers),
+        ),
+    ];
+    for (text, wanted) in cases {
+        assert_eq!(rt; fault_of(rt.alloc(), &rt, text)?, wanted, "{text}");
     }
     Ok(())
 }
@@ -308,44 +191,36 @@ fn rules_of_names(rt: HostRuntime) -> Result<(), Fail> {
 fn rules_of_signatures(rt: HostRuntime) -> Result<(), Fail> {
     let cases = [
         (
-            "script A\nstate S\nmethod F",
-            broken(0, 3, LinkRule::StateFunctionAlone),
-        ),
-        ("script A\nstate S\nmethod onbeginstate", None),
-        ("script A Quest\nstate S\nmethod OnInit", None),
-        (
-            "script A Quest\nfunction OnInit >Int",
-            broken(0, 2, LinkRule::SignatureDiffers),
-        ),
-        ("script A Quest\nfunction OnInit", None),
-        (
-            "script A\nfunction OnEndState Int",
+            "ScriptName A extends Quest\nInt Function OnInit()\nReturn 1\nEndFunction",
             broken(0, 2, LinkRule::SignatureDiffers),
         ),
         (
-            "script A Form\nfunction OnEndState Int",
-            broken(0, 2, LinkRule::SignatureDiffers),
-        ),
-        ("script A\nfunction F Int\nstate S\nmethod f INT", None),
-        (
-            "script A\nfunction F Int\nstate S\nmethod F Bool",
-            broken(0, 4, LinkRule::SignatureDiffers),
-        ),
-        (
-            "script A\nfull P\naccessor Get >int\naccessor SET Int",
+            "ScriptName A extends Quest\nFunction OnInit()\nEndFunction",
             None,
         ),
         (
-            "script A\nfull P\naccessor Get",
+            "ScriptName A\nEvent OnEndState(Int x)\nEndEvent",
+            broken(0, 2, LinkRule::SignatureDiffers),
+        ),
+        (
+            "ScriptName A extends Form\nEvent OnEndState(Int x)\nEndEvent",
+            broken(0, 2, LinkRule::SignatureDiffers),
+        ),
+        (
+            "ScriptName A\nInt Property P\nint Function Get()\nEndFunction\nFunction SET(Int x)\nEndFunction\nEndProperty",
+            None,
+        ),
+        (
+            "ScriptName A\nInt Property P\nFunction Get()\nEndFunction\nEndProperty",
             broken(0, 3, LinkRule::SignatureDiffers),
         ),
         (
-            "script A\nfull P\naccessor Have >Int",
+            "ScriptName A\nInt Property P\nInt Function Have()\nEndFunction\nEndProperty",
             broken(0, 3, LinkRule::SignatureDiffers),
         ),
     ];
     for (text, wanted) in cases {
-        assert_eq!(rt; fault_of(rt.alloc(), text)?, wanted, "{text}");
+        assert_eq!(rt; fault_of(rt.alloc(), &rt, text)?, wanted, "{text}");
     }
     Ok(())
 }
@@ -355,44 +230,69 @@ fn faults_are_in_order(rt: HostRuntime) -> Result<(), Fail> {
     let cases = [
         // The rules of scripts stand before those of members, whatever the files.
         (
-            "script A\nvariable X\nvariable x\nscript B Zed",
+            "ScriptName A\nInt X\nInt x\n\nScriptName B extends Zed",
             broken(1, 1, LinkRule::UnknownParent),
         ),
         // Then files, then lines, then rules.
         (
-            "script A\nwords 20001\nscript B\nwords 20001",
-            broken(0, 1, LinkRule::Limit),
+            "ScriptName A\nInt x\nInt y\nInt Y\n\nScriptName B\nInt x\nInt X",
+            broken(0, 4, LinkRule::DuplicateMember),
         ),
         (
-            "script A\nfunction F Int= Int\nvariable X\nvariable x",
+            "ScriptName A\nFunction F(Int a = 1, Int b) Native\nInt X\nInt x",
             broken(0, 2, LinkRule::DefaultOrder),
         ),
         (
-            "script A\nfunction F\nfunction f Int= Int",
+            "ScriptName A\nFunction F() Native\nFunction f(Int a = 1, Int b) Native",
             broken(0, 3, LinkRule::DuplicateMember),
         ),
-        ("script Form Zed", broken(0, 1, LinkRule::PreludeName)),
         (
-            "script Form\nscript Form",
+            "ScriptName Form extends Zed",
+            broken(0, 1, LinkRule::PreludeName),
+        ),
+        (
+            "ScriptName Form\n\nScriptName Form",
             broken(0, 1, LinkRule::PreludeName),
         ),
     ];
     for (text, wanted) in cases {
-        assert_eq!(rt; fault_of(rt.alloc(), text)?, wanted, "{text}");
+        assert_eq!(rt; fault_of(rt.alloc(), &rt, text)?, wanted, "{text}");
     }
     Ok(())
 }
 
 #[test]
-fn names_are_looked_up_upward(rt: HostRuntime) -> Result<(), Fail> {
-    let files = read(rt.alloc(), "script A Quest\nauto P\nscript B A\nfunction F")?;
-    assert!(rt; files.len() < 65_530);
-    let set = link(rt.alloc(), files)?;
-    assert_eq!(rt; set.count(), 8);
-    let on_init = Name::from_bytes(rt.alloc(), b"oninit")?;
-    let get_state = Name::from_bytes(rt.alloc(), b"GetState")?;
-    let p = Name::from_bytes(rt.alloc(), b"p")?;
-    let found = set.find_function(7, &on_init);
+fn the_257th_file_is_too_many(rt: HostRuntime) -> Result<(), Fail> {
+    for (count, wanted) in [(256, None), (257, broken(256, 1, LinkRule::Limit))] {
+        let mut text = String::from_str(rt.alloc(), "ScriptName S")?;
+        for number in 1..count {
+            let next = format!(in rt.alloc(); "\n\nScriptName S{number}")?;
+            text.push_str(next.as_str())?;
+        }
+        assert_eq!(rt; fault_of(rt.alloc(), &rt, text.as_str())?, wanted);
+    }
+    Ok(())
+}
+
+#[test]
+fn the_20001st_word_is_too_many(rt: HostRuntime) -> Result<(), Fail> {
+    for (count, wanted) in [(20_000, None), (20_001, broken(0, 1, LinkRule::Limit))] {
+        let mut text = String::from_str(rt.alloc(), "ScriptName A")?;
+        for number in 1..count {
+            let next = format!(in rt.alloc(); "\nInt v{number}")?;
+            text.push_str(next.as_str())?;
+        }
+        assert_eq!(rt; fault_of(rt.alloc(), &rt, text.as_str())?, wanted);
+    }
+    Ok(())
+}
+
+#[test]
+fn a_child_of_quest_has_its_event(rt: HostRuntime) -> Result<(), Fail> {
+    let set = linked(rt.alloc(), &rt, "ScriptName A extends Quest")??;
+    assert_eq!(rt; set.count(), 7);
+    let on_init = Name::from_bytes(rt.alloc(), b"OnInit")?;
+    let found = set.find_function(6, &on_init);
     assert_eq!(rt;
         found,
         Some(FunctionRef {
@@ -400,6 +300,18 @@ fn names_are_looked_up_upward(rt: HostRuntime) -> Result<(), Fail> {
             place: 0
         })
     );
+    assert!(rt; set.is_child(6, 3));
+    Ok(())
+}
+
+#[test]
+fn names_are_looked_up_upward(rt: HostRuntime) -> Result<(), Fail> {
+    let text =
+        "ScriptName A extends Quest\nInt Property P Auto\n\nScriptName B extends A\nFunction F() Native";
+    let set = linked(rt.alloc(), &rt, text)??;
+    assert_eq!(rt; set.count(), 8);
+    let get_state = Name::from_bytes(rt.alloc(), b"getstate")?;
+    let p = Name::from_bytes(rt.alloc(), b"p")?;
     let found = set.find_function(7, &get_state);
     assert_eq!(rt;
         found,
@@ -428,9 +340,8 @@ fn names_are_looked_up_upward(rt: HostRuntime) -> Result<(), Fail> {
 
 #[test]
 fn roots_have_the_members_that_they_lack(rt: HostRuntime) -> Result<(), Fail> {
-    let files = read(rt.alloc(), "script A\nfunction onendstate\nscript B Form")?;
-    assert!(rt; files.len() < 65_530);
-    let set = link(rt.alloc(), files)?;
+    let text = "ScriptName A\nEvent onendstate()\nEndEvent\n\nScriptName B extends Form";
+    let set = linked(rt.alloc(), &rt, text)??;
     assert_eq!(rt; set.count(), 8);
     let names: [&[u8]; 4] = [b"onendstate", b"GotoState", b"GetState", b"OnBeginState"];
     for (function, name) in set.script(6).functions.iter().zip(names) {
@@ -439,20 +350,5 @@ fn roots_have_the_members_that_they_lack(rt: HostRuntime) -> Result<(), Fail> {
     assert_eq!(rt; set.script(6).functions.len(), 4);
     assert_eq!(rt; set.script(7).functions.len(), 0);
     assert_eq!(rt; set.script(2).functions.len(), 1);
-    Ok(())
-}
-
-#[test]
-fn the_257th_file_is_too_many(rt: HostRuntime) -> Result<(), Fail> {
-    for (count, wanted) in [(256, None), (257, broken(256, 1, LinkRule::Limit))] {
-        let mut files = Vec::new(rt.alloc());
-        for number in 0..count {
-            let name = format!(in rt.alloc(); "S{number}")?;
-            files.push(file(rt.alloc(), Some(name.as_str()), None)?)?;
-        }
-        assert!(rt; files.len() < 65_530);
-        let found = link(rt.alloc(), files);
-        assert_eq!(rt; found.err(), wanted);
-    }
     Ok(())
 }

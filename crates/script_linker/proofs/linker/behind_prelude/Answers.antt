@@ -1,7 +1,12 @@
-use Rattle.std.proofs.Common.{sym, ◌∙◌}
-use Rattle.script_linker.proofs.LinkLemmas.{AreFilesOf-append}
+use Rattle.std.proofs.Common.{◌≡◌, length, take, All, sym, subst, ◌∙◌, arith}
+use Rattle.std.proofs.lemmas.List.{take-append-le}
+use Rattle.std.proofs.lemmas.List.Elements.{All-take}
+use Rattle.script_linker.specs.Lookup.{HasSmallScript}
 use Rattle.script_linker.proofs.linker.behind_prelude.Goals as goal
 
-pub returns-clause-files : goal.returns-clause-files
-returns-clause-files c =
-    rw c.in_ok-append.ensures.items (AreFilesOf-append _ _ (sym c.in_ok-set.set.ok.0 ∙ c.in_ok-set.ensures.count))
+pub returns-clause-small : goal.returns-clause-small
+returns-clause-small c =
+    let prelude = c.in_ok-set.set.items in
+    let six : length prelude ≡ 6 = sym c.in_ok-set.set.ok.0 ∙ c.in_ok-set.ensures.count in
+    let front = take-append-le 6 prelude c.args.files.items (omega (arith, six)) in
+    subst (λ set. All HasSmallScript (take 6 set)) (sym c.in_ok-append.ensures.items) (subst (All HasSmallScript) (sym front) (All-take HasSmallScript 6 prelude c.in_ok-set.ensures.few))

@@ -1,5 +1,6 @@
-use Rattle.std.proofs.Common.{◌≡◌, vec_len}
+use Rattle.std.proofs.Common.{◌≡◌, map, take}
+use Rattle.script_linker.specs.Link.{function_count}
 use Rattle.script_linker.proofs.linker.function_counts.Given as goal
 
 abbrev pub invariant-loop-file : goal.invariant-loop-file
-invariant-loop-file l = vec_len l.counts ≡ l.file-index
+invariant-loop-file l = l.counts.items ≡ map function_count (take l.file-index l.files)

@@ -1,4 +1,4 @@
-use Rattle.std.proofs.Common.{◌≡◌, ◌<◌, ◌≤◌, ℕ, length, arith}
+use Rattle.std.proofs.Common.{◌≡◌, ◌<◌, ℕ, length, arith}
 use Rattle.script_linker.proofs.LookupLemmas.{first_ranks-low, first_ranks-prelude, first_ranks-some}
 use Rattle.script_linker.proofs.parents.first_ranks.Goals as goal
 

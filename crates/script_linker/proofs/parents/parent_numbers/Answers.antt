@@ -1,4 +1,4 @@
-use Rattle.std.proofs.Common.{◌≡◌, sym, subst, rules, arith}
+use Rattle.std.proofs.Common.{◌≡◌, sym, subst, arith}
 use Rattle.std.proofs.lemmas.Grind.{common_steps}
 use Rattle.script_linker.specs.Lookup.{IsWithin, parents_of}
 use Rattle.script_linker.proofs.LookupLemmas.{IsWithin-parents_of}

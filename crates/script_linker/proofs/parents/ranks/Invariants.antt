@@ -1,4 +1,4 @@
-use Rattle.std.proofs.Common.{◌≡◌, ◌<◌, ◌≤◌, ◌+◌, ℕ, get_or}
+use Rattle.std.proofs.Common.{◌<◌, ◌≤◌, ◌+◌, ℕ, get_or}
 use Rattle.script_linker.specs.Lookup.{RanksSome}
 use Rattle.script_linker.proofs.parents.ranks.Given as goal
 

@@ -1,4 +1,4 @@
-use Rattle.std.proofs.Common.{ℕ, ◌<◌, ◌+◌, get_or, length-append, arith}
+use Rattle.std.proofs.Common.{length-append, arith}
 use Rattle.script_linker.specs.declared.name_table.NameTable.{NameTable}
 use Rattle.script_linker.specs.declared.set.SourceFile.{SourceFile}
 use Rattle.script_linker.specs.Lookup.{function_name}

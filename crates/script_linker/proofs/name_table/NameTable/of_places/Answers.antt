@@ -1,4 +1,4 @@
-use Rattle.std.proofs.Common.{ℕ, ◌≡◌, ◌≤◌, ◌∷◌, ◌++◌, [], take, length, get_or, subst, sym, ap, ◌∙◌, min, arith, length-take}
+use Rattle.std.proofs.Common.{◌≡◌, ◌∷◌, ◌++◌, [], take, length, subst, sym, ap, ◌∙◌, arith, length-take}
 use Rattle.std.proofs.lemmas.List.{take_more}
 use Rattle.script_linker.specs.Table.{IsPlaceTable, Notes}
 use Rattle.script_linker.proofs.TableLemmas.{IsPlaceTable-push}

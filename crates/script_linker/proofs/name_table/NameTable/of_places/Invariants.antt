@@ -1,4 +1,4 @@
-use Rattle.std.proofs.Common.{ℕ, ◌≡◌, take, List}
+use Rattle.std.proofs.Common.{take}
 use Rattle.script_linker.specs.Table.{IsPlaceTable}
 use Rattle.script_linker.proofs.name_table.NameTable.of_places.Given as goal
 

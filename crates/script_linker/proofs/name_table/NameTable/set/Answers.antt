@@ -1,4 +1,4 @@
-use Rattle.std.proofs.Common.{ℕ, ◌≡◌, Option, Some}
+use Rattle.std.proofs.Common.{Some}
 use Rattle.script_linker.proofs.TableLemmas.{get_by-updates}
 use Rattle.script_linker.proofs.name_table.NameTable.set.Goals as goal
 

@@ -1,4 +1,4 @@
-use Rattle.std.proofs.Common.{sym, ◌∙◌, Some, None, IfSome, ◌<◌, length, subst}
+use Rattle.std.proofs.Common.{sym, ◌∙◌, IfSome, ◌<◌, length, subst}
 use Rattle.script_linker.specs.Lookup.{here, further, nowhere}
 use Rattle.script_linker.proofs.LookupLemmas.{parent_read, parent_within, own_property-below}
 use Rattle.script_linker.proofs.scripts.Scripts.nearest_property.Goals as goal

@@ -1,4 +1,4 @@
-use Rattle.std.proofs.Common.{sym, ◌∙◌, refl, IfSome, ◌<◌, length, subst}
+use Rattle.std.proofs.Common.{◌∙◌, refl, IfSome, ◌<◌, length, subst}
 use Rattle.script_linker.specs.Lookup.{StandsAbove, parents_of, itself, further}
 use Rattle.script_linker.proofs.LookupLemmas.{parent_read, parent_within, StandsAbove-step, StandsAbove-root, HasNoCircle-now}
 use Rattle.script_linker.proofs.scripts.Scripts.stands_below.Goals as goal

@@ -1,0 +1,11 @@
+use Rattle.script_linker.specs.Lines.{function_line}
+use Rattle.script_linker.proofs.FoundLemmas.{AreAmong-item, FindsAmong-nothing, FindsAmong-then}
+use Rattle.script_linker.proofs.members.judge_replacing.Goals as goal
+
+pub loop-function-init : goal.loop-function-init
+loop-function-init c = FindsAmong-nothing _ _
+
+pub loop-function-preserved : goal.loop-function-preserved
+loop-function-preserved c =
+    let one = AreAmong-item function_line c.args.functions.now c.loop-function.function-index c.function-item.result c.loop-function-test.true c.function-item.is in
+    FindsAmong-then one c.loop-function.invariant c.note.ensures
