@@ -1,0 +1,239 @@
+// The scripts of a set by their names, and what names mean in them.
+ghost use Rattle.std.specs.Prelude.{◌≡◌, ◌<◌, ℕ, List, length, IfOk, IfSome, OnSome, slice_index_or};
+ghost use Rattle.core_tree.specs.InRange.{TypeInRange, ResultInRange, FunctionThere};
+ghost use Rattle.type_scope.specs.Scope.{function_counts};
+
+use core_tree::{CoreType, FunctionPlace};
+use line_parser::{Heading, TypeName};
+use papy_base::{Name, OutOfMemory};
+use script_linker::{NameTable, PropertyRef, ScriptSet};
+use script_parser::{Property, Script};
+use std::alloc::Global;
+
+// The first scripts of a set, Debug, Utility and Scene, are no types.
+const LIBRARY_COUNT: u16 = 3;
+
+/// A function that a call means.
+#[derive(Clone, Copy)]
+pub struct Callee<'a> {
+    pub at: FunctionPlace,
+    pub heading: &'a Heading,
+}
+
+/// The scripts of a set by their names. A name that two scripts bear means the first.
+#[derive(Drop)]
+pub struct Catalog<'a> {
+    pub alloc: Global,
+    pub set: &'a ScriptSet,
+    numbers: NameTable,
+}
+
+impl<'a> Catalog<'a> {
+    ghost use Rattle.script_linker.specs.declared.set.SourceFile.{SourceFile};
+
+    /// The catalog of a set.
+    pub fn new(alloc: Global, set: &'a ScriptSet) -> Result<Catalog<'a>, OutOfMemory>
+        ensures { IfOk result (λ catalog. catalog.set.now ≡ set.now) }
+    {
+        let mut numbers = NameTable::new(alloc);
+        for number in 0..set.count() {
+            numbers.note(alloc, &set.script(number).name, usize::from(number))?;
+        }
+        Ok(Catalog {
+            alloc,
+            set,
+            numbers,
+        })
+    }
+
+    /// The number of the first script of this name.
+    pub fn find_script(&self, name: &Name) -> Result<Option<u16>, OutOfMemory>
+        ensures { IfOk result (λ found. IfSome found (λ n. n < length self.now.set.now)) }
+    {
+        let number = self.numbers.find(self.alloc, name)?;
+        Ok(number_below(number, self.set.count()))
+    }
+
+    /// The script of this number.
+    pub fn script(&self, number: u16) -> Option<&'a Script>
+        ensures within { OnSome result (number < length self.now.set.now) }
+        ensures script { (file : SourceFile) → IfSome result (λ script. script.now ≡ (slice_index_or self.now.set.now number file).script) }
+    {
+        if number < self.set.count() {
+            Some(self.set.script(number))
+        } else {
+            None
+        }
+    }
+
+    /// The parent of a script, where it has one.
+    pub fn parent_of(&self, script: u16) -> Result<Option<u16>, OutOfMemory>
+        ensures { IfOk result (λ found. IfSome found (λ n. n < length self.now.set.now)) }
+    {
+        match self.script(script) {
+            Some(script) => self.named(&script.parent),
+            None => Ok(None),
+        }
+    }
+
+    fn named(&self, name: &Option<Name>) -> Result<Option<u16>, OutOfMemory>
+        ensures { IfOk result (λ found. IfSome found (λ n. n < length self.now.set.now)) }
+    {
+        match name {
+            Some(name) => self.find_script(name),
+            None => Ok(None),
+        }
+    }
+
+    /// The type that is written so, or none.
+    pub fn type_of(&self, name: &TypeName) -> Result<Option<CoreType>, OutOfMemory>
+        ensures { IfOk result (ResultInRange (function_counts self.now.set.now)) }
+    {
+        let element = self.element_type(&name.word)?;
+        Ok(if name.is_array {
+            array_type(element)
+        } else {
+            element
+        })
+    }
+
+    /// The type of this name that is no array, or none.
+    pub fn element_type(&self, word: &Name) -> Result<Option<CoreType>, OutOfMemory>
+        ensures { IfOk result (ResultInRange (function_counts self.now.set.now)) }
+    {
+        match word.as_bytes() {
+            b"Int" => Ok(Some(CoreType::Int)),
+            b"Bool" => Ok(Some(CoreType::Bool)),
+            b"String" => Ok(Some(CoreType::Text)),
+            _ => Ok(script_type(self.find_script(word)?)),
+        }
+    }
+
+    /// The nearest function of this name in the empty states, from the script upward.
+    pub fn find_function(&self, script: u16, name: &Name) -> Option<Callee<'a>>
+        ensures { IfSome result (λ callee. FunctionThere (function_counts self.now.set.now) callee.at) }
+    {
+        if script >= self.set.count() {
+            return None;
+        }
+        let found = self.set.find_function(script, name)?;
+        let functions = self.script(found.script)?.functions.as_slice();
+        let function = functions.get(usize::from(found.place))?;
+        Some(Callee {
+            at: FunctionPlace {
+                script: found.script,
+                place: found.place,
+            },
+            heading: &function.heading,
+        })
+    }
+
+    /// The nearest property of this name, from the script upward.
+    pub fn find_property(&self, script: u16, name: &Name) -> Option<PropertyRef> {
+        if script < self.set.count() {
+            self.set.find_property(script, name)
+        } else {
+            None
+        }
+    }
+
+    /// The property at this place.
+    pub fn property(&self, at: PropertyRef) -> Option<&'a Property> {
+        let properties = self.script(at.script)?.properties.as_slice();
+        properties.get(usize::from(at.place))
+    }
+
+    /// Whether the parent is the script itself or stands above it.
+    pub fn is_child(&self, child: u16, parent: u16) -> bool {
+        child < self.set.count() && self.set.is_child(child, parent)
+    }
+
+    /// The first Global function of this name that a script imported by this one has itself.
+    pub fn find_imported(&self, script: u16, name: &Name) -> Result<Option<Callee<'a>>, OutOfMemory>
+        ensures { IfOk result (λ found. IfSome found (λ callee. FunctionThere (function_counts self.now.set.now) callee.at)) }
+    {
+        let Some(script) = self.script(script) else {
+            return Ok(None);
+        };
+        for (_, import) in &script.imports {
+            if let Some(found) = self.import_global(import, name)? {
+                return Ok(Some(found));
+            }
+        }
+        Ok(None)
+    }
+
+    // The Global function of this name that the script of the other name has itself.
+    fn import_global(&self, import: &Name, name: &Name) -> Result<Option<Callee<'a>>, OutOfMemory>
+        ensures { IfOk result (λ found. IfSome found (λ callee. FunctionThere (function_counts self.now.set.now) callee.at)) }
+    {
+        match self.find_script(import)? {
+            Some(script) => Ok(self.own_global(script, name)),
+            None => Ok(None),
+        }
+    }
+
+    fn own_global(&self, script: u16, name: &Name) -> Option<Callee<'a>>
+        ensures { IfSome result (λ callee. FunctionThere (function_counts self.now.set.now) callee.at) }
+    {
+        let found = self.find_function(script, name)?;
+        if found.at.script == script && found.heading.is_global {
+            Some(found)
+        } else {
+            None
+        }
+    }
+}
+
+fn number_below(number: Option<usize>, count: u16) -> Option<u16>
+    ensures { IfSome result (λ n. n < count) }
+{
+    match number {
+        Some(number) if number < usize::from(count) => Some(number as u16),
+        _ => None,
+    }
+}
+
+fn script_type(script: Option<u16>) -> Option<CoreType>
+    ensures { (functions : List ℕ) → IfSome script (λ n. n < length functions) → ResultInRange functions result }
+{
+    match script {
+        Some(script) if script >= LIBRARY_COUNT => Some(CoreType::Script(script)),
+        _ => None,
+    }
+}
+
+fn array_type(element: Option<CoreType>) -> Option<CoreType>
+    ensures { (functions : List ℕ) → ResultInRange functions element → ResultInRange functions result }
+{
+    match element {
+        Some(element) => Some(array_of(element)),
+        None => None,
+    }
+}
+
+/// The type of arrays of this element type. An array type stays as it is.
+pub fn array_of(element: CoreType) -> CoreType
+    ensures { (functions : List ℕ) → TypeInRange functions element → TypeInRange functions result }
+{
+    match element {
+        CoreType::Int => CoreType::IntArray,
+        CoreType::Bool => CoreType::BoolArray,
+        CoreType::Text => CoreType::TextArray,
+        CoreType::Script(script) => CoreType::ScriptArray(script),
+        array => array,
+    }
+}
+
+/// The element type of an array type, or none.
+pub fn element_of(array: CoreType) -> Option<CoreType>
+    ensures { (functions : List ℕ) → TypeInRange functions array → ResultInRange functions result }
+{
+    match array {
+        CoreType::IntArray => Some(CoreType::Int),
+        CoreType::BoolArray => Some(CoreType::Bool),
+        CoreType::TextArray => Some(CoreType::Text),
+        CoreType::ScriptArray(script) => Some(CoreType::Script(script)),
+        _ => None,
+    }
+}

@@ -1,0 +1,119 @@
+// The variables of a script, those of its Auto properties among them.
+ghost use Rattle.std.specs.Prelude.{◌<◌, IfOk, IfSome, vec_len};
+
+use line_parser::TypeName;
+use papy_base::{Name, OutOfMemory};
+use script_linker::NameTable;
+use script_parser::{Property, PropertyForm, Script, Variable};
+use std::alloc::Global;
+
+// The numbers of a script's variables have 16 bits.
+const VARIABLE_LIMIT: usize = 65_536;
+
+/// What declares a variable: a line of its own, or an Auto property, with its place among the
+/// script's properties.
+#[derive(Clone, Copy)]
+pub enum Source<'a> {
+    Declared(&'a Variable),
+    Auto(&'a Property, usize),
+}
+
+impl<'a> Source<'a> {
+    /// The name of the variable's type.
+    pub fn kind(&self) -> &'a TypeName {
+        match *self {
+            Source::Declared(variable) => &variable.kind,
+            Source::Auto(property, _) => &property.kind,
+        }
+    }
+
+    fn line(&self) -> u16 {
+        match *self {
+            Source::Declared(variable) => variable.line,
+            Source::Auto(property, _) => property.line,
+        }
+    }
+}
+
+/// The variables of a script in order of their lines.
+#[derive(Drop)]
+pub struct Layout<'a> {
+    /// What declares each variable.
+    pub sources: Vec<Source<'a>>,
+    // The variable of each property that is Auto.
+    autos: Vec<Option<u16>>,
+    // The number of each declared variable, by its name.
+    declared: NameTable,
+}
+
+impl<'a> Layout<'a> {
+    /// The variables of this script.
+    pub fn new(alloc: Global, script: &'a Script) -> Result<Layout<'a>, OutOfMemory> {
+        let sources = sources_of(alloc, script)?;
+        let mut autos = vec![in alloc; None; script.properties.len()]?;
+        let mut declared = NameTable::new(alloc);
+        for (number, source) in sources.iter().enumerate() {
+            match *source {
+                Source::Declared(variable) => declared.note(alloc, &variable.name, number)?,
+                Source::Auto(_, place) => {
+                    if place < autos.len() && number < VARIABLE_LIMIT {
+                        autos[place] = Some(number as u16);
+                    }
+                }
+            }
+        }
+        Ok(Layout {
+            sources,
+            autos,
+            declared,
+        })
+    }
+
+    /// The number of the declared variable of this name, with the name of its type.
+    pub fn find(
+        &self,
+        alloc: Global,
+        name: &Name,
+    ) -> Result<Option<(u16, &'a TypeName)>, OutOfMemory>
+        ensures { IfOk result (λ found. IfSome found (λ v. v.0 < vec_len self.now.sources)) }
+    {
+        match self.declared.find(alloc, name)? {
+            Some(number) => Ok(self.variable(number)),
+            None => Ok(None),
+        }
+    }
+
+    /// The variable of the property at this place, where the property is Auto.
+    pub fn auto_variable(&self, place: u16) -> Option<u16>
+        ensures { IfSome result (λ n. n < vec_len self.now.sources) }
+    {
+        match self.autos.get(usize::from(place)) {
+            Some(Some(number)) if usize::from(*number) < self.sources.len() => Some(*number),
+            _ => None,
+        }
+    }
+
+    fn variable(&self, number: usize) -> Option<(u16, &'a TypeName)>
+        ensures { IfSome result (λ v. v.0 < vec_len self.now.sources) }
+    {
+        if number < self.sources.len() && number < VARIABLE_LIMIT {
+            Some((number as u16, self.sources[number].kind()))
+        } else {
+            None
+        }
+    }
+}
+
+fn sources_of<'a>(alloc: Global, script: &'a Script) -> Result<Vec<Source<'a>>, OutOfMemory> {
+    let mut sources = Vec::with_capacity(alloc, script.variables.len())?;
+    for variable in &script.variables {
+        sources.push(Source::Declared(variable))?;
+    }
+    for (place, property) in script.properties.iter().enumerate() {
+        if matches!(property.form, PropertyForm::Auto(_)) {
+            sources.push(Source::Auto(property, place))?;
+        }
+    }
+    sources.sort_by_key(|source| source.line())?;
+    Ok(sources)
+}
