@@ -11,6 +11,7 @@ use Rattle.pex_values.specs.Fit.{FitsDebug}
 use Rattle.pex_values.specs.Plain.{PlainDebug, plain_lines, plain_debug, plain_object, plain}
 use Rattle.pex_values.specs.Shape.{IsShapedDebug, IsShapedFlag, IsShapedObject}
 use Rattle.pex_values.specs.Spelling.{two_bytes, four_bytes, eight_bytes, one_byte, string, list, lines, debug, flag, object, object_data, size_of, heading, spelling}
+use Rattle.pex_values.proofs.Sizes as sizes
 use Rattle.pex_codec.specs.declared.faults.PexFault.{PexFault}
 use Rattle.pex_codec.specs.declared.fields.Field.{Field}
 use Rattle.pex_codec.specs.declared.file_reader.FileReader.{FileReader}
@@ -25,56 +26,16 @@ flags_len [] = refl
 flags_len (f ∷ fs) = let e = flags_len fs in omega (arith, length-append (flag f) (flat_map flag fs))
 
 pub lines_size : (e : PexLines) → length (lines (plain_lines e)) ≡ 9 + 2 * length e.lines.items
-unfolding lines
-lines_size e =
-    let front = two_bytes e.object ++ two_bytes e.state ++ two_bytes e.function ++ one_byte e.kind in
-    omega (arith, length-append front (list two_bytes e.lines.items), length-append (two_bytes (length e.lines.items)) (flat_map two_bytes e.lines.items), numbers_len e.lines.items)
+lines_size e = sizes.lines_size (plain_lines e) ∙ ap (λ (n : ℕ). 9 + n) (numbers_len e.lines.items)
 
 pub debug_size : (d : PexDebug) → length (debug (Some (plain_debug d))) ≡ 11 + length (flat_map lines (map plain_lines d.functions.items))
-unfolding debug
-debug_size d =
-    let es = map plain_lines d.functions.items in
-    omega (arith, length-append (eight_bytes d.time) (list lines es), length-append (two_bytes (length es)) (flat_map lines es))
-
-no_debug_size : length (debug None) ≡ 1
-unfolding debug
-no_debug_size = refl
+debug_size d = sizes.debug_size (plain_debug d)
 
 pub object_bytes : (o : PexObject) → length (object (plain_object o)) ≡ 6 + length (object_data (plain_object o))
-unfolding object
-object_bytes o =
-    let p = plain_object o in
-    omega (arith, length-append (two_bytes p.name ++ four_bytes (size_of p.size_form (length (object_data p)))) (object_data p))
+object_bytes o = sizes.object_size (plain_object o)
 
 pub spelling_size : (v : Pex) → length (spelling (plain v)) ≡ 28 + (length v.source + length v.user + length v.machine) + length (flat_map string v.strings.items) + length (debug (option_map plain_debug v.debug)) + 3 * length v.user_flags.items + length (flat_map object (map plain_object v.objects.items))
-unfolding spelling
-spelling_size v =
-    let h = heading v.minor ++ eight_bytes v.time in
-    let s = string v.source in
-    let u = string v.user in
-    let m = string v.machine in
-    let t = list string v.strings.items in
-    let d = debug (option_map plain_debug v.debug) in
-    let f = list flag v.user_flags.items in
-    let os = map plain_object v.objects.items in
-    let o = list object os in
-    omega (
-      arith,
-      length-append (h ++ s ++ u ++ m ++ t ++ d ++ f) o,
-      length-append (h ++ s ++ u ++ m ++ t ++ d) f,
-      length-append (h ++ s ++ u ++ m ++ t) d,
-      length-append (h ++ s ++ u ++ m) t,
-      length-append (h ++ s ++ u) m,
-      length-append (h ++ s) u,
-      length-append h s,
-      length-append (two_bytes (length v.source)) v.source,
-      length-append (two_bytes (length v.user)) v.user,
-      length-append (two_bytes (length v.machine)) v.machine,
-      length-append (two_bytes (length v.strings.items)) (flat_map string v.strings.items),
-      length-append (two_bytes (length v.user_flags.items)) (flat_map flag v.user_flags.items),
-      length-append (two_bytes (length os)) (flat_map object os),
-      flags_len v.user_flags.items,
-    )
+spelling_size v = omega (arith, sizes.spelling_size (plain v), flags_len v.user_flags.items)
 
 pub untouched_debug : (r : FileReader) → IsUntouched r → HoldsDebug r × HoldsFlags r × (debug_len r ≡ 1)
 untouched_debug r u = (
@@ -83,7 +44,7 @@ untouched_debug r u = (
     fits = subst (λ (o : Option PexDebug). IfSome (option_map plain_debug o) FitsDebug) (sym u.0) tt;
   },
   subst (λ (fs : List (ℕ × ℕ)). AllByRecursion (IsShapedFlag r.strings) fs) (sym u.1) tt,
-  ap (λ (o : Option PexDebug). length (debug (option_map plain_debug o))) u.0 ∙ no_debug_size,
+  ap (λ (o : Option PexDebug). length (debug (option_map plain_debug o))) u.0 ∙ sizes.no_debug_size,
 )
 
 pub is_whole_file : (r : FileReader) (n : ℕ) → HoldsHeader r → HasTable r → HoldsDebug r → HoldsFlags r → length r.pex.user_flags.items < 2 ^ 16

@@ -3,3 +3,7 @@ pub mod Whole
 pub mod Sizes
 pub mod ObjectSizes
 pub mod FileSizes
+mod Unique
+mod UniqueCode
+mod UniqueObject
+mod UniqueFile

@@ -2,6 +2,7 @@
 use Rattle.std.proofs.Common.{◌≡◌, ℕ, ◌+◌, ◌<◌, List, [], ◌∷◌, ◌++◌, length, get_or, take, map, refl, sym, ap, subst, ◌∙◌, append_assoc, arith}
 use Rattle.std.specs.Prelude.{⊤, Result, Ok, Err}
 use Rattle.pex_values.specs.Fit.{IsCounted}
+use Rattle.pex_values.proofs.Parts.{flat_map-map, each_view}
 use Rattle.pex_codec.specs.Writing.{Writes, FitEach}
 use Rattle.pex_codec.specs.declared.faults.EncodeFault.{EncodeFault}
 use Rattle.pex_codec.specs.declared.faults.EncodeFault.TheVariants.{TooManyItems, OutOfMemory}
@@ -28,20 +29,12 @@ each_trivial (x ∷ xs) = (tt, each_trivial xs)
 
 -- a list of what a view shows
 
-pub flat_map-map : {X Y : Type 0} (f : Y → List ℕ) (view : X → Y) (xs : List X) → flat_map f (map view xs) ≡ flat_map (λ x. f (view x)) xs
-flat_map-map f view [] = refl
-flat_map-map f view (x ∷ xs) = ap (λ (r : List ℕ). f (view x) ++ r) (flat_map-map f view xs)
-
 pub list-map : {X Y : Type 0} (f : Y → List ℕ) (view : X → Y) (xs : List X) → list f (map view xs) ≡ list (λ x. f (view x)) xs
 list-map f view xs = rw (length-map xs view, flat_map-map f view xs) refl
 
 pub each_viewed : {X Y : Type 0} (P : Y → Type 0) (view : X → Y) (xs : List X) → AllByRecursion P (map view xs) → AllByRecursion (λ x. P (view x)) xs
 each_viewed P view [] each = tt
 each_viewed P view (x ∷ xs) each = (each.0, each_viewed P view xs each.1)
-
-pub each_view : {X Y : Type 0} (P : Y → Type 0) (view : X → Y) (xs : List X) → AllByRecursion (λ x. P (view x)) xs → AllByRecursion P (map view xs)
-each_view P view [] each = tt
-each_view P view (x ∷ xs) each = (each.0, each_view P view xs each.1)
 
 -- what writing a list of values did, said of what a view shows of them
 pub Writes-viewed : {T X Y : Type 0} (r : Result T EncodeFault) (old new : List ℕ) (P : Y → Type 0) (f : Y → List ℕ) (view : X → Y) (xs : List X)

@@ -12,14 +12,11 @@ use Rattle.pex_values.specs.Fit.{FitsProperty, FitsState}
 use Rattle.pex_values.specs.Plain.{plain_function, plain_named, plain_state, plain_property, plain_object}
 use Rattle.pex_values.specs.Shape.{IsShapedObject}
 use Rattle.pex_values.specs.Spelling.{two_bytes, four_bytes, one_byte, list, optional, datum, variable, property, state, named, function, object_data}
+use Rattle.pex_values.proofs.Sizes as sizes
 use Rattle.pex_codec.specs.declared.faults.PexFault.{PexFault}
 use Rattle.pex_codec.specs.declared.fields.ObjectField.{ObjectField}
 use Rattle.pex_codec.specs.declared.object_reader.ObjectReader.{ObjectReader}
 use Rattle.pex_codec.specs.ObjectReading.{before_state, IsWholeObject, ReachesObject}
-
-pub each_added : {X : Type 0} (P : X → Type 0) (xs : List X) (x : X) → AllByRecursion P xs → P x → AllByRecursion P (xs ++ x ∷ [])
-each_added P [] x each here = (here, tt)
-each_added P (y ∷ ys) x each here = (each.0, each_added P ys x each.1 here)
 
 -- the bytes of one more item
 pub len_pushed : {X Y : Type 0} (f : Y → List ℕ) (view : X → Y) (xs : List X) (x : X) → length (flat_map f (map view (xs ++ x ∷ []))) ≡ length (flat_map f (map view xs)) + length (f (view x))
@@ -30,44 +27,17 @@ len_pushed f view (y ∷ ys) x =
     let b = length-append (f (view y)) (flat_map f (map view ys)) in
     omega arith
 
-pub len_added : {X : Type 0} (f : X → List ℕ) (xs : List X) (x : X) → length (flat_map f (xs ++ x ∷ [])) ≡ length (flat_map f xs) + length (f x)
-len_added f [] x = let e = length-append (f x) [] in omega arith
-len_added f (y ∷ ys) x =
-    let e = len_added f ys x in
-    let a = length-append (f y) (flat_map f (ys ++ x ∷ [])) in
-    let b = length-append (f y) (flat_map f ys) in
-    omega arith
-
-pub variable_size : (v : PexVariable) → length (variable v) ≡ 8 + length (datum v.value)
-unfolding variable
-variable_size v = omega (arith, length-append (two_bytes v.name ++ two_bytes v.kind ++ four_bytes v.flags) (datum v.value))
-
 pub property_size : (p : PexProperty) → length (property (plain_property p)) ≡ 11 + length (optional two_bytes p.variable) + length (optional function (option_map plain_function p.read)) + length (optional function (option_map plain_function p.write))
-unfolding property
-property_size p =
-    let heading = two_bytes p.name ++ two_bytes p.kind ++ two_bytes p.doc ++ four_bytes p.flags ++ one_byte p.bits in
-    let v = optional two_bytes p.variable in
-    let r = optional function (option_map plain_function p.read) in
-    let w = optional function (option_map plain_function p.write) in
-    omega (arith, length-append (heading ++ v ++ r) w, length-append (heading ++ v) r, length-append heading v)
+property_size p = sizes.property_size (plain_property p)
 
 pub named_size : (name : ℕ) (f : PexFunction) → length (named (name, plain_function f)) ≡ 2 + length (function (plain_function f))
-named_size name f = omega (arith, length-append (two_bytes name) (function (plain_function f)))
+named_size name f = sizes.named_size (name, plain_function f)
 
 pub state_size : (s : PexState) → length (state (plain_state s)) ≡ 4 + length (flat_map named (map plain_named s.functions.items))
-unfolding state
-state_size s =
-    let fs = map plain_named s.functions.items in
-    omega (arith, length-append (two_bytes s.name) (list named fs), length-append (two_bytes (length fs)) (flat_map named fs))
+state_size s = sizes.state_size (plain_state s)
 
 pub object_size : (o : PexObject) → length (object_data (plain_object o)) ≡ 16 + length (flat_map variable o.variables.items) + length (flat_map property (map plain_property o.properties.items)) + length (flat_map state (map plain_state o.states.items))
-unfolding object_data
-object_size o =
-    let heading = two_bytes o.parent ++ two_bytes o.doc ++ four_bytes o.flags ++ two_bytes o.auto_state in
-    let vs = o.variables.items in
-    let ps = map plain_property o.properties.items in
-    let ss = map plain_state o.states.items in
-    omega (arith, length-append (heading ++ list variable vs ++ list property ps) (list state ss), length-append (heading ++ list variable vs) (list property ps), length-append heading (list variable vs), length-append (two_bytes (length vs)) (flat_map variable vs), length-append (two_bytes (length ps)) (flat_map property ps), length-append (two_bytes (length ss)) (flat_map state ss))
+object_size o = sizes.object_data_size (plain_object o)
 
 pub is_whole_object : (strings : ℕ) (r : ObjectReader) (n : ℕ) → IsShapedObject strings (plain_object r.object)
     → AllByRecursion FitsProperty (map plain_property r.object.properties.items) → AllByRecursion FitsState (map plain_state r.object.states.items)

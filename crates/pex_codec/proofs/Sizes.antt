@@ -9,6 +9,7 @@ use Rattle.pex_values.specs.Opcodes.{operands_of}
 use Rattle.pex_values.specs.Plain.{PlainInstruction, PlainFunction, plain_instruction, plain_function}
 use Rattle.pex_values.specs.Shape.{IsShapedInstruction, IsShapedFunction}
 use Rattle.pex_values.specs.Spelling.{two_bytes, four_bytes, one_byte, pair, list, datum, counted, instruction, function}
+use Rattle.pex_values.proofs.Sizes as sizes
 use Rattle.pex_codec.specs.declared.function_reader.FunctionReader.{FunctionReader}
 use Rattle.pex_codec.specs.FunctionReading.{data_len, code_len, before_item, IsWhole, Reaches}
 use Rattle.pex_codec.specs.declared.faults.PexFault.{PexFault}
@@ -19,32 +20,7 @@ pairs_len [] = refl
 pairs_len (p ∷ ps) = let e = pairs_len ps in omega (arith, length-append (pair p) (flat_map pair ps))
 
 pub function_len : (f : PlainFunction) → length (function f) ≡ 15 + 4 * length f.parameters + 4 * length f.locals + code_len f.code
-unfolding function
-function_len f =
-    let heading = two_bytes f.result ++ two_bytes f.doc ++ four_bytes f.flags ++ one_byte f.bits in
-    let a = length-append (heading ++ list pair f.parameters ++ list pair f.locals) (list instruction f.code) in
-    let b = length-append (heading ++ list pair f.parameters) (list pair f.locals) in
-    let d = length-append heading (list pair f.parameters) in
-    let p = length-append (two_bytes (length f.parameters)) (flat_map pair f.parameters) in
-    let l = length-append (two_bytes (length f.locals)) (flat_map pair f.locals) in
-    let k = length-append (two_bytes (length f.code)) (flat_map instruction f.code) in
-    omega (arith, pairs_len f.parameters, pairs_len f.locals)
-
-pub plain_len : (i : PlainInstruction) (n : ℕ) → operands_of i.opcode ≡ Some (n, false) → length (instruction i) ≡ 1 + data_len i.fixed
-unfolding instruction
-plain_len i n is =
-    let a = length-append (one_byte i.opcode ++ flat_map datum i.fixed) (counted (operands_of i.opcode) i.more) in
-    let b = length-append (one_byte i.opcode) (flat_map datum i.fixed) in
-    let none : length (counted (operands_of i.opcode) i.more) ≡ 0 = ap (λ (o : Option (ℕ × Bool)). length (counted o i.more)) is in
-    omega arith
-
-pub counted_len : (i : PlainInstruction) (n : ℕ) → operands_of i.opcode ≡ Some (n, true) → length (instruction i) ≡ 6 + data_len i.fixed + data_len i.more
-unfolding instruction
-counted_len i n is =
-    let a = length-append (one_byte i.opcode ++ flat_map datum i.fixed) (counted (operands_of i.opcode) i.more) in
-    let b = length-append (one_byte i.opcode) (flat_map datum i.fixed) in
-    let some : length (counted (operands_of i.opcode) i.more) ≡ length (counted (Some (n, true)) i.more) = ap (λ (o : Option (ℕ × Bool)). length (counted o i.more)) is in
-    omega arith
+function_len f = omega (arith, sizes.function_size f, pairs_len f.parameters, pairs_len f.locals)
 
 no_code : (is : List Instruction) → length is ≡ 0 → code_len (map plain_instruction is) ≡ 0
 no_code is none = ap (λ (x : List Instruction). code_len (map plain_instruction x)) (nil_from_length is none)

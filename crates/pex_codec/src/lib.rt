@@ -10,6 +10,7 @@ mod faults;
 mod fields;
 mod file_reader;
 mod function_reader;
+mod laws;
 mod object_reader;
 mod objects;
 mod pieces;
@@ -19,6 +20,7 @@ mod spelled;
 pub use decoder::Decoder;
 pub use encoding::encode;
 pub use faults::{EncodeFault, PexFault, PexRule};
+pub use laws::one_spelling;
 pub use progress::Fed;
 
 #[cfg(test)]

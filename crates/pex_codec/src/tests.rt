@@ -20,6 +20,16 @@ const OBJECT: [u8; 56] = [
     0x41, 0, 0, 0, 0, 1, 0, 1, 0, 0, 0, 0x14, 0, 0, 0, 0, 0, 0, 0, 0, 0, 0, 0, 0, 0, 0, 0, 0,
 ];
 
+/// A file with debug information, a flag, and an object with a variable, a property that is read and a function.
+const MEMBERS: [u8; 170] = [
+    0xFA, 0x57, 0xC0, 0xDE, 3, 2, 0, 1, 0, 0, 0, 0, 0, 0, 0, 9, 0, 1, 0x73, 0, 0, 0, 0, 0, 1, 0, 1,
+    0x41, 1, 0, 0, 0, 0, 0, 0, 0, 7, 0, 1, 0, 0, 0, 0, 0, 0, 0, 0, 2, 0, 1, 0xFF, 0xFF, 0, 1, 0, 0,
+    0x1F, 0, 1, 0, 0, 0, 0, 0, 0x69, 0, 0, 0, 0, 0, 0, 0, 0, 0, 0, 0, 1, 0, 0, 0, 0, 0, 0, 0, 0, 4,
+    0x7F, 0xC0, 0, 0, 0, 1, 0, 0, 0, 0, 0, 0, 0, 0, 0, 0, 1, 0, 0, 0, 0, 0, 0, 0, 0, 0, 0, 1, 0, 0,
+    0, 0, 0, 1, 0, 0, 0, 0, 0, 1, 0x17, 1, 0, 0, 2, 0, 0, 3, 0xFF, 0xFF, 0xFF, 0xFF, 3, 0, 0, 0, 2,
+    0, 5, 2, 0, 1, 0, 0, 0, 1, 0, 0, 0, 0, 0, 0, 0, 0, 0, 0, 0, 0, 0, 0, 0, 0, 1, 0,
+];
+
 /// What the bytes decode to, where they come in pieces of so many bytes with an empty one between any two.
 fn decoded(alloc: Global, bytes: &[u8], size: usize) -> Result<Pex, PexFault>
     ensures { IfOk result (λ v. IsWellShaped (plain v)) }
@@ -97,6 +107,7 @@ fn written_back(rt: HostRuntime) -> Result<(), Fail> {
         let again = encode(rt.alloc(), &value).ok().ok_or("fits")?;
         assert_eq!(rt; again.as_slice(), bytes.as_slice());
     }
+    one_spelling();
     Ok(())
 }
 
@@ -132,4 +143,78 @@ fn longest_string(rt: HostRuntime) -> Result<(), Fail> {
         )
     );
     Ok(())
+}
+
+/// What the bytes decode to, where they come in two pieces.
+fn in_two(alloc: Global, front: &[u8], back: &[u8]) -> Result<Pex, PexFault>
+    ensures { IfOk result (λ v. IsWellShaped (plain v)) }
+{
+    let mut decoder = Decoder::new(alloc)?;
+    decoder.feed(front)?;
+    decoder.feed(back)?;
+    decoder.end()
+}
+
+#[test]
+fn every_cut(rt: HostRuntime) -> Result<(), Fail> {
+    for bytes in [EMPTY.as_slice(), OBJECT.as_slice(), MEMBERS.as_slice()] {
+        for k in 0..bytes.len() {
+            let value = in_two(rt.alloc(), &bytes[..k], &bytes[k..])
+                .ok()
+                .ok_or("accepted")?;
+            let again = encode(rt.alloc(), &value).ok().ok_or("fits")?;
+            assert_eq!(rt; again.as_slice(), bytes);
+        }
+    }
+    Ok(())
+}
+
+#[test]
+fn rules_of_members(rt: HostRuntime) {
+    let cases = [
+        (3, 0xDF, 0, PexRule::BadMagic),
+        (28, 2, 28, PexRule::BadDebugFlag),
+        (40, 1, 39, PexRule::BadIndex),
+        (55, 1, 54, PexRule::BadIndex),
+        (64, 0x68, 61, PexRule::BadSize),
+        (64, 0x6E, 61, PexRule::BadSize),
+        (85, 6, 85, PexRule::BadKind),
+        (126, 0x24, 126, PexRule::BadOpcode),
+        (138, 5, 138, PexRule::BadCount),
+        (138, 6, 138, PexRule::BadKind),
+        (139, 0x80, 138, PexRule::BadCount),
+        (153, 1, 152, PexRule::BadIndex),
+        (169, 0x24, 169, PexRule::BadOpcode),
+    ];
+    for (at, byte, offset, rule) in cases {
+        let mut bytes = MEMBERS;
+        assert!(rt; at < bytes.len());
+        bytes[at] = byte;
+        assert_eq!(rt; fault(rt.alloc(), &bytes, 1), Some((offset, rule)));
+        assert_eq!(rt; fault(rt.alloc(), &bytes, 170), Some((offset, rule)));
+    }
+}
+
+/// What a file that never ends gives: the fields before the string table, and strings of 65,535 bytes.
+fn endless(alloc: Global, strings: u32) -> Result<Fed, PexFault> {
+    let mut string = vec![in alloc; 0u8; 65_537]?;
+    string[0] = 0xFF;
+    string[1] = 0xFF;
+    let mut decoder = Decoder::new(alloc)?;
+    decoder.feed(&EMPTY[..22])?;
+    decoder.feed(&[0xFF, 0xFF])?;
+    for _ in 1..strings {
+        decoder.feed(&string)?;
+    }
+    decoder.feed(&string)
+}
+
+#[test]
+fn too_large(rt: HostRuntime) {
+    let refused = PexFault::Broken {
+        offset: 16_777_216,
+        rule: PexRule::TooLarge,
+    };
+    assert_eq!(rt; endless(rt.alloc(), 255), Ok(Fed::More));
+    assert_eq!(rt; endless(rt.alloc(), 256), Err(refused));
 }

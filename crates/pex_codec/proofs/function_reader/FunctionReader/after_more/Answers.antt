@@ -1,9 +1,10 @@
 use Rattle.std.proofs.Common.{arith}
 use Rattle.pex_values.specs.Plain.{plain_instruction}
-use Rattle.pex_codec.proofs.Sizes.{counted_len, reaches_same}
+use Rattle.pex_values.proofs.Sizes.{counted_size}
+use Rattle.pex_codec.proofs.Sizes.{reaches_same}
 use Rattle.pex_codec.proofs.function_reader.FunctionReader.after_more.Goals as goal
 
 pub returns : goal.returns
 returns c =
-    let size = counted_len (plain_instruction c.args.self.now.instruction) _ c.requires.opens.operands in
+    let size = counted_size (plain_instruction c.args.self.now.instruction) _ c.requires.opens.operands in
     reaches_same _ _ _ _ _ (omega (arith, size)) c.finish_instruction.ensures

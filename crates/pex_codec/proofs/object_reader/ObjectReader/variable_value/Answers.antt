@@ -3,7 +3,8 @@ use Rattle.std.specs.List.{flat_map}
 use Rattle.pex_values.specs.declared.values.PexVariable.{PexVariable}
 use Rattle.pex_values.specs.Shape.{IsShapedVariable}
 use Rattle.pex_values.specs.Spelling.{variable}
-use Rattle.pex_codec.proofs.ObjectSizes.{each_added, len_added, variable_size}
+use Rattle.pex_values.proofs.Parts.{each_added, len_added}
+use Rattle.pex_values.proofs.Sizes.{variable_size}
 use Rattle.pex_codec.proofs.object_reader.ObjectReader.variable_value.Goals as goal
 
 pub returns-then-self-eq0 : goal.returns-then-self-eq0
