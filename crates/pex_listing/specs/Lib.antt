@@ -1,1 +1,3 @@
 pub mod Showing
+pub mod Reading
+pub mod Headings

@@ -1,4 +1,6 @@
 ghost use Rattle.std.specs.Prelude.{◌≡◌};
+ghost use Rattle.pex_listing.specs.declared.faults.LineFault.TheVariants as line;
+ghost use Rattle.pex_listing.specs.declared.faults.ListingFault.TheVariants as listing;
 ghost use Rattle.pex_listing.specs.declared.faults.ShowFault.TheVariants as show;
 
 use papy_base::OutOfMemory;
@@ -37,5 +39,120 @@ impl<T: Drop> From<AllocFailed<T>> for ShowFault {
 
     fn from(_error: AllocFailed<T>) -> ShowFault {
         ShowFault::OutOfMemory
+    }
+}
+
+/// The rules of listings.
+#[derive(Clone, Copy, Debug, PartialEq, Eq)]
+pub enum ListingRule {
+    /// G1: no line that may stand here has this form, a number is out of its range, or with this line the value no
+    /// longer fits 16 MiB or a count.
+    BadLine,
+    /// G2: the form is right, and a number, a string, hexadecimal digits or a reference isn't in its one spelling.
+    NotCanonical,
+    /// G3: a reference's word is no string, or its index is out of range.
+    BadName,
+    /// G4: the text ends within a line, or before a line that must come.
+    End,
+}
+
+impl ListingRule {
+    /// The rule's code, `G1` to `G4`.
+    pub fn code(self) -> &'static str {
+        match self {
+            ListingRule::BadLine => "G1",
+            ListingRule::NotCanonical => "G2",
+            ListingRule::BadName => "G3",
+            ListingRule::End => "G4",
+        }
+    }
+
+    /// The rule's name.
+    pub fn name(self) -> &'static str {
+        match self {
+            ListingRule::BadLine => "BadLine",
+            ListingRule::NotCanonical => "NotCanonical",
+            ListingRule::BadName => "BadName",
+            ListingRule::End => "End",
+        }
+    }
+}
+
+/// Why a text is no listing.
+#[derive(Clone, Copy, Debug, PartialEq, Eq, Error)]
+pub enum ListingFault {
+    /// The first line that breaks a rule, from 1, and the rule: of several in one line BadLine comes before BadName,
+    /// and that before NotCanonical.
+    #[error("line {line}: {rule:?}")]
+    Broken { line: u32, rule: ListingRule },
+    /// No memory was found.
+    #[error("out of memory")]
+    OutOfMemory,
+}
+
+impl From<OutOfMemory> for ListingFault {
+    ghost from_gives = { λ _ fault. fault ≡ listing.OutOfMemory };
+
+    fn from(_error: OutOfMemory) -> ListingFault {
+        ListingFault::OutOfMemory
+    }
+}
+
+impl From<AllocError> for ListingFault {
+    ghost from_gives = { λ _ fault. fault ≡ listing.OutOfMemory };
+
+    fn from(_error: AllocError) -> ListingFault {
+        ListingFault::OutOfMemory
+    }
+}
+
+impl<T: Drop> From<AllocFailed<T>> for ListingFault {
+    ghost from_gives = { λ _ fault. fault ≡ listing.OutOfMemory };
+
+    fn from(_error: AllocFailed<T>) -> ListingFault {
+        ListingFault::OutOfMemory
+    }
+}
+
+/// Why a line can't stand where it does.
+#[derive(Clone, Copy, Debug)]
+pub(crate) enum LineFault {
+    /// The rule that it breaks.
+    Broken(ListingRule),
+    /// No memory was found.
+    OutOfMemory,
+}
+
+impl LineFault {
+    /// The fault of the whole listing, where this is the line.
+    pub(crate) fn at_line(self, line: u32) -> ListingFault {
+        match self {
+            LineFault::Broken(rule) => ListingFault::Broken { line, rule },
+            LineFault::OutOfMemory => ListingFault::OutOfMemory,
+        }
+    }
+}
+
+impl From<OutOfMemory> for LineFault {
+    ghost from_gives = { λ _ fault. fault ≡ line.OutOfMemory };
+
+    fn from(_error: OutOfMemory) -> LineFault {
+        LineFault::OutOfMemory
+    }
+}
+
+impl From<AllocError> for LineFault {
+    ghost from_gives = { λ _ fault. fault ≡ line.OutOfMemory };
+
+    fn from(_error: AllocError) -> LineFault {
+        LineFault::OutOfMemory
+    }
+}
+
+impl<T: Drop> From<AllocFailed<T>> for LineFault {
+    ghost from_gives = { λ _ fault. fault ≡ line.OutOfMemory };
+
+    fn from(_error: AllocFailed<T>) -> LineFault {
+        LineFault::OutOfMemory
     }
 }

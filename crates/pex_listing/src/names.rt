@@ -1,5 +1,7 @@
 //! How references are spelled.
 
+ghost use Rattle.std.specs.Prelude.{◌≡◌, length, vec_len, IfOk};
+
 use papy_base::{OutOfMemory, Text};
 use std::alloc::Global;
 use std::collections::HashSet;
@@ -25,7 +27,9 @@ pub(crate) fn is_word(bytes: &[u8]) -> bool {
 
 /// For each string, whether a reference to it is spelled by it: it is a word of at most 64 bytes, and the first of
 /// its bytes.
-pub(crate) fn spelled_names(alloc: Global, strings: &[Text]) -> Result<Vec<bool>, OutOfMemory> {
+pub(crate) fn spelled_names(alloc: Global, strings: &[Text]) -> Result<Vec<bool>, OutOfMemory>
+    ensures { IfOk result (λ spelled. vec_len spelled ≡ length strings.now) }
+{
     let mut seen = HashSet::new(alloc);
     let mut spelled = Vec::new(alloc);
     for text in strings {

@@ -1,17 +1,15 @@
 //! Values to listings.
 
-ghost use Rattle.std.specs.Prelude.{IsErrOf};
-ghost use Rattle.papy_io.specs.Count.{HasRisen};
 ghost use Rattle.pex_values.specs.Plain.{plain};
 ghost use Rattle.pex_values.specs.Shape.{IsWellShaped};
-ghost use Rattle.pex_listing.specs.Showing.{Shows};
+ghost use Rattle.pex_listing.specs.Showing.{AppendsSome, Shows};
 
 use crate::faults::ShowFault;
 use crate::names::{Names, spelled_names};
 use crate::parts::{put_debug_line, put_flag, put_lines, put_object, put_string_line};
 use papy_base::Text;
 use papy_io::{IoFault, Sink};
-use pex_values::{Pex, PexLines, PexObject};
+use pex_values::{Pex, PexDebug, PexLines, PexObject};
 use std::alloc::{AllocError, Global};
 use std::fmt::Write;
 
@@ -19,7 +17,8 @@ use std::fmt::Write;
 /// some of the first bytes of the listing were written.
 pub fn show<S: Sink>(alloc: Global, value: &Pex, sink: &mut S) -> Result<(), ShowFault>
     requires { IsWellShaped (plain value.now) }
-    ensures write_fault { IsErrOf result ShowFault.WriteFault → HasRisen (S.faults sink.old) (S.faults sink.new) }
+    ensures faults { Shows S.faults result sink.old sink.new }
+    ensures appended { AppendsSome (S.written sink.old) (S.written sink.new) }
 {
     let spelled = spelled_names(alloc, &value.strings)?;
     let names = Names {
@@ -27,16 +26,9 @@ pub fn show<S: Sink>(alloc: Global, value: &Pex, sink: &mut S) -> Result<(), Sho
         spelled: &spelled,
     };
     let mut out = String::new(alloc);
-    put_header(&mut out, value)?;
-    flush(&mut out, sink)?;
-    show_strings(&mut out, &value.strings, sink)?;
-    put_debug_line(&mut out, &value.debug)?;
-    if let Some(debug) = &value.debug {
-        show_entries(&mut out, &names, &debug.functions, sink)?;
-    }
-    for (name, index) in &value.user_flags {
-        put_flag(&mut out, &names, *name, *index)?;
-    }
+    show_strings(&mut out, value, sink)?;
+    show_debug(&mut out, &names, &value.debug, sink)?;
+    put_flags(&mut out, &names, &value.user_flags)?;
     flush(&mut out, sink)?;
     show_objects(&mut out, &names, &value.objects, sink)
 }
@@ -53,7 +45,8 @@ fn put_header(out: &mut String, value: &Pex) -> Result<(), AllocError> {
 
 /// Writes what stands in the buffer, and empties it.
 fn flush<S: Sink>(out: &mut String, sink: &mut S) -> Result<(), ShowFault>
-    ensures { Shows S.faults result sink.old sink.new }
+    ensures faults { Shows S.faults result sink.old sink.new }
+    ensures appended { AppendsSome (S.written sink.old) (S.written sink.new) }
 {
     let written = sink.write(out.as_bytes());
     out.clear();
@@ -64,12 +57,47 @@ fn flush<S: Sink>(out: &mut String, sink: &mut S) -> Result<(), ShowFault>
     }
 }
 
-fn show_strings<S: Sink>(out: &mut String, strings: &[Text], sink: &mut S) -> Result<(), ShowFault>
-    ensures { Shows S.faults result sink.old sink.new }
+/// The header and the string table.
+fn show_strings<S: Sink>(out: &mut String, value: &Pex, sink: &mut S) -> Result<(), ShowFault>
+    ensures faults { Shows S.faults result sink.old sink.new }
+    ensures appended { AppendsSome (S.written sink.old) (S.written sink.new) }
+{
+    put_header(out, value)?;
+    flush(out, sink)?;
+    show_table(out, &value.strings, sink)
+}
+
+fn show_table<S: Sink>(out: &mut String, strings: &[Text], sink: &mut S) -> Result<(), ShowFault>
+    ensures faults { Shows S.faults result sink.old sink.new }
+    ensures appended { AppendsSome (S.written sink.old) (S.written sink.new) }
 {
     for text in strings {
         put_string_line(out, "string", text)?;
         flush(out, sink)?;
+    }
+    Ok(())
+}
+
+/// The debug line, and the entries behind it.
+fn show_debug<S: Sink>(
+    out: &mut String,
+    names: &Names,
+    debug: &Option<PexDebug>,
+    sink: &mut S,
+) -> Result<(), ShowFault>
+    ensures faults { Shows S.faults result sink.old sink.new }
+    ensures appended { AppendsSome (S.written sink.old) (S.written sink.new) }
+{
+    put_debug_line(out, debug)?;
+    match debug {
+        Some(debug) => show_entries(out, names, &debug.functions, sink),
+        None => Ok(()),
+    }
+}
+
+fn put_flags(out: &mut String, names: &Names, flags: &[(u16, u8)]) -> Result<(), AllocError> {
+    for (name, index) in flags {
+        put_flag(out, names, *name, *index)?;
     }
     Ok(())
 }
@@ -80,7 +108,8 @@ fn show_entries<S: Sink>(
     entries: &[PexLines],
     sink: &mut S,
 ) -> Result<(), ShowFault>
-    ensures { Shows S.faults result sink.old sink.new }
+    ensures faults { Shows S.faults result sink.old sink.new }
+    ensures appended { AppendsSome (S.written sink.old) (S.written sink.new) }
 {
     for entry in entries {
         put_lines(out, names, entry)?;
@@ -95,7 +124,8 @@ fn show_objects<S: Sink>(
     objects: &[PexObject],
     sink: &mut S,
 ) -> Result<(), ShowFault>
-    ensures { Shows S.faults result sink.old sink.new }
+    ensures faults { Shows S.faults result sink.old sink.new }
+    ensures appended { AppendsSome (S.written sink.old) (S.written sink.new) }
 {
     for object in objects {
         put_object(out, names, object)?;

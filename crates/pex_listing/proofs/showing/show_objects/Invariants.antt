@@ -1,5 +1,9 @@
 use Rattle.std.proofs.Common.{◌≡◌}
+use Rattle.pex_listing.specs.Showing.{AppendsSome}
 use Rattle.pex_listing.proofs.showing.show_objects.Given as goal
 
 abbrev pub invariant-loop-object : goal.invariant-loop-object
-invariant-loop-object g l = g.S.Sink.faults l.sink ≡ g.S.Sink.faults l.initial.sink
+invariant-loop-object g l = record {
+  faults : g.S.Sink.faults l.sink ≡ g.S.Sink.faults l.initial.sink;
+  appended : AppendsSome (g.S.Sink.written l.initial.sink) (g.S.Sink.written l.sink);
+}

@@ -1,0 +1,19 @@
+use Rattle.pex_listing.proofs.Appending.{appends_more}
+use Rattle.pex_listing.proofs.showing.show.Goals as goal
+
+pub returns-in_err-show_debug-clause-appended : goal.returns-in_err-show_debug-clause-appended
+returns-in_err-show_debug-clause-appended g c = appends_more _ _ _ c.show_strings.ensures.appended c.show_debug.ensures.appended
+
+pub returns-in_err-put_flags-clause-appended : goal.returns-in_err-put_flags-clause-appended
+returns-in_err-put_flags-clause-appended g c = appends_more _ _ _ c.show_strings.ensures.appended c.show_debug.ensures.appended
+
+pub returns-in_err-flush-clause-appended : goal.returns-in_err-flush-clause-appended
+returns-in_err-flush-clause-appended g c =
+    let before = appends_more _ _ _ c.show_strings.ensures.appended c.show_debug.ensures.appended in
+    appends_more _ _ _ before c.flush.ensures.appended
+
+pub returns-clause-appended : goal.returns-clause-appended
+returns-clause-appended g c =
+    let before = appends_more _ _ _ c.show_strings.ensures.appended c.show_debug.ensures.appended in
+    let behind = appends_more _ _ _ c.flush.ensures.appended c.show_objects.ensures.appended in
+    appends_more _ _ _ before behind

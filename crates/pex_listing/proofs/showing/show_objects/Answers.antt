@@ -1,0 +1,12 @@
+use Rattle.std.proofs.Common.{◌∙◌}
+use Rattle.pex_listing.proofs.Appending.{appends_more}
+use Rattle.pex_listing.proofs.showing.show_objects.Goals as goal
+
+pub returns-in_err-flush-clause-appended : goal.returns-in_err-flush-clause-appended
+returns-in_err-flush-clause-appended g c = appends_more _ _ _ c.loop-object.invariant.appended c.flush.ensures.appended
+
+pub loop-object-preserved : goal.loop-object-preserved
+loop-object-preserved g c = record {
+  faults = c.in_ok-flush.ensures.faults ∙ c.loop-object.invariant.faults;
+  appended = appends_more _ _ _ c.loop-object.invariant.appended c.flush.ensures.appended;
+}

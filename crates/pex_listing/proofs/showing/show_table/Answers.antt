@@ -1,0 +1,12 @@
+use Rattle.std.proofs.Common.{◌∙◌}
+use Rattle.pex_listing.proofs.Appending.{appends_more}
+use Rattle.pex_listing.proofs.showing.show_table.Goals as goal
+
+pub returns-in_err-flush-clause-appended : goal.returns-in_err-flush-clause-appended
+returns-in_err-flush-clause-appended g c = appends_more _ _ _ c.loop-text.invariant.appended c.flush.ensures.appended
+
+pub loop-text-preserved : goal.loop-text-preserved
+loop-text-preserved g c = record {
+  faults = c.in_ok-flush.ensures.faults ∙ c.loop-text.invariant.faults;
+  appended = appends_more _ _ _ c.loop-text.invariant.appended c.flush.ensures.appended;
+}

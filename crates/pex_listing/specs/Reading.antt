@@ -1,0 +1,79 @@
+-- What reading a part of a listing gives.
+use Rattle.std.specs.Prelude.{◌≡◌, ℕ, ◌+◌, ◌<◌, ◌≤◌, ◌^◌, Bool, true, false, List, length, map, Option, Some, None, is_some, IfSome, option_map}
+use Rattle.std.specs.List.{flat_map, AllByRecursion}
+use Rattle.pex_values.specs.declared.debug.PexDebug.{PexDebug}
+use Rattle.pex_values.specs.declared.debug.PexLines.{PexLines}
+use Rattle.pex_values.specs.declared.values.Datum.{Datum}
+use Rattle.pex_values.specs.declared.values.Instruction.{Instruction}
+use Rattle.pex_values.specs.declared.values.PexFunction.{PexFunction}
+use Rattle.pex_values.specs.declared.values.PexObject.{PexObject}
+use Rattle.pex_values.specs.declared.values.PexProperty.{PexProperty}
+use Rattle.pex_values.specs.declared.values.PexState.{PexState}
+use Rattle.pex_values.specs.Fit.{IsCounted, FitsInstruction, FitsFunction, FitsState, FitsProperty, FitsObject, FitsDebug}
+use Rattle.pex_values.specs.Plain.{PlainLines, plain_instruction, plain_function, plain_named, plain_state, plain_property, plain_object, plain_lines, plain_debug}
+use Rattle.pex_values.specs.Shape.{IsShapedDatum, IsShapedInstruction, IsShapedFunction, IsShapedNamed, IsShapedState, IsShapedProperty, IsShapedObject, IsShapedLines, IsShapedDebug}
+use Rattle.pex_values.specs.Spelling.{datum, function, optional, debug}
+
+-- the part may stand in the value, and its bytes were taken from the room
+pub record Reads {T : Type 0} (Holds : T → Type 0) (spelling : T → List ℕ) (old new : ℕ) (part : T) : Type 0 where
+  pub holds : Holds part
+  pub room : new + length (spelling part) ≤ old
+  pub less : new < old
+
+-- each part may stand in the value, they are few enough for a count, and their bytes were taken from the room
+pub record ReadsAll {T : Type 0} (Holds : T → Type 0) (spelling : T → List ℕ) (old new : ℕ) (parts : List T) : Type 0 where
+  pub each : AllByRecursion Holds parts
+  pub counted : length parts < 2 ^ 16
+  pub room : new + length (flat_map spelling parts) ≤ old
+
+-- values whose bytes were taken from the room
+pub record ReadsData (strings old new : ℕ) (values : List Datum) : Type 0 where
+  pub each : AllByRecursion (IsShapedDatum strings) values
+  pub few : new + length values ≤ old
+  pub room : new + length (flat_map datum values) ≤ old
+
+-- which parts may stand in a value with so many strings
+
+abbrev pub HoldsInstruction : ℕ → Instruction → Type 0
+HoldsInstruction strings i = IsShapedInstruction strings (plain_instruction i) × FitsInstruction (plain_instruction i)
+
+abbrev pub HoldsFunction : ℕ → PexFunction → Type 0
+HoldsFunction strings f = IsShapedFunction strings (plain_function f) × FitsFunction (plain_function f)
+
+abbrev pub HoldsNamed : ℕ → ℕ × PexFunction → Type 0
+HoldsNamed strings f = IsShapedNamed strings (plain_named f) × FitsFunction (plain_named f).1
+
+abbrev pub HoldsState : ℕ → PexState → Type 0
+HoldsState strings s = IsShapedState strings (plain_state s) × FitsState (plain_state s)
+
+abbrev pub HoldsProperty : ℕ → PexProperty → Type 0
+HoldsProperty strings p = IsShapedProperty strings (plain_property p) × FitsProperty (plain_property p)
+
+abbrev pub HoldsObject : ℕ → PexObject → Type 0
+HoldsObject strings o = IsShapedObject strings (plain_object o) × FitsObject (plain_object o)
+
+abbrev pub HoldsLines : ℕ → PexLines → Type 0
+HoldsLines strings e = IsShapedLines strings (plain_lines e) × IsCounted (plain_lines e).lines
+
+-- the bytes of a function with empty lists, where it is asked for
+abbrev pub least_function : Bool → ℕ
+least_function true = 15
+least_function false = 0
+
+-- a function that stands exactly where it is asked for; its least bytes were taken from the room before
+pub record ReadsAccessor (strings : ℕ) (asked : Bool) (old new : ℕ) (f : Option PexFunction) : Type 0 where
+  pub asked_for : is_some (option_map plain_function f) ≡ asked
+  pub shaped : IfSome (option_map plain_function f) (IsShapedFunction strings)
+  pub fits : IfSome (option_map plain_function f) FitsFunction
+  pub room : new + length (optional function (option_map plain_function f)) ≤ old + least_function asked
+
+-- the bytes of the debug information with no entries, beyond its flag
+abbrev pub debug_rest : Option ℕ → ℕ
+debug_rest None = 0
+debug_rest (Some time) = 10
+
+-- the debug information; the bytes of its flag and its time were taken from the room before
+pub record ReadsDebug (strings : ℕ) (time : Option ℕ) (old new : ℕ) (d : Option PexDebug) : Type 0 where
+  pub shaped : IfSome (option_map plain_debug d) (IsShapedDebug strings)
+  pub fits : IfSome (option_map plain_debug d) FitsDebug
+  pub room : new + length (debug (option_map plain_debug d)) ≤ old + 1 + debug_rest time

@@ -1,0 +1,80 @@
+//! Listings to values.
+
+ghost use Rattle.std.specs.Prelude.{◌≡◌, ◌<◌, ◌^◌, ◌⊎◌, IfOk};
+ghost use Rattle.pex_values.specs.Fit.{Fits};
+ghost use Rattle.pex_values.specs.Plain.{plain};
+ghost use Rattle.pex_values.specs.Shape.{IsWellShaped};
+
+use crate::faults::{LineFault, ListingFault, ListingRule};
+use crate::keyword::Keyword;
+use crate::listing::Listing;
+use crate::name_table::NameTable;
+use crate::part::read_all;
+use crate::room::Room;
+use crate::tables::{read_debug_line, read_entries, read_string, read_strings};
+use pex_values::{Pex, PexObject};
+use std::alloc::Global;
+
+/// What stands in the first line.
+#[derive(Clone, Copy, Debug)]
+struct Version {
+    minor: u8,
+    time: u64,
+}
+
+fn read_version(listing: &mut Listing) -> Result<Version, LineFault>
+    ensures { IfOk result (λ v. ((v.minor ≡ 1) ⊎ (v.minor ≡ 2)) × (v.time < 2 ^ 64)) }
+{
+    listing.expect(Keyword::Pex)?;
+    let minor = listing.unsigned_8()?;
+    if minor != 1 && minor != 2 {
+        return Err(LineFault::Broken(ListingRule::BadLine));
+    }
+    let time = listing.unsigned(u64::MAX)?;
+    listing.end_of_line()?;
+    listing.next_line()?;
+    Ok(Version { minor, time })
+}
+
+/// The parts of a value in the order of the listing.
+fn read_pex(alloc: Global, listing: &mut Listing) -> Result<Pex, LineFault>
+    ensures shaped { IfOk result (λ v. IsWellShaped (plain v)) }
+    ensures fits { IfOk result (λ v. Fits (plain v)) }
+{
+    let mut room = Room::new();
+    let version = read_version(listing)?;
+    let source = read_string(alloc, listing, &mut room, Keyword::Source)?;
+    let user = read_string(alloc, listing, &mut room, Keyword::User)?;
+    let machine = read_string(alloc, listing, &mut room, Keyword::Machine)?;
+    let strings = read_strings(alloc, listing, &mut room)?;
+    let debug_time = read_debug_line(listing, &mut room)?;
+    let names = NameTable::new(alloc, &strings)?;
+    let debug = read_entries(alloc, listing, &names, &mut room, debug_time)?;
+    let user_flags: Vec<(u16, u8)> = read_all(alloc, listing, &names, &mut room, Keyword::Flag)?;
+    let objects: Vec<PexObject> = read_all(alloc, listing, &names, &mut room, Keyword::Object)?;
+    listing.end()?;
+    Ok(Pex {
+        minor: version.minor,
+        time: version.time,
+        source,
+        user,
+        machine,
+        strings,
+        debug,
+        user_flags,
+        objects,
+    })
+}
+
+/// The value whose listing the bytes are. It is well shaped and fits. `Broken` has the first line that breaks a rule,
+/// as `ListingRule` says; where the text ends before a line that must come, that is the line after the last.
+pub fn assemble(alloc: Global, bytes: &[u8]) -> Result<Pex, ListingFault>
+    ensures shaped { IfOk result (λ v. IsWellShaped (plain v)) }
+    ensures fits { IfOk result (λ v. Fits (plain v)) }
+{
+    let mut listing = Listing::new(bytes);
+    match read_pex(alloc, &mut listing) {
+        Ok(value) => Ok(value),
+        Err(fault) => Err(fault.at_line(listing.number())),
+    }
+}

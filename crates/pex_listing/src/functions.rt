@@ -1,0 +1,135 @@
+//! Functions.
+
+ghost use Rattle.std.specs.Prelude.{◌+◌, ◌≤◌, length, vec_len, IfOk};
+ghost use Rattle.pex_values.specs.Plain.{plain_function, plain_named};
+ghost use Rattle.pex_values.specs.Shape.{ArePair};
+ghost use Rattle.pex_values.specs.Spelling as spell;
+ghost use Rattle.pex_listing.specs.Headings.{IsFunctionHeading};
+ghost use Rattle.pex_listing.specs.Reading.{HoldsFunction, HoldsNamed, ReadsAccessor};
+
+use crate::faults::LineFault;
+use crate::keyword::Keyword;
+use crate::listing::Listing;
+use crate::name_table::NameTable;
+use crate::part::{Part, read_all};
+use crate::room::Room;
+use pex_values::{Instruction, PexFunction};
+use std::alloc::Global;
+
+/// What stands in the line that a function begins with, behind its name.
+#[derive(Clone, Copy, Debug)]
+pub(crate) struct Heading {
+    result: u16,
+    doc: u16,
+    flags: u32,
+    bits: u8,
+}
+
+/// The rest of the line that a function begins with.
+fn read_heading(listing: &mut Listing, names: &NameTable) -> Result<Heading, LineFault>
+    ensures { IfOk result (IsFunctionHeading (vec_len names.now.spelled)) }
+{
+    let result = listing.reference(names)?;
+    let doc = listing.reference(names)?;
+    let flags = listing.unsigned_32()?;
+    let bits = listing.unsigned_8()?;
+    listing.end_of_line()?;
+    Ok(Heading {
+        result: names.known(result)?,
+        doc: names.known(doc)?,
+        flags,
+        bits,
+    })
+}
+
+/// A name with its type, as a `param` or `local` line has it.
+impl Part for (u16, u16) {
+    ghost holds = { ArePair };
+
+    ghost spelling = { spell.pair };
+
+    fn read(
+        _alloc: Global,
+        listing: &mut Listing,
+        names: &NameTable,
+        room: &mut Room,
+    ) -> Result<(u16, u16), LineFault> {
+        room.spend(4)?;
+        let name = listing.reference(names)?;
+        let kind = listing.reference(names)?;
+        listing.end_of_line()?;
+        let pair = (names.known(name)?, names.known(kind)?);
+        listing.next_line()?;
+        Ok(pair)
+    }
+}
+
+/// The lines of a function behind its first one. The bytes of a function with empty lists were taken before.
+fn read_body(
+    alloc: Global,
+    listing: &mut Listing,
+    names: &NameTable,
+    room: &mut Room,
+    heading: Heading,
+) -> Result<PexFunction, LineFault>
+    requires { IsFunctionHeading (vec_len names.now.spelled) heading }
+    ensures holds { IfOk result (HoldsFunction (vec_len names.now.spelled)) }
+    ensures room { IfOk result (λ f. room.new.left + length (spell.function (plain_function f)) ≤ room.old.left + 15) }
+{
+    let parameters = read_all(alloc, listing, names, room, Keyword::Parameter)?;
+    let locals = read_all(alloc, listing, names, room, Keyword::Local)?;
+    let code: Vec<Instruction> = read_all(alloc, listing, names, room, Keyword::Opcode)?;
+    Ok(PexFunction {
+        result: heading.result,
+        doc: heading.doc,
+        flags: heading.flags,
+        bits: heading.bits,
+        parameters,
+        locals,
+        code,
+    })
+}
+
+/// A function of a state.
+impl Part for (u16, PexFunction) {
+    ghost holds = { HoldsNamed };
+
+    ghost spelling = { λ f. spell.named (plain_named f) };
+
+    fn read(
+        alloc: Global,
+        listing: &mut Listing,
+        names: &NameTable,
+        room: &mut Room,
+    ) -> Result<(u16, PexFunction), LineFault> {
+        room.spend(17)?;
+        let name = listing.reference(names)?;
+        let heading = read_heading(listing, names)?;
+        let name = names.known(name)?;
+        listing.next_line()?;
+        let function = read_body(alloc, listing, names, room, heading)?;
+        Ok((name, function))
+    }
+}
+
+/// The function that reads or writes a property, where one is asked for. The bytes of one with empty lists were
+/// taken before.
+pub(crate) fn read_accessor(
+    alloc: Global,
+    listing: &mut Listing,
+    names: &NameTable,
+    room: &mut Room,
+    keyword: Keyword,
+    is_asked: bool,
+) -> Result<Option<PexFunction>, LineFault>
+    ensures { IfOk result (ReadsAccessor (vec_len names.now.spelled) is_asked room.old.left room.new.left) }
+{
+    if !is_asked {
+        return Ok(None);
+    }
+    listing.expect(keyword)?;
+    let heading = read_heading(listing, names)?;
+    listing.next_line()?;
+    let function = read_body(alloc, listing, names, room, heading)?;
+    Ok(Some(function))
+}

@@ -1,0 +1,299 @@
+//! A listing as lines, and a line as fields.
+
+ghost use Rattle.std.specs.Prelude.{◌≡◌, ◌<◌, ◌≤◌, ◌^◌, Some, length, vec_len, IfOk, IfSome};
+ghost use Rattle.pex_values.specs.Shape.{IsReference};
+
+use crate::faults::{LineFault, ListingRule};
+use crate::keyword::{Keyword, keyword_of, opcode_of};
+use crate::name_table::NameTable;
+use crate::names::is_word;
+use crate::numbers::{has_leading_zero, hex_number, is_digits, is_upper, magnitude};
+use crate::quoted::unquote;
+use papy_base::Text;
+use pex_values::SizeForm;
+use std::alloc::Global;
+
+const BAD_LINE: LineFault = LineFault::Broken(ListingRule::BadLine);
+
+/// What stands before the first such byte, and what follows it.
+fn cut(bytes: &[u8], byte: u8) -> Option<(&[u8], &[u8])> {
+    let at = bytes.iter().position(|each| *each == byte)?;
+    Some((&bytes[..at], &bytes[at + 1..]))
+}
+
+/// A listing with its open line, whose fields are read from the left.
+#[derive(Debug, Drop)]
+pub(crate) struct Listing<'a> {
+    keyword: Keyword,
+    /// The opcode, where the keyword is an opcode's name.
+    opcode: u8,
+    /// The fields of the open line that weren't read yet. None behind the last one.
+    fields: Option<&'a [u8]>,
+    /// Whether each field that was read is in its one spelling.
+    is_canonical: bool,
+    /// The number of the open line, from 1.
+    number: u32,
+    /// What follows the open line.
+    rest: &'a [u8],
+}
+
+impl<'a> Listing<'a> {
+    /// The first line is open.
+    pub(crate) fn new(bytes: &'a [u8]) -> Listing<'a> {
+        let mut listing = Listing {
+            keyword: Keyword::End,
+            opcode: 0,
+            fields: None,
+            is_canonical: true,
+            number: 0,
+            rest: bytes,
+        };
+        listing.open_next();
+        listing
+    }
+
+    /// Opens the line that follows. There are fewer than 2^32 before one that is refused, since their parts don't fit.
+    fn open_next(&mut self) {
+        self.number = self.number.saturating_add(1);
+        self.fields = None;
+        self.keyword = Keyword::End;
+        let Some((line, rest)) = cut(self.rest, b'\n') else {
+            return;
+        };
+        self.rest = rest;
+        let mut word = line;
+        if let Some((first, fields)) = cut(line, b' ') {
+            word = first;
+            self.fields = Some(fields);
+        }
+        self.keyword = keyword_of(word);
+        self.opcode = opcode_of(word).unwrap_or(0);
+    }
+
+    pub(crate) fn number(&self) -> u32 {
+        self.number
+    }
+
+    /// Whether the open line begins with this word.
+    pub(crate) fn is_at(&self, keyword: Keyword) -> bool {
+        self.keyword == keyword
+    }
+
+    /// The opcode of an open instruction.
+    pub(crate) fn opcode(&self) -> u8 {
+        self.opcode
+    }
+
+    /// A line with this word must come.
+    pub(crate) fn expect(&self, keyword: Keyword) -> Result<(), LineFault> {
+        if self.keyword == keyword {
+            return Ok(());
+        }
+        if self.keyword == Keyword::End {
+            return Err(LineFault::Broken(ListingRule::End));
+        }
+        Err(BAD_LINE)
+    }
+
+    /// No line may follow, also none without its LF.
+    pub(crate) fn end(&self) -> Result<(), LineFault> {
+        if self.keyword != Keyword::End {
+            return Err(BAD_LINE);
+        }
+        if !self.rest.is_empty() {
+            return Err(LineFault::Broken(ListingRule::End));
+        }
+        Ok(())
+    }
+
+    /// The open line has no further field.
+    pub(crate) fn end_of_line(&self) -> Result<(), LineFault> {
+        match self.fields {
+            None => Ok(()),
+            Some(_) => Err(BAD_LINE),
+        }
+    }
+
+    /// Whether the open line has a further field.
+    pub(crate) fn has_field(&self) -> bool {
+        self.fields.is_some()
+    }
+
+    /// Goes on to the next line. Every field of the open one was read, so now its spelling is judged.
+    pub(crate) fn next_line(&mut self) -> Result<(), LineFault> {
+        if !self.is_canonical {
+            return Err(LineFault::Broken(ListingRule::NotCanonical));
+        }
+        self.open_next();
+        Ok(())
+    }
+
+    /// The next field.
+    fn field(&mut self) -> Result<&'a [u8], LineFault> {
+        let fields = self.fields.ok_or(BAD_LINE)?;
+        match cut(fields, b' ') {
+            Some((field, rest)) => {
+                self.fields = Some(rest);
+                Ok(field)
+            }
+            None => {
+                self.fields = None;
+                Ok(fields)
+            }
+        }
+    }
+
+    /// Notes whether a field is in its one spelling.
+    fn note(&mut self, is_canonical: bool) {
+        self.is_canonical = self.is_canonical && is_canonical;
+    }
+
+    /// All that is left of the line, which is a string in quotes.
+    pub(crate) fn string(&mut self, alloc: Global) -> Result<Text, LineFault>
+        ensures { IfOk result (λ text. length text < 2 ^ 16) }
+    {
+        let field = self.fields.ok_or(BAD_LINE)?;
+        let quoted = unquote(alloc, field)?;
+        self.fields = None;
+        self.note(quoted.is_canonical);
+        Ok(quoted.text)
+    }
+
+    /// A number without sign, or `-0`.
+    pub(crate) fn unsigned(&mut self, most: u64) -> Result<u64, LineFault>
+        ensures { IfOk result (λ n. n ≤ most) }
+    {
+        let field = self.field()?;
+        let digits = field.strip_prefix(b"-").unwrap_or(field);
+        let is_negative = digits.len() < field.len();
+        if !is_digits(digits) {
+            return Err(BAD_LINE);
+        }
+        let number = magnitude(digits).ok_or(BAD_LINE)?;
+        if number > most || (is_negative && number != 0) {
+            return Err(BAD_LINE);
+        }
+        self.note(!is_negative && !has_leading_zero(digits));
+        Ok(number)
+    }
+
+    pub(crate) fn unsigned_8(&mut self) -> Result<u8, LineFault> {
+        Ok(self.unsigned(0xFF)? as u8)
+    }
+
+    pub(crate) fn unsigned_16(&mut self) -> Result<u16, LineFault> {
+        Ok(self.unsigned(0xFFFF)? as u16)
+    }
+
+    pub(crate) fn unsigned_32(&mut self) -> Result<u32, LineFault> {
+        Ok(self.unsigned(0xFFFF_FFFF)? as u32)
+    }
+
+    /// A number with a sign.
+    pub(crate) fn signed(&mut self) -> Result<i32, LineFault> {
+        let field = self.field()?;
+        let digits = field.strip_prefix(b"-").unwrap_or(field);
+        let is_negative = digits.len() < field.len();
+        if !is_digits(digits) {
+            return Err(BAD_LINE);
+        }
+        let magnitude = magnitude(digits).ok_or(BAD_LINE)?;
+        self.note(!(is_negative && magnitude == 0) && !has_leading_zero(digits));
+        with_sign(is_negative, magnitude).ok_or(BAD_LINE)
+    }
+
+    /// Eight hexadecimal digits.
+    pub(crate) fn hexadecimal(&mut self) -> Result<u32, LineFault> {
+        let field = self.field()?;
+        let number = hex_number(field).ok_or(BAD_LINE)?;
+        self.note(!field.iter().any(|digit| is_upper(*digit)));
+        Ok(number)
+    }
+
+    /// A reference. None where there is no such string.
+    pub(crate) fn reference(&mut self, names: &NameTable) -> Result<Option<u16>, LineFault>
+        ensures { IfOk result (λ found. IfSome found (IsReference (vec_len names.now.spelled))) }
+    {
+        let field = self.field()?;
+        if let [b'#', digits @ ..] = field {
+            return self.index(names, digits);
+        }
+        if !is_word(field) {
+            return Err(BAD_LINE);
+        }
+        let Some(place) = names.place_of(field) else {
+            return Ok(None);
+        };
+        let Some(is_spelled) = names.spelled.get(place as usize) else {
+            return Ok(None);
+        };
+        self.note(*is_spelled);
+        Ok(Some(place))
+    }
+
+    /// A reference by its index.
+    fn index(&mut self, names: &NameTable, digits: &[u8]) -> Result<Option<u16>, LineFault>
+        ensures { IfOk result (λ found. IfSome found (IsReference (vec_len names.now.spelled))) }
+    {
+        if !is_digits(digits) {
+            return Err(BAD_LINE);
+        }
+        let Some(place) = magnitude(digits).and_then(|number| u16::try_from(number).ok()) else {
+            return Ok(None);
+        };
+        let Some(is_spelled) = names.spelled.get(place as usize) else {
+            return Ok(None);
+        };
+        self.note(!*is_spelled && !has_leading_zero(digits));
+        Ok(Some(place))
+    }
+
+    /// What the size field of an object counts.
+    pub(crate) fn size_form(&mut self) -> Result<SizeForm, LineFault> {
+        match self.field()? {
+            b"counted" => Ok(SizeForm::Counted),
+            b"bare" => Ok(SizeForm::Bare),
+            _ => Err(BAD_LINE),
+        }
+    }
+
+    /// What kind of value follows.
+    pub(crate) fn kind(&mut self) -> Result<Kind, LineFault> {
+        match self.field()? {
+            b"none" => Ok(Kind::NoneValue),
+            b"id" => Ok(Kind::Word),
+            b"text" => Ok(Kind::Quoted),
+            b"int" => Ok(Kind::Int),
+            b"float" => Ok(Kind::Float),
+            b"bool" => Ok(Kind::Bool),
+            _ => Err(BAD_LINE),
+        }
+    }
+}
+
+/// The kinds of values, by their words.
+#[derive(Clone, Copy, Debug)]
+pub(crate) enum Kind {
+    NoneValue,
+    Word,
+    Quoted,
+    Int,
+    Float,
+    Bool,
+}
+
+/// The number of this sign and magnitude. None where it doesn't fit.
+fn with_sign(is_negative: bool, magnitude: u64) -> Option<i32> {
+    let magnitude = i64::try_from(magnitude).ok()?;
+    if is_negative {
+        return i32::try_from(magnitude.checked_neg()?).ok();
+    }
+    i32::try_from(magnitude).ok()
+}
+
+/// What a reference that names a string gives. A line is refused where one names none.
+pub(crate) fn known<T: Drop>(found: Option<T>) -> Result<T, LineFault>
+    ensures { IfOk result (λ value. found ≡ Some value) }
+{
+    found.ok_or(LineFault::Broken(ListingRule::BadName))
+}

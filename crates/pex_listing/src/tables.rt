@@ -1,0 +1,156 @@
+//! The string table, the debug information and the user flags.
+
+ghost use Rattle.std.specs.Prelude.{◌≡◌, ◌+◌, ◌<◌, ◌≤◌, ◌^◌, length, vec_len, IfOk, IfSome, option_map};
+ghost use Rattle.pex_values.specs.Fit.{FitsDebug, IsCounted};
+ghost use Rattle.pex_values.specs.Plain.{plain_lines, plain_debug};
+ghost use Rattle.pex_values.specs.Shape.{IsShapedDebug, IsShapedFlag};
+ghost use Rattle.pex_values.specs.Spelling as spell;
+ghost use Rattle.pex_listing.specs.Reading.{ReadsAll, HoldsLines, ReadsDebug, debug_rest};
+
+use crate::faults::LineFault;
+use crate::keyword::Keyword;
+use crate::listing::Listing;
+use crate::name_table::NameTable;
+use crate::part::{Part, check_place, read_all};
+use crate::room::Room;
+use papy_base::Text;
+use pex_values::{PexDebug, PexLines};
+use std::alloc::Global;
+
+/// A line with a string behind this word, which must come.
+pub(crate) fn read_string(
+    alloc: Global,
+    listing: &mut Listing,
+    room: &mut Room,
+    keyword: Keyword,
+) -> Result<Text, LineFault>
+    ensures { IfOk result (λ text. IsCounted text × (room.new.left + length text ≡ room.old.left)) }
+{
+    listing.expect(keyword)?;
+    let text = listing.string(alloc)?;
+    room.spend(text.as_bytes().len() as u32)?;
+    listing.next_line()?;
+    Ok(text)
+}
+
+/// The string table.
+pub(crate) fn read_strings(
+    alloc: Global,
+    listing: &mut Listing,
+    room: &mut Room,
+) -> Result<Vec<Text>, LineFault>
+    ensures { IfOk result (λ strings. ReadsAll IsCounted spell.string room.old.left room.new.left strings.items) }
+{
+    let mut strings = Vec::new(alloc);
+    while listing.is_at(Keyword::String) {
+        check_place(strings.len())?;
+        room.spend(2)?;
+        let text = read_string(alloc, listing, room, Keyword::String)?;
+        strings.push(text)?;
+    }
+    Ok(strings)
+}
+
+/// The numbers up to the end of a `lines` line.
+fn read_numbers(
+    alloc: Global,
+    listing: &mut Listing,
+    room: &mut Room,
+) -> Result<Vec<u16>, LineFault>
+    ensures { IfOk result (λ numbers. ReadsAll (λ n. n < 2 ^ 16) spell.two_bytes room.old.left room.new.left numbers.items) }
+{
+    let mut numbers = Vec::new(alloc);
+    while listing.has_field() {
+        check_place(numbers.len())?;
+        room.spend(2)?;
+        numbers.push(listing.unsigned_16()?)?;
+    }
+    Ok(numbers)
+}
+
+impl Part for PexLines {
+    ghost holds = { HoldsLines };
+
+    ghost spelling = { λ e. spell.lines (plain_lines e) };
+
+    fn read(
+        alloc: Global,
+        listing: &mut Listing,
+        names: &NameTable,
+        room: &mut Room,
+    ) -> Result<PexLines, LineFault> {
+        room.spend(9)?;
+        let object = listing.reference(names)?;
+        let state = listing.reference(names)?;
+        let function = listing.reference(names)?;
+        let kind = listing.unsigned_8()?;
+        let lines = read_numbers(alloc, listing, room)?;
+        let entry = PexLines {
+            object: names.known(object)?,
+            state: names.known(state)?,
+            function: names.known(function)?,
+            kind,
+            lines,
+        };
+        listing.next_line()?;
+        Ok(entry)
+    }
+}
+
+/// Whether there is debug information, and its time.
+pub(crate) fn read_debug_line(
+    listing: &mut Listing,
+    room: &mut Room,
+) -> Result<Option<u64>, LineFault>
+    ensures { IfOk result (λ time. IfSome time (λ t. t < 2 ^ 64) × (room.new.left + debug_rest time ≡ room.old.left)) }
+{
+    let mut time = None;
+    if !listing.is_at(Keyword::NoDebug) {
+        listing.expect(Keyword::Debug)?;
+        room.spend(10)?;
+        time = Some(listing.unsigned(u64::MAX)?);
+    }
+    listing.end_of_line()?;
+    listing.next_line()?;
+    Ok(time)
+}
+
+/// The debug information of this time, where there is one.
+pub(crate) fn read_entries(
+    alloc: Global,
+    listing: &mut Listing,
+    names: &NameTable,
+    room: &mut Room,
+    time: Option<u64>,
+) -> Result<Option<PexDebug>, LineFault>
+    requires { IfSome time (λ t. t < 2 ^ 64) }
+    ensures { IfOk result (ReadsDebug (vec_len names.now.spelled) time room.old.left room.new.left) }
+{
+    let Some(time) = time else {
+        return Ok(None);
+    };
+    let functions = read_all(alloc, listing, names, room, Keyword::Lines)?;
+    Ok(Some(PexDebug { time, functions }))
+}
+
+/// A user flag.
+impl Part for (u16, u8) {
+    ghost holds = { IsShapedFlag };
+
+    ghost spelling = { spell.flag };
+
+    fn read(
+        _alloc: Global,
+        listing: &mut Listing,
+        names: &NameTable,
+        room: &mut Room,
+    ) -> Result<(u16, u8), LineFault> {
+        room.spend(3)?;
+        let name = listing.reference(names)?;
+        let index = listing.unsigned_8()?;
+        listing.end_of_line()?;
+        let flag = (names.known(name)?, index);
+        listing.next_line()?;
+        Ok(flag)
+    }
+}
