@@ -1,0 +1,3 @@
+pub mod ActionTable
+pub mod Lists
+pub mod Sets

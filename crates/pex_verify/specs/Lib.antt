@@ -1,0 +1,5 @@
+pub mod Uses
+pub mod Soundness
+pub mod Objects
+pub mod Sources
+pub mod Sets

@@ -1,0 +1,105 @@
+-- What holds of the functions and scripts of accepted files.
+use Rattle.std.specs.Prelude.{◌≡◌, ℕ, ◌+◌, ◌<◌, ◌≤◌, ℤ, pos, ◌+ℤ◌, List, length, vec_len, All, Bool, true, false, IsTrue, Option, Some, None, IfSome, slice_get, slice_index_or}
+use Rattle.core_tree.specs.declared.core_type.CoreType.{CoreType}
+use Rattle.core_tree.specs.declared.core_type.CoreType.TheVariants as kind
+use Rattle.core_tree.specs.declared.outline.OutlineProperty.{OutlineProperty}
+use Rattle.core_tree.specs.declared.outline.OutlineScript.{OutlineScript}
+use Rattle.pex_verify.specs.declared.action.Action.{Action}
+use Rattle.pex_verify.specs.declared.action.Action.TheVariants as action
+use Rattle.pex_verify.specs.declared.action.Use.{Use}
+use Rattle.pex_verify.specs.declared.action.Use.TheVariants as purpose
+use Rattle.pex_verify.specs.declared.loaded.Operand.{Operand}
+use Rattle.pex_verify.specs.declared.loaded.Operand.TheVariants.{Word, Int, Slot, Variable}
+use Rattle.pex_verify.specs.declared.loaded.LoadedInstruction.{LoadedInstruction}
+use Rattle.pex_verify.specs.declared.loaded.LoadedFunction.{LoadedFunction}
+use Rattle.pex_verify.specs.declared.loaded.LoadedProperty.{LoadedProperty}
+use Rattle.pex_verify.specs.declared.loaded.LoadedScript.{LoadedScript}
+use Rattle.pex_verify.specs.Uses.{action_of, uses_by, use_at}
+
+-- a parameter or local is one of so many, and a variable one of so many
+abbrev pub IsWithin : ℕ → ℕ → Operand → Type 0
+IsWithin slots variables (Slot n) = n < slots
+IsWithin slots variables (Variable n) = n < variables
+IsWithin slots variables _ = Unit {0}
+
+-- whether an operand is read or written
+abbrev pub is_value : Use → Bool
+is_value purpose.Read = true
+is_value purpose.Write = true
+is_value purpose.Name = false
+is_value purpose.Number = false
+
+-- it is no name that stands for itself: a literal, a parameter, a local, a variable, `self` or `::State`
+abbrev pub IsNoName : Operand → Type 0
+IsNoName (Word name) = ⊥
+IsNoName _ = Unit {0}
+
+-- what an identifier that is read or written means
+pub record IsIdentifier (slots variables : ℕ) (operand : Operand) : Type 0 where
+  pub within : IsWithin slots variables operand
+  pub no_name : IsNoName operand
+
+-- an operand that is read or written has a value, and its numbers are in range
+pub record IsResolved (slots variables : ℕ) (usage : Use) (operand : Operand) : Type 0 where
+  pub within : IsWithin slots variables operand
+  pub meant : IsTrue (is_value usage) → IsNoName operand
+
+abbrev pub AreResolved : ℕ → ℕ → List Use → List Operand → Type 0
+AreResolved slots variables uses operands =
+    (k : ℕ) (d : Operand) → k < length operands → IsResolved slots variables (use_at uses k) (slice_index_or operands k d)
+
+-- a jump by this operand, from this place of so many, leads to a place of the code or to its end
+abbrev pub LeadsBy : ℕ → ℕ → Option Operand → Option ℕ → Type 0
+LeadsBy place count (Some (Int offset)) (Some landing) = (pos landing ≡ pos place +ℤ offset) × (landing ≤ count)
+LeadsBy place count _ _ = ⊥
+
+-- where an instruction leads, if it is a jump
+abbrev pub Leads : Option Action → ℕ → ℕ → List Operand → Option ℕ → Type 0
+Leads (Some action.Jump) place count fixed landing = LeadsBy place count (slice_get fixed 0) landing
+Leads (Some action.JumpIf) place count fixed landing = LeadsBy place count (slice_get fixed 1) landing
+Leads _ place count fixed landing = landing ≡ None
+
+-- the instruction at a place of so many, in a function with so many parameters and locals of a script with so many variables
+pub record IsSoundInstruction (slots variables count place : ℕ) (i : LoadedInstruction) : Type 0 where
+  pub fixed : AreResolved slots variables (uses_by (action_of i.opcode)) i.fixed.items
+  pub more : All (IsResolved slots variables purpose.Read) i.more.items
+  pub jump : Leads (action_of i.opcode) place count i.fixed.items i.jump
+
+-- each of these first instructions of a function with so many in all
+abbrev pub AreSoundInstructions : ℕ → ℕ → ℕ → List LoadedInstruction → Type 0
+AreSoundInstructions slots variables count code =
+    (k : ℕ) (d : LoadedInstruction) → k < length code → IsSoundInstruction slots variables count k (slice_index_or code k d)
+
+abbrev pub slot_count : LoadedFunction → ℕ
+slot_count f = vec_len f.parameters + vec_len f.locals
+
+pub record IsSoundFunction (variables : ℕ) (f : LoadedFunction) : Type 0 where
+  pub lines : vec_len f.lines ≡ vec_len f.code
+  pub code : AreSoundInstructions (slot_count f) variables (vec_len f.code) f.code.items
+
+pub record IsSoundProperty (variables : ℕ) (p : LoadedProperty) : Type 0 where
+  pub variable : IfSome p.variable (λ n. n < variables)
+  pub read : IfSome p.read (IsSoundFunction variables)
+  pub write : IfSome p.write (IsSoundFunction variables)
+
+abbrev pub AreSoundFunctions : ℕ → List LoadedFunction → Type 0
+AreSoundFunctions variables functions = All (IsSoundFunction variables) functions
+
+-- the functions of a state
+pub record IsSoundState (variables : ℕ) (functions : List LoadedFunction) : Type 0 where
+  pub each : AreSoundFunctions variables functions
+
+pub record IsSoundScript (variables : ℕ) (s : LoadedScript) : Type 0 where
+  pub properties : All (IsSoundProperty variables) s.properties.items
+  pub states : All (λ state. IsSoundState variables state.1.items) s.states.items
+
+-- the script of a type is one of so many
+abbrev pub IsTypeAmong : ℕ → CoreType → Type 0
+IsTypeAmong count (kind.Script n) = n < count
+IsTypeAmong count (kind.ScriptArray n) = n < count
+IsTypeAmong count _ = Unit {0}
+
+-- the numbers of a script's outline in a set of so many scripts
+pub record IsSoundOutline (count : ℕ) (o : OutlineScript) : Type 0 where
+  pub parent : IfSome o.parent (λ n. n < count)
+  pub properties : All (λ (p : OutlineProperty). p.variable < vec_len o.variables) o.properties.items

@@ -1,0 +1,156 @@
+// One function.
+ghost use Rattle.std.specs.Prelude.{◌≡◌, ◌+◌, length, vec_len, IfOk, OnOk};
+ghost use Rattle.pex_verify.specs.Soundness.{IsSoundFunction, IsSoundInstruction, AreSoundInstructions};
+
+use crate::fault::{Refusal, VerifyRule};
+use crate::instruction::load_instruction;
+use crate::kind::Kind;
+use crate::lines::lines_of;
+use crate::loaded::{LoadedFunction, LoadedInstruction};
+use crate::scope::{Home, Scope, Slots};
+use crate::signature::{GLOBAL, NATIVE};
+use crate::sources::Source;
+use core_tree::CoreType;
+use papy_base::Name;
+use pex_values::{Instruction, PexFunction};
+
+/// How many parameters and locals a function may have.
+const SLOT_LIMIT: usize = 8192;
+
+/// Whether a function has too many parameters and locals.
+pub(crate) fn has_too_many_slots(function: &PexFunction) -> bool {
+    function.parameters.len() > SLOT_LIMIT
+        || function.locals.len() > SLOT_LIMIT - function.parameters.len()
+}
+
+/// A function of this name, with these lines, or the first rule that its result, its parameters, its locals
+/// and its instructions break.
+pub(crate) fn load_function(
+    home: &Home<'_>,
+    source: &Source<'_>,
+    name: u16,
+    function: &PexFunction,
+    lines: &[u16],
+) -> Result<LoadedFunction, Refusal>
+    ensures { IfOk result (IsSoundFunction (vec_len home.now.variables.now.list)) }
+{
+    let alloc = home.alloc;
+    let answer = home.set.kind(source.names.number(function.result));
+    let result = known_kind(answer)?;
+    let mut slots = Slots::new(alloc);
+    let parameters = load_parameters(home, source, &mut slots, function.parameters.as_slice())?;
+    let locals = load_locals(home, source, &mut slots, function.locals.as_slice())?;
+    let is_global = function.bits & GLOBAL != 0;
+    let scope = Scope {
+        home,
+        source,
+        slots: &slots,
+        is_global,
+        answer,
+    };
+    let code = load_code(&scope, function.code.as_slice())?;
+    let lines = lines_of(alloc, lines, code.len())?;
+    Ok(LoadedFunction {
+        name: Name::from_bytes(alloc, source.text(name))?,
+        result,
+        is_global,
+        is_native: function.bits & NATIVE != 0,
+        parameters,
+        locals,
+        code,
+        lines,
+    })
+}
+
+/// The type of a type name that must mean one, none for `None`.
+pub(crate) fn known_kind(kind: Kind) -> Result<Option<CoreType>, Refusal> {
+    match kind {
+        Kind::Nothing => Ok(None),
+        Kind::Float => Err(Refusal::of(VerifyRule::FloatValue)),
+        Kind::Unknown => Err(Refusal::of(VerifyRule::OperandType)),
+        Kind::Of(found) => Ok(Some(found)),
+    }
+}
+
+fn load_parameters(
+    home: &Home<'_>,
+    source: &Source<'_>,
+    slots: &mut Slots,
+    pairs: &[(u16, u16)],
+) -> Result<Vec<(Name, CoreType)>, Refusal>
+    ensures { IfOk result (λ parameters. vec_len slots.new.kinds ≡ vec_len slots.old.kinds + vec_len parameters) }
+{
+    let mut parameters = Vec::with_capacity(home.alloc, pairs.len())?;
+    for pair in pairs {
+        let kind = home.set.value_kind(source.names.number(pair.1));
+        match judged_slot(source, slots, *pair, kind)? {
+            Some(found) => parameters.push((
+                Name::from_bytes(home.alloc, source.text(pair.0))?,
+                found,
+            ))?,
+            None => return Err(Refusal::of(VerifyRule::OperandType)),
+        }
+    }
+    Ok(parameters)
+}
+
+fn load_locals(
+    home: &Home<'_>,
+    source: &Source<'_>,
+    slots: &mut Slots,
+    pairs: &[(u16, u16)],
+) -> Result<Vec<(Name, Option<CoreType>)>, Refusal>
+    ensures { IfOk result (λ locals. vec_len slots.new.kinds ≡ vec_len slots.old.kinds + vec_len locals) }
+{
+    let mut locals = Vec::with_capacity(home.alloc, pairs.len())?;
+    for pair in pairs {
+        let kind = home.set.kind(source.names.number(pair.1));
+        let found = judged_slot(source, slots, *pair, kind)?;
+        locals.push((Name::from_bytes(home.alloc, source.text(pair.0))?, found))?;
+    }
+    Ok(locals)
+}
+
+// Adds a parameter or local of this type, unless it breaks a rule: V2, V5, then V7.
+fn judged_slot(
+    source: &Source<'_>,
+    slots: &mut Slots,
+    pair: (u16, u16),
+    kind: Kind,
+) -> Result<Option<CoreType>, Refusal>
+    ensures { OnOk result (vec_len slots.new.kinds ≡ vec_len slots.old.kinds + 1) }
+{
+    let name = source.names.number(pair.0);
+    if kind != Kind::Float && slots.has(name) {
+        return Err(Refusal::of(VerifyRule::DuplicateName));
+    }
+    let found = known_kind(kind)?;
+    slots.add(name, kind)?;
+    Ok(found)
+}
+
+fn load_code(scope: &Scope<'_>, code: &[Instruction]) -> Result<Vec<LoadedInstruction>, Refusal>
+    ensures count { IfOk result (λ loaded. vec_len loaded ≡ length code.now) }
+    ensures sound { IfOk result (λ loaded. AreSoundInstructions (vec_len scope.now.slots.now.kinds) (vec_len scope.now.home.now.variables.now.list) (length code.now) loaded.items) }
+{
+    let mut loaded = Vec::with_capacity(scope.home.alloc, code.len())?;
+    for (place, instruction) in code.iter().enumerate() {
+        loaded.push(load_at(scope, place, code.len(), instruction)?)?;
+    }
+    Ok(loaded)
+}
+
+// The instruction at this place of so many. A refusal names the place.
+fn load_at(
+    scope: &Scope<'_>,
+    place: usize,
+    count: usize,
+    instruction: &Instruction,
+) -> Result<LoadedInstruction, Refusal>
+    ensures { IfOk result (IsSoundInstruction (vec_len scope.now.slots.now.kinds) (vec_len scope.now.home.now.variables.now.list) count place) }
+{
+    match load_instruction(scope, place, count, instruction) {
+        Ok(loaded) => Ok(loaded),
+        Err(refusal) => Err(refusal.at(place.min(usize::from(u16::MAX)) as u16)),
+    }
+}

@@ -1,0 +1,42 @@
+//! Which compiled Papyrus files (PEX 3.2) may run together: the rules V1 to V14, and sets that keep them,
+//! with every identifier, type and jump resolved.
+//!
+//! The opcodes are those of UESP's page "Skyrim Mod:File Formats/PEX" (Compiled Script File).
+#![tactic(auto)]
+
+mod accessors;
+mod action;
+mod arrays;
+mod calls;
+mod fault;
+mod function;
+mod instruction;
+mod kind;
+mod lines;
+mod loaded;
+mod members;
+mod object;
+mod object_rules;
+mod operands;
+mod outlining;
+mod scope;
+mod scripts;
+mod signature;
+mod sources;
+mod type_names;
+mod values;
+mod variables;
+mod verifier;
+
+pub use action::{Action, Use};
+pub use fault::{VerifyFault, VerifyRule};
+pub use loaded::{
+    Loaded, LoadedFunction, LoadedInstruction, LoadedProperty, LoadedScript, MethodPlace, Operand,
+    PropertyPlace,
+};
+pub use verifier::verify;
+
+#[cfg(test)]
+mod test_sets;
+#[cfg(test)]
+mod tests;

@@ -1,0 +1,318 @@
+// One object.
+ghost use Rattle.std.specs.Prelude.{vec_len, All, IfOk, OnOk};
+ghost use Rattle.pex_verify.specs.Soundness.{IsSoundFunction, AreSoundFunctions, IsSoundState, IsSoundProperty};
+ghost use Rattle.pex_verify.specs.Objects.{IsSoundObject};
+
+use crate::accessors::{PropertySite, load_property};
+use crate::fault::{Refusal, VerifyFault, VerifyRule};
+use crate::function::{has_too_many_slots, load_function};
+use crate::lines::{FileLines, OF_STATE};
+use crate::loaded::{LoadedFunction, LoadedProperty, LoadedScript};
+use crate::outlining::outline_script;
+use crate::scope::{Home, Words};
+use crate::scripts::Scripts;
+use crate::signature::Signature;
+use crate::sources::{Members, Source};
+use crate::variables::load_variables;
+use core_tree::OutlineScript;
+use papy_base::{Name, OutOfMemory};
+use pex_names::EMPTY_NAME;
+use pex_values::{PexFunction, PexObject, PexState};
+use std::alloc::Global;
+use std::collections::HashMap;
+
+/// How many bytes the name of an object and that of its auto state may have.
+const NAME_LIMIT: usize = 255;
+
+/// What all objects of a set are judged by.
+#[derive(Clone, Copy)]
+pub(crate) struct Loader<'a> {
+    pub(crate) alloc: Global,
+    pub(crate) set: &'a Scripts,
+    pub(crate) words: Words,
+    /// The prelude, in whose strings the members are written.
+    pub(crate) prelude: &'a Source<'a>,
+    /// The members of every script without parent.
+    pub(crate) members: &'a Members<'a>,
+}
+
+/// An object's script, and its outline.
+#[derive(Drop)]
+pub(crate) struct LoadedObject {
+    pub(crate) script: LoadedScript,
+    pub(crate) outline: OutlineScript,
+}
+
+/// Loads the object, which is the script of this number, or gives the first fault in it: of the object
+/// itself, its variables, its properties, and its states, each before its functions.
+pub(crate) fn load_object(
+    loader: &Loader<'_>,
+    here: u16,
+    source: &Source<'_>,
+    lines: &FileLines<'_>,
+    object: &PexObject,
+) -> Result<LoadedObject, VerifyFault>
+    ensures { IfOk result (IsSoundObject (vec_len loader.now.set.now.heads)) }
+{
+    let alloc = loader.alloc;
+    judge_names(alloc, source, object)?;
+    let variables = load_variables(alloc, loader.set, source, object)?;
+    let home = Home {
+        alloc,
+        set: loader.set,
+        here,
+        words: loader.words,
+        variables: &variables,
+    };
+    let site = PropertySite {
+        home: &home,
+        source,
+        lines,
+        object,
+    };
+    let properties = load_properties(&site)?;
+    let states = load_states(loader, &site)?;
+    let script = LoadedScript { properties, states };
+    let outline = outline_script(alloc, &site, &script)?;
+    Ok(LoadedObject { script, outline })
+}
+
+// V12 of the names of the object and of its auto state.
+fn judge_names(alloc: Global, source: &Source<'_>, object: &PexObject) -> Result<(), VerifyFault> {
+    let name = source.text(object.name);
+    let auto_state = source.text(object.auto_state);
+    if name.len() > NAME_LIMIT || auto_state.len() > NAME_LIMIT {
+        return Err(source.site(object).fault(alloc, VerifyRule::TextTooLong));
+    }
+    Ok(())
+}
+
+fn load_properties(site: &PropertySite<'_>) -> Result<Vec<LoadedProperty>, VerifyFault>
+    ensures { IfOk result (λ properties. All (IsSoundProperty (vec_len site.now.home.now.variables.now.list)) properties.items) }
+{
+    let alloc = site.home.alloc;
+    let mut properties = Vec::with_capacity(alloc, site.object.properties.len())?;
+    for (place, property) in site.object.properties.iter().enumerate() {
+        match load_property(site, place, property) {
+            Ok(loaded) => properties.push(loaded)?,
+            Err(refusal) => return Err(site.fault_in(property.name, refusal)),
+        }
+    }
+    Ok(properties)
+}
+
+// The members that a script without parent lacks stand last in its empty state, or in a last one that is
+// added for them.
+fn load_states(
+    loader: &Loader<'_>,
+    site: &PropertySite<'_>,
+) -> Result<Vec<(Name, Vec<LoadedFunction>)>, VerifyFault>
+    ensures { IfOk result (λ states. All (λ state. IsSoundState (vec_len site.now.home.now.variables.now.list) state.1.items) states.items) }
+{
+    let alloc = site.home.alloc;
+    let mut seen = HashMap::new(alloc);
+    let mut states = Vec::with_capacity(alloc, site.object.states.len())?;
+    for state in &site.object.states {
+        let number = site.source.names.number(state.name);
+        if seen.get(&number).is_some() {
+            return Err(duplicate_state(site, state));
+        }
+        seen.insert(number, ())?;
+        let name = Name::from_bytes(alloc, site.source.text(state.name))?;
+        states.push((name, load_state(loader, site, state)?))?;
+    }
+    if seen.get(&EMPTY_NAME).is_some() {
+        return Ok(states);
+    }
+    with_members(loader, site, states)
+}
+
+// These states, none of which is the empty one, and an empty state of the members that the script lacks.
+fn with_members(
+    loader: &Loader<'_>,
+    site: &PropertySite<'_>,
+    mut states: Vec<(Name, Vec<LoadedFunction>)>,
+) -> Result<Vec<(Name, Vec<LoadedFunction>)>, VerifyFault>
+    requires { All (λ state. IsSoundState (vec_len site.now.home.now.variables.now.list) state.1.items) states.items }
+    ensures { IfOk result (λ states. All (λ state. IsSoundState (vec_len site.now.home.now.variables.now.list) state.1.items) states.items) }
+{
+    let alloc = site.home.alloc;
+    let added = lacking_members(loader, site)?;
+    if added.is_empty() {
+        return Ok(states);
+    }
+    states.push((Name::from_bytes(alloc, &[])?, added))?;
+    Ok(states)
+}
+
+fn lacking_members(
+    loader: &Loader<'_>,
+    site: &PropertySite<'_>,
+) -> Result<Vec<LoadedFunction>, VerifyFault>
+    ensures { IfOk result (λ added. IsSoundState (vec_len site.now.home.now.variables.now.list) added.items) }
+{
+    let mut added = Vec::new(loader.alloc);
+    add_members(loader, site, &mut added)?;
+    Ok(added)
+}
+
+fn duplicate_state(site: &PropertySite<'_>, state: &PexState) -> VerifyFault {
+    let refusal = Refusal::of(VerifyRule::DuplicateName);
+    site.fault_in(state.name, refusal)
+}
+
+fn load_state(
+    loader: &Loader<'_>,
+    site: &PropertySite<'_>,
+    state: &PexState,
+) -> Result<Vec<LoadedFunction>, VerifyFault>
+    ensures { IfOk result (λ functions. IsSoundState (vec_len site.now.home.now.variables.now.list) functions.items) }
+{
+    let mut functions = load_functions(site, state)?;
+    if site.source.names.number(state.name) == EMPTY_NAME {
+        add_members(loader, site, &mut functions)?;
+    }
+    Ok(functions)
+}
+
+fn load_functions(
+    site: &PropertySite<'_>,
+    state: &PexState,
+) -> Result<Vec<LoadedFunction>, VerifyFault>
+    ensures { IfOk result (λ functions. AreSoundFunctions (vec_len site.now.home.now.variables.now.list) functions.items) }
+{
+    let alloc = site.home.alloc;
+    let mut seen = HashMap::new(alloc);
+    let mut functions = Vec::with_capacity(alloc, state.functions.len())?;
+    for (name, function) in &state.functions {
+        let number = site.source.names.number(*name);
+        let is_new = seen.get(&number).is_none();
+        seen.insert(number, ())?;
+        match load_state_function(site, state.name, *name, function, is_new) {
+            Ok(loaded) => functions.push(loaded)?,
+            Err(refusal) => return Err(site.fault_in(*name, refusal)),
+        }
+    }
+    Ok(functions)
+}
+
+// A function of a state, which has to have a new name there: V5, V11, then V13.
+fn load_state_function(
+    site: &PropertySite<'_>,
+    state: u16,
+    name: u16,
+    function: &PexFunction,
+    is_new: bool,
+) -> Result<LoadedFunction, Refusal>
+    ensures { IfOk result (IsSoundFunction (vec_len site.now.home.now.variables.now.list)) }
+{
+    if !is_new {
+        return Err(Refusal::of(VerifyRule::DuplicateName));
+    }
+    if !replaces_alike(site, state, name, function)? {
+        return Err(Refusal::of(VerifyRule::SignatureDiffers));
+    }
+    if has_too_many_slots(function) {
+        return Err(Refusal::of(VerifyRule::TooMany));
+    }
+    let names = site.source.names;
+    let object = names.number(site.object.name);
+    let lines = site
+        .lines
+        .find(OF_STATE, object, names.number(state), names.number(name));
+    load_function(site.home, site.source, name, function, lines)
+}
+
+// Whether a function of a state gives and takes what the function that it replaces does.
+fn replaces_alike(
+    site: &PropertySite<'_>,
+    state: u16,
+    name: u16,
+    function: &PexFunction,
+) -> Result<bool, OutOfMemory> {
+    let names = site.source.names;
+    let own = Signature::of(site.home.alloc, names, name, function)?;
+    Ok(if names.number(state) == EMPTY_NAME {
+        overrides_alike(site, &own)
+    } else {
+        varies_alike(site, &own)
+    })
+}
+
+// A function of a named state replaces the nearest one of the empty states, which has to be there. Neither
+// is global or native.
+fn varies_alike(site: &PropertySite<'_>, own: &Signature) -> bool {
+    let here = usize::from(site.home.here);
+    match site.home.set.find_function(here, own.name) {
+        Some(replaced) => own.bits == 0 && own.same(replaced.signature),
+        None => false,
+    }
+}
+
+// A function of the empty state replaces the nearest one of the parents, if there is one. Without a parent it
+// replaces a member that every such script has.
+fn overrides_alike(site: &PropertySite<'_>, own: &Signature) -> bool {
+    let set = site.home.set;
+    match set.parent(usize::from(site.home.here)) {
+        Some(parent) => match set.find_function(parent, own.name) {
+            Some(replaced) => own.same(replaced.signature),
+            None => true,
+        },
+        None => match set.member(own.name) {
+            Some(member) => own.same(member),
+            None => true,
+        },
+    }
+}
+
+// Adds those of the four members that the script lacks. They are judged like all other functions.
+fn add_members(
+    loader: &Loader<'_>,
+    site: &PropertySite<'_>,
+    functions: &mut Vec<LoadedFunction>,
+) -> Result<(), VerifyFault>
+    ensures { AreSoundFunctions (vec_len site.now.home.now.variables.now.list) functions.old.items
+        → OnOk result (AreSoundFunctions (vec_len site.now.home.now.variables.now.list) functions.new.items) }
+{
+    for place in loader.set.lacking(usize::from(site.home.here)) {
+        add_member(loader, site, *place, functions)?;
+    }
+    Ok(())
+}
+
+// Adds the member at this place.
+fn add_member(
+    loader: &Loader<'_>,
+    site: &PropertySite<'_>,
+    place: usize,
+    functions: &mut Vec<LoadedFunction>,
+) -> Result<(), VerifyFault>
+    ensures { AreSoundFunctions (vec_len site.now.home.now.variables.now.list) functions.old.items
+        → OnOk result (AreSoundFunctions (vec_len site.now.home.now.variables.now.list) functions.new.items) }
+{
+    let Some(member) = loader.members.list.get(place) else {
+        return Ok(());
+    };
+    functions.push(load_member(loader, site, member)?)?;
+    Ok(())
+}
+
+fn load_member(
+    loader: &Loader<'_>,
+    site: &PropertySite<'_>,
+    member: &(u16, PexFunction),
+) -> Result<LoadedFunction, VerifyFault>
+    ensures { IfOk result (IsSoundFunction (vec_len site.now.home.now.variables.now.list)) }
+{
+    match load_function(site.home, loader.prelude, member.0, &member.1, &[]) {
+        Ok(loaded) => Ok(loaded),
+        Err(refusal) => {
+            let name = loader.prelude.text(member.0);
+            Err(
+                site.source
+                    .site(site.object)
+                    .fault_in(loader.alloc, name, refusal),
+            )
+        }
+    }
+}

@@ -1,0 +1,97 @@
+// Operands with their identifiers resolved.
+ghost use Rattle.std.specs.Prelude.{◌≡◌, vec_len, All, IfOk};
+ghost use Rattle.pex_verify.specs.declared.action.Use.TheVariants.{Read};
+ghost use Rattle.pex_verify.specs.Uses.{use_at as use_in};
+ghost use Rattle.pex_verify.specs.Soundness.{IsResolved, AreResolved};
+
+use crate::action::Use;
+use crate::fault::{Refusal, VerifyRule};
+use crate::loaded::Operand;
+use crate::scope::Scope;
+use papy_base::{Name, TEXT_LIMIT, Text};
+use pex_values::Datum;
+
+/// The fixed operands of an instruction, which are used so.
+pub(crate) fn resolve_fixed(
+    scope: &Scope<'_>,
+    uses: &[Use],
+    fixed: &[Datum],
+) -> Result<Vec<Operand>, Refusal>
+    ensures { IfOk result (λ operands. AreResolved (vec_len scope.now.slots.now.kinds) (vec_len scope.now.home.now.variables.now.list) uses.now operands.items) }
+{
+    let mut operands = Vec::with_capacity(scope.home.alloc, fixed.len())?;
+    for (place, datum) in fixed.iter().enumerate() {
+        operands.push(resolve(scope, use_at(uses, place), *datum)?)?;
+    }
+    Ok(operands)
+}
+
+/// The arguments of a call, which are read.
+pub(crate) fn resolve_more(scope: &Scope<'_>, more: &[Datum]) -> Result<Vec<Operand>, Refusal>
+    ensures { IfOk result (λ operands. All (IsResolved (vec_len scope.now.slots.now.kinds) (vec_len scope.now.home.now.variables.now.list) Read) operands.items) }
+{
+    let mut operands = Vec::with_capacity(scope.home.alloc, more.len())?;
+    for datum in more {
+        operands.push(resolve(scope, Use::Read, *datum)?)?;
+    }
+    Ok(operands)
+}
+
+fn use_at(uses: &[Use], place: usize) -> Use
+    ensures { result ≡ use_in uses.now place }
+{
+    match uses.get(place) {
+        Some(found) => *found,
+        None => Use::Read,
+    }
+}
+
+fn resolve(scope: &Scope<'_>, purpose: Use, datum: Datum) -> Result<Operand, Refusal>
+    ensures { IfOk result (IsResolved (vec_len scope.now.slots.now.kinds) (vec_len scope.now.home.now.variables.now.list) purpose) }
+{
+    match datum {
+        Datum::NoneValue => Ok(Operand::NoneValue),
+        Datum::Word(reference) => resolve_word(scope, purpose, reference),
+        Datum::Quoted(reference) => {
+            let text = scope.source.text(reference);
+            Ok(Operand::Quoted(Text::try_from_bytes(scope.home.alloc, text)?))
+        }
+        Datum::Int(number) => Ok(Operand::Int(number)),
+        Datum::Float(_) => Err(Refusal::of(VerifyRule::FloatValue)),
+        Datum::Bool(byte) => Ok(Operand::Bool(byte != 0)),
+    }
+}
+
+fn resolve_word(scope: &Scope<'_>, purpose: Use, reference: u16) -> Result<Operand, Refusal>
+    ensures { IfOk result (IsResolved (vec_len scope.now.slots.now.kinds) (vec_len scope.now.home.now.variables.now.list) purpose) }
+{
+    match purpose {
+        Use::Read | Use::Write => {
+            match scope.meaning(scope.source.names.number(reference)) {
+                Some(operand) => Ok(operand),
+                None => Err(Refusal::of(VerifyRule::UnknownVariable)),
+            }
+        }
+        Use::Name | Use::Number => {
+            let name = scope.source.text(reference);
+            Ok(Operand::Word(Name::from_bytes(scope.home.alloc, name)?))
+        }
+    }
+}
+
+/// Whether one of these values is a float.
+pub(crate) fn has_float(values: &[Datum]) -> bool {
+    values.iter().any(|datum| matches!(datum, Datum::Float(_)))
+}
+
+/// Whether one of these operands is a text of over 1,024 bytes.
+pub(crate) fn has_long_text(operands: &[Operand]) -> bool {
+    operands.iter().any(|operand| is_long_text(operand))
+}
+
+fn is_long_text(operand: &Operand) -> bool {
+    match operand {
+        Operand::Quoted(text) => text.as_bytes().len() > TEXT_LIMIT,
+        _ => false,
+    }
+}

@@ -1,0 +1,204 @@
+// What is seen where code stands.
+ghost use Rattle.std.specs.Prelude.{◌≡◌, ◌+◌, vec_len, OnOk, IfSome};
+ghost use Rattle.pex_verify.specs.Soundness.{IsIdentifier};
+
+use crate::kind::{BOOL, INT, Kind, TEXT};
+use crate::loaded::Operand;
+use crate::scripts::Scripts;
+use crate::sources::Source;
+use core_tree::{CoreType, OutlineVariable};
+use papy_base::OutOfMemory;
+use pex_names::NameTable;
+use std::alloc::Global;
+use std::collections::HashMap;
+
+/// The numbers of the words that name something in every script.
+#[derive(Clone, Copy, Debug)]
+pub(crate) struct Words {
+    pub(crate) instance: usize,
+    pub(crate) state: usize,
+}
+
+impl Words {
+    pub(crate) fn of(alloc: Global, table: &mut NameTable) -> Result<Words, OutOfMemory> {
+        Ok(Words {
+            instance: table.number(alloc, b"self")?,
+            state: table.number(alloc, b"::State")?,
+        })
+    }
+}
+
+/// The variables of a script, and the number of the first one of each name.
+#[derive(Drop)]
+pub(crate) struct Variables {
+    pub(crate) list: Vec<OutlineVariable>,
+    pub(crate) places: HashMap<usize, u16>,
+}
+
+impl Variables {
+    pub(crate) fn new(alloc: Global) -> Variables
+        ensures { vec_len result.list ≡ 0 }
+    {
+        Variables {
+            list: Vec::new(alloc),
+            places: HashMap::new(alloc),
+        }
+    }
+
+    pub(crate) fn has(&self, name: usize) -> bool {
+        self.places.get(&name).is_some()
+    }
+
+    /// Adds a variable of this name behind the others. Only the first 65,536 can be named.
+    pub(crate) fn add(
+        &mut self,
+        name: usize,
+        variable: OutlineVariable,
+    ) -> Result<(), OutOfMemory> {
+        if let Ok(place) = u16::try_from(self.list.len()) {
+            self.places.insert(name, place)?;
+        }
+        self.list.push(variable)?;
+        Ok(())
+    }
+}
+
+/// The parameters and locals of a function.
+#[derive(Drop)]
+pub(crate) struct Slots {
+    pub(crate) kinds: Vec<Kind>,
+    places: HashMap<usize, u16>,
+}
+
+impl Slots {
+    pub(crate) fn new(alloc: Global) -> Slots
+        ensures { vec_len result.kinds ≡ 0 }
+    {
+        Slots {
+            kinds: Vec::new(alloc),
+            places: HashMap::new(alloc),
+        }
+    }
+
+    pub(crate) fn has(&self, name: usize) -> bool {
+        self.places.get(&name).is_some()
+    }
+
+    /// Adds a parameter or a local behind the others. Only the first 65,536 can be named.
+    pub(crate) fn add(&mut self, name: usize, kind: Kind) -> Result<(), OutOfMemory>
+        ensures { OnOk result (vec_len self.new.kinds ≡ vec_len self.old.kinds + 1) }
+    {
+        if let Ok(place) = u16::try_from(self.kinds.len()) {
+            self.places.insert(name, place)?;
+        }
+        self.kinds.push(kind)?;
+        Ok(())
+    }
+}
+
+/// The script in which code stands.
+#[derive(Clone, Copy)]
+pub(crate) struct Home<'a> {
+    pub(crate) alloc: Global,
+    pub(crate) set: &'a Scripts,
+    /// The script's number.
+    pub(crate) here: u16,
+    pub(crate) words: Words,
+    pub(crate) variables: &'a Variables,
+}
+
+/// What the code of one function sees.
+#[derive(Clone, Copy)]
+pub(crate) struct Scope<'a> {
+    pub(crate) home: &'a Home<'a>,
+    pub(crate) source: &'a Source<'a>,
+    pub(crate) slots: &'a Slots,
+    pub(crate) is_global: bool,
+    /// The function's result.
+    pub(crate) answer: Kind,
+}
+
+impl Scope<'_> {
+    /// What an identifier that is read or written means: the first of a parameter or local, a variable of
+    /// the script, the instance, and its state that has the name. Global functions see the first alone.
+    pub(crate) fn meaning(&self, name: usize) -> Option<Operand>
+        ensures { IfSome result (IsIdentifier (vec_len self.now.slots.now.kinds) (vec_len self.now.home.now.variables.now.list)) }
+    {
+        if let Some(slot) = self.slot(name) {
+            return Some(slot);
+        }
+        if self.is_global {
+            return None;
+        }
+        if let Some(variable) = self.variable(name) {
+            return Some(variable);
+        }
+        if name == self.home.words.instance {
+            Some(Operand::Instance)
+        } else if name == self.home.words.state {
+            Some(Operand::State)
+        } else {
+            None
+        }
+    }
+
+    fn slot(&self, name: usize) -> Option<Operand>
+        ensures { IfSome result (IsIdentifier (vec_len self.now.slots.now.kinds) (vec_len self.now.home.now.variables.now.list)) }
+    {
+        let place = *self.slots.places.get(&name)?;
+        if usize::from(place) < self.slots.kinds.len() {
+            Some(Operand::Slot(place))
+        } else {
+            None
+        }
+    }
+
+    fn variable(&self, name: usize) -> Option<Operand>
+        ensures { IfSome result (IsIdentifier (vec_len self.now.slots.now.kinds) (vec_len self.now.home.now.variables.now.list)) }
+    {
+        let place = *self.home.variables.places.get(&name)?;
+        if usize::from(place) < self.home.variables.list.len() {
+            Some(Operand::Variable(place))
+        } else {
+            None
+        }
+    }
+
+    /// What an operand's value is. A name that stands for itself has none.
+    pub(crate) fn kind_of(&self, operand: &Operand) -> Kind {
+        match operand {
+            Operand::NoneValue => Kind::Nothing,
+            Operand::Word(_) => Kind::Unknown,
+            Operand::Quoted(_) => TEXT,
+            Operand::Int(_) => INT,
+            Operand::Bool(_) => BOOL,
+            Operand::Slot(place) => self.slot_kind(*place),
+            Operand::Variable(place) => self.variable_kind(*place),
+            Operand::Instance => Kind::Of(CoreType::Script(self.home.here)),
+            Operand::State => TEXT,
+        }
+    }
+
+    fn slot_kind(&self, place: u16) -> Kind {
+        match self.slots.kinds.get(usize::from(place)) {
+            Some(kind) => *kind,
+            None => Kind::Unknown,
+        }
+    }
+
+    fn variable_kind(&self, place: u16) -> Kind {
+        match self.home.variables.list.get(usize::from(place)) {
+            Some(variable) => Kind::Of(variable.kind),
+            None => Kind::Unknown,
+        }
+    }
+
+    /// The type of what can be stored in an operand, none where it isn't a parameter, a local, a variable or
+    /// the state.
+    pub(crate) fn target_kind(&self, operand: &Operand) -> Option<Kind> {
+        match operand {
+            Operand::Slot(_) | Operand::Variable(_) | Operand::State => Some(self.kind_of(operand)),
+            _ => None,
+        }
+    }
+}

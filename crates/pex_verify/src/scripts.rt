@@ -1,0 +1,369 @@
+// The scripts of a set, as other scripts see them.
+ghost use Rattle.std.specs.Prelude.{◌≡◌, ◌+◌, ◌<◌, vec_len, IfOk, IfSome, OnOk};
+ghost use Rattle.pex_verify.specs.Sources.{object_count};
+
+use crate::kind::{BOOL, INT, Kind, TEXT};
+use crate::signature::Signature;
+use crate::sources::{Members, Source};
+use crate::type_names::kinds_of_names;
+use core_tree::{CoreType, FunctionPlace};
+use papy_base::OutOfMemory;
+use pex_names::{EMPTY_NAME, FileNames, LIBRARY_COUNT, NameTable, Objects};
+use pex_values::{PexFunction, PexObject, PexProperty};
+use std::alloc::Global;
+use std::collections::HashMap;
+
+/// A property as other scripts see it. Bits 1 and 2 say whether it can be read and written.
+#[derive(Clone, Copy, Debug, PartialEq, Eq)]
+pub(crate) struct PropertyHead {
+    pub(crate) name: usize,
+    pub(crate) kind: usize,
+    pub(crate) bits: u8,
+}
+
+/// A function of an empty state, with its place.
+#[derive(Clone, Copy, Debug)]
+pub(crate) struct Callee<'a> {
+    pub(crate) place: FunctionPlace,
+    pub(crate) signature: &'a Signature,
+}
+
+/// What a script offers.
+#[derive(Drop)]
+pub(crate) struct ScriptHead {
+    pub(crate) parent: Option<usize>,
+    properties: Vec<PropertyHead>,
+    property_places: HashMap<usize, usize>,
+    /// The functions of the first empty state, and the members that the script lacks behind them.
+    functions: Vec<Signature>,
+    function_places: HashMap<usize, usize>,
+    /// The places of the members that the script lacks.
+    pub(crate) lacking: Vec<usize>,
+}
+
+/// The scripts of a set. The walks upward end after as many steps as there are scripts.
+#[derive(Drop)]
+pub(crate) struct Scripts {
+    pub(crate) heads: Vec<ScriptHead>,
+    /// The four members of every script without parent.
+    pub(crate) members: Vec<Signature>,
+    /// What each name means as the name of a type.
+    pub(crate) kinds: Vec<Kind>,
+    pub(crate) objects: Objects,
+}
+
+impl ScriptHead {
+    /// What an object offers.
+    fn of(
+        alloc: Global,
+        names: &FileNames,
+        object: &PexObject,
+        parent: Option<usize>,
+    ) -> Result<ScriptHead, OutOfMemory> {
+        let properties = property_heads(alloc, names, object.properties.as_slice())?;
+        let property_places = places_of_properties(alloc, properties.as_slice())?;
+        let functions = empty_state_signatures(alloc, names, object)?;
+        let function_places = places_of_functions(alloc, functions.as_slice())?;
+        Ok(ScriptHead {
+            parent,
+            properties,
+            property_places,
+            functions,
+            function_places,
+            lacking: Vec::new(alloc),
+        })
+    }
+
+    /// Adds those of the four members that the script doesn't have.
+    fn complete(&mut self, alloc: Global, members: &Members<'_>) -> Result<(), OutOfMemory> {
+        for (place, member) in members.list.iter().enumerate() {
+            let name = members.names.number(member.0);
+            if self.function_places.get(&name).is_none() {
+                let signature = Signature::of(alloc, members.names, member.0, &member.1)?;
+                self.function_places.insert(name, self.functions.len())?;
+                self.functions.push(signature)?;
+                self.lacking.push(place)?;
+            }
+        }
+        Ok(())
+    }
+
+    fn function(&self, name: usize) -> Option<(usize, &Signature)> {
+        let place = *self.function_places.get(&name)?;
+        let signature = self.functions.get(place)?;
+        Some((place, signature))
+    }
+
+    pub(crate) fn property(&self, name: usize) -> Option<PropertyHead> {
+        let place = *self.property_places.get(&name)?;
+        self.properties.get(place).copied()
+    }
+}
+
+fn property_heads(
+    alloc: Global,
+    names: &FileNames,
+    properties: &[PexProperty],
+) -> Result<Vec<PropertyHead>, OutOfMemory> {
+    let mut heads = Vec::with_capacity(alloc, properties.len())?;
+    for property in properties {
+        heads.push(PropertyHead {
+            name: names.number(property.name),
+            kind: names.number(property.kind),
+            bits: property.bits,
+        })?;
+    }
+    Ok(heads)
+}
+
+fn places_of_properties(
+    alloc: Global,
+    properties: &[PropertyHead],
+) -> Result<HashMap<usize, usize>, OutOfMemory> {
+    let mut places = HashMap::new(alloc);
+    for (place, property) in properties.iter().enumerate() {
+        if places.get(&property.name).is_none() {
+            places.insert(property.name, place)?;
+        }
+    }
+    Ok(places)
+}
+
+// The functions of the first state without name.
+fn empty_state_signatures(
+    alloc: Global,
+    names: &FileNames,
+    object: &PexObject,
+) -> Result<Vec<Signature>, OutOfMemory> {
+    for state in &object.states {
+        if names.number(state.name) == EMPTY_NAME {
+            return signatures(alloc, names, state.functions.as_slice());
+        }
+    }
+    Ok(Vec::new(alloc))
+}
+
+/// The signatures of these functions.
+pub(crate) fn signatures(
+    alloc: Global,
+    names: &FileNames,
+    functions: &[(u16, PexFunction)],
+) -> Result<Vec<Signature>, OutOfMemory> {
+    let mut found = Vec::with_capacity(alloc, functions.len())?;
+    for function in functions {
+        found.push(Signature::of(alloc, names, function.0, &function.1)?)?;
+    }
+    Ok(found)
+}
+
+fn places_of_functions(
+    alloc: Global,
+    functions: &[Signature],
+) -> Result<HashMap<usize, usize>, OutOfMemory> {
+    let mut places = HashMap::new(alloc);
+    for (place, function) in functions.iter().enumerate() {
+        if places.get(&function.name).is_none() {
+            places.insert(function.name, place)?;
+        }
+    }
+    Ok(places)
+}
+
+// Adds what the objects of the next file offer.
+fn add_heads(
+    alloc: Global,
+    heads: &mut Vec<ScriptHead>,
+    parents: &[Option<usize>],
+    members: &Members<'_>,
+    source: &Source<'_>,
+) -> Result<(), OutOfMemory>
+    ensures { OnOk result (vec_len heads.new ≡ vec_len heads.old + vec_len source.now.pex.now.objects) }
+{
+    for object in &source.pex.objects {
+        let number = heads.len();
+        let parent = parent_at(parents, number);
+        let mut head = ScriptHead::of(alloc, source.names, object, parent)?;
+        if has_members(number, source.names, object) {
+            head.complete(alloc, members)?;
+        }
+        heads.push(head)?;
+    }
+    Ok(())
+}
+
+fn parent_at(parents: &[Option<usize>], number: usize) -> Option<usize> {
+    match parents.get(number) {
+        Some(parent) => *parent,
+        None => None,
+    }
+}
+
+// Whether the object of this number is read as if it had the four members.
+fn has_members(number: usize, names: &FileNames, object: &PexObject) -> bool {
+    number >= LIBRARY_COUNT && names.number(object.parent) == EMPTY_NAME
+}
+
+impl Scripts {
+    /// The scripts of these files, the first of which is the prelude, whose objects are these.
+    pub(crate) fn of(
+        alloc: Global,
+        table: &NameTable,
+        members: &Members<'_>,
+        sources: &[Source<'_>],
+        objects: Objects,
+        parents: &[Option<usize>],
+    ) -> Result<Scripts, OutOfMemory>
+        ensures { IfOk result (λ scripts. vec_len scripts.heads ≡ object_count sources.now) }
+    {
+        let kinds = kinds_of_names(alloc, table, &objects)?;
+        let mut heads = Vec::with_capacity(alloc, objects.count())?;
+        for source in sources {
+            add_heads(alloc, &mut heads, parents, members, source)?;
+        }
+        Ok(Scripts {
+            heads,
+            members: signatures(alloc, members.names, members.list)?,
+            kinds,
+            objects,
+        })
+    }
+
+    /// The nearest function of this name in the empty states, from the script upward.
+    pub(crate) fn find_function(&self, script: usize, name: usize) -> Option<Callee<'_>> {
+        let mut here = script;
+        for _ in 0..self.heads.len() {
+            let head = self.heads.get(here)?;
+            if let Some((place, signature)) = head.function(name) {
+                return callee_at(here, place, signature);
+            }
+            here = head.parent?;
+        }
+        None
+    }
+
+    /// The nearest property of this name, from the script upward.
+    pub(crate) fn find_property(&self, script: usize, name: usize) -> Option<PropertyHead> {
+        let mut here = script;
+        for _ in 0..self.heads.len() {
+            let head = self.heads.get(here)?;
+            if let Some(property) = head.property(name) {
+                return Some(property);
+            }
+            here = head.parent?;
+        }
+        None
+    }
+
+    /// The place of the script's own first property of this name.
+    pub(crate) fn first_property(&self, script: usize, name: usize) -> Option<usize> {
+        self.heads.get(script)?.property_places.get(&name).copied()
+    }
+
+    /// The places of the members that the script lacks.
+    pub(crate) fn lacking(&self, script: usize) -> &[usize] {
+        match self.heads.get(script) {
+            Some(head) => head.lacking.as_slice(),
+            None => &[],
+        }
+    }
+
+    /// The number of the script's parent, where it is one of the set.
+    pub(crate) fn parent_number(&self, script: usize) -> Option<u16>
+        ensures { IfSome result (λ n. n < vec_len self.now.heads) }
+    {
+        let parent = self.parent(script)?;
+        if parent < self.heads.len() {
+            u16::try_from(parent).ok()
+        } else {
+            None
+        }
+    }
+
+    pub(crate) fn parent(&self, script: usize) -> Option<usize> {
+        self.heads.get(script)?.parent
+    }
+
+    /// The script of this name.
+    pub(crate) fn script_named(&self, name: usize) -> Option<usize> {
+        self.objects.first_named(name)
+    }
+
+    /// The member that every script without parent has, where the name is that of one.
+    pub(crate) fn member(&self, name: usize) -> Option<&Signature> {
+        self.members.iter().find(|member| member.name == name)
+    }
+
+    /// What this name means as the name of the type of a result or a local.
+    pub(crate) fn kind(&self, name: usize) -> Kind {
+        match self.kinds.get(name) {
+            Some(kind) => *kind,
+            None => Kind::Unknown,
+        }
+    }
+
+    /// What this name means as the name of any other type, where None is none.
+    pub(crate) fn value_kind(&self, name: usize) -> Kind {
+        self.kind(name).without_none()
+    }
+
+    // Whether the parent is the script itself or stands above it.
+    fn is_child(&self, script: u16, parent: u16) -> bool {
+        let mut here = usize::from(script);
+        for _ in 0..self.heads.len() {
+            if here == usize::from(parent) {
+                return true;
+            }
+            match self.parent(here) {
+                Some(above) => here = above,
+                None => return false,
+            }
+        }
+        false
+    }
+
+    /// Whether a value of one type fits the other: it has the type, or is of a script below it, or is None
+    /// and the type is a script or array type.
+    pub(crate) fn fits(&self, kind: Kind, to: Kind) -> bool {
+        if !kind.is_known() || !to.is_known() {
+            return false;
+        }
+        if kind == to {
+            return true;
+        }
+        match (kind, to) {
+            (Kind::Nothing, to) => to.holds_none(),
+            (Kind::Of(CoreType::Script(script)), Kind::Of(CoreType::Script(parent))) => {
+                self.is_child(script, parent)
+            }
+            _ => false,
+        }
+    }
+
+    /// Whether `as` gives the other type from a value of this one.
+    pub(crate) fn casts(&self, kind: Kind, to: Kind) -> bool {
+        if !kind.is_known() || !to.is_known() {
+            return false;
+        }
+        if to == BOOL || self.fits(kind, to) {
+            return true;
+        }
+        if to == TEXT {
+            return kind == INT || kind == BOOL || kind == Kind::Nothing || kind.script().is_some();
+        }
+        if to == INT {
+            return kind == BOOL || kind == TEXT;
+        }
+        match (kind.script(), to.script()) {
+            (Some(parent), Some(script)) => self.is_child(script, parent),
+            _ => false,
+        }
+    }
+}
+
+fn callee_at(script: usize, place: usize, signature: &Signature) -> Option<Callee<'_>> {
+    let place = FunctionPlace {
+        script: u16::try_from(script).ok()?,
+        place: u16::try_from(place).ok()?,
+    };
+    Some(Callee { place, signature })
+}

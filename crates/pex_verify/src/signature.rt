@@ -1,0 +1,53 @@
+// What a function gives and takes, by the numbers of its type names.
+use papy_base::OutOfMemory;
+use pex_names::FileNames;
+use pex_values::PexFunction;
+use std::alloc::Global;
+
+/// The bits of a function that count: 1 is global, 2 is native.
+pub(crate) const GLOBAL: u8 = 1;
+
+pub(crate) const NATIVE: u8 = 2;
+
+pub(crate) const KIND_BITS: u8 = GLOBAL | NATIVE;
+
+/// A function without its code. Names of types are numbers of names: two are one type where they are the
+/// same with case ignored.
+#[derive(Debug, Drop)]
+pub(crate) struct Signature {
+    pub(crate) name: usize,
+    pub(crate) answer: usize,
+    pub(crate) parameters: Vec<usize>,
+    pub(crate) bits: u8,
+}
+
+impl Signature {
+    pub(crate) fn of(
+        alloc: Global,
+        names: &FileNames,
+        name: u16,
+        function: &PexFunction,
+    ) -> Result<Signature, OutOfMemory> {
+        let mut parameters = Vec::with_capacity(alloc, function.parameters.len())?;
+        for parameter in &function.parameters {
+            parameters.push(names.number(parameter.1))?;
+        }
+        Ok(Signature {
+            name: names.number(name),
+            answer: names.number(function.result),
+            parameters,
+            bits: function.bits & KIND_BITS,
+        })
+    }
+
+    pub(crate) fn is_global(&self) -> bool {
+        self.bits & GLOBAL != 0
+    }
+
+    /// Whether the result, the parameter types and what kind of function it is are the same.
+    pub(crate) fn same(&self, other: &Signature) -> bool {
+        self.answer == other.answer
+            && self.parameters.as_slice() == other.parameters.as_slice()
+            && self.bits == other.bits
+    }
+}

@@ -1,0 +1,97 @@
+// What each name means as the name of a type.
+use crate::kind::{BOOL, INT, Kind, TEXT, array_of};
+use core_tree::CoreType;
+use papy_base::OutOfMemory;
+use pex_names::{LIBRARY_COUNT, NameTable, Objects};
+use std::alloc::Global;
+
+/// What the name of each number means as the name of a type.
+pub(crate) fn kinds_of_names(
+    alloc: Global,
+    table: &NameTable,
+    objects: &Objects,
+) -> Result<Vec<Kind>, OutOfMemory> {
+    let mut kinds = Vec::with_capacity(alloc, table.count())?;
+    for number in 0..table.count() {
+        let name = table.name(number);
+        kinds.push(kind_of_name(alloc, table, objects, name)?)?;
+    }
+    Ok(kinds)
+}
+
+fn kind_of_name(
+    alloc: Global,
+    table: &NameTable,
+    objects: &Objects,
+    name: &[u8],
+) -> Result<Kind, OutOfMemory> {
+    if name == b"none".as_slice() {
+        return Ok(Kind::Nothing);
+    }
+    if let Some(array) = array_kind(alloc, table, objects, name)? {
+        return Ok(array);
+    }
+    plain_kind(alloc, table, objects, name)
+}
+
+// The array type of a name that ends with `[]` behind the name of a type.
+fn array_kind(
+    alloc: Global,
+    table: &NameTable,
+    objects: &Objects,
+    name: &[u8],
+) -> Result<Option<Kind>, OutOfMemory> {
+    let Some(element) = name.strip_suffix(b"[]") else {
+        return Ok(None);
+    };
+    let element = plain_kind(alloc, table, objects, element)?;
+    Ok(array_of(element))
+}
+
+// The meaning of a name that is no array type.
+fn plain_kind(
+    alloc: Global,
+    table: &NameTable,
+    objects: &Objects,
+    name: &[u8],
+) -> Result<Kind, OutOfMemory> {
+    if let Some(kind) = word_kind(name) {
+        return Ok(kind);
+    }
+    let script = match table.find(alloc, name)? {
+        Some(number) => objects.first_named(number),
+        None => None,
+    };
+    Ok(match script {
+        Some(script) => script_kind(script, objects.count()),
+        None => Kind::Unknown,
+    })
+}
+
+// The meaning of the words of the language. They win over scripts of such a name.
+fn word_kind(name: &[u8]) -> Option<Kind> {
+    if name == b"int".as_slice() {
+        Some(INT)
+    } else if name == b"bool".as_slice() {
+        Some(BOOL)
+    } else if name == b"string".as_slice() {
+        Some(TEXT)
+    } else if name == b"float".as_slice() || name == b"float[]".as_slice() {
+        Some(Kind::Float)
+    } else if name == b"none".as_slice() {
+        Some(Kind::Unknown)
+    } else {
+        None
+    }
+}
+
+// The type of the instances of a script among so many. A library has none.
+fn script_kind(script: usize, count: usize) -> Kind {
+    if script < LIBRARY_COUNT || script >= count {
+        return Kind::Unknown;
+    }
+    match u16::try_from(script) {
+        Ok(script) => Kind::Of(CoreType::Script(script)),
+        Err(_) => Kind::Unknown,
+    }
+}

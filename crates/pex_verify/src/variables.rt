@@ -1,0 +1,93 @@
+// The variables of an object.
+use crate::fault::{Refusal, VerifyFault, VerifyRule};
+use crate::function::known_kind;
+use crate::kind::Kind;
+use crate::scope::Variables;
+use crate::scripts::Scripts;
+use crate::sources::Source;
+use core_tree::{CoreType, OutlineVariable, Value};
+use papy_base::{Name, OutOfMemory, TEXT_LIMIT, Text};
+use pex_values::{Datum, PexObject, PexVariable};
+use std::alloc::Global;
+
+/// The variables of an object in their order.
+pub(crate) fn load_variables(
+    alloc: Global,
+    set: &Scripts,
+    source: &Source<'_>,
+    object: &PexObject,
+) -> Result<Variables, VerifyFault> {
+    let mut variables = Variables::new(alloc);
+    for variable in &object.variables {
+        if let Err(refusal) = load_variable(alloc, set, source, &mut variables, variable) {
+            let member = source.text(variable.name);
+            return Err(source.site(object).fault_in(alloc, member, refusal));
+        }
+    }
+    Ok(variables)
+}
+
+// Adds a variable, unless it breaks a rule: V2, V5, V7, then V12.
+fn load_variable(
+    alloc: Global,
+    set: &Scripts,
+    source: &Source<'_>,
+    variables: &mut Variables,
+    variable: &PexVariable,
+) -> Result<(), Refusal> {
+    let name = source.names.number(variable.name);
+    let kind = set.value_kind(source.names.number(variable.kind));
+    if kind == Kind::Float || matches!(variable.value, Datum::Float(_)) {
+        return Err(Refusal::of(VerifyRule::FloatValue));
+    }
+    if variables.has(name) {
+        return Err(Refusal::of(VerifyRule::DuplicateName));
+    }
+    let Some(kind) = known_kind(kind)? else {
+        return Err(Refusal::of(VerifyRule::OperandType));
+    };
+    let value = judged_value(alloc, source, kind, variable.value)?;
+    let title = Name::from_bytes(alloc, source.text(variable.name))?;
+    variables.add(
+        name,
+        OutlineVariable {
+            name: title,
+            kind,
+            value,
+        },
+    )?;
+    Ok(())
+}
+
+// The value at the start: V7 where it isn't of the type, and V12 where a text is too long.
+fn judged_value(
+    alloc: Global,
+    source: &Source<'_>,
+    kind: CoreType,
+    datum: Datum,
+) -> Result<Value, Refusal> {
+    match (kind, datum) {
+        (_, Datum::NoneValue) => Ok(default_value(alloc, kind)?),
+        (CoreType::Int, Datum::Int(number)) => Ok(Value::Int(number)),
+        (CoreType::Bool, Datum::Bool(byte)) => Ok(Value::Bool(byte != 0)),
+        (CoreType::Text, Datum::Quoted(reference)) => judged_text(alloc, source.text(reference)),
+        _ => Err(Refusal::of(VerifyRule::OperandType)),
+    }
+}
+
+fn judged_text(alloc: Global, text: &[u8]) -> Result<Value, Refusal> {
+    if text.len() > TEXT_LIMIT {
+        return Err(Refusal::of(VerifyRule::TextTooLong));
+    }
+    Ok(Value::Text(Text::try_from_bytes(alloc, text)?))
+}
+
+// The value that a variable of the type has where the file gives none.
+fn default_value(alloc: Global, kind: CoreType) -> Result<Value, OutOfMemory> {
+    Ok(match kind {
+        CoreType::Int => Value::Int(0),
+        CoreType::Bool => Value::Bool(false),
+        CoreType::Text => Value::Text(Text::try_from_bytes(alloc, &[])?),
+        _ => Value::NoneValue,
+    })
+}

@@ -1,0 +1,150 @@
+// Sets of files, in the order in which their rules are judged.
+ghost use Rattle.std.specs.Prelude.{◌≡◌, ◌+◌, ◌<◌, vec_len, IfOk, OnOk};
+ghost use Rattle.pex_verify.specs.Sources.{object_count};
+ghost use Rattle.pex_verify.specs.Sets.{AreSoundScripts};
+
+use crate::fault::{VerifyFault, VerifyRule};
+use crate::lines::FileLines;
+use crate::loaded::{Loaded, LoadedScript};
+use crate::members::MemberTable;
+use crate::object::{Loader, load_object};
+use crate::object_rules::{SCRIPT_LIMIT, judge_objects};
+use crate::scope::Words;
+use crate::scripts::Scripts;
+use crate::sources::{Members, Source, all_sources, names_of_files, objects_of, prelude_source};
+use core_tree::{Outline, OutlineScript};
+use pex_names::{FileNames, NameTable, Prelude};
+use pex_values::{Pex, PexObject};
+use std::alloc::Global;
+
+/// The set of these files, of which there are at most 65,535, with the scripts of the prelude before them.
+///
+/// `Broken` comes where a rule is broken, with the first place and the lowest rule there. First come the
+/// names, parents and numbers of all objects. Then, by file and object: the object, its variables, its
+/// properties, each before the functions that read and write it, and its states, each before its functions;
+/// and in a function the function itself, its result, its parameters, its locals and its instructions.
+pub fn verify(alloc: Global, files: Vec<Pex>) -> Result<Loaded, VerifyFault>
+    requires { vec_len files < 65536 }
+    ensures { IfOk result (λ loaded. loaded.files ≡ files.items) }
+{
+    let mut table = NameTable::new(alloc)?;
+    let words = Words::of(alloc, &mut table)?;
+    let parts = load_parts(alloc, &mut table, words, files.as_slice())?;
+    let members = MemberTable::of(
+        alloc,
+        &table,
+        parts.outlines.as_slice(),
+        parts.scripts.as_slice(),
+    )?;
+    Ok(Loaded {
+        outline: Outline {
+            scripts: parts.outlines,
+        },
+        files,
+        scripts: parts.scripts,
+        table,
+        members,
+    })
+}
+
+// Scripts that were loaded, with their outlines.
+#[derive(Drop)]
+pub(crate) struct Parts {
+    outlines: Vec<OutlineScript>,
+    scripts: Vec<LoadedScript>,
+}
+
+// All scripts of these files, behind those of the prelude.
+fn load_parts(
+    alloc: Global,
+    table: &mut NameTable,
+    words: Words,
+    files: &[Pex],
+) -> Result<Parts, VerifyFault>
+    ensures { IfOk result (λ parts. AreSoundScripts (vec_len parts.scripts) parts.outlines.items parts.scripts.items) }
+{
+    let prelude = Prelude::new(alloc)?;
+    let prelude_names = FileNames::of_strings(alloc, table, prelude.file.strings.as_slice())?;
+    let names = names_of_files(alloc, table, files)?;
+    let first = prelude_source(&prelude, &prelude_names);
+    let sources = all_sources(alloc, first, files, names.as_slice())?;
+    let members = Members {
+        list: prelude.members.as_slice(),
+        names: &prelude_names,
+    };
+    let scripts = judged_scripts(alloc, table, files, &members, sources.as_slice())?;
+    let loader = Loader {
+        alloc,
+        set: &scripts,
+        words,
+        prelude: &first,
+        members: &members,
+    };
+    load_files(&loader, sources.as_slice())
+}
+
+// What the scripts offer, once their names, parents and numbers were judged.
+fn judged_scripts(
+    alloc: Global,
+    table: &NameTable,
+    files: &[Pex],
+    members: &Members<'_>,
+    sources: &[Source<'_>],
+) -> Result<Scripts, VerifyFault>
+    ensures { IfOk result (λ scripts. vec_len scripts.heads ≡ object_count sources.now) }
+{
+    let objects = objects_of(alloc, sources)?;
+    let parents = objects.parents(alloc)?;
+    judge_objects(alloc, files, &objects, parents.as_slice())?;
+    let scripts = Scripts::of(alloc, table, members, sources, objects, parents.as_slice())?;
+    Ok(scripts)
+}
+
+fn load_files(loader: &Loader<'_>, sources: &[Source<'_>]) -> Result<Parts, VerifyFault>
+    ensures count { IfOk result (λ parts. vec_len parts.scripts ≡ object_count sources.now) }
+    ensures sound { IfOk result (λ parts. AreSoundScripts (vec_len loader.now.set.now.heads) parts.outlines.items parts.scripts.items) }
+{
+    let mut parts = Parts {
+        outlines: Vec::new(loader.alloc),
+        scripts: Vec::new(loader.alloc),
+    };
+    for source in sources {
+        load_file(loader, source, &mut parts)?;
+    }
+    Ok(parts)
+}
+
+// Loads the objects of the next file.
+fn load_file(loader: &Loader<'_>, source: &Source<'_>, parts: &mut Parts) -> Result<(), VerifyFault>
+    ensures count { OnOk result (vec_len parts.new.scripts ≡ vec_len parts.old.scripts + vec_len source.now.pex.now.objects) }
+    ensures sound { AreSoundScripts (vec_len loader.now.set.now.heads) parts.old.outlines.items parts.old.scripts.items
+        → OnOk result (AreSoundScripts (vec_len loader.now.set.now.heads) parts.new.outlines.items parts.new.scripts.items) }
+{
+    let lines = FileLines::of(loader.alloc, source.names, source.pex)?;
+    for object in &source.pex.objects {
+        load_next(loader, source, &lines, object, parts)?;
+    }
+    Ok(())
+}
+
+// Loads an object as the next script.
+fn load_next(
+    loader: &Loader<'_>,
+    source: &Source<'_>,
+    lines: &FileLines<'_>,
+    object: &PexObject,
+    parts: &mut Parts,
+) -> Result<(), VerifyFault>
+    ensures count { OnOk result (vec_len parts.new.scripts ≡ vec_len parts.old.scripts + 1) }
+    ensures sound { AreSoundScripts (vec_len loader.now.set.now.heads) parts.old.outlines.items parts.old.scripts.items
+        → OnOk result (AreSoundScripts (vec_len loader.now.set.now.heads) parts.new.outlines.items parts.new.scripts.items) }
+{
+    let number = parts.scripts.len();
+    if number >= SCRIPT_LIMIT {
+        return Err(source.site(object).fault(loader.alloc, VerifyRule::TooMany));
+    }
+    let loaded = load_object(loader, number as u16, source, lines, object)?;
+    parts.outlines.push(loaded.outline)?;
+    parts.scripts.push(loaded.script)?;
+    Ok(())
+}
