@@ -3,7 +3,7 @@ use Rattle.std.proofs.Common.{arith, ◌≡◌, ◌≢◌, inl, inr, ℕ, List, 
 use Rattle.std.specs.Prelude.{Option, None, Some, IfSome}
 use Rattle.papy_io.specs.Files.{Files}
 use Rattle.papyrus_cmd.specs.declared.ending.Ending.{Ending}
-use Rattle.papyrus_cmd.specs.declared.ending.Ending.TheVariants.{Done, OutOfMemory, Usage, ReadFault, WriteFault, NotBuilt}
+use Rattle.papyrus_cmd.specs.declared.ending.Ending.TheVariants.{Done, OutOfMemory, Usage, ReadFault, WriteFault, Refused, NotBuilt}
 use Rattle.papyrus_cmd.specs.Answers.{Answers, IsPart, Outputs}
 use Rattle.papyrus_cmd.specs.Ending.{note_of}
 use Rattle.papyrus_cmd.specs.TopCall.{CutShort, Told, Tried, WasCut}
@@ -37,4 +37,8 @@ cut_short words holds NotBuilt status out out' notes notes' f f' (same, ends) (w
 cut_short words holds (ReadFault word) status out out' notes notes' f f' same (inl (wrote, is, writes, counts)) cut =
     silently_cut words holds (ReadFault word) out out' notes notes' same (tried_line wrote _ notes notes' writes)
 cut_short words holds (ReadFault word) status out out' notes notes' f f' same (inr (is, tried)) cut =
+    silently_cut words holds OutOfMemory out out' notes notes' same tried
+cut_short words holds (Refused word place rule) status out out' notes notes' f f' (same, ends) (inl (wrote, is, writes, counts)) cut =
+    silently_cut words holds (Refused word place rule) out out' notes notes' same (tried_line wrote _ notes notes' writes)
+cut_short words holds (Refused word place rule) status out out' notes notes' f f' (same, ends) (inr (is, tried)) cut =
     silently_cut words holds OutOfMemory out out' notes notes' same tried

@@ -6,7 +6,8 @@ use Rattle.std.proofs.lemmas.Grind.{common_steps}
 use Rattle.std.specs.Prelude.{Option, None, Some, IfSome}
 use Rattle.papy_io.specs.Files.{Files, told_bytes}
 use Rattle.papyrus_cmd.specs.declared.ending.Ending.TheVariants.{NotBuilt}
-use Rattle.papyrus_cmd.specs.Answers.{Hold, IsHeld, AreHeld, NeedsMore, OnceAnswersTo}
+use Rattle.papyrus_cmd.specs.Answers.{NeedsMore, OnceAnswersTo}
+use Rattle.papyrus_cmd.specs.Held.{Hold, IsHeld, AreHeld}
 
 hold-more : (files : Files) (names contents : List (List ℕ)) (name bytes : List ℕ) → Hold files names contents → told_bytes (Some files) name ≡ Some bytes →
     Hold files (names ++ name ∷ []) (contents ++ bytes ∷ [])

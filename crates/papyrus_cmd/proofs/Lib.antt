@@ -1,6 +1,15 @@
+pub mod PexRead
+pub mod Statuses
+pub mod Feeding
+pub mod PexCounting
 pub mod HeldScripts
 pub mod FormLength
-pub mod OnceAnswered
+pub mod PartOutput
+pub mod Assembled
+pub mod AsmWords
+pub mod FailedWrites
+pub mod ScriptFaults
+pub mod ScriptsAnswered
 pub mod OutputsOf
 pub mod NotedLines
 pub mod CutShort

@@ -5,11 +5,11 @@ use Rattle.std.specs.String.{string_bytes}
 use Rattle.std.proofs.lemmas.Grind.{common_steps}
 use Rattle.papy_io.specs.Files.{Files}
 use Rattle.papyrus_cmd.specs.declared.command.Command.{Command}
-use Rattle.papyrus_cmd.specs.declared.command.Command.TheVariants.{Once}
 use Rattle.papyrus_cmd.specs.declared.ending.Ending.{Ending}
-use Rattle.papyrus_cmd.specs.declared.ending.Ending.TheVariants.{Done, OutOfMemory, Usage, ReadFault, WriteFault, NotBuilt}
-use Rattle.papyrus_cmd.specs.Answers.{IsPart, Outputs, OnceAnswersTo, CommandAnswers, Answers}
+use Rattle.papyrus_cmd.specs.declared.ending.Ending.TheVariants.{Done, OutOfMemory, Usage, ReadFault, WriteFault, Refused, NotBuilt}
+use Rattle.papyrus_cmd.specs.Answers.{IsPart, Outputs, CommandOn, CommandAnswers, Answers, EndsUnprinted, SilentlyEnds}
 use Rattle.papyrus_cmd.specs.Command.{command_of}
+use Rattle.papyrus_cmd.proofs.NotedLines.{appended_nothing}
 
 -- one way to end implies another
 abbrev Implies : (Files → Ending → List ℕ → Type 0) → (Files → Ending → List ℕ → Type 0) → Type 0
@@ -36,18 +36,48 @@ outputs-implied Ends Others implies holds OutOfMemory before now (part, appended
 outputs-implied Ends Others implies holds WriteFault before now (part, appended, is) = (part, appended, told-part-implied Ends Others implies holds part is)
 outputs-implied Ends Others implies holds (ReadFault word) before now same = same
 outputs-implied Ends Others implies holds Usage before now (same, ends) = (same, told-implied Ends Others implies holds Usage [] ends)
+outputs-implied Ends Others implies holds (Refused word place rule) before now (same, ends) = (same, told-implied Ends Others implies holds (Refused word place rule) [] ends)
 outputs-implied Ends Others implies holds NotBuilt before now (same, ends) = (same, told-implied Ends Others implies holds NotBuilt [] ends)
 
-once-is-command : (words : List (List ℕ)) → command_of words ≡ Some Once → Implies (OnceAnswersTo (drop 1 words)) (Answers words)
-once-is-command words is files ending text ends =
-    let P : Option Command → Type 0 = λ command. CommandAnswers command words files ending text in subst P (sym is) ends
+command-answers : (command : Command) (words : List (List ℕ)) → command_of words ≡ Some command → Implies (CommandOn command (drop 1 words)) (Answers words)
+command-answers command words is files ending text ends =
+    let P : Option Command → Type 0 = λ found. CommandAnswers found words files ending text in subst P (sym is) ends
 
-names-behind : (words : List (String Global)) → map string_bytes (take (length words - 1) (drop 1 words)) ≡ drop 1 (map string_bytes words)
+pub names-behind : (words : List (String Global)) → map string_bytes (take (length words - 1) (drop 1 words)) ≡ drop 1 (map string_bytes words)
 names-behind [] = refl
 names-behind (word ∷ words) = ap (map string_bytes) (grind (arith, common_steps))
 
-pub once_outputs : (words : List (String Global)) (holds : Option Files) (ending : Ending) (before now : Option (List ℕ)) → command_of (map string_bytes words) ≡ Some Once →
-    Outputs (OnceAnswersTo (map string_bytes (take (length words - 1) (drop 1 words)))) holds ending before now → Outputs (Answers (map string_bytes words)) holds ending before now
-once_outputs words holds ending before now is outputs =
-    let P : List (List ℕ) → Type 0 = λ names. Outputs (OnceAnswersTo names) holds ending before now in
-    outputs-implied _ _ (once-is-command (map string_bytes words) is) holds ending before now (subst P (names-behind words) outputs)
+-- what a command writes that is given the words behind it
+pub command_outputs : (command : Command) (words : List (String Global)) (holds : Option Files) (ending : Ending) (before now : Option (List ℕ)) → command_of (map string_bytes words) ≡ Some command →
+    Outputs (CommandOn command (map string_bytes (take (length words - 1) (drop 1 words)))) holds ending before now → Outputs (Answers (map string_bytes words)) holds ending before now
+command_outputs command words holds ending before now is outputs =
+    let P : List (List ℕ) → Type 0 = λ names. Outputs (CommandOn command names) holds ending before now in
+    outputs-implied _ _ (command-answers command (map string_bytes words) is) holds ending before now (subst P (names-behind words) outputs)
+
+-- the names that stand behind the command
+abbrev pub names_behind : List (String Global) → List (List ℕ)
+names_behind words = map string_bytes (take (length words - 1) (drop 1 words))
+
+nothing-yet : (Ends : Files → Ending → List ℕ → Type 0) (holds : Option Files) → IfSome holds (λ files. IsPart (Ends files) [])
+nothing-yet Ends None = tt
+nothing-yet Ends (Some files) = inl refl
+
+-- a command that leaves `out` as it was
+pub silently_outputs : (Ends : Files → Ending → List ℕ → Type 0) (holds : Option Files) (ending : Ending) (out : Option (List ℕ)) → SilentlyEnds Ends holds ending → Outputs Ends holds ending out out
+silently_outputs Ends holds NotBuilt out ends = (refl, ends)
+silently_outputs Ends holds (Refused word place rule) out ends = (refl, ends)
+silently_outputs Ends holds (ReadFault word) out ends = refl
+silently_outputs Ends holds OutOfMemory out ends = ([], appended_nothing out out refl, nothing-yet Ends holds)
+silently_outputs Ends holds Done out ends = absurd ends
+silently_outputs Ends holds Usage out ends = absurd ends
+silently_outputs Ends holds WriteFault out ends = absurd ends
+
+-- a command that writes nothing to `out`
+pub unprinted_outputs : (Ends : Files → Ending → List ℕ → Type 0) (holds : Option Files) (ending : Ending) (out : Option (List ℕ)) → EndsUnprinted Ends holds ending → Outputs Ends holds ending out out
+unprinted_outputs Ends holds Done out ends = ([], appended_nothing out out refl, ends)
+unprinted_outputs Ends holds NotBuilt out ends = (refl, ends)
+unprinted_outputs Ends holds (Refused word place rule) out ends = (refl, ends)
+unprinted_outputs Ends holds (ReadFault word) out ends = refl
+unprinted_outputs Ends holds OutOfMemory out ends = ([], appended_nothing out out refl, nothing-yet Ends holds)
+unprinted_outputs Ends holds WriteFault out ends = ([], appended_nothing out out refl, nothing-yet Ends holds)
+unprinted_outputs Ends holds Usage out ends = absurd ends

@@ -1,11 +1,12 @@
 -- How a command ends, and what the devices count and keep then.
-use Rattle.std.specs.Prelude.{◌≡◌, ℕ, suc, ◌<◌, List, [], ◌∷◌, ◌++◌, length, Option, Some, Contains, slice_index_or, codes}
+use Rattle.std.specs.Prelude.{◌≡◌, ◌⊎◌, ℕ, suc, ◌<◌, List, [], ◌∷◌, ◌++◌, length, Option, Some, Contains, slice_index_or, codes}
 use Rattle.papy_io.specs.declared.fault.IoFault.{IoFault}
 use Rattle.papy_io.specs.declared.fault.IoFault.TheVariants as io
 use Rattle.papy_io.specs.Count.{HasRisen}
 use Rattle.papyrus_cmd.specs.declared.ending.Ending.{Ending}
-use Rattle.papyrus_cmd.specs.declared.ending.Ending.TheVariants.{Done, OutOfMemory, Usage, ReadFault, WriteFault, NotBuilt}
+use Rattle.papyrus_cmd.specs.declared.ending.Ending.TheVariants.{Done, OutOfMemory, Usage, ReadFault, WriteFault, Refused, NotBuilt}
 use Rattle.papyrus_cmd.specs.Command.{files_read}
+use Rattle.papyrus_cmd.specs.Refusal.{refusal_line, rule_status}
 
 -- how a command ends whose output was refused
 abbrev pub write_ending : IoFault → Ending
@@ -19,6 +20,7 @@ status_of OutOfMemory = 1
 status_of Usage = 2
 status_of (ReadFault word) = 3
 status_of WriteFault = 4
+status_of (Refused word place rule) = rule_status rule
 status_of NotBuilt = 10
 
 abbrev pub line : List ℕ → List ℕ
@@ -40,6 +42,7 @@ note_of words OutOfMemory = out_of_memory
 note_of words Usage = line (codes "papyrus: usage")
 note_of words (ReadFault word) = cannot_read (word_at words word)
 note_of words WriteFault = line (codes "papyrus: cannot write")
+note_of words (Refused word place rule) = refusal_line (word_at words word) place rule
 note_of words NotBuilt = line (codes "papyrus: not built")
 
 -- the count of failed reads rises where a file was not read, and nowhere else
@@ -49,6 +52,7 @@ CountsReads Done before now = now ≡ before
 CountsReads OutOfMemory before now = now ≡ before
 CountsReads Usage before now = now ≡ before
 CountsReads WriteFault before now = now ≡ before
+CountsReads (Refused word place rule) before now = now ≡ before
 CountsReads NotBuilt before now = now ≡ before
 
 -- the count of failed writes rises where the output was not written, and nowhere else
@@ -58,7 +62,19 @@ CountsWrites Done before now = now ≡ before
 CountsWrites OutOfMemory before now = now ≡ before
 CountsWrites Usage before now = now ≡ before
 CountsWrites (ReadFault word) before now = now ≡ before
+CountsWrites (Refused word place rule) before now = now ≡ before
 CountsWrites NotBuilt before now = now ≡ before
+
+-- the same of the output and of the files that are written, one of which failed
+abbrev pub CountsBoth : Ending → ℕ → ℕ → ℕ → ℕ → Type 0
+CountsBoth WriteFault before now files_before files_now =
+    (HasRisen before now × (files_now ≡ files_before)) ⊎ ((now ≡ before) × HasRisen files_before files_now)
+CountsBoth Done before now files_before files_now = (now ≡ before) × (files_now ≡ files_before)
+CountsBoth OutOfMemory before now files_before files_now = (now ≡ before) × (files_now ≡ files_before)
+CountsBoth Usage before now files_before files_now = (now ≡ before) × (files_now ≡ files_before)
+CountsBoth (ReadFault word) before now files_before files_now = (now ≡ before) × (files_now ≡ files_before)
+CountsBoth (Refused word place rule) before now files_before files_now = (now ≡ before) × (files_now ≡ files_before)
+CountsBoth NotBuilt before now files_before files_now = (now ≡ before) × (files_now ≡ files_before)
 
 -- the word of this number is the one missed, and names a file that the command reads
 pub record MissesFileAt (words : List (List ℕ)) (word : ℕ) (missed : Option (List ℕ)) : Type 0 where
@@ -72,6 +88,7 @@ MissesWord words Done missed = Unit {0}
 MissesWord words OutOfMemory missed = Unit {0}
 MissesWord words Usage missed = Unit {0}
 MissesWord words WriteFault missed = Unit {0}
+MissesWord words (Refused word place rule) missed = Unit {0}
 MissesWord words NotBuilt missed = Unit {0}
 
 -- the script of this place is the one missed, and is the word behind it
@@ -82,13 +99,19 @@ MissesScript names Done missed = Unit {0}
 MissesScript names OutOfMemory missed = Unit {0}
 MissesScript names Usage missed = Unit {0}
 MissesScript names WriteFault missed = Unit {0}
+MissesScript names (Refused word place rule) missed = Unit {0}
 MissesScript names NotBuilt missed = Unit {0}
+
+-- the word of this number is one of so many
+abbrev pub IsWordBelow : ℕ → Ending → Type 0
+IsWordBelow count (ReadFault word) = word < count
+IsWordBelow count (Refused word place rule) = word < count
+IsWordBelow count Done = Unit {0}
+IsWordBelow count OutOfMemory = Unit {0}
+IsWordBelow count Usage = Unit {0}
+IsWordBelow count WriteFault = Unit {0}
+IsWordBelow count NotBuilt = Unit {0}
 
 -- the word of this number is one of the words
 abbrev pub IsWordOf : List (List ℕ) → Ending → Type 0
-IsWordOf words (ReadFault word) = word < length words
-IsWordOf words Done = Unit {0}
-IsWordOf words OutOfMemory = Unit {0}
-IsWordOf words Usage = Unit {0}
-IsWordOf words WriteFault = Unit {0}
-IsWordOf words NotBuilt = Unit {0}
+IsWordOf words ending = IsWordBelow (length words) ending

@@ -1,19 +1,23 @@
 -- What the status of the top call says of its words, its devices and what was written.
-use Rattle.std.specs.Prelude.{◌≡◌, ◌≢◌, ◌⊎◌, ℕ, List, take, Option, Some, Result, Ok, Err, IfSome, Contains}
+use Rattle.std.specs.Prelude.{◌≡◌, ◌≢◌, ◌⊎◌, ℕ, List, take, drop, Option, Some, Result, Ok, Err, IfSome, Contains}
 use Rattle.papy_io.specs.declared.fault.IoFault.{IoFault}
 use Rattle.papy_io.specs.declared.fault.IoFault.TheVariants as io
 use Rattle.papy_io.specs.Count.{HasRisen, CountsFaults}
 use Rattle.papy_io.specs.Files.{Files}
 use Rattle.papy_io.specs.Sink.{Appended, SinkWrites}
 use Rattle.papyrus_cmd.specs.declared.ending.Ending.{Ending}
-use Rattle.papyrus_cmd.specs.declared.ending.Ending.TheVariants.{Done, OutOfMemory, Usage, ReadFault, WriteFault, NotBuilt}
+use Rattle.papyrus_cmd.specs.declared.ending.Ending.TheVariants.{Done, OutOfMemory, Usage, ReadFault, WriteFault, Refused, NotBuilt}
 use Rattle.papyrus_cmd.specs.Answers.{Answers, IsPart}
-use Rattle.papyrus_cmd.specs.Command.{files_read}
+use Rattle.papyrus_cmd.specs.declared.command.Command.{Command}
+use Rattle.papyrus_cmd.specs.declared.command.Command.TheVariants as command
+use Rattle.papyrus_cmd.specs.Asm.{AsmLeaves}
+use Rattle.papyrus_cmd.specs.Command.{command_of, files_read}
 use Rattle.papyrus_cmd.specs.Ending.{status_of, note_of, cannot_read, out_of_memory, word_at}
+use Rattle.papyrus_cmd.specs.Refusal.{rule_status}
 
 -- every status that there is
 abbrev pub IsStatus : ℕ → Type 0
-IsStatus status = (status ≡ 0) ⊎ (status ≡ 1) ⊎ (status ≡ 2) ⊎ (status ≡ 3) ⊎ (status ≡ 4) ⊎ (status ≡ 10)
+IsStatus status = (status ≡ 0) ⊎ (status ≡ 1) ⊎ (status ≡ 2) ⊎ (status ≡ 3) ⊎ (status ≡ 4) ⊎ (status ≡ 5) ⊎ (status ≡ 6) ⊎ (status ≡ 8) ⊎ (status ≡ 10)
 
 -- memory was found, and no device failed
 pub record IsAnswer (status : ℕ) : Type 0 where
@@ -25,14 +29,23 @@ pub record IsAnswer (status : ℕ) : Type 0 where
 abbrev pub WasCut : ℕ → Type 0
 WasCut status = (status ≡ 1) ⊎ (status ≡ 4)
 
+-- what the files are by the way that a command ended which writes one
+abbrev pub FilesLeft : List (List ℕ) → Ending → Option Files → Option Files → Type 0
+FilesLeft words ending holds left = command_of words ≡ Some command.Asm → AsmLeaves (word_at (drop 1 words) 1) ending holds left
+
+-- all commands but one write no file
+abbrev pub WritesNone : List (List ℕ) → Type 0
+WritesNone words = command_of words ≢ Some command.Asm
+
 -- the command ended so: with this status, all of its text on `out` and its line on `notes`
-pub record Answered (words : List (List ℕ)) (holds : Option Files) (status : ℕ) (out_before out_now notes_before notes_now : Option (List ℕ)) : Type 0 where
+pub record Answered (words : List (List ℕ)) (holds left : Option Files) (status : ℕ) (out_before out_now notes_before notes_now : Option (List ℕ)) : Type 0 where
   pub ending : Ending
   pub text : List ℕ
   pub status_is : status ≡ status_of ending
   pub out : Appended text out_before out_now
   pub notes : Appended (note_of words ending) notes_before notes_now
   pub answers : IfSome holds (λ files. Answers words files ending text)
+  pub files : FilesLeft words ending holds left
 
 -- the command was cut short: the first part of its text is on `out`, and the first part of some line on `notes`
 pub record CutShort (words : List (List ℕ)) (holds : Option Files) (out_before out_now notes_before notes_now : Option (List ℕ)) : Type 0 where
@@ -67,10 +80,10 @@ Noted line wanted status before now faults_before faults_now =
 abbrev pub Tried : List ℕ → Option (List ℕ) → Option (List ℕ) → Type 0
 Tried line before now = (n : ℕ) × Appended (take n line) before now
 
--- the line that names the file was written, or there was no memory for it
-abbrev pub ToldUnread : List ℕ → ℕ → Option (List ℕ) → Option (List ℕ) → ℕ → ℕ → Type 0
-ToldUnread file status before now faults_before faults_now =
-    Noted (cannot_read file) 3 status before now faults_before faults_now
+-- the line that names a file was written, or there was no memory for it
+abbrev pub ToldOfFile : List ℕ → ℕ → ℕ → Option (List ℕ) → Option (List ℕ) → ℕ → ℕ → Type 0
+ToldOfFile line wanted status before now faults_before faults_now =
+    Noted line wanted status before now faults_before faults_now
     ⊎ ((status ≡ 1) × Tried out_of_memory before now)
 
 -- what is told of each ending, and the status after it
@@ -81,4 +94,6 @@ Told words WriteFault status before now faults_before faults_now = (status ≡ 4
 Told words Usage status before now faults_before faults_now = Noted (note_of words Usage) 2 status before now faults_before faults_now
 Told words NotBuilt status before now faults_before faults_now = Noted (note_of words NotBuilt) 10 status before now faults_before faults_now
 Told words (ReadFault word) status before now faults_before faults_now =
-    ToldUnread (word_at words word) status before now faults_before faults_now
+    ToldOfFile (note_of words (ReadFault word)) 3 status before now faults_before faults_now
+Told words (Refused word place rule) status before now faults_before faults_now =
+    ToldOfFile (note_of words (Refused word place rule)) (rule_status rule) status before now faults_before faults_now

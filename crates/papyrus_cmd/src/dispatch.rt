@@ -4,12 +4,17 @@ ghost use Rattle.std.specs.String.{string_bytes};
 ghost use Rattle.papy_io.specs.Activity.{Idle};
 ghost use Rattle.papyrus_cmd.specs.Answers.{Answers, Outputs, WritesOnly};
 ghost use Rattle.papyrus_cmd.specs.Command.{command_of};
-ghost use Rattle.papyrus_cmd.specs.Ending.{CountsReads, CountsWrites, MissesWord};
+ghost use Rattle.papyrus_cmd.specs.Ending.{CountsBoth, CountsReads, CountsWrites, IsWordOf, MissesWord};
+ghost use Rattle.papyrus_cmd.specs.TopCall.{FilesLeft, WritesNone};
 
+use crate::asm::asm;
+use crate::check::check;
 use crate::command::{Command, command_of};
+use crate::compile::compile;
 use crate::ending::Ending;
 use crate::help::{help, version};
 use crate::once::once;
+use crate::show::show;
 use papy_io::{Desk, Sink};
 use std::alloc::Global;
 
@@ -27,11 +32,12 @@ fn write_text<S: Sink>(out: &mut S, text: &[u8]) -> Ending
 pub fn run<D: Desk, S: Sink>(alloc: Global, words: &[String], desk: &mut D, out: &mut S) -> Ending
     requires { D.busy desk.old ≡ Idle }
     ensures busy { D.busy desk.new ≡ Idle }
-    ensures holds { D.holds desk.new ≡ D.holds desk.old }
-    ensures write_faults { D.write_faults desk.new ≡ D.write_faults desk.old }
+    ensures kept { WritesNone (map string_bytes words.now) → D.holds desk.new ≡ D.holds desk.old }
+    ensures files { FilesLeft (map string_bytes words.now) result (D.holds desk.old) (D.holds desk.new) }
     ensures read_faults { CountsReads result (D.read_faults desk.old) (D.read_faults desk.new) }
     ensures missed { MissesWord (map string_bytes words.now) result (D.missed desk.new) }
-    ensures faults { CountsWrites result (S.faults out.old) (S.faults out.new) }
+    ensures faults { CountsBoth result (S.faults out.old) (S.faults out.new) (D.write_faults desk.old) (D.write_faults desk.new) }
+    ensures word { IsWordOf (map string_bytes words.now) result }
     ensures usage { (result ≡ Ending.Usage) ↔ (command_of (map string_bytes words.now) ≡ None) }
     ensures output { Outputs (Answers (map string_bytes words.now)) (D.holds desk.old) result (S.written out.old) (S.written out.new) }
 {
@@ -40,5 +46,9 @@ pub fn run<D: Desk, S: Sink>(alloc: Global, words: &[String], desk: &mut D, out:
         Some(Command::Help) => write_text(out, help()),
         Some(Command::Version) => write_text(out, version()),
         Some(Command::Once) => once(alloc, &words[1..], desk, out),
+        Some(Command::Compile) => compile(alloc, &words[1..], desk),
+        Some(Command::Check) => check(alloc, &words[1..], desk, out),
+        Some(Command::Show) => show(alloc, &words[1..], desk, out),
+        Some(Command::Asm) => asm(alloc, &words[1..], desk),
     }
 }

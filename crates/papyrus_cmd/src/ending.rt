@@ -1,8 +1,8 @@
 //! How a command ends.
 ghost use Rattle.std.specs.Prelude.{◌≡◌};
 
-use papy_base::OutOfMemory;
-use papy_io::{IoFault, ReadAllFault};
+use crate::refusal::{Place, Rule};
+use papy_io::IoFault;
 
 /// How a command ends.
 #[derive(Clone, Copy, Debug, PartialEq, Eq)]
@@ -20,6 +20,15 @@ pub enum Ending {
     },
     /// The output was not written.
     WriteFault,
+    /// The file that the word of this number names breaks a rule.
+    Refused {
+        /// The number of the word, from 0.
+        word: usize,
+        /// Where in the file.
+        place: Place,
+        /// Which rule.
+        rule: Rule,
+    },
     /// The scripts need what isn't built yet.
     NotBuilt,
 }

@@ -1,14 +1,23 @@
 //! The commands of `papyrus`.
 #![tactic(auto)]
 
+mod asm;
+mod check;
 mod command;
+mod compile;
 mod dispatch;
 mod ending;
+mod file_fault;
 mod first_form;
 mod help;
 mod notes;
 mod once;
+mod pex_file;
+mod refusal;
 mod report;
+mod scripts;
+mod show;
+mod text_file;
 mod top;
 
 pub use top::papyrus;

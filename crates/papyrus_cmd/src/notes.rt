@@ -1,12 +1,14 @@
 //! The line that tells how a command ended, and the status after it.
-ghost use Rattle.std.specs.Prelude.{◌≡◌, ◌<◌, IfOk, map};
+ghost use Rattle.std.specs.Prelude.{◌≡◌, IfOk, OnErr, map};
 ghost use Rattle.std.specs.String.{string_bytes};
 ghost use Rattle.papy_io.specs.Count.{CountsFaults};
 ghost use Rattle.papy_io.specs.Sink.{SinkWrites};
-ghost use Rattle.papyrus_cmd.specs.Ending.{cannot_read, IsWordOf};
-ghost use Rattle.papyrus_cmd.specs.TopCall.{Noted, Told, ToldUnread, Tried, noted_status};
+ghost use Rattle.papyrus_cmd.specs.Ending.{cannot_read, out_of_memory, IsWordOf};
+ghost use Rattle.papyrus_cmd.specs.Refusal.{refusal_line, rule_status};
+ghost use Rattle.papyrus_cmd.specs.TopCall.{Noted, Told, ToldOfFile, Tried, noted_status};
 
 use crate::ending::Ending;
+use crate::refusal::{Place, Rule, refusal_line};
 use papy_base::OutOfMemory;
 use papy_io::{IoFault, Sink};
 use std::alloc::Global;
@@ -50,17 +52,34 @@ fn cannot_read(alloc: Global, file: &[u8]) -> Result<Vec<u8>, OutOfMemory>
     Ok(line)
 }
 
-/// Tells that a file was not read, and gives the status.
-fn tell_unread<E: Sink>(alloc: Global, file: &[u8], notes: &mut E) -> u8
-    ensures { ToldUnread file.now result (E.written notes.old) (E.written notes.new) (E.faults notes.old) (E.faults notes.new) }
+/// Writes a line that names a file and gives the status, or tells that there was no memory for it.
+fn note_of_file<E: Sink>(line: Result<Vec<u8>, OutOfMemory>, wanted: u8, notes: &mut E) -> u8
+    ensures built { IfOk line (λ bytes. ToldOfFile bytes.items wanted result (E.written notes.old) (E.written notes.new) (E.faults notes.old) (E.faults notes.new)) }
+    ensures not_built { OnErr line ((result ≡ 1) × Tried out_of_memory (E.written notes.old) (E.written notes.new)) }
 {
-    match cannot_read(alloc, file) {
-        Ok(line) => note(notes, &line, 3),
+    match line {
+        Ok(line) => note(notes, &line, wanted),
         Err(_) => {
             try_note(notes, OUT_OF_MEMORY);
             1
         }
     }
+}
+
+/// Tells that a file was not read, and gives the status.
+fn tell_unread<E: Sink>(alloc: Global, file: &[u8], notes: &mut E) -> u8
+    ensures { ToldOfFile (cannot_read file.now) 3 result (E.written notes.old) (E.written notes.new) (E.faults notes.old) (E.faults notes.new) }
+{
+    let line = cannot_read(alloc, file);
+    note_of_file(line, 3, notes)
+}
+
+/// Tells which rule a file breaks, and gives the status.
+fn tell_refused<E: Sink>(alloc: Global, file: &[u8], place: Place, rule: Rule, notes: &mut E) -> u8
+    ensures { ToldOfFile (refusal_line file.now place rule) (rule_status rule) result (E.written notes.old) (E.written notes.new) (E.faults notes.old) (E.faults notes.new) }
+{
+    let line = refusal_line(alloc, file, place, rule);
+    note_of_file(line, rule.status(), notes)
 }
 
 /// Tells in one line on `notes` how the command of these words ended, and gives the status.
@@ -81,5 +100,8 @@ pub fn tell<E: Sink>(alloc: Global, words: &[String], ending: Ending, notes: &mu
         Ending::Usage => note(notes, USAGE, 2),
         Ending::NotBuilt => note(notes, NOT_BUILT, 10),
         Ending::ReadFault { word } => tell_unread(alloc, words[word].as_bytes(), notes),
+        Ending::Refused { word, place, rule } => {
+            tell_refused(alloc, words[word].as_bytes(), place, rule, notes)
+        }
     }
 }

@@ -76,9 +76,9 @@ fn each_answer_has_its_status_and_its_line(rt: HostRuntime) -> Result<(), Fail> 
         (
             &["once", "A.psc", "A.psc"],
             SCRIPT,
-            10,
+            5,
             b"",
-            b"papyrus: not built\n",
+            b"A.psc:1: N1 DuplicateScript\n",
         ),
         (
             &["once", "A.psc", "B.psc"],
@@ -182,5 +182,79 @@ fn a_line_that_cannot_be_written_is_a_failed_write(rt: HostRuntime) -> Result<()
     let found = call(rt.alloc(), &asked)?;
     assert_eq!(rt; found.status, 4);
     assert!(rt; found.notes.bytes().is_empty());
+    Ok(())
+}
+
+/// A compiled file without strings and objects.
+const EMPTY: [u8; 29] = [
+    0xFA, 0x57, 0xC0, 0xDE, 3, 1, 0, 1, 0, 0, 0, 0, 0, 0, 0, 0, 0, 0, 0, 0, 0, 0, 0, 0, 0, 0, 0, 0,
+    0,
+];
+
+#[test]
+fn each_failed_call_while_a_compiled_file_is_read_names_it(rt: HostRuntime) -> Result<(), Fail> {
+    let accepted: &[u8] = b"ok 29\n";
+    let unread: &[u8] = b"papyrus: cannot read A.psc\n";
+    for number in 0..5u32 {
+        let failing = [number];
+        let asked = Asked {
+            words: &["check", "A.psc"],
+            script: &EMPTY,
+            desk: &failing,
+            out: &[],
+            notes: &[],
+        };
+        let found = call(rt.alloc(), &asked)?;
+        if number < 4 {
+            assert_eq!(rt; found.status, 3);
+            assert!(rt; found.notes.bytes() == unread);
+        } else {
+            assert_eq!(rt; found.status, 0);
+            assert!(rt; found.out.bytes() == accepted);
+        }
+    }
+    Ok(())
+}
+
+#[test]
+fn a_compiled_file_that_ends_early_is_truncated_at_its_length(rt: HostRuntime) -> Result<(), Fail> {
+    let alloc = rt.alloc();
+    for size in 0..29usize {
+        let asked = Asked {
+            words: &["check", "A.psc"],
+            script: &EMPTY[..size],
+            desk: &[],
+            out: &[],
+            notes: &[],
+        };
+        let found = call(alloc, &asked)?;
+        let line = format!(in alloc; "A.psc@{size}: P10 Truncated\n")?;
+        assert_eq!(rt; found.status, 6);
+        assert!(rt; found.notes.bytes() == line.as_bytes());
+    }
+    Ok(())
+}
+
+#[test]
+fn asm_fails_at_reading_before_it_fails_at_writing(rt: HostRuntime) -> Result<(), Fail> {
+    let listing: &[u8] = b"pex 1 0\nsource \"\"\nuser \"\"\nmachine \"\"\nnodebug\n";
+    for number in 0..8u32 {
+        let failing = [number];
+        let asked = Asked {
+            words: &["asm", "A.psc", "B.pex"],
+            script: listing,
+            desk: &failing,
+            out: &[],
+            notes: &[],
+        };
+        let found = call(rt.alloc(), &asked)?;
+        let wanted = match number {
+            0..=3 => 3,
+            4..=6 => 4,
+            _ => 0,
+        };
+        assert_eq!(rt; found.status, wanted);
+        assert!(rt; found.out.bytes().is_empty());
+    }
     Ok(())
 }

@@ -1,11 +1,14 @@
 //! The top call, which the program makes with its command line.
-ghost use Rattle.std.specs.Prelude.{◌≡◌, ◌⊎◌, ◌≤◌, None, map, vec_len};
+ghost use Rattle.std.specs.Prelude.{◌≡◌, ◌⊎◌, ◌≤◌, None, Some, map, drop, vec_len};
 ghost use Rattle.std.specs.String.{string_bytes};
 ghost use Rattle.latent_natives.specs.Devices.{SameKinds};
 ghost use Rattle.papy_io.specs.Activity.{Idle};
 ghost use Rattle.papy_io.specs.Count.{HasRisen};
 ghost use Rattle.papyrus_cmd.specs.Command.{command_of};
-ghost use Rattle.papyrus_cmd.specs.TopCall.{Answered, CutShort, IsAnswer, IsStatus, NotRead, WasCut};
+ghost use Rattle.papyrus_cmd.specs.TopCall.{Answered, CutShort, IsAnswer, IsStatus, NotRead, WasCut, WritesNone};
+ghost use Rattle.papyrus_cmd.specs.declared.command.Command.TheVariants as Command;
+ghost use Rattle.papyrus_cmd.specs.Asm.{MayWrite};
+ghost use Rattle.papyrus_cmd.specs.Ending.{word_at};
 
 use crate::dispatch::run;
 use crate::notes::tell;
@@ -18,7 +21,8 @@ use std::alloc::Global;
 ///
 /// `words` are the command line without the program's name. The statuses are 0 (done),
 /// 1 (out of memory), 2 (the words are no command), 3 (a file was not read), 4 (the output or the
-/// line was not written) and 10 (the scripts need what isn't built yet).
+/// line was not written), 5 (a script was refused),
+/// 6 (a compiled file was refused), 8 (a listing was refused) and 10 (the scripts need what isn't built yet).
 pub fn papyrus<D: Desk, S: Sink, E: Sink>(
     alloc: Global,
     words: &[String],
@@ -31,16 +35,18 @@ pub fn papyrus<D: Desk, S: Sink, E: Sink>(
     requires few_devices { vec_len devices.old ≤ 65535 }
     ensures status { IsStatus result }
     ensures busy { D.busy desk.new ≡ Idle }
-    ensures holds { D.holds desk.new ≡ D.holds desk.old }
-    ensures write_faults { D.write_faults desk.new ≡ D.write_faults desk.old }
+    ensures kept { WritesNone (map string_bytes words.now) → D.holds desk.new ≡ D.holds desk.old }
     ensures devices { SameKinds (map (λ d. device_state d) devices.old.items) (map (λ d. device_state d) devices.new.items) }
 
     // Any other answer than want of memory or a device's failure is that of the command.
-    ensures answered { IsAnswer result → Answered (map string_bytes words.now) (D.holds desk.old) result
+    ensures answered { IsAnswer result → Answered (map string_bytes words.now) (D.holds desk.old) (D.holds desk.new) result
         (S.written out.old) (S.written out.new) (E.written notes.old) (E.written notes.new) }
     ensures cut_short { WasCut result → CutShort (map string_bytes words.now) (D.holds desk.old)
         (S.written out.old) (S.written out.new) (E.written notes.old) (E.written notes.new) }
-    ensures quiet { ¬ WasCut result → (S.faults out.new ≡ S.faults out.old) × (E.faults notes.new ≡ E.faults notes.old) }
+    // After it a file may hold the first part of what was to be written.
+    ensures cut_file { WasCut result → command_of (map string_bytes words.now) ≡ Some Command.Asm →
+        MayWrite (word_at (drop 1 (map string_bytes words.now)) 1) (D.holds desk.old) (D.holds desk.new) }
+    ensures quiet { ¬ WasCut result → (S.faults out.new ≡ S.faults out.old) × (E.faults notes.new ≡ E.faults notes.old) × (D.write_faults desk.new ≡ D.write_faults desk.old) }
 
     // The causes of 2, 3 and 4.
     ensures usage { result ≡ 2 → command_of (map string_bytes words.now) ≡ None }
@@ -48,8 +54,10 @@ pub fn papyrus<D: Desk, S: Sink, E: Sink>(
     ensures not_read { result ≡ 3 → NotRead (map string_bytes words.now) (D.missed desk.new)
         (D.read_faults desk.old) (D.read_faults desk.new)
         (S.written out.old) (S.written out.new) (E.written notes.old) (E.written notes.new) }
+    ensures unread_kept { result ≡ 3 → D.holds desk.new ≡ D.holds desk.old }
     ensures not_written { result ≡ 4 →
-        HasRisen (S.faults out.old) (S.faults out.new) ⊎ HasRisen (E.faults notes.old) (E.faults notes.new) }
+        HasRisen (S.faults out.old) (S.faults out.new) ⊎ HasRisen (E.faults notes.old) (E.faults notes.new)
+        ⊎ HasRisen (D.write_faults desk.old) (D.write_faults desk.new) }
 {
     let ending = run(alloc, words, desk, out);
     tell(alloc, words, ending, notes)

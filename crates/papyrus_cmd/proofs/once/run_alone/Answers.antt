@@ -1,30 +1,20 @@
-use Rattle.std.proofs.Common.{refl, ◌∷◌, []}
 use Rattle.std.specs.String.{string_bytes}
-use Rattle.papyrus_cmd.specs.Answers.{OnceAnswersTo}
-use Rattle.papyrus_cmd.proofs.OnceAnswered.{too_large_is_not_built, other_form_is_not_built, first_form_is_run, part_is_output}
+use Rattle.papyrus_cmd.proofs.ScriptsAnswered.{alone_unread, alone_refused, alone_runs}
+use Rattle.script_linker.specs.contracts.set.ScriptSet as script_set
 use Rattle.papyrus_cmd.proofs.once.run_alone.Goals as goal
 
-pub returns-in-Err-TooLarge-clause-output : goal.returns-in-Err-TooLarge-clause-output
-returns-in-Err-TooLarge-clause-output g c =
-    let read = rw (c.in-Err-TooLarge.field-0-is, c.as_bytes.ensures.value) at c.in-Err-TooLarge.ensures.bytes in
-    (refl, too_large_is_not_built (g.D.Desk.holds c.args.desk.now) (string_bytes c.args.script.now) read)
+pub returns-in-Err-clause-output : goal.returns-in-Err-clause-output
+returns-in-Err-clause-output g c =
+    let read = rw c.as_bytes.ensures.value at c.in-Err.ensures.read in
+    rw c.at_word.ensures (alone_unread (g.D.Desk.holds c.args.desk.now) (string_bytes c.args.script.now) c.in-Err.fault _ read)
 
-pub returns-in-Ok-None-clause-output : goal.returns-in-Ok-None-clause-output
-returns-in-Ok-None-clause-output g c =
-    let read = rw c.as_bytes.ensures.value at c.in-Ok.ensures.bytes in
-    let other = rw (c.in-Ok-None.field-0-is, c.deref.ensures.value) at c.in-Ok-None.ensures in
-    (refl, other_form_is_not_built (g.D.Desk.holds c.args.desk.now) (string_bytes c.args.script.now) c.in-Ok.bytes read other)
-
-pub returns-in-Ok-write_report-clause-output : goal.returns-in-Ok-write_report-clause-output
-returns-in-Ok-write_report-clause-output g c =
-    let read = rw c.as_bytes.ensures.value at c.in-Ok.ensures.bytes in
-    let form = rw (c.in-Ok-Some.field-0-is, c.deref.ensures.value) at c.in-Ok-Some.ensures in
-    let run = first_form_is_run (g.D.Desk.holds c.args.desk.now) (string_bytes c.args.script.now) c.in-Ok.bytes read _ _ form in
-    (_, c.in-Ok-write_report.ensures.written, run)
+pub returns-in-Ok-accept_alone-clause-output : goal.returns-in-Ok-accept_alone-clause-output
+returns-in-Ok-accept_alone-clause-output g c =
+    let read = rw c.as_bytes.ensures.value at c.in-Ok.ensures.read in
+    let runs = rw c.deref-in-Ok-accept_alone.ensures.value at c.run_first_form.ensures.output in
+    alone_runs (g.D.Desk.holds c.args.desk.now) (string_bytes c.args.script.now) c.in-Ok.text _ _ _ read runs
 
 pub returns-clause-output : goal.returns-clause-output
 returns-clause-output g c =
-    let read = rw c.as_bytes.ensures.value at c.in-Ok.ensures.bytes in
-    let form = rw (c.in-Ok-Some.field-0-is, c.deref.ensures.value) at c.in-Ok-Some.ensures in
-    let run = first_form_is_run (g.D.Desk.holds c.args.desk.now) (string_bytes c.args.script.now) c.in-Ok.bytes read _ _ form in
-    rw c.from.ensures (part_is_output (OnceAnswersTo (string_bytes c.args.script.now ∷ [])) _ _ _ _ _ run c.in-Err-write_report.ensures.written)
+    let read = rw c.as_bytes.ensures.value at c.in-Ok.ensures.read in
+    alone_refused script_set.the_row.Denot (g.D.Desk.holds c.args.desk.now) (string_bytes c.args.script.now) c.in-Ok.text c.in-Err-accept_alone.ending _ read _ c.deref.ensures.value c.in-Err-accept_alone.ensures

@@ -1,9 +1,9 @@
-use Rattle.std.proofs.Common.{◌≡◌, map, take}
+use Rattle.std.proofs.Common.{◌≡◌, map, take, vec_len}
 use Rattle.std.specs.Prelude.{IfSome}
 use Rattle.std.specs.String.{string_bytes}
 use Rattle.papy_io.specs.Activity.{Idle}
-use Rattle.papyrus_cmd.specs.Answers.{AreHeld}
-use Rattle.papyrus_cmd.proofs.once.run_together.Given as goal
+use Rattle.papyrus_cmd.specs.Held.{AreHeld}
+use Rattle.papyrus_cmd.proofs.scripts.read_sources.Given as goal
 
 -- the scripts so far are held
 abbrev pub invariant-loop-place : goal.invariant-loop-place
@@ -12,5 +12,6 @@ invariant-loop-place g l = record {
   holds : g.D.Desk.holds l.desk ≡ g.D.Desk.holds l.fn.desk;
   write_faults : g.D.Desk.write_faults l.desk ≡ g.D.Desk.write_faults l.fn.desk;
   read_faults : g.D.Desk.read_faults l.desk ≡ g.D.Desk.read_faults l.fn.desk;
+  each : vec_len l.files ≡ l.place;
   held : IfSome (g.D.Desk.holds l.fn.desk) (AreHeld (map string_bytes (take l.place l.scripts)));
 }

@@ -1,0 +1,69 @@
+-- What `asm` answers, by what reading its listing gave.
+use Rattle.std.proofs.Common.{arith, ◌≡◌, ◌∙◌, inl, inr, ℕ, ◌<◌, List, [], refl, subst, sym}
+use Rattle.std.specs.Prelude.{Option, None, Some, Result, Ok, Err, IfSome}
+use Rattle.std.specs.declared.alloc.Global.{Global}
+use Rattle.std.specs.declared.vec.Vec.{Vec}
+use Rattle.papy_io.specs.declared.fault.IoFault.{IoFault}
+use Rattle.papy_io.specs.declared.fault.IoFault.TheVariants as io
+use Rattle.papy_io.specs.Count.{CountsFaults}
+use Rattle.papy_io.specs.Files.{Files}
+use Rattle.papy_io.specs.WriteFile.{WritesFile}
+use Rattle.pex_listing.specs.declared.faults.ListingRule.TheVariants.{BadLine}
+use Rattle.papyrus_cmd.specs.declared.ending.Ending.TheVariants.{Done}
+use Rattle.papyrus_cmd.specs.declared.file_fault.FileFault.{FileFault}
+use Rattle.papyrus_cmd.specs.declared.file_fault.FileFault.TheVariants as file
+use Rattle.papyrus_cmd.specs.declared.refusal.Place.{Place}
+use Rattle.papyrus_cmd.specs.declared.refusal.Place.TheVariants.{Line}
+use Rattle.papyrus_cmd.specs.declared.refusal.Rule.{Rule}
+use Rattle.papyrus_cmd.specs.declared.refusal.Rule.TheVariants.{Listing}
+use Rattle.papyrus_cmd.specs.Answers.{AnswersTo, AsmAnswers, EndsUnprinted}
+use Rattle.papyrus_cmd.specs.Asm.{AsmLeaves, Assembles, IsSpelling, MayWrite, ReadsListing, limit}
+use Rattle.papyrus_cmd.specs.Ending.{CountsWrites, write_ending}
+use Rattle.papyrus_cmd.specs.FileFault.{ending_at}
+use Rattle.papyrus_cmd.specs.TextFile.{ReadsText}
+
+abbrev pub ReadsListed : Option Files → List ℕ → Result (Vec ℕ Global) FileFault → Type 0
+ReadsListed holds name result = ReadsText holds name 134217728 (Listing BadLine) result
+
+-- a text that was not read, or is too large
+pub listing_unread : (holds : Option Files) (name : List ℕ) (fault : FileFault) → ReadsListed holds name (Err fault) → ReadsListing holds name (Err fault)
+listing_unread None name fault read = tt
+listing_unread (Some files) name (file.Refused place rule) (bytes, held, past, place_is, rule_is) =
+    (bytes, held, record { listing = (0, BadLine, place_is, rule_is); too_large = λ _. (place_is, rule_is) })
+listing_unread (Some files) name file.ReadFault read = tt
+listing_unread (Some files) name file.OutOfMemory read = tt
+
+-- a text that was assembled or refused
+pub listing_read : (holds : Option Files) (name : List ℕ) (text : Vec ℕ Global) (result : Result (Vec ℕ Global) FileFault) → ReadsListed holds name (Ok text) → Assembles result → ReadsListing holds name result
+listing_read None name text result read assembles = tt
+listing_read (Some files) name text (Ok bytes) read assembles = (text.items, read.1)
+listing_read (Some files) name text (Err (file.Refused place rule)) read assembles =
+    (text.items, read.1, record { listing = assembles; too_large = λ past. absurd (let small = read.0 in omega arith) })
+listing_read (Some files) name text (Err file.OutOfMemory) read assembles = tt
+listing_read (Some files) name text (Err file.ReadFault) read assembles = tt
+
+-- a listing that was accepted
+pub asm_done : (holds : Option Files) (name : List ℕ) (bytes : Vec ℕ Global) → ReadsListing holds name (Ok bytes) → IfSome holds (λ files. AnswersTo AsmAnswers name files Done [])
+asm_done None name bytes read = tt
+asm_done (Some files) name bytes (text, held) = (text, held, refl)
+
+-- a listing that was not
+pub asm_refused : (holds : Option Files) (name : List ℕ) (fault : FileFault) → ReadsListing holds name (Err fault) → EndsUnprinted (AnswersTo AsmAnswers name) holds (ending_at 1 fault)
+asm_refused None name (file.Refused place rule) read = tt
+asm_refused (Some files) name (file.Refused place rule) (text, held, refuses) = (text, held, (refl, refuses, refl))
+asm_refused holds name file.ReadFault read = tt
+asm_refused holds name file.OutOfMemory read = tt
+
+pub refused_leaves : (pex : List ℕ) (fault : FileFault) (old new : Option Files) → new ≡ old → AsmLeaves pex (ending_at 1 fault) old new
+refused_leaves pex (file.Refused place rule) old new same = same
+refused_leaves pex file.ReadFault old new same = same
+refused_leaves pex file.OutOfMemory old new same = inl same
+
+-- a file that was not written whole
+pub unwritten_leaves : (pex bytes : List ℕ) (fault : IoFault) (old new : Option Files) → IsSpelling bytes → WritesFile {T = Unit {0}} pex bytes (Err fault) old new → AsmLeaves pex (write_ending fault) old new
+unwritten_leaves pex bytes io.Failed old new spelled writes = inr (bytes, spelled, writes)
+unwritten_leaves pex bytes io.OutOfMemory old new spelled writes = inr (bytes, spelled, writes)
+
+pub unwritten_ends : (holds : Option Files) (name : List ℕ) (fault : IoFault) → EndsUnprinted (AnswersTo AsmAnswers name) holds (write_ending fault)
+unwritten_ends holds name io.Failed = tt
+unwritten_ends holds name io.OutOfMemory = tt

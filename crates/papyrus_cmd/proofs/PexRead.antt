@@ -1,0 +1,62 @@
+-- What `check` and `show` answer, by what reading their file gave.
+use Rattle.std.proofs.Common.{arith, ◌≡◌, ◌∙◌, ℕ, List, [], refl, ap, subst, take, length, inr}
+use Rattle.std.specs.Prelude.{Option, None, Some, Result, Ok, Err, IfSome}
+use Rattle.std.proofs.lemmas.Grind.{common_steps}
+use Rattle.papy_io.specs.declared.fault.IoFault.{IoFault}
+use Rattle.papy_io.specs.declared.fault.IoFault.TheVariants as io
+use Rattle.papy_io.specs.Count.{CountsFaults}
+use Rattle.papy_io.specs.Desk.{MissesStart}
+use Rattle.papy_io.specs.Files.{Files}
+use Rattle.pex_codec.specs.Decoding.{IsDecoded}
+use Rattle.papyrus_cmd.specs.declared.ending.Ending.TheVariants.{Done}
+use Rattle.papyrus_cmd.specs.declared.file_fault.FileFault.{FileFault}
+use Rattle.papyrus_cmd.specs.declared.file_fault.FileFault.TheVariants.{ReadFault, OutOfMemory, Refused}
+use Rattle.papyrus_cmd.specs.declared.pex_file.PexFile.{PexFile}
+use Rattle.papyrus_cmd.specs.Answers.{AnswersTo, CheckAnswers, ShowAnswers, IsPart, IsPex}
+use Rattle.papyrus_cmd.specs.Check.{accepted_line}
+use Rattle.papyrus_cmd.specs.FileFault.{CountsFile, MissesFile, start_fault}
+use Rattle.papyrus_cmd.specs.PexFile.{CountsHeld, Decodes, ReadsPex, limit}
+
+-- a file that was not read whole
+pub start_counts : (fault : IoFault) (before now : ℕ) → CountsFaults {T = Option ℕ} (Err fault) before now → CountsFile {T = PexFile} (Err (start_fault fault)) before now
+start_counts io.Failed before now counts = counts
+start_counts io.OutOfMemory before now counts = counts
+
+pub start_misses : (name : List ℕ) (fault : IoFault) (before now : Option (List ℕ)) → MissesStart {T = Option ℕ} name (Err fault) before now → MissesFile {T = PexFile} name (Err (start_fault fault)) now
+start_misses name io.Failed before now misses = misses
+start_misses name io.OutOfMemory before now misses = tt
+
+pub start_reads : (holds : Option Files) (name : List ℕ) (fault : IoFault) → ReadsPex holds name (Err (start_fault fault))
+start_reads None name fault = tt
+start_reads (Some files) name io.Failed = tt
+start_reads (Some files) name io.OutOfMemory = tt
+
+-- a file that isn't too large was decoded or refused
+pub read_decoded : (holds : Option Files) (name : List ℕ) (size : ℕ) (result : Result PexFile FileFault) → CountsHeld holds name (Ok (Some size)) → Decodes size result → ReadsPex holds name result
+read_decoded None name size result held decodes = tt
+read_decoded (Some files) name size (Ok file) (bytes, held, is, small) (decoded, size_is) = (bytes, held, size_is ∙ is)
+read_decoded (Some files) name size (Err (Refused place rule)) (bytes, held, is, small) pex =
+    (bytes, held, record { pex = pex; too_large = λ past. absurd (omega arith) })
+read_decoded (Some files) name size (Err OutOfMemory) held decodes = tt
+read_decoded (Some files) name size (Err ReadFault) held decodes = absurd decodes
+
+is-pex : (pex : PexFile) (bytes : List ℕ) → pex.size ≡ length bytes → IsDecoded pex.size pex.value → IsPex bytes
+is-pex pex bytes is decoded = (pex.value, subst (λ n. IsDecoded n pex.value) is decoded)
+
+pub checked : (holds : Option Files) (name : List ℕ) (pex : PexFile) → ReadsPex holds name (Ok pex) → IsDecoded pex.size pex.value →
+    IfSome holds (λ files. AnswersTo CheckAnswers name files Done (accepted_line pex.size))
+checked None name pex read decoded = tt
+checked (Some files) name pex (bytes, held, is) decoded = (bytes, held, (is-pex pex bytes is decoded, ap accepted_line is))
+
+pub shown : (holds : Option Files) (name : List ℕ) (pex : PexFile) (text : List ℕ) → ReadsPex holds name (Ok pex) → IsDecoded pex.size pex.value →
+    IfSome holds (λ files. AnswersTo ShowAnswers name files Done text)
+shown None name pex text read decoded = tt
+shown (Some files) name pex text (bytes, held, is) decoded = (bytes, held, is-pex pex bytes is decoded)
+
+-- what was shown before the output failed
+pub partly_shown : (holds : Option Files) (name : List ℕ) (pex : PexFile) (text : List ℕ) → ReadsPex holds name (Ok pex) → IsDecoded pex.size pex.value →
+    IfSome holds (λ files. IsPart (AnswersTo ShowAnswers name files) text)
+partly_shown None name pex text read decoded = tt
+partly_shown (Some files) name pex text (bytes, held, is) decoded =
+    let whole : text ≡ take (length text) text = grind (arith, common_steps) in
+    inr (text, length text, (bytes, held, is-pex pex bytes is decoded), whole)

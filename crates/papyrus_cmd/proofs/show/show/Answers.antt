@@ -1,0 +1,36 @@
+use Rattle.std.proofs.Common.{◌≡◌, ◌∙◌, sym, ap, map, []}
+use Rattle.std.specs.String.{string_bytes}
+use Rattle.std.proofs.lemmas.List.{get_or-map}
+use Rattle.papyrus_cmd.specs.Ending.{word_at}
+use Rattle.papyrus_cmd.proofs.PexRead.{shown, partly_shown}
+use Rattle.papyrus_cmd.proofs.show.show.Goals as goal
+
+pub returns-in-Ok-write_listing-clause-output : goal.returns-in-Ok-write_listing-clause-output
+returns-in-Ok-write_listing-clause-output g c =
+    let file = c.index-files-0.result in
+    let named : word_at (map string_bytes c.args.files.now) 0 ≡ string_bytes file =
+    get_or-map string_bytes c.args.files.now 0 file [] c.requires.some ∙ ap string_bytes (sym c.index-files-0.is) in
+    let read = rw c.as_bytes.ensures.value at c.in-Ok.ensures.read in
+    let wrote = c.show.ensures.appended in
+    let ends = shown (g.D.Desk.holds c.args.desk.now) (string_bytes file) c.in-Ok.pex wrote.bytes read c.in-Ok.ensures.decoded in
+    rw named (wrote.bytes, wrote.appended, ends)
+
+pub returns-in-Err-WriteFault-clause-output : goal.returns-in-Err-WriteFault-clause-output
+returns-in-Err-WriteFault-clause-output g c =
+    let file = c.index-files-0.result in
+    let named : word_at (map string_bytes c.args.files.now) 0 ≡ string_bytes file =
+    get_or-map string_bytes c.args.files.now 0 file [] c.requires.some ∙ ap string_bytes (sym c.index-files-0.is) in
+    let read = rw c.as_bytes.ensures.value at c.in-Ok.ensures.read in
+    let wrote = c.show.ensures.appended in
+    let ends = partly_shown (g.D.Desk.holds c.args.desk.now) (string_bytes file) c.in-Ok.pex wrote.bytes read c.in-Ok.ensures.decoded in
+    rw named (wrote.bytes, wrote.appended, ends)
+
+pub returns-clause-output : goal.returns-clause-output
+returns-clause-output g c =
+    let file = c.index-files-0.result in
+    let named : word_at (map string_bytes c.args.files.now) 0 ≡ string_bytes file =
+    get_or-map string_bytes c.args.files.now 0 file [] c.requires.some ∙ ap string_bytes (sym c.index-files-0.is) in
+    let read = rw c.as_bytes.ensures.value at c.in-Ok.ensures.read in
+    let wrote = c.show.ensures.appended in
+    let ends = partly_shown (g.D.Desk.holds c.args.desk.now) (string_bytes file) c.in-Ok.pex wrote.bytes read c.in-Ok.ensures.decoded in
+    rw named (wrote.bytes, wrote.appended, ends)

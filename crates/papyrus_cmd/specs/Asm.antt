@@ -1,0 +1,68 @@
+-- What `asm` reads and leaves.
+use Rattle.std.specs.Prelude.{◌≡◌, ◌⊎◌, ℕ, ◌<◌, List, length, Option, None, Some, Result, Ok, Err}
+use Rattle.std.specs.declared.alloc.Global.{Global}
+use Rattle.std.specs.declared.vec.Vec.{Vec}
+use Rattle.papy_io.specs.Files.{Files, told_bytes, ChangesTold}
+use Rattle.papy_io.specs.WriteFile.{HoldsNow, MayHold}
+use Rattle.pex_codec.specs.Spells.{Spells}
+use Rattle.pex_values.specs.Plain.{PlainPex}
+use Rattle.pex_listing.specs.declared.faults.ListingRule.{ListingRule}
+use Rattle.pex_listing.specs.declared.faults.ListingRule.TheVariants.{BadLine}
+use Rattle.papyrus_cmd.specs.declared.ending.Ending.{Ending}
+use Rattle.papyrus_cmd.specs.declared.ending.Ending.TheVariants as ending
+use Rattle.papyrus_cmd.specs.declared.file_fault.FileFault.{FileFault}
+use Rattle.papyrus_cmd.specs.declared.file_fault.FileFault.TheVariants.{ReadFault, OutOfMemory, Refused}
+use Rattle.papyrus_cmd.specs.declared.refusal.Place.{Place}
+use Rattle.papyrus_cmd.specs.declared.refusal.Place.TheVariants.{Line}
+use Rattle.papyrus_cmd.specs.declared.refusal.Rule.{Rule}
+use Rattle.papyrus_cmd.specs.declared.refusal.Rule.TheVariants.{Listing}
+
+-- the most bytes of a listing
+abbrev pub limit : ℕ
+limit = 134217728
+
+-- the bytes spell a value
+abbrev pub IsSpelling : List ℕ → Type 0
+IsSpelling bytes = (value : PlainPex) × Spells value bytes
+
+-- a line and a rule of listings
+abbrev pub IsListingRefusal : Place → Rule → Type 0
+IsListingRefusal place rule = (line : ℕ) × (broken : ListingRule) × (place ≡ Line line) × (rule ≡ Listing broken)
+
+-- a listing, assembled or refused
+abbrev pub Assembles : Result (Vec ℕ Global) FileFault → Type 0
+Assembles (Ok bytes) = IsSpelling bytes.items
+Assembles (Err (Refused place rule)) = IsListingRefusal place rule
+Assembles (Err OutOfMemory) = Unit {0}
+Assembles (Err ReadFault) = ⊥
+
+-- a text is refused so: one of more than 128 MiB at line 0, whatever else it breaks
+pub record RefusesListing (text : List ℕ) (place : Place) (rule : Rule) : Type 0 where
+  pub listing : IsListingRefusal place rule
+  pub too_large : limit < length text → (place ≡ Line 0) × (rule ≡ Listing BadLine)
+
+-- what reading the listing of this name gives
+abbrev pub ReadsListing : Option Files → List ℕ → Result (Vec ℕ Global) FileFault → Type 0
+ReadsListing None name result = Unit {0}
+ReadsListing (Some files) name (Ok bytes) = (text : List ℕ) × (told_bytes (Some files) name ≡ Some text)
+ReadsListing (Some files) name (Err (Refused place rule)) = (text : List ℕ) × (told_bytes (Some files) name ≡ Some text) × RefusesListing text place rule
+ReadsListing (Some files) name (Err ReadFault) = Unit {0}
+ReadsListing (Some files) name (Err OutOfMemory) = Unit {0}
+
+-- the name holds a spelling, and every other name what it held
+abbrev pub Writes : List ℕ → Option Files → Option Files → Type 0
+Writes name old new = (bytes : List ℕ) × IsSpelling bytes × ChangesTold name (HoldsNow bytes) old new
+
+-- the same where the name may hold the first part of the spelling, or what it held, or nothing
+abbrev pub MayWrite : List ℕ → Option Files → Option Files → Type 0
+MayWrite name old new = (new ≡ old) ⊎ ((bytes : List ℕ) × IsSpelling bytes × ChangesTold name (MayHold bytes) old new)
+
+-- what the files are by the way that `asm` ended
+abbrev pub AsmLeaves : List ℕ → Ending → Option Files → Option Files → Type 0
+AsmLeaves name ending.Done old new = Writes name old new
+AsmLeaves name ending.WriteFault old new = MayWrite name old new
+AsmLeaves name ending.OutOfMemory old new = MayWrite name old new
+AsmLeaves name (ending.ReadFault word) old new = new ≡ old
+AsmLeaves name (ending.Refused word place rule) old new = new ≡ old
+AsmLeaves name ending.Usage old new = ⊥
+AsmLeaves name ending.NotBuilt old new = ⊥

@@ -1,0 +1,112 @@
+//! The command that writes the compiled file of a listing.
+ghost use Rattle.std.specs.Prelude.{◌≡◌, ◌≢◌, ◌≤◌, length, map, take, IfOk};
+ghost use Rattle.std.specs.String.{string_bytes};
+ghost use Rattle.papy_io.specs.Activity.{Idle};
+ghost use Rattle.pex_codec.specs.Spells.{Spells};
+ghost use Rattle.pex_values.specs.Fit.{Fits};
+ghost use Rattle.pex_values.specs.Plain.{plain};
+ghost use Rattle.pex_values.specs.Shape.{IsWellShaped};
+ghost use Rattle.papyrus_cmd.specs.Answers.{AnswersTo, AsmAnswers, EndsUnprinted};
+ghost use Rattle.papyrus_cmd.specs.Asm.{AsmLeaves, Assembles, IsSpelling, ReadsListing};
+ghost use Rattle.papyrus_cmd.specs.Ending.{CountsReads, CountsWrites, IsWordBelow, MissesScript, word_at};
+ghost use Rattle.papyrus_cmd.specs.FileFault.{CountsFile, MissesFile};
+
+use crate::ending::Ending;
+use crate::file_fault::FileFault;
+use crate::refusal::{Place, Rule};
+use crate::text_file::read_text;
+use papy_base::OutOfMemory;
+use papy_io::{Desk, write_file};
+use pex_codec::{EncodeFault, encode};
+use pex_listing::{ListingFault, ListingRule, assemble};
+use pex_values::Pex;
+use std::alloc::Global;
+
+/// The most bytes of a listing: 128 MiB.
+const LISTING_LIMIT: u32 = 1 << 27;
+
+/// The bytes that spell a value which fits a file.
+fn spelling_of(alloc: Global, value: &Pex) -> Result<Vec<u8>, OutOfMemory>
+    requires shaped { IsWellShaped (plain value.now) }
+    requires fits { Fits (plain value.now) }
+    ensures { IfOk result (λ bytes. Spells (plain value.now) bytes.items) }
+{
+    match encode(alloc, value) {
+        Ok(bytes) => Ok(bytes),
+        Err(EncodeFault::OutOfMemory) => Err(OutOfMemory),
+        Err(EncodeFault::TooManyItems) => unreachable!(),
+    }
+}
+
+fn spelled(alloc: Global, value: &Pex) -> Result<Vec<u8>, FileFault>
+    requires shaped { IsWellShaped (plain value.now) }
+    requires fits { Fits (plain value.now) }
+    ensures { Assembles result }
+{
+    match spelling_of(alloc, value) {
+        Ok(bytes) => Ok(bytes),
+        Err(_) => Err(FileFault::OutOfMemory),
+    }
+}
+
+/// The bytes of the file that a listing lists.
+fn file_of(alloc: Global, text: &[u8]) -> Result<Vec<u8>, FileFault>
+    ensures { Assembles result }
+{
+    match assemble(alloc, text) {
+        Ok(value) => spelled(alloc, &value),
+        Err(ListingFault::OutOfMemory) => Err(FileFault::OutOfMemory),
+        Err(ListingFault::Broken { line, rule }) => Err(FileFault::Refused {
+            place: Place::Line(line),
+            rule: Rule::Listing(rule),
+        }),
+    }
+}
+
+/// Reads a listing, and gives the bytes of its file.
+fn read_listing<D: Desk>(alloc: Global, desk: &mut D, name: &[u8]) -> Result<Vec<u8>, FileFault>
+    requires { D.busy desk.old ≡ Idle }
+    ensures holds { D.holds desk.new ≡ D.holds desk.old }
+    ensures busy { D.busy desk.new ≡ Idle }
+    ensures write_faults { D.write_faults desk.new ≡ D.write_faults desk.old }
+    ensures read_faults { CountsFile result (D.read_faults desk.old) (D.read_faults desk.new) }
+    ensures missed { MissesFile name.now result (D.missed desk.new) }
+    ensures spelled { IfOk result (λ bytes. IsSpelling bytes.items) }
+    ensures read { ReadsListing (D.holds desk.old) name.now result }
+{
+    let text = match read_text(
+        alloc,
+        desk,
+        name,
+        LISTING_LIMIT,
+        Rule::Listing(ListingRule::BadLine),
+    ) {
+        Ok(text) => text,
+        Err(fault) => return Err(fault),
+    };
+    file_of(alloc, &text)
+}
+
+/// Reads the listing that the first word names, and writes its file under the name that the second
+/// word is. Nothing is written where the listing is refused.
+pub fn asm<D: Desk>(alloc: Global, files: &[String], desk: &mut D) -> Ending
+    requires idle { D.busy desk.old ≡ Idle }
+    requires two { 2 ≤ length files.now }
+    ensures busy { D.busy desk.new ≡ Idle }
+    ensures holds { AsmLeaves (word_at (map string_bytes files.now) 1) result (D.holds desk.old) (D.holds desk.new) }
+    ensures write_faults { CountsWrites result (D.write_faults desk.old) (D.write_faults desk.new) }
+    ensures read_faults { CountsReads result (D.read_faults desk.old) (D.read_faults desk.new) }
+    ensures missed { MissesScript (take 1 (map string_bytes files.now)) result (D.missed desk.new) }
+    ensures never_usage { result ≢ Ending.Usage }
+    ensures word { IsWordBelow 2 result }
+    ensures output { EndsUnprinted (AnswersTo AsmAnswers (word_at (map string_bytes files.now) 0)) (D.holds desk.old) result }
+{
+    let bytes = match read_listing(alloc, desk, files[0].as_bytes()) {
+        Ok(bytes) => bytes,
+        Err(fault) => return fault.at_word(1),
+    };
+    match write_file(desk, files[1].as_bytes(), &bytes) {
+        Ok(()) => Ending::Done,
+        Err(fault) => Ending::from(fault),
+    }
+}

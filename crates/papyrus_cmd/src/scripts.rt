@@ -1,0 +1,202 @@
+//! The scripts that a command names: read, cut into lines, parsed, and linked into a set.
+ghost use Rattle.std.specs.Prelude.{◌≡◌, ◌≢◌, ◌+◌, ◌^◌, ◌<◌, ◌≤◌, length, map, vec_len, IfErr, IfOk, OnErr};
+ghost use Rattle.std.specs.String.{string_bytes};
+ghost use Rattle.papy_io.specs.Activity.{Idle};
+ghost use Rattle.papyrus_cmd.specs.Ending.{IsWordBelow, MissesScript};
+ghost use Rattle.papyrus_cmd.specs.FileFault.{CountsFile, MissesFile};
+ghost use Rattle.papyrus_cmd.specs.Scripts.{Accepts, AcceptsAlone, CountsScripts, CutsLines, ParsesScript, ReadsScript, link_ending};
+ghost use Rattle.papyrus_cmd.specs.TextFile.{ReadsText};
+ghost use Rattle.script_lexer.specs.declared.fault.LexRule.TheVariants as LexRule;
+ghost use Rattle.papyrus_cmd.specs.declared.refusal.Rule.TheVariants as Rule;
+
+use crate::ending::Ending;
+use crate::file_fault::FileFault;
+use crate::refusal::{Place, Rule};
+use crate::text_file::read_text;
+use papy_base::Text;
+use papy_io::Desk;
+use script_lexer::{LexFault, LexRule, Lines, lex};
+use script_linker::{LinkFault, ScriptSet, SourceFile, link};
+use script_parser::{ParseFault, Script, parse_script};
+use std::alloc::Global;
+
+/// The most bytes of a script.
+const SCRIPT_LIMIT: u32 = 1 << 20;
+
+fn lines_of(alloc: Global, text: &[u8]) -> Result<Lines, FileFault>
+    ensures few { IfOk result (λ lines. lines.last + 1 < 2 ^ 32) }
+    ensures cut { CutsLines text.now result }
+{
+    match lex(alloc, text) {
+        Ok(lines) => Ok(lines),
+        Err(LexFault::Broken { line, rule }) => Err(FileFault::Refused {
+            place: Place::Line(line),
+            rule: Rule::Lexical(rule),
+        }),
+        Err(LexFault::OutOfMemory) => Err(FileFault::OutOfMemory),
+    }
+}
+
+fn script_of(alloc: Global, text: &[u8]) -> Result<Script, FileFault>
+    ensures { ParsesScript text.now result }
+{
+    let lines = match lines_of(alloc, text) {
+        Ok(lines) => lines,
+        Err(fault) => return Err(fault),
+    };
+    match parse_script(alloc, &lines) {
+        Ok(script) => Ok(script),
+        Err(ParseFault::Broken { line, rule }) => Err(FileFault::Refused {
+            place: Place::Line(line),
+            rule: Rule::Grammar(rule),
+        }),
+        Err(ParseFault::OutOfMemory) => Err(FileFault::OutOfMemory),
+    }
+}
+
+/// The script that a file of this name holds. The first rule that breaks its lexical form is told,
+/// and where none does the first that breaks its lines and blocks.
+fn source_of(alloc: Global, name: &[u8], text: &[u8]) -> Result<SourceFile, FileFault>
+    ensures { ParsesScript text.now result }
+{
+    let name = match Text::try_from_bytes(alloc, name) {
+        Ok(name) => name,
+        Err(_) => return Err(FileFault::OutOfMemory),
+    };
+    match script_of(alloc, text) {
+        Ok(script) => Ok(SourceFile { name, script }),
+        Err(fault) => Err(fault),
+    }
+}
+
+/// Reads the text of a script. One of more than 1 MiB breaks L9 at line 0.
+pub fn read_script<D: Desk>(alloc: Global, desk: &mut D, name: &[u8]) -> Result<Vec<u8>, FileFault>
+    requires { D.busy desk.old ≡ Idle }
+    ensures holds { D.holds desk.new ≡ D.holds desk.old }
+    ensures busy { D.busy desk.new ≡ Idle }
+    ensures write_faults { D.write_faults desk.new ≡ D.write_faults desk.old }
+    ensures read_faults { CountsFile result (D.read_faults desk.old) (D.read_faults desk.new) }
+    ensures missed { MissesFile name.now result (D.missed desk.new) }
+    ensures read { ReadsText (D.holds desk.old) name.now 1048576 (Rule.Lexical LexRule.TooLarge) result }
+{
+    read_text(
+        alloc,
+        desk,
+        name,
+        SCRIPT_LIMIT,
+        Rule::Lexical(LexRule::TooLarge),
+    )
+}
+
+fn read_source<D: Desk>(alloc: Global, desk: &mut D, name: &[u8]) -> Result<SourceFile, FileFault>
+    requires { D.busy desk.old ≡ Idle }
+    ensures holds { D.holds desk.new ≡ D.holds desk.old }
+    ensures busy { D.busy desk.new ≡ Idle }
+    ensures write_faults { D.write_faults desk.new ≡ D.write_faults desk.old }
+    ensures read_faults { CountsFile result (D.read_faults desk.old) (D.read_faults desk.new) }
+    ensures missed { MissesFile name.now result (D.missed desk.new) }
+    ensures read { ReadsScript (D.holds desk.old) name.now result }
+{
+    let text = match read_script(alloc, desk, name) {
+        Ok(text) => text,
+        Err(fault) => return Err(fault),
+    };
+    source_of(alloc, name, &text)
+}
+
+/// Reads the scripts in order, up to the first that isn't read or breaks a rule.
+fn read_sources<D: Desk>(
+    alloc: Global,
+    scripts: &[String],
+    desk: &mut D,
+) -> Result<Vec<SourceFile>, Ending>
+    requires { D.busy desk.old ≡ Idle }
+    ensures busy { D.busy desk.new ≡ Idle }
+    ensures holds { D.holds desk.new ≡ D.holds desk.old }
+    ensures write_faults { D.write_faults desk.new ≡ D.write_faults desk.old }
+    ensures read_faults { CountsScripts result (D.read_faults desk.old) (D.read_faults desk.new) }
+    ensures missed { IfErr result (λ ending. MissesScript (map string_bytes scripts.now) ending (D.missed desk.new)) }
+    ensures never_usage { IfErr result (λ ending. ending ≢ Ending.Usage) }
+    ensures word { IfErr result (IsWordBelow (length scripts.now + 1)) }
+    ensures each { IfOk result (λ files. vec_len files ≡ length scripts.now) }
+    ensures ends { Accepts (map string_bytes scripts.now) (D.holds desk.old) result }
+{
+    let mut files = Vec::new(alloc);
+    for (place, script) in scripts.iter().enumerate() {
+        let file = match read_source(alloc, desk, script.as_bytes()) {
+            Ok(file) => file,
+            Err(fault) => return Err(fault.at_word(place + 1)),
+        };
+        match files.push(file) {
+            Ok(()) => {}
+            Err(_) => return Err(Ending::OutOfMemory),
+        }
+    }
+    Ok(files)
+}
+
+/// How a command ends whose scripts' set is refused.
+fn link_ending(fault: LinkFault) -> Ending
+    ensures { result ≡ link_ending fault }
+{
+    match fault {
+        LinkFault::Broken { file, line, rule } => Ending::Refused {
+            word: file as usize + 1,
+            place: Place::Line(line),
+            rule: Rule::Link(rule),
+        },
+        LinkFault::OutOfMemory => Ending::OutOfMemory,
+    }
+}
+
+/// Reads the scripts and gives their set, or how the command ends that names them.
+///
+/// Each file is read and then judged by its lexical form and its lines, in the order of the words;
+/// then the set is judged.
+pub fn accept<D: Desk>(alloc: Global, scripts: &[String], desk: &mut D) -> Result<ScriptSet, Ending>
+    requires idle { D.busy desk.old ≡ Idle }
+    requires few { length scripts.now ≤ 256 }
+    ensures busy { D.busy desk.new ≡ Idle }
+    ensures holds { D.holds desk.new ≡ D.holds desk.old }
+    ensures write_faults { D.write_faults desk.new ≡ D.write_faults desk.old }
+    ensures read_faults { CountsScripts result (D.read_faults desk.old) (D.read_faults desk.new) }
+    ensures missed { IfErr result (λ ending. MissesScript (map string_bytes scripts.now) ending (D.missed desk.new)) }
+    ensures never_usage { IfErr result (λ ending. ending ≢ Ending.Usage) }
+    ensures word { IfErr result (IsWordBelow (length scripts.now + 1)) }
+    ensures ends { Accepts (map string_bytes scripts.now) (D.holds desk.old) result }
+{
+    let files = match read_sources(alloc, scripts, desk) {
+        Ok(files) => files,
+        Err(ending) => return Err(ending),
+    };
+    match link(alloc, files) {
+        Ok(set) => Ok(set),
+        Err(fault) => Err(link_ending(fault)),
+    }
+}
+
+/// The set of the one script of this text, or how the command ends that names it alone.
+pub fn accept_alone(alloc: Global, name: &[u8], text: &[u8]) -> Result<ScriptSet, Ending>
+    ensures { AcceptsAlone text.now result }
+{
+    let file = match source_of(alloc, name, text) {
+        Ok(file) => file,
+        Err(fault) => return Err(fault.at_word(1)),
+    };
+    let mut files = Vec::new(alloc);
+    match files.push(file) {
+        Ok(()) => {}
+        Err(_) => return Err(Ending::OutOfMemory),
+    }
+    match link(alloc, files) {
+        Ok(set) => Ok(set),
+        Err(fault) => Err(link_ending(fault)),
+    }
+}
+
+/// How a command ends whose scripts are accepted, where what follows isn't built yet.
+pub fn not_built(_set: ScriptSet) -> Ending
+    ensures { result ≡ Ending.NotBuilt }
+{
+    Ending::NotBuilt
+}
