@@ -2,7 +2,8 @@
 """Runs the black-box cases on the built program, side by side, and prints 'N passed, M failed'.
 
 A case is a folder here. `args` holds the words, one a line; a word may have escapes such as \\xff for bytes that aren't text.
-Its other files but those named below are copied into a folder of their own, in which the program runs. `status`, `out` and
+Its other files but those named below are copied into a folder of their own, in which the program runs. A file NAME.hex holds
+hexadecimal digits, with comments from `#` to the line's end, and NAME is laid there with these bytes. `status`, `out` and
 `notes` are what is expected of the exit status, of standard output and of standard error (0 and nothing where there is no such
 file), and the folder `after`, where there is one, holds the files that are there afterwards beside those that were. The file
 `closed` names the streams (out, notes) that refuse every write, and `generate` is a Python program that makes large inputs in
@@ -16,7 +17,6 @@ import concurrent.futures
 import difflib
 import os
 import pathlib
-import shutil
 import subprocess
 import sys
 import tempfile
@@ -38,8 +38,20 @@ def expected_of(case, name):
     return path.read_bytes() if path.exists() else b""
 
 
+def laid(name, content):
+    """The name and the bytes of a file in the folder of a run."""
+    if not name.endswith(".hex"):
+        return name, content
+    digits = "".join(line.split("#")[0] for line in content.decode().splitlines())
+    return name.removesuffix(".hex"), bytes.fromhex(digits)
+
+
 def files_in(folder):
     return {str(path.relative_to(folder)): path.read_bytes() for path in folder.rglob("*") if path.is_file()}
+
+
+def wanted_after(before, folder):
+    return {**before, **dict(laid(name, content) for name, content in files_in(folder).items())}
 
 
 def difference(what, wanted, found):
@@ -56,7 +68,8 @@ def run(case):
         room = pathlib.Path(room)
         for path in case.iterdir():
             if path.name not in EXPECTED:
-                shutil.copy(path, room / path.name)
+                name, content = laid(path.name, path.read_bytes())
+                (room / name).write_bytes(content)
         if (case / "generate").exists():
             subprocess.run([sys.executable, str(case / "generate")], cwd=room, check=True)
         before = files_in(room)
@@ -74,7 +87,7 @@ def run(case):
         wrong = [] if str(ran.returncode) == status else [f"status {ran.returncode}, and {status} is expected"]
         wrong += difference("out", expected_of(case, "out"), ran.stdout or b"")
         wrong += difference("notes", expected_of(case, "notes"), ran.stderr or b"")
-        wanted = {**before, **(files_in(case / "after") if (case / "after").exists() else {})}
+        wanted = wanted_after(before, case / "after")
         found = files_in(room)
         for name in sorted(wanted.keys() | found.keys()):
             if name not in wanted or name not in found:

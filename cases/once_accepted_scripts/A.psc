@@ -1,0 +1,2 @@
+ScriptName A extends B
+Int Property N = 3 Auto

@@ -1,0 +1,2 @@
+ScriptName A
+Int x = 1.5

@@ -1,0 +1,2 @@
+ScriptName A
+float x = 1.5

@@ -1,0 +1,3 @@
+ScriptName A
+;/ a comment that has no end
+Int n

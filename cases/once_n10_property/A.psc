@@ -1,0 +1,2 @@
+ScriptName A extends B
+Int Property P Auto

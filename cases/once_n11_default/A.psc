@@ -1,0 +1,3 @@
+ScriptName A
+Function F(Int a = 1, Int b)
+EndFunction

@@ -1,0 +1,5 @@
+ScriptName A
+Auto State One
+EndState
+Auto State Two
+EndState

@@ -1,0 +1,5 @@
+ScriptName A
+State S
+Function F()
+EndFunction
+EndState

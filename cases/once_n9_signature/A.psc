@@ -1,0 +1,4 @@
+ScriptName A extends Quest
+Int Function OnInit()
+Return 1
+EndFunction

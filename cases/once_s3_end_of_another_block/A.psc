@@ -1,0 +1,5 @@
+ScriptName A
+Event OnInit()
+If True
+EndWhile
+EndEvent
