@@ -1,0 +1,46 @@
+"""Measures commands for the benchmarks: the best of some runs, in seconds of processor time, and the peak memory."""
+
+import os
+import shutil
+import subprocess
+from pathlib import Path
+
+ROOT = Path(__file__).resolve().parent.parent
+
+
+def program():
+    """The built program, or an exit with a word on how to build it."""
+    path = ROOT / "crates" / "papyrus" / "out" / "papyrus"
+    if not path.exists():
+        raise SystemExit("no program yet: run ./papyrus --version once, which builds it")
+    return str(path)
+
+
+def tool(name):
+    """The path of a tool to compare with, or None where this machine lacks it."""
+    path = shutil.which(name)
+    if path is None:
+        print(f"{name}: not on this machine, so its comparison is skipped")
+    return path
+
+
+def once(words, folder, accepted):
+    """One run: its seconds of processor time and its peak memory in KiB."""
+    child = subprocess.Popen(words, cwd=folder, stdout=subprocess.DEVNULL, stderr=subprocess.DEVNULL)
+    _, status, usage = os.wait4(child.pid, 0)
+    child.returncode = os.waitstatus_to_exitcode(status)
+    if child.returncode not in accepted:
+        raise SystemExit(f"{' '.join(words)}: status {child.returncode}")
+    return usage.ru_utime + usage.ru_stime, usage.ru_maxrss
+
+
+def best(words, folder, accepted=(0,), runs=7):
+    """The least time of some runs, with the most memory that one of them took."""
+    results = [once(words, folder, accepted) for _ in range(runs)]
+    return min(seconds for seconds, _ in results), max(memory for _, memory in results)
+
+
+def row(name, seconds, memory, base=None):
+    """Prints one line of a table: seconds, memory in MiB, and how many times as long as the base."""
+    times = "" if not base else f"{seconds / base:8.2f} times"
+    print(f"{name:44} {seconds:8.3f} s {memory / 1024:8.1f} MiB {times}", flush=True)
