@@ -152,7 +152,7 @@ fn form(alloc: Global, line: &Line) -> Result<String, AllocError> {
 }
 
 #[test]
-fn each_form_of_a_line(rt: HostRuntime) -> Result<(), Fail> {
+fn each_line_of_a_declaration(rt: HostRuntime) -> Result<(), Fail> {
     let alloc = rt.alloc();
     for (text, want) in [
         ("scriptname A", "script A 0"),
@@ -186,6 +186,17 @@ fn each_form_of_a_line(rt: HostRuntime) -> Result<(), Fail> {
             "event E (Bool b false) native 0",
         ),
         ("EndEvent", "endevent"),
+    ] {
+        let found = form(alloc, &line(alloc, text)?)?;
+        assert_eq!(rt; found.as_str(), want, "of {text}");
+    }
+    Ok(())
+}
+
+#[test]
+fn each_line_of_states_and_code(rt: HostRuntime) -> Result<(), Fail> {
+    let alloc = rt.alloc();
+    for (text, want) in [
         ("Auto State S", "state S auto"),
         ("State S", "state S"),
         ("EndState", "endstate"),

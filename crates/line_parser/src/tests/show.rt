@@ -42,7 +42,7 @@ fn kind(out: &mut String, front: &str, kind: &TypeName) -> Shown {
     Ok(())
 }
 
-fn sign(out: &mut String, sign: Sign) -> Shown {
+fn spelled(out: &mut String, sign: Sign) -> Shown {
     bytes(out, sign.spelling())
 }
 
@@ -72,7 +72,7 @@ fn constant(out: &mut String, value: &Option<Constant>) -> Shown {
 }
 
 #[cycle(show)]
-fn arguments(out: &mut String, arguments: &Vec<Argument>) -> Shown {
+fn listed(out: &mut String, arguments: &Vec<Argument>) -> Shown {
     for argument in arguments {
         out.push_str(" ")?;
         if let Some(name) = &argument.name {
@@ -99,28 +99,22 @@ fn expr(out: &mut String, tree: &Expr) -> Shown {
         Expr::NoneValue => out.push_str("none"),
         Expr::SelfValue => out.push_str("self"),
         Expr::Word(name) => word(out, "", name),
-        Expr::Call {
-            name,
-            arguments: given,
-        } => {
+        Expr::Call { name, arguments } => {
             word(out, "(call ", name)?;
-            arguments(out, given)
+            listed(out, arguments)
         }
-        Expr::ParentCall {
-            name,
-            arguments: given,
-        } => {
+        Expr::ParentCall { name, arguments } => {
             word(out, "(parent ", name)?;
-            arguments(out, given)
+            listed(out, arguments)
         }
         Expr::MemberCall {
             of,
             name,
-            arguments: given,
+            arguments,
         } => {
             node(out, "(call ", of)?;
             word(out, " ", name)?;
-            arguments(out, given)
+            listed(out, arguments)
         }
         Expr::Member { of, name } => {
             node(out, "(member ", of)?;
@@ -140,19 +134,15 @@ fn expr(out: &mut String, tree: &Expr) -> Shown {
             word(out, "(new ", element)?;
             write!(out, " {count})")
         }
-        Expr::Unary { sign: found, of } => {
+        Expr::Unary { sign, of } => {
             out.push_str("(")?;
-            sign(out, *found)?;
+            spelled(out, *sign)?;
             node(out, " ", of)?;
             out.push_str(")")
         }
-        Expr::Binary {
-            sign: found,
-            left,
-            right,
-        } => {
+        Expr::Binary { sign, left, right } => {
             out.push_str("(")?;
-            sign(out, *found)?;
+            spelled(out, *sign)?;
             node(out, " ", left)?;
             node(out, " ", right)?;
             out.push_str(")")
@@ -283,7 +273,7 @@ fn statement(out: &mut String, tree: &LineForm) -> Shown {
         } => {
             expr(out, target)?;
             out.push_str(" ")?;
-            sign(out, *found)?;
+            spelled(out, *found)?;
             node(out, " ", assigned)
         }
         LineForm::Plain(found) => expr(out, found),
