@@ -1,17 +1,13 @@
--- Parts that a piece holds whole, one after another.
-use Rattle.std.proofs.Common.{◌≡◌, ℕ, ◌+◌, ◌≤◌, List, [], ◌∷◌, ◌++◌, length, arith}
-use Rattle.std.proofs.lemmas.List.{length-append}
+-- What the parts of a piece make, and how many bytes they have.
+use Rattle.std.proofs.Common.{◌≡◌, ℕ, Bool, true, false, Option, Some, length, sym, subst, List}
 use Rattle.pex_values.specs.declared.values.Datum.{Datum}
-use Rattle.pex_values.specs.Shape.{IsShapedDatum}
-use Rattle.pex_values.specs.Spelling.{datum}
-use Rattle.pex_values.proofs.Parts.{each_added, len_added}
-use Rattle.pex_codec.specs.Uncut.{AreUncutValues}
+use Rattle.pex_values.specs.Opcodes.{operands_of}
+use Rattle.pex_values.specs.Shape.{AgreesWith}
 
-pub values_more : (strings len count width taken : ℕ) (xs : List Datum) (x : Datum) → AreUncutValues strings len count xs width
-    → IsShapedDatum strings x → length (datum x) ≡ taken → width + taken ≤ len → AreUncutValues strings len (count + 1) (xs ++ x ∷ []) (width + taken)
-values_more strings len count width taken xs x before shaped size most = record {
-  shaped = each_added (IsShapedDatum strings) xs x before.shaped shaped;
-  all = omega (arith, length-append xs (x ∷ []), before.all);
-  size = omega (arith, len_added datum xs x, before.size, size);
-  most = most;
-}
+pub plain_agrees : (opcode count : ℕ) (fixed more : List Datum) → operands_of opcode ≡ Some (count, false) → length fixed ≡ count → length more ≡ 0
+    → AgreesWith (operands_of opcode) (length fixed) (length more)
+plain_agrees opcode count fixed more is all none = subst (λ (o : Option (ℕ × Bool)). AgreesWith o (length fixed) (length more)) (sym is) (all, none)
+
+pub counted_agrees : (opcode count : ℕ) (fixed more : List Datum) → operands_of opcode ≡ Some (count, true) → length fixed ≡ count
+    → AgreesWith (operands_of opcode) (length fixed) (length more)
+counted_agrees opcode count fixed more is all = subst (λ (o : Option (ℕ × Bool)). AgreesWith o (length fixed) (length more)) (sym is) all

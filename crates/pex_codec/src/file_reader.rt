@@ -193,9 +193,10 @@ impl FileReader {
             strings: self.strings,
             at,
         };
-        match self.object.accept_uncut(field, bytes, place)? {
-            (width, Some(next)) => Ok((width, Some(Field::Object(next)))),
-            (width, None) => {
+        let (width, next) = self.object.accept_uncut(field, bytes, place)?;
+        match next {
+            Some(next) => Ok((width, Some(Field::Object(next)))),
+            None => {
                 let next = self.finish_object()?;
                 Ok((width, next))
             }

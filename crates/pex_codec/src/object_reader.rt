@@ -571,9 +571,10 @@ impl ObjectReader {
         requires before { IsBeforeObject place.strings (ObjectField.Read FunctionField.Opcode) self.old }
         ensures { IfOk result (λ p. RunsObject place.strings self.old.size_at (ObjectField.Read FunctionField.Opcode) (before_object (ObjectField.Read FunctionField.Opcode) self.old) (length bytes.now) p.0 p.1 self.new) }
     {
-        match self.function.accept_uncut(bytes, place.strings)? {
-            (width, Some(next)) => Ok((width, Some(ObjectField::Read(next)))),
-            (width, None) => {
+        let (width, next) = self.function.accept_uncut(bytes, place.strings)?;
+        match next {
+            Some(next) => Ok((width, Some(ObjectField::Read(next)))),
+            None => {
                 self.read = Some(self.function.take());
                 let next = self.after_read(place.strings)?;
                 Ok((width, next))
@@ -589,9 +590,10 @@ impl ObjectReader {
         requires before { IsBeforeObject place.strings (ObjectField.Write FunctionField.Opcode) self.old }
         ensures { IfOk result (λ p. RunsObject place.strings self.old.size_at (ObjectField.Write FunctionField.Opcode) (before_object (ObjectField.Write FunctionField.Opcode) self.old) (length bytes.now) p.0 p.1 self.new) }
     {
-        match self.function.accept_uncut(bytes, place.strings)? {
-            (width, Some(next)) => Ok((width, Some(ObjectField::Write(next)))),
-            (width, None) => {
+        let (width, next) = self.function.accept_uncut(bytes, place.strings)?;
+        match next {
+            Some(next) => Ok((width, Some(ObjectField::Write(next)))),
+            None => {
                 let write = self.function.take();
                 let next = self.finish_property(Some(write), place.strings)?;
                 Ok((width, next))
@@ -609,9 +611,10 @@ impl ObjectReader {
         requires limit { place.at + length bytes.now ≤ FILE_LIMIT }
         ensures { IfOk result (λ p. RunsObject place.strings self.old.size_at (ObjectField.Function FunctionField.Opcode) (before_object (ObjectField.Function FunctionField.Opcode) self.old) (length bytes.now) p.0 p.1 self.new) }
     {
-        match self.function.accept_uncut(bytes, place.strings)? {
-            (width, Some(next)) => Ok((width, Some(ObjectField::Function(next)))),
-            (width, None) => {
+        let (width, next) = self.function.accept_uncut(bytes, place.strings)?;
+        match next {
+            Some(next) => Ok((width, Some(ObjectField::Function(next)))),
+            None => {
                 let added = (self.function_name, self.function.take());
                 let next = self.add_function(added, place.at + width as u32, place.strings)?;
                 Ok((width, next))

@@ -15,8 +15,8 @@ finish_state-requires-clause-at c =
     let s : PexState = record { name = self.state.name; functions = c.push.new.self } in
     omega (arith, c.requires.at, state_size s, size, len_pushed named plain_named old c.args.added)
 
-pub returns-else-self-gt0 : goal.returns-else-self-gt0
-returns-else-self-gt0 c =
+pub returns : goal.returns
+returns c =
     let self = c.args.self.now in
     let old = self.state.functions.items in
     let size = ap (λ (x : List (ℕ × PexFunction)). length (flat_map named (map plain_named x))) c.in_ok-push.ensures.items in
