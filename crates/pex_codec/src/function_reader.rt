@@ -405,8 +405,11 @@ impl FunctionReader {
     {
         let mut width = 0;
         loop {
-            let Some((instruction, taken)) =
-                uncut_instruction(self.alloc, &bytes[width..], strings)?
+            let Some((instruction, taken)) = uncut_instruction(
+                self.alloc,
+                &bytes[width..],
+                strings,
+            )?
             else {
                 return Ok((width, Some(FunctionField::Opcode)));
             };

@@ -111,12 +111,26 @@ pub(crate) fn uncut_instruction(
     let width = 1 + width;
     if !has_more {
         let more = Vec::new(alloc);
-        return Ok(Some((Instruction { opcode, fixed, more }, width)));
+        return Ok(Some((
+            Instruction {
+                opcode,
+                fixed,
+                more,
+            },
+            width,
+        )));
     }
     let Some((more, taken)) = uncut_more(alloc, &bytes[width..], strings)? else {
         return Ok(None);
     };
-    Ok(Some((Instruction { opcode, fixed, more }, width + taken)))
+    Ok(Some((
+        Instruction {
+            opcode,
+            fixed,
+            more,
+        },
+        width + taken,
+    )))
 }
 
 /// A list of names with their types at the front, and how many bytes it has with its count.
@@ -185,9 +199,10 @@ fn uncut_function(
     if bytes.len() < HEADING {
         return Ok(None);
     }
-    let (Some(result), Some(doc)) =
-        (uncut_reference(bytes, 0, strings), uncut_reference(bytes, 2, strings))
-    else {
+    let (Some(result), Some(doc)) = (
+        uncut_reference(bytes, 0, strings),
+        uncut_reference(bytes, 2, strings),
+    ) else {
         return Ok(None);
     };
     let Some((parameters, width)) = uncut_pairs(alloc, &bytes[HEADING..], strings)? else {
