@@ -1,6 +1,7 @@
 pub mod Lists
 pub mod Whole
 pub mod Sizes
+pub mod UncutSizes
 pub mod ObjectSizes
 pub mod FileSizes
 mod Unique

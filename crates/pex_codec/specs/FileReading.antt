@@ -1,5 +1,5 @@
 -- What a reader of a file holds before each field.
-use Rattle.std.specs.Prelude.{◌≡◌, ℕ, ◌+◌, ◌*◌, ◌<◌, ◌^◌, ◌⊎◌, List, [], length, map, Option, Some, None, Result, Ok, Err, IfSome, option_map}
+use Rattle.std.specs.Prelude.{◌≡◌, ℕ, ◌+◌, ◌*◌, ◌<◌, ◌≤◌, ◌^◌, ◌⊎◌, List, [], length, map, Option, Some, None, Result, Ok, Err, IfSome, option_map}
 use Rattle.std.specs.List.{flat_map, AllByRecursion}
 use Rattle.pex_values.specs.Fit.{IsCounted, FitsDebug, FitsObject}
 use Rattle.pex_values.specs.Plain.{PlainPex, plain_lines, plain_debug, plain_object, plain}
@@ -213,3 +213,9 @@ ReachesField n (Err fault) r = Unit {0}
 abbrev pub EndsText : TextField → FileReader → Type 0
 EndsText text.Entry r = HoldsHeader r × IsUntouched r × HasStrings r × (length r.text.items < 2 ^ 16)
 EndsText _ r = HoldsHeader r × IsUntouched r × (r.pex.strings.items ≡ []) × (length r.text.items < 2 ^ 16)
+
+-- before a field, n of so many bytes were taken, whole lines, instructions or functions
+pub record RunsField (f : Field) (before len n : ℕ) (next : Option Field) (r : FileReader) : Type 0 where
+  pub most : n ≤ len
+  pub none : n ≡ 0 → next ≡ Some f
+  pub reaches : ReachesField (before + n) (Ok next) r

@@ -1,5 +1,5 @@
 -- What a reader of a function holds before each field.
-use Rattle.std.specs.Prelude.{◌≡◌, ℕ, ◌+◌, ◌*◌, ◌<◌, ◌^◌, Bool, true, List, length, map, Option, Some, None, Result, Ok, Err}
+use Rattle.std.specs.Prelude.{◌≡◌, ℕ, ◌+◌, ◌*◌, ◌<◌, ◌≤◌, ◌^◌, Bool, true, List, length, map, Option, Some, None, Result, Ok, Err}
 use Rattle.std.specs.List.{flat_map, AllByRecursion}
 use Rattle.pex_values.specs.declared.values.Datum.{Datum}
 use Rattle.pex_values.specs.Fit.{FitsInstruction, FitsFunction}
@@ -126,3 +126,9 @@ abbrev pub Reaches : ℕ → ℕ → Result (Option FunctionField) PexFault → 
 Reaches strings n (Ok (Some next)) r = IsBefore strings next r × (before_function next r ≡ n)
 Reaches strings n (Ok None) r = IsWhole strings r n
 Reaches strings n (Err fault) r = Unit {0}
+
+-- of so many bytes behind the first ones of the function n were taken, whole instructions
+pub record Runs (strings before len n : ℕ) (next : Option FunctionField) (r : FunctionReader) : Type 0 where
+  pub most : n ≤ len
+  pub none : n ≡ 0 → next ≡ Some field.Opcode
+  pub reaches : Reaches strings (before + n) (Ok next) r

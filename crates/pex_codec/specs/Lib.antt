@@ -3,6 +3,7 @@ pub mod Spells
 pub mod Widths
 pub mod Values
 pub mod FunctionReading
+pub mod Uncut
 pub mod ObjectReading
 pub mod FileReading
 pub mod Pieces

@@ -1,5 +1,5 @@
 -- What a reader of an object's data holds before each field.
-use Rattle.std.specs.Prelude.{◌≡◌, ℕ, ◌+◌, ◌<◌, ◌^◌, true, List, length, map, Option, Some, None, Result, Ok, Err, is_some, IfSome, option_map}
+use Rattle.std.specs.Prelude.{◌≡◌, ℕ, ◌+◌, ◌<◌, ◌≤◌, ◌^◌, true, List, length, map, Option, Some, None, Result, Ok, Err, is_some, IfSome, option_map}
 use Rattle.std.specs.List.{flat_map, AllByRecursion}
 use Rattle.pex_values.specs.Bits.{has_variable, has_read, has_write}
 use Rattle.pex_values.specs.Fit.{FitsFunction, FitsState, FitsProperty, FitsObject}
@@ -192,3 +192,9 @@ abbrev pub ReachesObject : ℕ → ℕ → ℕ → Result (Option ObjectField) P
 ReachesObject strings size_at n (Ok (Some next)) r = IsBeforeObject strings next r × (before_object next r ≡ n) × (r.size_at ≡ size_at)
 ReachesObject strings size_at n (Ok None) r = IsWholeObject strings r n
 ReachesObject strings size_at n (Err fault) r = Unit {0}
+
+-- before a field, n of so many bytes were taken, whole instructions or functions
+pub record RunsObject (strings size_at : ℕ) (f : ObjectField) (before len n : ℕ) (next : Option ObjectField) (r : ObjectReader) : Type 0 where
+  pub most : n ≤ len
+  pub none : n ≡ 0 → next ≡ Some f
+  pub reaches : ReachesObject strings size_at (before + n) (Ok next) r

@@ -150,6 +150,20 @@ impl ObjectField {
 }
 
 impl Field {
+    /// Whether lines, instructions or functions begin with the field, of which a piece may hold many.
+    pub(crate) fn begins_run(self) -> bool {
+        matches!(
+            self,
+            Field::Line
+                | Field::Object(
+                    ObjectField::FunctionName
+                        | ObjectField::Read(FunctionField::Opcode)
+                        | ObjectField::Write(FunctionField::Opcode)
+                        | ObjectField::Function(FunctionField::Opcode)
+                )
+        )
+    }
+
     /// The number of bytes of a field that is no string's bytes.
     pub(crate) fn width(self) -> usize
         ensures { result ≡ field_width self }

@@ -1,12 +1,12 @@
 //! Reads a file, field by field.
 
-ghost use Rattle.std.specs.Prelude.{◌≡◌, ◌+◌, ◌*◌, ◌<◌, ◌≤◌, ◌^◌, length, map, IfOk};
+ghost use Rattle.std.specs.Prelude.{◌≡◌, ◌+◌, ◌*◌, ◌<◌, ◌≤◌, ◌^◌, length, map, IfOk, OnOk};
 ghost use Rattle.std.specs.List.{AllByRecursion};
 ghost use Rattle.pex_values.specs.Fit.{IsCounted, FitsObject};
 ghost use Rattle.pex_values.specs.Plain.{plain_lines, plain_object};
 ghost use Rattle.pex_values.specs.Shape.{IsShapedLines, IsShapedObject};
 ghost use Rattle.pex_values.specs.Spelling.{object_data};
-ghost use Rattle.pex_codec.specs.FileReading.{IsBeforeField, ReachesField, EndsText, InStrings, InDebug, InEntries, InObjects, before_field, before_entry, before_object_item, header_len, strings_len};
+ghost use Rattle.pex_codec.specs.FileReading.{IsBeforeField, ReachesField, RunsField, EndsText, InStrings, InDebug, InEntries, InObjects, before_field, before_entry, before_object_item, header_len, strings_len};
 ghost use Rattle.pex_codec.specs.Widths.{field_width, object_width};
 
 use crate::faults::{PexFault, PexRule};
@@ -52,6 +52,18 @@ fn empty_lines(alloc: Global) -> PexLines {
         kind: 0,
         lines: Vec::new(alloc),
     }
+}
+
+/// Adds so many lines.
+fn add_lines(lines: &mut Vec<u16>, bytes: &[u8], count: usize) -> Result<(), PexFault>
+    requires { 2 * count ≤ length bytes.now }
+    ensures count { OnOk result (length lines.new.items ≡ length lines.old.items + count) }
+    ensures each { OnOk result (AllByRecursion (λ n. n < 2 ^ 16) lines.old.items → AllByRecursion (λ n. n < 2 ^ 16) lines.new.items) }
+{
+    for i in 0..count {
+        lines.push(BigEndian::read_u16(&bytes[2 * i..2 * i + 2]))?;
+    }
+    Ok(())
 }
 
 impl FileReader {
@@ -129,6 +141,65 @@ impl FileReader {
             Field::ObjectName => self.object_name(bytes, place),
             Field::ObjectSize => self.object_size(bytes, place),
             Field::Object(field) => self.object(field, bytes, place),
+        }
+    }
+
+    /// Takes what the bytes hold whole of the lines, instructions or functions that the field begins, and gives how many
+    /// bytes that has and the field behind it, or None where the value is complete. `at` is the field's offset.
+    pub(crate) fn accept_uncut(
+        &mut self,
+        field: Field,
+        bytes: &[u8],
+        at: u32,
+    ) -> Result<(usize, Option<Field>), PexFault>
+        requires before { IsBeforeField field self.old }
+        requires at { before_field field self.old ≡ at }
+        requires limit { at + length bytes.now ≤ FILE_LIMIT }
+        ensures { IfOk result (λ p. RunsField field (before_field field self.old) (length bytes.now) p.0 p.1 self.new) }
+    {
+        match field {
+            Field::Line => self.uncut_lines(bytes),
+            Field::Object(field) => self.uncut_object(field, bytes, at),
+            _ => Ok((0, Some(field))),
+        }
+    }
+
+    fn uncut_lines(&mut self, bytes: &[u8]) -> Result<(usize, Option<Field>), PexFault>
+        requires before { IsBeforeField Field.Line self.old }
+        ensures { IfOk result (λ p. RunsField Field.Line (before_field Field.Line self.old) (length bytes.now) p.0 p.1 self.new) }
+    {
+        let count = (bytes.len() / 2).min(self.lines_left as usize);
+        add_lines(&mut self.lines.lines, bytes, count)?;
+        self.lines_left -= count as u16;
+        if self.lines_left == 0 {
+            let next = self.finish_entry()?;
+            return Ok((2 * count, next));
+        }
+        Ok((2 * count, Some(Field::Line)))
+    }
+
+    fn uncut_object(
+        &mut self,
+        field: ObjectField,
+        bytes: &[u8],
+        at: u32,
+    ) -> Result<(usize, Option<Field>), PexFault>
+        requires before { IsBeforeField (Field.Object field) self.old }
+        requires at { before_field (Field.Object field) self.old ≡ at }
+        requires limit { at + length bytes.now ≤ FILE_LIMIT }
+        ensures { IfOk result (λ p. RunsField (Field.Object field) (before_field (Field.Object field) self.old) (length bytes.now) p.0 p.1 self.new) }
+    {
+        let place = Place {
+            strings: self.strings,
+            at,
+        };
+        let (width, next) = self.object.accept_uncut(field, bytes, place)?;
+        match next {
+            Some(next) => Ok((width, Some(Field::Object(next)))),
+            None => {
+                let next = self.finish_object()?;
+                Ok((width, next))
+            }
         }
     }
 

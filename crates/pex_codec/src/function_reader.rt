@@ -5,11 +5,12 @@ ghost use Rattle.pex_values.specs.Fit.{FitsInstruction};
 ghost use Rattle.pex_values.specs.Plain.{plain_instruction};
 ghost use Rattle.pex_values.specs.Shape.{IsShapedInstruction};
 ghost use Rattle.pex_values.specs.Spelling.{instruction};
-ghost use Rattle.pex_codec.specs.FunctionReading.{IsBefore, Reaches, Holds, HasCode, OpensFixed, OpensMore, IsWhole, before_function, before_item, data_len};
+ghost use Rattle.pex_codec.specs.FunctionReading.{IsBefore, Reaches, Runs, Holds, HasCode, OpensFixed, OpensMore, IsWhole, before_function, before_item, data_len};
 ghost use Rattle.pex_codec.specs.Widths.{function_width};
 
 use crate::faults::{PexFault, PexRule};
 use crate::fields::{FunctionField, Place, ValueField, ValueStep, reference, value_field};
+use crate::uncut::uncut_instruction;
 use byteorder::{BigEndian, ByteOrder};
 use pex_values::{Instruction, PexFunction, operand_count};
 use std::alloc::Global;
@@ -369,12 +370,55 @@ impl FunctionReader {
     {
         let empty = empty_instruction(self.alloc);
         let instruction = mem::replace(&mut self.instruction, empty);
-        self.function.code.push(instruction)?;
+        self.add_instruction(instruction, strings)
+    }
+
+    /// Adds an instruction to the code.
+    fn add_instruction(
+        &mut self,
+        added: Instruction,
+        strings: u16,
+    ) -> Result<Option<FunctionField>, PexFault>
+        requires holds { Holds strings self.old }
+        requires room { HasCode self.old }
+        requires shaped { IsShapedInstruction strings (plain_instruction added) }
+        requires fits { FitsInstruction (plain_instruction added) }
+        ensures { Reaches strings (before_item self.old + length (instruction (plain_instruction added))) result self.new }
+    {
+        self.function.code.push(added)?;
         self.left -= 1;
         if self.left == 0 {
             return Ok(None);
         }
         Ok(Some(FunctionField::Opcode))
+    }
+
+    /// Takes the instructions that the bytes hold whole, and gives how many bytes they have and the field behind
+    /// them, or None where the function is complete.
+    pub(crate) fn accept_uncut(
+        &mut self,
+        bytes: &[u8],
+        strings: u16,
+    ) -> Result<(usize, Option<FunctionField>), PexFault>
+        requires before { IsBefore strings FunctionField.Opcode self.old }
+        ensures { IfOk result (λ p. Runs strings (before_item self.old) (length bytes.now) p.0 p.1 self.new) }
+    {
+        let mut width = 0;
+        loop {
+            let Some((instruction, taken)) = uncut_instruction(
+                self.alloc,
+                &bytes[width..],
+                strings,
+            )?
+            else {
+                return Ok((width, Some(FunctionField::Opcode)));
+            };
+            width += taken;
+            match self.add_instruction(instruction, strings)? {
+                Some(FunctionField::Opcode) => {}
+                next => return Ok((width, next)),
+            }
+        }
     }
 
     /// Hands out the function.

@@ -16,6 +16,7 @@ mod objects;
 mod pieces;
 mod progress;
 mod spelled;
+mod uncut;
 
 pub use decoder::Decoder;
 pub use encoding::encode;

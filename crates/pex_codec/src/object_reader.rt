@@ -1,13 +1,13 @@
 //! Reads an object's data, field by field.
 
-ghost use Rattle.std.specs.Prelude.{◌≡◌, ◌+◌, ◌<◌, ◌≤◌, ◌^◌, ℕ, [], length, map, None, IfSome, is_some, option_map};
+ghost use Rattle.std.specs.Prelude.{◌≡◌, ◌+◌, ◌<◌, ◌≤◌, ◌^◌, ℕ, [], length, map, None, IfOk, IfSome, is_some, option_map};
 ghost use Rattle.std.specs.List.{AllByRecursion};
 ghost use Rattle.pex_values.specs.Bits.{has_write as asks_write};
 ghost use Rattle.pex_values.specs.Fit.{FitsFunction};
-ghost use Rattle.pex_values.specs.Plain.{plain_function, plain_state};
-ghost use Rattle.pex_values.specs.Shape.{IsReference, IsShapedFunction};
-ghost use Rattle.pex_values.specs.Spelling.{optional, function, state};
-ghost use Rattle.pex_codec.specs.ObjectReading.{IsBeforeObject, ReachesObject, Holds, HasProperties, HasStates, HasBits, HasVariable, HasRead, HasState, before_object, before_property, before_state, variable_len, read_len, functions_len};
+ghost use Rattle.pex_values.specs.Plain.{plain_function, plain_named, plain_state};
+ghost use Rattle.pex_values.specs.Shape.{IsReference, IsShapedFunction, IsShapedNamed};
+ghost use Rattle.pex_values.specs.Spelling.{optional, function, named, state};
+ghost use Rattle.pex_codec.specs.ObjectReading.{IsBeforeObject, ReachesObject, RunsObject, Holds, HasProperties, HasStates, HasBits, HasVariable, HasRead, HasState, HasFunctions, before_object, before_property, before_state, variable_len, read_len, functions_len};
 ghost use Rattle.pex_codec.specs.Widths.{object_width, function_width};
 
 use crate::faults::{PexFault, PexRule};
@@ -15,6 +15,7 @@ use crate::fields::{
     FunctionField, ObjectField, Place, ValueField, ValueStep, reference, value_field,
 };
 use crate::function_reader::FunctionReader;
+use crate::uncut::uncut_named;
 use byteorder::{BigEndian, ByteOrder};
 use pex_values::{
     FILE_LIMIT, PexFunction, PexObject, PexProperty, PexState, PexVariable, SizeForm, has_read,
@@ -510,13 +511,137 @@ impl ObjectReader {
         match self.function.accept(field, bytes, place)? {
             Some(next) => Ok(Some(ObjectField::Function(next))),
             None => {
-                let function = self.function.take();
-                self.state.functions.push((self.function_name, function))?;
-                self.functions_left -= 1;
-                if self.functions_left > 0 {
-                    return Ok(Some(ObjectField::FunctionName));
-                }
-                self.finish_state(place.at + bytes.len() as u32, place.strings)
+                let added = (self.function_name, self.function.take());
+                self.add_function(added, place.at + bytes.len() as u32, place.strings)
+            }
+        }
+    }
+
+    /// Adds a function with its name to the open state. `end` is the offset behind it.
+    fn add_function(
+        &mut self,
+        added: (u16, PexFunction),
+        end: u32,
+        strings: u16,
+    ) -> Result<Option<ObjectField>, PexFault>
+        requires holds { Holds strings self.old }
+        requires room { HasStates self.old }
+        requires state { HasState strings self.old }
+        requires functions { HasFunctions self.old }
+        requires shaped { IsShapedNamed strings (plain_named added) }
+        requires fits { FitsFunction (plain_function added.1) }
+        requires at { self.old.size_at + 8 + before_state self.old + functions_len self.old + length (named (plain_named added)) ≡ end }
+        ensures { ReachesObject strings self.old.size_at (before_state self.old + 4 + functions_len self.old + length (named (plain_named added))) result self.new }
+    {
+        self.state.functions.push(added)?;
+        self.functions_left -= 1;
+        if self.functions_left > 0 {
+            return Ok(Some(ObjectField::FunctionName));
+        }
+        self.finish_state(end, strings)
+    }
+
+    /// Takes what the bytes hold whole of the instructions or functions that the field begins, and gives how many bytes
+    /// that has and the field behind it, or None where the data is complete.
+    pub(crate) fn accept_uncut(
+        &mut self,
+        field: ObjectField,
+        bytes: &[u8],
+        place: Place,
+    ) -> Result<(usize, Option<ObjectField>), PexFault>
+        requires before { IsBeforeObject place.strings field self.old }
+        requires at { self.old.size_at + 4 + before_object field self.old ≡ place.at }
+        requires limit { place.at + length bytes.now ≤ FILE_LIMIT }
+        ensures { IfOk result (λ p. RunsObject place.strings self.old.size_at field (before_object field self.old) (length bytes.now) p.0 p.1 self.new) }
+    {
+        match field {
+            ObjectField::Read(FunctionField::Opcode) => self.read_code(bytes, place),
+            ObjectField::Write(FunctionField::Opcode) => self.write_code(bytes, place),
+            ObjectField::FunctionName => self.whole_functions(bytes, place),
+            ObjectField::Function(FunctionField::Opcode) => self.function_code(bytes, place),
+            _ => Ok((0, Some(field))),
+        }
+    }
+
+    fn read_code(
+        &mut self,
+        bytes: &[u8],
+        place: Place,
+    ) -> Result<(usize, Option<ObjectField>), PexFault>
+        requires before { IsBeforeObject place.strings (ObjectField.Read FunctionField.Opcode) self.old }
+        ensures { IfOk result (λ p. RunsObject place.strings self.old.size_at (ObjectField.Read FunctionField.Opcode) (before_object (ObjectField.Read FunctionField.Opcode) self.old) (length bytes.now) p.0 p.1 self.new) }
+    {
+        let (width, next) = self.function.accept_uncut(bytes, place.strings)?;
+        match next {
+            Some(next) => Ok((width, Some(ObjectField::Read(next)))),
+            None => {
+                self.read = Some(self.function.take());
+                let next = self.after_read(place.strings)?;
+                Ok((width, next))
+            }
+        }
+    }
+
+    fn write_code(
+        &mut self,
+        bytes: &[u8],
+        place: Place,
+    ) -> Result<(usize, Option<ObjectField>), PexFault>
+        requires before { IsBeforeObject place.strings (ObjectField.Write FunctionField.Opcode) self.old }
+        ensures { IfOk result (λ p. RunsObject place.strings self.old.size_at (ObjectField.Write FunctionField.Opcode) (before_object (ObjectField.Write FunctionField.Opcode) self.old) (length bytes.now) p.0 p.1 self.new) }
+    {
+        let (width, next) = self.function.accept_uncut(bytes, place.strings)?;
+        match next {
+            Some(next) => Ok((width, Some(ObjectField::Write(next)))),
+            None => {
+                let write = self.function.take();
+                let next = self.finish_property(Some(write), place.strings)?;
+                Ok((width, next))
+            }
+        }
+    }
+
+    fn function_code(
+        &mut self,
+        bytes: &[u8],
+        place: Place,
+    ) -> Result<(usize, Option<ObjectField>), PexFault>
+        requires before { IsBeforeObject place.strings (ObjectField.Function FunctionField.Opcode) self.old }
+        requires at { self.old.size_at + 4 + before_object (ObjectField.Function FunctionField.Opcode) self.old ≡ place.at }
+        requires limit { place.at + length bytes.now ≤ FILE_LIMIT }
+        ensures { IfOk result (λ p. RunsObject place.strings self.old.size_at (ObjectField.Function FunctionField.Opcode) (before_object (ObjectField.Function FunctionField.Opcode) self.old) (length bytes.now) p.0 p.1 self.new) }
+    {
+        let (width, next) = self.function.accept_uncut(bytes, place.strings)?;
+        match next {
+            Some(next) => Ok((width, Some(ObjectField::Function(next)))),
+            None => {
+                let added = (self.function_name, self.function.take());
+                let next = self.add_function(added, place.at + width as u32, place.strings)?;
+                Ok((width, next))
+            }
+        }
+    }
+
+    fn whole_functions(
+        &mut self,
+        bytes: &[u8],
+        place: Place,
+    ) -> Result<(usize, Option<ObjectField>), PexFault>
+        requires before { IsBeforeObject place.strings ObjectField.FunctionName self.old }
+        requires at { self.old.size_at + 4 + before_object ObjectField.FunctionName self.old ≡ place.at }
+        requires limit { place.at + length bytes.now ≤ FILE_LIMIT }
+        ensures { IfOk result (λ p. RunsObject place.strings self.old.size_at ObjectField.FunctionName (before_object ObjectField.FunctionName self.old) (length bytes.now) p.0 p.1 self.new) }
+    {
+        let mut width = 0;
+        loop {
+            let Some((function, taken)) = uncut_named(self.alloc, &bytes[width..], place.strings)?
+            else {
+                return Ok((width, Some(ObjectField::FunctionName)));
+            };
+            width += taken;
+            match self.add_function(function, place.at + width as u32, place.strings)? {
+                Some(ObjectField::FunctionName) => {}
+                next => return Ok((width, next)),
             }
         }
     }

@@ -93,8 +93,26 @@ impl PieceReader {
     {
         match self.field {
             Field::Bytes(field) => self.take_text(field, bytes),
+            _ if self.held == 0 && self.field.begins_run() => self.take_run(bytes),
             _ => self.take_number(bytes),
         }
+    }
+
+    /// Takes what the bytes hold whole of the lines, instructions or functions that the field begins, or else bytes of
+    /// the field.
+    fn take_run(&mut self, bytes: &[u8]) -> Result<Taken, PexFault>
+        requires reading { IsReading self.old }
+        requires number { IsNumber self.old.field }
+        requires held { self.old.held ≡ 0 }
+        requires some { 0 < length bytes.now }
+        requires room { self.old.taken + length bytes.now ≤ FILE_LIMIT }
+        ensures { IfOk result (Takes self.old (length bytes.now) self.new) }
+    {
+        let (count, next) = self.reader.accept_uncut(self.field, bytes, self.taken)?;
+        if count > 0 {
+            return Ok(self.go_on(count, next));
+        }
+        self.take_number(bytes)
     }
 
     fn take_text(&mut self, field: TextField, bytes: &[u8]) -> Result<Taken, PexFault>

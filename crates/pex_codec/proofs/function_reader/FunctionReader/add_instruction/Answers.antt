@@ -1,18 +1,17 @@
-use Rattle.std.proofs.Common.{arith, ap, length, length-append}
+use Rattle.std.proofs.Common.{arith, ap, map, length, length-append}
 use Rattle.pex_values.specs.Fit.{FitsInstruction}
 use Rattle.pex_values.specs.Plain.{plain_instruction}
 use Rattle.pex_values.specs.Shape.{IsShapedInstruction}
 use Rattle.pex_codec.specs.FunctionReading.{code_len}
-use Rattle.std.proofs.Common.{map}
 use Rattle.pex_codec.proofs.Sizes.{is_whole, each_pushed, code_len_pushed}
-use Rattle.pex_codec.proofs.function_reader.FunctionReader.finish_instruction.Goals as goal
+use Rattle.pex_codec.proofs.function_reader.FunctionReader.add_instruction.Goals as goal
 
 pub returns-then-self-eq0 : goal.returns-then-self-eq0
 returns-then-self-eq0 c =
     let h = c.requires.holds in
     let old = c.args.self.now.function.code.items in
-    let i = c.args.self.now.instruction in
-    let items = rw c.replace-instruction.ensures.value at c.in_ok-push.ensures.items in
+    let i = c.args.added in
+    let items = c.in_ok-push.ensures.items in
     let size = ap (λ x. code_len (map plain_instruction x)) items in
     is_whole _ _ _
     (record {

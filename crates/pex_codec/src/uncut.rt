@@ -1,0 +1,246 @@
+//! Reads the parts of a function that the open piece holds whole. What it cuts, or what breaks a rule, is left to
+//! the readers of fields, which say where.
+
+ghost use Rattle.std.specs.Prelude.{length, map, IfOk, IfSome};
+ghost use Rattle.pex_values.specs.Plain.{plain_instruction, plain_function, plain_named};
+ghost use Rattle.pex_codec.specs.Uncut.{IsUncutReference, IsUncutValue, AreUncutValues, AreUncutMore, IsUncutInstruction, AreUncutPairs, IsUncutCode, IsUncutFunction, IsUncutNamed};
+
+use crate::faults::PexFault;
+use byteorder::{BigEndian, ByteOrder};
+use pex_values::{Datum, Instruction, PexFunction, operand_count};
+use std::alloc::Global;
+
+/// The most operands that an integer value can count.
+const MOST_OPERANDS: u32 = 0x7FFF_FFFF;
+
+/// How many bytes of a function stand before its parameters.
+const HEADING: usize = 9;
+
+/// A reference at a place.
+fn uncut_reference(bytes: &[u8], at: usize, strings: u16) -> Option<u16>
+    ensures { IfSome result (IsUncutReference strings at (length bytes.now)) }
+{
+    if bytes.len() < 2 || at > bytes.len() - 2 {
+        return None;
+    }
+    let index = BigEndian::read_u16(&bytes[at..at + 2]);
+    if index >= strings {
+        return None;
+    }
+    Some(index)
+}
+
+/// The value at the front, and how many bytes it has.
+fn uncut_value(bytes: &[u8], strings: u16) -> Option<(Datum, usize)>
+    ensures { IfSome result (λ p. IsUncutValue strings (length bytes.now) p.0 p.1) }
+{
+    match *bytes.first()? {
+        0 => Some((Datum::NoneValue, 1)),
+        1 => Some((Datum::Word(uncut_reference(bytes, 1, strings)?), 3)),
+        2 => Some((Datum::Quoted(uncut_reference(bytes, 1, strings)?), 3)),
+        3 if bytes.len() >= 5 => Some((Datum::Int(BigEndian::read_i32(&bytes[1..5])), 5)),
+        4 if bytes.len() >= 5 => Some((Datum::Float(BigEndian::read_u32(&bytes[1..5])), 5)),
+        5 if bytes.len() >= 2 => Some((Datum::Bool(bytes[1]), 2)),
+        _ => None,
+    }
+}
+
+/// So many values at the front, and how many bytes they have.
+fn uncut_values(
+    alloc: Global,
+    bytes: &[u8],
+    count: usize,
+    strings: u16,
+) -> Result<Option<(Vec<Datum>, usize)>, PexFault>
+    ensures { IfOk result (λ r. IfSome r (λ p. AreUncutValues strings (length bytes.now) count p.0.items p.1)) }
+{
+    if count > bytes.len() {
+        return Ok(None);
+    }
+    let mut values = Vec::with_capacity(alloc, count)?;
+    let mut width = 0;
+    for _ in 0..count {
+        let Some((value, taken)) = uncut_value(&bytes[width..], strings) else {
+            return Ok(None);
+        };
+        values.push(value)?;
+        width += taken;
+    }
+    Ok(Some((values, width)))
+}
+
+/// A count as an integer value at the front, that many values, and how many bytes all of it has.
+fn uncut_more(
+    alloc: Global,
+    bytes: &[u8],
+    strings: u16,
+) -> Result<Option<(Vec<Datum>, usize)>, PexFault>
+    ensures { IfOk result (λ r. IfSome r (λ p. AreUncutMore strings (length bytes.now) p.0.items p.1)) }
+{
+    if bytes.len() < 5 || bytes[0] != 3 {
+        return Ok(None);
+    }
+    let count = BigEndian::read_u32(&bytes[1..5]);
+    if count > MOST_OPERANDS {
+        return Ok(None);
+    }
+    let Some((more, width)) = uncut_values(alloc, &bytes[5..], count as usize, strings)? else {
+        return Ok(None);
+    };
+    Ok(Some((more, 5 + width)))
+}
+
+/// The instruction at the front, and how many bytes it has.
+pub(crate) fn uncut_instruction(
+    alloc: Global,
+    bytes: &[u8],
+    strings: u16,
+) -> Result<Option<(Instruction, usize)>, PexFault>
+    ensures { IfOk result (λ r. IfSome r (λ p. IsUncutInstruction strings (length bytes.now) (plain_instruction p.0) p.1)) }
+{
+    let Some(first) = bytes.first() else {
+        return Ok(None);
+    };
+    let opcode = *first;
+    let Some((count, has_more)) = operand_count(opcode) else {
+        return Ok(None);
+    };
+    let Some((fixed, width)) = uncut_values(alloc, &bytes[1..], count as usize, strings)? else {
+        return Ok(None);
+    };
+    let width = 1 + width;
+    if !has_more {
+        let more = Vec::new(alloc);
+        return Ok(Some((
+            Instruction {
+                opcode,
+                fixed,
+                more,
+            },
+            width,
+        )));
+    }
+    let Some((more, taken)) = uncut_more(alloc, &bytes[width..], strings)? else {
+        return Ok(None);
+    };
+    Ok(Some((
+        Instruction {
+            opcode,
+            fixed,
+            more,
+        },
+        width + taken,
+    )))
+}
+
+/// A list of names with their types at the front, and how many bytes it has with its count.
+fn uncut_pairs(
+    alloc: Global,
+    bytes: &[u8],
+    strings: u16,
+) -> Result<Option<(Vec<(u16, u16)>, usize)>, PexFault>
+    ensures { IfOk result (λ r. IfSome r (λ p. AreUncutPairs strings (length bytes.now) p.0.items p.1)) }
+{
+    if bytes.len() < 2 {
+        return Ok(None);
+    }
+    let count = BigEndian::read_u16(&bytes[..2]) as usize;
+    if count > bytes.len() / 4 {
+        return Ok(None);
+    }
+    let mut pairs = Vec::with_capacity(alloc, count)?;
+    for i in 0..count {
+        let Some(name) = uncut_reference(bytes, 2 + 4 * i, strings) else {
+            return Ok(None);
+        };
+        let Some(kind) = uncut_reference(bytes, 4 + 4 * i, strings) else {
+            return Ok(None);
+        };
+        pairs.push((name, kind))?;
+    }
+    Ok(Some((pairs, 2 + 4 * count)))
+}
+
+/// The code of a function at the front, and how many bytes it has with its count.
+fn uncut_code(
+    alloc: Global,
+    bytes: &[u8],
+    strings: u16,
+) -> Result<Option<(Vec<Instruction>, usize)>, PexFault>
+    ensures { IfOk result (λ r. IfSome r (λ p. IsUncutCode strings (length bytes.now) (map plain_instruction p.0.items) p.1)) }
+{
+    if bytes.len() < 2 {
+        return Ok(None);
+    }
+    let count = BigEndian::read_u16(&bytes[..2]) as usize;
+    if count > bytes.len() {
+        return Ok(None);
+    }
+    let mut code = Vec::with_capacity(alloc, count)?;
+    let mut width = 2;
+    for _ in 0..count {
+        let Some((instruction, taken)) = uncut_instruction(alloc, &bytes[width..], strings)? else {
+            return Ok(None);
+        };
+        code.push(instruction)?;
+        width += taken;
+    }
+    Ok(Some((code, width)))
+}
+
+/// The function at the front, and how many bytes it has.
+fn uncut_function(
+    alloc: Global,
+    bytes: &[u8],
+    strings: u16,
+) -> Result<Option<(PexFunction, usize)>, PexFault>
+    ensures { IfOk result (λ r. IfSome r (λ p. IsUncutFunction strings (length bytes.now) (plain_function p.0) p.1)) }
+{
+    if bytes.len() < HEADING {
+        return Ok(None);
+    }
+    let (Some(result), Some(doc)) = (
+        uncut_reference(bytes, 0, strings),
+        uncut_reference(bytes, 2, strings),
+    ) else {
+        return Ok(None);
+    };
+    let Some((parameters, width)) = uncut_pairs(alloc, &bytes[HEADING..], strings)? else {
+        return Ok(None);
+    };
+    let at = HEADING + width;
+    let Some((locals, width)) = uncut_pairs(alloc, &bytes[at..], strings)? else {
+        return Ok(None);
+    };
+    let at = at + width;
+    let Some((code, width)) = uncut_code(alloc, &bytes[at..], strings)? else {
+        return Ok(None);
+    };
+    let function = PexFunction {
+        result,
+        doc,
+        flags: BigEndian::read_u32(&bytes[4..8]),
+        bits: bytes[8],
+        parameters,
+        locals,
+        code,
+    };
+    Ok(Some((function, at + width)))
+}
+
+/// The function at the front with its name, and how many bytes both have.
+pub(crate) fn uncut_named(
+    alloc: Global,
+    bytes: &[u8],
+    strings: u16,
+) -> Result<Option<((u16, PexFunction), usize)>, PexFault>
+    ensures { IfOk result (λ r. IfSome r (λ p. IsUncutNamed strings (length bytes.now) (plain_named p.0) p.1)) }
+{
+    let Some(name) = uncut_reference(bytes, 0, strings) else {
+        return Ok(None);
+    };
+    let Some((function, width)) = uncut_function(alloc, &bytes[2..], strings)? else {
+        return Ok(None);
+    };
+    Ok(Some(((name, function), 2 + width)))
+}
