@@ -1,8 +1,10 @@
 // Which objects stand below which.
-ghost use Rattle.std.specs.Prelude.{◌<◌, length, IfSome};
+ghost use Rattle.std.specs.Prelude.{◌≡◌, ◌<◌, length, vec_len, IfOk, IfSome};
+ghost use Rattle.pex_names.specs.Ranks.{has as is_between, span_at, is_below as stands_below};
 
 use papy_base::OutOfMemory;
 use std::alloc::Global;
+use std::marker::Model;
 
 /// The ranks of an object and of all below it: from `start` on, and below `end`.
 #[derive(Clone, Copy, Debug, PartialEq, Eq, PartialOrd, Ord)]
@@ -13,7 +15,9 @@ pub struct Span {
 
 impl Span {
     /// Whether the rank is one of them.
-    pub fn has(self, rank: usize) -> bool {
+    pub fn has(self, rank: usize) -> bool
+        ensures { result ≡ is_between self rank }
+    {
         self.start <= rank && rank < self.end
     }
 }
@@ -27,10 +31,21 @@ pub struct Descent {
     spans: Vec<Span>,
 }
 
+impl Model for Descent {
+    ghost use Rattle.std.specs.Prelude.{List};
+    ghost use Rattle.pex_names.specs.declared.descent.Span.{Span};
+
+    ghost Value = { List Span };
+
+    ghost view = { λ descent. descent.spans.items };
+}
+
 impl Descent {
     /// The ranks of objects with these parents. A parent that is none of the objects counts as none. Objects on a
     /// circle of parents, and those below one, get no ranks.
-    pub fn of(alloc: Global, parents: &[Option<usize>]) -> Result<Descent, OutOfMemory> {
+    pub fn of(alloc: Global, parents: &[Option<usize>]) -> Result<Descent, OutOfMemory>
+        ensures { IfOk result (λ descent. length descent ≡ length parents.now) }
+    {
         let children = Children::of(alloc, parents)?;
         let mut walk = Walk {
             parents,
@@ -50,7 +65,9 @@ impl Descent {
     }
 
     /// The ranks of the object and of all below it. None where there is no such object.
-    pub fn span(&self, object: usize) -> Span {
+    pub fn span(&self, object: usize) -> Span
+        ensures { result ≡ span_at self.now object }
+    {
         match self.spans.get(object) {
             Some(span) => *span,
             None => NO_RANKS,
@@ -58,7 +75,9 @@ impl Descent {
     }
 
     /// Whether one object is the other or stands below it.
-    pub fn is_below(&self, object: usize, above: usize) -> bool {
+    pub fn is_below(&self, object: usize, above: usize) -> bool
+        ensures { result ≡ stands_below self.now object above }
+    {
         object == above || self.span(above).has(self.span(object).start)
     }
 }
@@ -132,7 +151,9 @@ struct Walk<'a> {
 }
 
 impl Walk<'_> {
-    fn enter(&mut self, object: usize) {
+    fn enter(&mut self, object: usize)
+        ensures { vec_len self.new.spans ≡ vec_len self.old.spans }
+    {
         if let Some(span) = self.spans.get_mut(object) {
             span.start = self.rank;
         }
@@ -143,7 +164,9 @@ impl Walk<'_> {
         };
     }
 
-    fn leave(&mut self, object: usize) {
+    fn leave(&mut self, object: usize)
+        ensures { vec_len self.new.spans ≡ vec_len self.old.spans }
+    {
         if let Some(span) = self.spans.get_mut(object) {
             span.end = self.rank;
         }
