@@ -12,7 +12,7 @@ use crate::calls::{
 };
 use crate::fault::{Refusal, VerifyRule};
 use crate::kind::{BOOL, INT, TEXT};
-use crate::loaded::{LoadedInstruction, Operand};
+use crate::loaded::{LoadedInstruction, MethodPlace, Operand};
 use crate::operands::{has_float, has_long_text, resolve_fixed, resolve_more};
 use crate::scope::Scope;
 use crate::scripts::Callee;
@@ -20,7 +20,6 @@ use crate::values::{
     fits_assign, fits_cast, fits_equal, fits_invert, fits_jump, fits_jump_if, fits_negate,
     fits_return, fits_two,
 };
-use core_tree::FunctionPlace;
 use pex_values::{Datum, Instruction};
 
 /// The instruction at this place of so many, with its operands resolved, or the lowest rule that it breaks.
@@ -158,7 +157,7 @@ fn looked_up_name(scope: &Scope<'_>, action: Action, data: &[Datum]) -> Option<u
     }
 }
 
-fn static_function(action: Action, target: Target<'_>) -> Option<FunctionPlace>
+fn static_function(action: Action, target: Target<'_>) -> Option<MethodPlace>
     ensures { (count : ℕ) → IsTargetAmong count target.entry → IfSome result (λ f. f.script < count) }
 {
     match target {
@@ -167,11 +166,12 @@ fn static_function(action: Action, target: Target<'_>) -> Option<FunctionPlace>
     }
 }
 
-fn function_place(callee: Callee<'_>) -> Option<FunctionPlace>
+fn function_place(callee: Callee<'_>) -> Option<MethodPlace>
     ensures { IfSome result (λ f. f.script ≡ callee.entry.script) }
 {
-    Some(FunctionPlace {
+    Some(MethodPlace {
         script: u16::try_from(callee.script).ok()?,
-        place: u16::try_from(callee.place).ok()?,
+        state: callee.state,
+        place: callee.place,
     })
 }

@@ -3,7 +3,7 @@ ghost use Rattle.std.specs.Prelude.{◌≡◌, ◌<◌, length, vec_len, slice_i
 ghost use Rattle.pex_verify.specs.Files.{IsFile};
 
 use crate::members::MemberTable;
-use core_tree::{CoreType, FunctionPlace, Outline};
+use core_tree::{CoreType, Outline};
 use papy_base::{Name, OutOfMemory, Text};
 use pex_names::{EMPTY_NAME, NameTable};
 use pex_values::Pex;
@@ -42,7 +42,7 @@ pub struct LoadedInstruction {
     /// The number of the name of the method or property that is meant.
     pub name: Option<usize>,
     /// The global function that a callstatic calls.
-    pub function: Option<FunctionPlace>,
+    pub function: Option<MethodPlace>,
 }
 
 /// A function of a state, or one that reads or writes a property and has the property's name.

@@ -22,10 +22,11 @@ pub(crate) struct PropertyHead {
     pub(crate) bits: u8,
 }
 
-/// A function of an empty state, with its script's number and its place.
+/// A function of an empty state: its script's number, the place of the state there, and its own in the state.
 #[derive(Clone, Copy, Debug)]
 pub(crate) struct Callee<'a> {
     pub(crate) script: usize,
+    pub(crate) state: usize,
     pub(crate) place: usize,
     pub(crate) signature: &'a Signature,
 }
@@ -209,6 +210,7 @@ impl Scripts {
         let signature = head.functions.get(found.place)?;
         Some(Callee {
             script: found.object,
+            state: found.state,
             place: found.place,
             signature,
         })
