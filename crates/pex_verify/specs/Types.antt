@@ -3,7 +3,7 @@ use Rattle.std.specs.Prelude.{ℕ, ◌<◌}
 use Rattle.core_tree.specs.declared.core_type.CoreType.{CoreType}
 use Rattle.core_tree.specs.declared.core_type.CoreType.TheVariants as types
 use Rattle.pex_verify.specs.declared.kind.Kind.{Kind}
-use Rattle.pex_verify.specs.declared.kind.Kind.TheVariants.{Nothing, Float, Unknown, Of}
+use Rattle.pex_verify.specs.declared.kind.Kind.TheVariants.{Of}
 
 -- the script of a type is one of so many
 abbrev pub IsTypeAmong : ℕ → CoreType → Type 0

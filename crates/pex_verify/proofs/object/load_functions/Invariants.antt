@@ -1,4 +1,3 @@
-use Rattle.std.proofs.Common.{vec_len}
 use Rattle.pex_verify.specs.Places.{bounds_of}
 use Rattle.pex_verify.specs.Soundness.{AreSoundFunctions}
 use Rattle.pex_verify.proofs.object.load_functions.Given as goal

@@ -1,4 +1,4 @@
-use Rattle.std.proofs.Common.{All, vec_len}
+use Rattle.std.proofs.Common.{All}
 use Rattle.pex_verify.specs.Places.{bounds_of}
 use Rattle.pex_verify.specs.Soundness.{IsSoundProperty}
 use Rattle.pex_verify.proofs.object.load_properties.Given as goal

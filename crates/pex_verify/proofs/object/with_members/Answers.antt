@@ -1,4 +1,4 @@
-use Rattle.std.proofs.Common.{Global, Vec, vec_len}
+use Rattle.std.proofs.Common.{Global, Vec}
 use Rattle.papy_base.specs.declared.name.Name.{Name}
 use Rattle.pex_verify.specs.declared.loaded.LoadedFunction.{LoadedFunction}
 use Rattle.pex_verify.specs.Places.{bounds_of}
