@@ -1,0 +1,19 @@
+//! The expressions and assignments of a function: each word resolved, each conversion written out, and the
+//! first broken rule noted.
+#![tactic(auto)]
+
+mod constants;
+mod conversions;
+mod notes;
+mod rule;
+mod scope;
+mod typed;
+
+pub use constants::{default_fits, default_of, kind_of, literal_of, value_of};
+pub use notes::Notes;
+pub use rule::TypeRule;
+pub use scope::Scope;
+pub use typed::Typed;
+
+#[cfg(test)]
+mod tests;
