@@ -2,12 +2,21 @@
 //! first broken rule noted.
 #![tactic(auto)]
 
+mod arguments;
+mod assignment;
+mod calls;
 mod constants;
 mod conversions;
+mod expression;
+mod members;
 mod notes;
+mod operators;
+mod parameters;
 mod rule;
 mod scope;
+mod spine;
 mod typed;
+mod words;
 
 pub use constants::{default_fits, default_of, kind_of, literal_of, value_of};
 pub use notes::Notes;

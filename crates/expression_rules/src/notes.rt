@@ -5,6 +5,9 @@ use papy_base::OutOfMemory;
 use std::alloc::Global;
 use std::collections::HashSet;
 
+// A script of more nodes is too large, and each default argument is one at least.
+const DEFAULT_LIMIT: u32 = 200_000;
+
 /// The first broken rule of a script, and the different texts that its calls write out: default texts, and
 /// the names of Global functions as they are declared.
 #[derive(Drop)]
@@ -13,6 +16,8 @@ pub struct Notes {
     first: Option<(u16, TypeRule)>,
     texts: HashSet<Vec<u8>>,
     text_bytes: usize,
+    // How many default arguments were written out.
+    defaults: u32,
 }
 
 impl Notes {
@@ -23,14 +28,13 @@ impl Notes {
             first: None,
             texts: HashSet::new(alloc),
             text_bytes: 0,
+            defaults: 0,
         }
     }
 
     /// Notes that a rule is broken at this line. The first by line and rule number is kept.
     pub fn note(&mut self, line: u16, rule: TypeRule) {
-        if comes_before(line, rule, self.first) {
-            self.first = Some((line, rule));
-        }
+        self.first = Some(earlier(self.first, line, rule));
     }
 
     /// The first broken rule by line and rule number, with its line.
@@ -57,13 +61,25 @@ impl Notes {
         self.text_bytes = self.text_bytes.saturating_add(text.len());
         Ok(())
     }
+
+    /// Notes that a default argument is to be written out, and gives whether that is needed: a script with
+    /// so many is refused for its size whatever follows them.
+    pub(crate) fn takes_default(&mut self) -> bool {
+        let fits = self.defaults < DEFAULT_LIMIT;
+        if fits {
+            self.defaults += 1;
+        }
+        fits
+    }
 }
 
-fn comes_before(line: u16, rule: TypeRule, other: Option<(u16, TypeRule)>) -> bool {
-    match other {
-        Some((first, known)) => {
-            line < first || (line == first && rule.number() < known.number())
-        }
-        None => true,
+fn earlier(first: Option<(u16, TypeRule)>, line: u16, rule: TypeRule) -> (u16, TypeRule) {
+    match first {
+        Some((least, known)) if !comes_before(line, rule, least, known) => (least, known),
+        _ => (line, rule),
     }
+}
+
+fn comes_before(line: u16, rule: TypeRule, other: u16, known: TypeRule) -> bool {
+    line < other || (line == other && rule.number() < known.number())
 }

@@ -1,5 +1,8 @@
 // One function while its lines are judged.
 
+use crate::assignment::assign;
+use crate::conversions::convert;
+use crate::expression::{DEPTH_LIMIT, expression, used};
 use crate::notes::Notes;
 use crate::rule::TypeRule;
 use crate::typed::Typed;
@@ -75,27 +78,36 @@ impl<'a> Scope<'a> {
         Ok(u16::try_from(number).unwrap_or(u16::MAX))
     }
 
-    /// An expression, which may be the call of a function without result.
+    /// Notes that something needs an instance, which a Global function has not.
+    pub(crate) fn needs_instance(&mut self) {
+        if self.is_global {
+            self.fault(TypeRule::InstanceInGlobal);
+        }
+    }
+
+    /// An expression. What is known of its type is that it has none where it calls a function without result.
+    ///
+    /// `OutOfMemory` is also the answer where the tree is deeper than any line's, here and below.
     pub fn any(&mut self, tree: &Expr) -> Result<Typed, OutOfMemory> {
-        let _ = tree;
-        Ok(Typed::unknown())
+        expression(self, tree, DEPTH_LIMIT)
     }
 
     /// An expression whose value is needed. `NoValue` is broken where it has none.
     pub fn value(&mut self, tree: &Expr) -> Result<Typed, OutOfMemory> {
-        self.any(tree)
+        let typed = self.any(tree)?;
+        Ok(used(self, typed))
     }
 
-    /// The tree of a value that is needed as this type.
+    /// The tree of a value that is needed as this type. `NoConversion` is broken where it doesn't convert to
+    /// it by itself.
     pub fn convert(&mut self, typed: Typed, to: Option<CoreType>) -> Result<Core, OutOfMemory> {
-        let _ = to;
-        Ok(typed.core)
+        convert(self, typed, to)
     }
 
     /// The tree of a value that is needed as a Bool.
     pub fn truth(&mut self, tree: &Expr) -> Result<Core, OutOfMemory> {
         let typed = self.value(tree)?;
-        self.convert(typed, Some(CoreType::Bool))
+        convert(self, typed, Some(CoreType::Bool))
     }
 
     /// An assignment, also one such as `+=`.
@@ -105,7 +117,6 @@ impl<'a> Scope<'a> {
         sign: Sign,
         value: &Expr,
     ) -> Result<CoreStatement, OutOfMemory> {
-        let _ = (target, sign);
-        Ok(CoreStatement::Plain(self.any(value)?.core))
+        assign(self, target, sign, value)
     }
 }

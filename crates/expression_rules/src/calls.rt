@@ -1,0 +1,249 @@
+// The forms of calls.
+
+use crate::arguments::{Arguments, Given, arguments};
+use crate::members::element_kind;
+use crate::parameters::Parameters;
+use crate::rule::TypeRule;
+use crate::scope::Scope;
+use crate::typed::{Typed, boxed, nothing};
+use core_tree::{Core, CoreType};
+use line_parser::Heading;
+use papy_base::{Name, OutOfMemory};
+use type_scope::{Callee, Kind};
+
+/// `name(arguments)`: a function of the script or of a parent, else a Global one of an import.
+pub(crate) fn plain_call(
+    scope: &mut Scope<'_>,
+    name: &Name,
+    given: Vec<Given<'_>>,
+) -> Result<Typed, OutOfMemory> {
+    let found = match scope.catalog.find_function(scope.script, name) {
+        Some(callee) => Some(callee),
+        None => scope.catalog.find_imported(scope.script, name)?,
+    };
+    let Some(callee) = found else {
+        return Ok(no_function(scope));
+    };
+    if callee.heading.is_global {
+        return global_call(scope, callee, given);
+    }
+    scope.needs_instance();
+    method_call(scope, Core::SelfValue, callee, name, given)
+}
+
+/// `Parent.name(arguments)`
+pub(crate) fn parent_call(
+    scope: &mut Scope<'_>,
+    name: &Name,
+    given: Vec<Given<'_>>,
+) -> Result<Typed, OutOfMemory> {
+    scope.needs_instance();
+    let Some(parent) = scope.catalog.parent_of(scope.script)? else {
+        scope.fault(TypeRule::NoParent);
+        return Ok(Typed::unknown());
+    };
+    let Some(callee) = method_named(scope, parent, name) else {
+        return Ok(no_function(scope));
+    };
+    let made = called(scope, callee.heading, given)?;
+    let core = Core::CallParent {
+        name: name.try_clone(scope.catalog.alloc)?,
+        arguments: made.arguments,
+        places: made.places,
+        result: made.result,
+    };
+    Ok(Typed {
+        core,
+        kind: made.kind,
+    })
+}
+
+/// `word.name(arguments)` where the word names no value: a Global function of the script of that name, or of
+/// a parent of it.
+pub(crate) fn script_call(
+    scope: &mut Scope<'_>,
+    word: &Name,
+    name: &Name,
+    given: Vec<Given<'_>>,
+) -> Result<Typed, OutOfMemory> {
+    let Some(script) = scope.catalog.find_script(word)? else {
+        scope.fault(TypeRule::UnknownName);
+        return Ok(Typed::unknown());
+    };
+    match scope.catalog.find_function(script, name) {
+        Some(callee) if callee.heading.is_global => global_call(scope, callee, given),
+        _ => Ok(no_function(scope)),
+    }
+}
+
+/// `of.name(arguments)`: a search in an array, or a function of the value's script or of a parent.
+pub(crate) fn member_call(
+    scope: &mut Scope<'_>,
+    of: Typed,
+    name: &Name,
+    given: Vec<Given<'_>>,
+) -> Result<Typed, OutOfMemory> {
+    if of.is_unknown() {
+        return Ok(Typed::unknown());
+    }
+    if let Some(element) = element_kind(of.kind) {
+        return array_call(scope, of.core, element, name, given);
+    }
+    let Kind::Of(CoreType::Script(script)) = of.kind else {
+        return Ok(no_function(scope));
+    };
+    match method_named(scope, script, name) {
+        Some(callee) => method_call(scope, of.core, callee, name, given),
+        None => Ok(no_function(scope)),
+    }
+}
+
+fn array_call(
+    scope: &mut Scope<'_>,
+    array: Core,
+    element: CoreType,
+    name: &Name,
+    given: Vec<Given<'_>>,
+) -> Result<Typed, OutOfMemory> {
+    if name.as_bytes().eq_ignore_ascii_case(b"find") {
+        let parameters = Parameters::Search { element, start: 0 };
+        let (value, start) = search_arguments(scope, given, parameters)?;
+        let alloc = scope.catalog.alloc;
+        let core = Core::Find(
+            boxed(alloc, array)?,
+            boxed(alloc, value)?,
+            boxed(alloc, start)?,
+        );
+        return Ok(Typed::of(core, CoreType::Int));
+    }
+    if !name.as_bytes().eq_ignore_ascii_case(b"rfind") {
+        return Ok(no_function(scope));
+    }
+    let parameters = Parameters::Search { element, start: -1 };
+    let (value, start) = search_arguments(scope, given, parameters)?;
+    let alloc = scope.catalog.alloc;
+    let core = Core::FindBack(
+        boxed(alloc, array)?,
+        boxed(alloc, value)?,
+        boxed(alloc, start)?,
+    );
+    Ok(Typed::of(core, CoreType::Int))
+}
+
+// The value that is looked for, and the place to start at.
+fn search_arguments(
+    scope: &mut Scope<'_>,
+    given: Vec<Given<'_>>,
+    parameters: Parameters<'_>,
+) -> Result<(Core, Core), OutOfMemory> {
+    let found = arguments(scope, given, parameters)?;
+    let mut value = nothing();
+    let mut start = nothing();
+    for (core, place) in found.cores.into_iter().zip(found.places) {
+        if place == 0 {
+            value = core;
+        } else {
+            start = core;
+        }
+    }
+    Ok((value, start))
+}
+
+// What calls of a function have in common.
+#[derive(Drop)]
+struct Made {
+    arguments: Vec<Core>,
+    places: Vec<u16>,
+    result: Option<CoreType>,
+    kind: Kind,
+}
+
+fn called(
+    scope: &mut Scope<'_>,
+    heading: &Heading,
+    given: Vec<Given<'_>>,
+) -> Result<Made, OutOfMemory> {
+    let parameters = Parameters::Declared(heading.parameters.as_slice());
+    let Arguments { cores, places, .. } = arguments(scope, given, parameters)?;
+    let (result, kind) = match &heading.result {
+        Some(name) => {
+            let result = scope.catalog.type_of(name)?;
+            (result, Kind::from_type(result))
+        }
+        None => (None, Kind::Nothing),
+    };
+    Ok(Made {
+        arguments: cores,
+        places,
+        result,
+        kind,
+    })
+}
+
+fn global_call(
+    scope: &mut Scope<'_>,
+    callee: Callee<'_>,
+    given: Vec<Given<'_>>,
+) -> Result<Typed, OutOfMemory> {
+    scope.notes.write_out(callee.heading.name.as_bytes())?;
+    let Made {
+        arguments,
+        places,
+        result,
+        kind,
+    } = called(scope, callee.heading, given)?;
+    let at = callee.at;
+    let core = if callee.heading.is_native {
+        Core::CallNative {
+            at,
+            arguments,
+            places,
+            result,
+        }
+    } else {
+        Core::CallGlobal {
+            at,
+            arguments,
+            places,
+            result,
+        }
+    };
+    Ok(Typed { core, kind })
+}
+
+fn method_call(
+    scope: &mut Scope<'_>,
+    of: Core,
+    callee: Callee<'_>,
+    name: &Name,
+    given: Vec<Given<'_>>,
+) -> Result<Typed, OutOfMemory> {
+    let made = called(scope, callee.heading, given)?;
+    let alloc = scope.catalog.alloc;
+    let core = Core::CallMethod {
+        of: boxed(alloc, of)?,
+        name: name.try_clone(alloc)?,
+        arguments: made.arguments,
+        places: made.places,
+        result: made.result,
+    };
+    Ok(Typed {
+        core,
+        kind: made.kind,
+    })
+}
+
+// The nearest function of this name, where it isn't Global.
+fn method_named<'a>(scope: &Scope<'a>, script: u16, name: &Name) -> Option<Callee<'a>> {
+    let callee = scope.catalog.find_function(script, name)?;
+    if callee.heading.is_global {
+        None
+    } else {
+        Some(callee)
+    }
+}
+
+fn no_function(scope: &mut Scope<'_>) -> Typed {
+    scope.fault(TypeRule::NoFunction);
+    Typed::unknown()
+}
