@@ -1,0 +1,31 @@
+ghost use Rattle.std.specs.Prelude.{◌≡◌, ◌<◌, ◌+◌, length, IfErr};
+
+use crate::fault::TypeFault;
+use crate::first_faults::FirstFaults;
+use crate::scripts::{Judged, judge_script};
+use core_tree::CoreSet;
+use script_linker::ScriptSet;
+use std::alloc::Global;
+use type_scope::Catalog;
+
+/// The set with every word resolved, and every conversion and default argument written out.
+///
+/// `Broken` comes where a rule is broken, with the first one in the order of files, lines and the
+/// rules' numbers; K15 only where no other rule is broken in the set.
+pub fn elaborate(alloc: Global, set: &ScriptSet) -> Result<CoreSet, TypeFault> {
+    let catalog = Catalog::new(alloc, set)?;
+    let mut scripts = Vec::with_capacity(alloc, usize::from(set.count()))?;
+    let mut faults = FirstFaults::none();
+    for number in 0..set.count() {
+        let Judged {
+            script,
+            faults: found,
+        } = judge_script(&catalog, number)?;
+        faults.note(number, found);
+        scripts.push(script)?;
+    }
+    match faults.first() {
+        Some(fault) => Err(fault),
+        None => Ok(CoreSet { scripts }),
+    }
+}

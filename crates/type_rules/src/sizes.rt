@@ -1,0 +1,152 @@
+// How large functions and scripts are: the nodes of their trees, their parameters and their locals.
+
+use core_tree::{Core, CoreFunction, CoreLine, CoreStatement};
+
+/// The most nodes, parameters and locals of a function.
+const FUNCTION_LIMIT: u32 = 4_000;
+
+/// The most of a script's functions together.
+const SCRIPT_LIMIT: u32 = 200_000;
+
+/// The sizes of a script's functions.
+#[derive(Clone, Copy, Debug, PartialEq, Eq)]
+pub(crate) struct Sizes {
+    total: u32,
+    // The least line of a function that is too large.
+    too_large: Option<u16>,
+}
+
+impl Sizes {
+    pub(crate) fn none() -> Sizes {
+        Sizes {
+            total: 0,
+            too_large: None,
+        }
+    }
+
+    /// Notes a function of this line and size.
+    pub(crate) fn note(&mut self, line: u16, size: u32) {
+        self.total = self.total.saturating_add(size);
+        if size > FUNCTION_LIMIT {
+            self.too_large = lesser_line(self.too_large, line);
+        }
+    }
+
+    /// The least line at which the script is too large: that of a function, or that of the script,
+    /// where its functions are too large together or what else it needs is.
+    pub(crate) fn too_large(&self, script_line: u16, is_else_too_large: bool) -> Option<u16> {
+        if self.total > SCRIPT_LIMIT || is_else_too_large {
+            lesser_line(self.too_large, script_line)
+        } else {
+            self.too_large
+        }
+    }
+}
+
+fn lesser_line(found: Option<u16>, line: u16) -> Option<u16> {
+    match found {
+        Some(earlier) if earlier < line => Some(earlier),
+        _ => Some(line),
+    }
+}
+
+/// How many nodes, parameters and locals a function has, at most 2^32 - 1 of them counted.
+pub(crate) fn function_size(function: &CoreFunction) -> u32 {
+    let slots = function.parameters.len().saturating_add(function.locals.len());
+    count_of(slots).saturating_add(block_size(function.body.as_slice()))
+}
+
+fn count_of(number: usize) -> u32 {
+    match u32::try_from(number) {
+        Ok(count) => count,
+        Err(_) => u32::MAX,
+    }
+}
+
+#[cycle(lines)]
+fn block_size(lines: &[CoreLine]) -> u32 {
+    let mut size: u32 = 0;
+    for line in lines {
+        size = size.saturating_add(statement_size(&line.form));
+    }
+    size
+}
+
+#[cycle(lines)]
+fn statement_size(statement: &CoreStatement) -> u32 {
+    let parts = match statement {
+        CoreStatement::SetLocal(_, value) | CoreStatement::SetField(_, value) => size_of(value),
+        CoreStatement::SetState(value) | CoreStatement::Plain(value) => size_of(value),
+        CoreStatement::SetProp(of, _, value) => size_of_two(of, value),
+        CoreStatement::ChangeProp(of, _, _, _, right) => size_of_two(of, right),
+        CoreStatement::SetElement(array, index, value) => size_of_three(array, index, value),
+        CoreStatement::ChangeElement(array, index, _, _, right) => {
+            size_of_three(array, index, right)
+        }
+        CoreStatement::Return(Some(value)) => size_of(value),
+        CoreStatement::Return(None) => 0,
+        CoreStatement::If(tests, otherwise) => {
+            branches_size(tests.as_slice()).saturating_add(block_size(otherwise.as_slice()))
+        }
+        CoreStatement::While(test, body, _) => {
+            size_of(test).saturating_add(block_size(body.as_slice()))
+        }
+    };
+    parts.saturating_add(1)
+}
+
+#[cycle(lines)]
+fn branches_size(branches: &[(u16, Core, Vec<CoreLine>)]) -> u32 {
+    let mut size: u32 = 0;
+    for (_, test, body) in branches {
+        size = size
+            .saturating_add(size_of(test))
+            .saturating_add(block_size(body.as_slice()));
+    }
+    size
+}
+
+// An expression's nodes.
+#[cycle(nodes)]
+fn size_of(core: &Core) -> u32 {
+    let parts = match core {
+        Core::Lit(_) | Core::Local(_) | Core::Field(_) => 0,
+        Core::SelfValue | Core::StateText | Core::NewArray(_, _) => 0,
+        Core::Neg(of) | Core::Not(of) | Core::Length(of) => size_of(of),
+        Core::Cast(_, of) => size_of(of),
+        Core::PropGet { of, .. } => size_of(of),
+        Core::Join(left, right) | Core::Equal(left, right) => size_of_two(left, right),
+        Core::And(left, right) | Core::Or(left, right) => size_of_two(left, right),
+        Core::Arith(_, left, right) => size_of_two(left, right),
+        Core::Order(_, left, right) => size_of_two(left, right),
+        Core::Element(array, index, _) => size_of_two(array, index),
+        Core::Find(array, value, start) => size_of_three(array, value, start),
+        Core::FindBack(array, value, start) => size_of_three(array, value, start),
+        Core::CallMethod { of, arguments, .. } => {
+            size_of(of).saturating_add(sizes_of(arguments.as_slice()))
+        }
+        Core::CallParent { arguments, .. } => sizes_of(arguments.as_slice()),
+        Core::CallGlobal { arguments, .. } => sizes_of(arguments.as_slice()),
+        Core::CallNative { arguments, .. } => sizes_of(arguments.as_slice()),
+    };
+    parts.saturating_add(1)
+}
+
+#[cycle(nodes)]
+fn size_of_two(first: &Core, second: &Core) -> u32 {
+    size_of(first).saturating_add(size_of(second))
+}
+
+#[cycle(nodes)]
+fn size_of_three(first: &Core, second: &Core, third: &Core) -> u32 {
+    size_of_two(first, second).saturating_add(size_of(third))
+}
+
+#[cycle(nodes)]
+fn sizes_of(expressions: &[Core]) -> u32 {
+    let mut size: u32 = 0;
+    for expression in expressions {
+        size = size.saturating_add(size_of(expression));
+    }
+    size
+}

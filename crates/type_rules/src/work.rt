@@ -1,0 +1,96 @@
+// A script while it is judged.
+
+use crate::first_faults::ScriptFaults;
+use crate::sizes::Sizes;
+use core_tree::CoreType;
+use expression_rules::{Notes, Scope, TypeRule};
+use line_parser::TypeName;
+use papy_base::OutOfMemory;
+use std::alloc::Global;
+use std::mem;
+use type_scope::{Catalog, Layout};
+
+/// The most different texts that a script's calls write out.
+const TEXT_LIMIT: usize = 8_192;
+
+/// The most bytes of them together.
+const TEXT_BYTES_LIMIT: usize = 524_288;
+
+/// A script while it is judged: what its names mean, and what was found so far.
+#[derive(Drop)]
+pub(crate) struct Work<'a> {
+    pub(crate) catalog: &'a Catalog<'a>,
+    pub(crate) layout: &'a Layout<'a>,
+    /// The script's number in the set.
+    pub(crate) number: u16,
+    notes: Notes,
+    sizes: Sizes,
+}
+
+impl<'a> Work<'a> {
+    pub(crate) fn new(catalog: &'a Catalog<'a>, layout: &'a Layout<'a>, number: u16) -> Work<'a> {
+        Work {
+            catalog,
+            layout,
+            number,
+            notes: Notes::new(catalog.alloc),
+            sizes: Sizes::none(),
+        }
+    }
+
+    pub(crate) fn alloc(&self) -> Global {
+        self.catalog.alloc
+    }
+
+    /// Notes that a rule is broken at this line.
+    pub(crate) fn fault(&mut self, line: u16, rule: TypeRule) {
+        self.notes.note(line, rule);
+    }
+
+    /// The type that is written so at this line. A name of no type breaks K2.
+    pub(crate) fn kind_at(
+        &mut self,
+        line: u16,
+        name: &TypeName,
+    ) -> Result<Option<CoreType>, OutOfMemory> {
+        let kind = self.catalog.type_of(name)?;
+        if kind.is_none() {
+            self.fault(line, TypeRule::UnknownType);
+        }
+        Ok(kind)
+    }
+
+    /// The scope of a function of this line. It holds what was noted so far until it is closed.
+    pub(crate) fn open_scope(&mut self, is_global: bool, line: u16) -> Scope<'a> {
+        let notes = mem::replace(&mut self.notes, Notes::new(self.catalog.alloc));
+        Scope::new(
+            self.catalog,
+            self.layout,
+            self.number,
+            is_global,
+            line,
+            notes,
+        )
+    }
+
+    /// Takes back what was noted, with a function's line and size.
+    pub(crate) fn close_scope(&mut self, notes: Notes, line: u16, size: u32) {
+        self.notes = notes;
+        self.note_size(line, size);
+    }
+
+    /// Notes a function's line and size.
+    pub(crate) fn note_size(&mut self, line: u16, size: u32) {
+        self.sizes.note(line, size);
+    }
+
+    /// What was found of the script, which begins at this line.
+    pub(crate) fn faults(&self, script_line: u16) -> ScriptFaults {
+        let writes_too_much =
+            self.notes.texts() > TEXT_LIMIT || self.notes.text_bytes() > TEXT_BYTES_LIMIT;
+        ScriptFaults {
+            broken: self.notes.first(),
+            too_large: self.sizes.too_large(script_line, writes_too_much),
+        }
+    }
+}
