@@ -56,28 +56,6 @@ pub enum ListingRule {
     End,
 }
 
-impl ListingRule {
-    /// The rule's code, `G1` to `G4`.
-    pub fn code(self) -> &'static str {
-        match self {
-            ListingRule::BadLine => "G1",
-            ListingRule::NotCanonical => "G2",
-            ListingRule::BadName => "G3",
-            ListingRule::End => "G4",
-        }
-    }
-
-    /// The rule's name.
-    pub fn name(self) -> &'static str {
-        match self {
-            ListingRule::BadLine => "BadLine",
-            ListingRule::NotCanonical => "NotCanonical",
-            ListingRule::BadName => "BadName",
-            ListingRule::End => "End",
-        }
-    }
-}
-
 /// Why a text is no listing.
 #[derive(Clone, Copy, Debug, PartialEq, Eq, Error)]
 pub enum ListingFault {

@@ -344,17 +344,3 @@ fn largest_value(rt: HostRuntime) -> Result<(), Fail> {
     );
     Ok(())
 }
-
-#[test]
-fn codes_and_names(rt: HostRuntime) {
-    let rules = [
-        (ListingRule::BadLine, "G1", "BadLine"),
-        (ListingRule::NotCanonical, "G2", "NotCanonical"),
-        (ListingRule::BadName, "G3", "BadName"),
-        (ListingRule::End, "G4", "End"),
-    ];
-    for (rule, code, name) in rules {
-        assert_eq!(rt; rule.code(), code);
-        assert_eq!(rt; rule.name(), name);
-    }
-}
