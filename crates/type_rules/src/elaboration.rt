@@ -1,4 +1,6 @@
-ghost use Rattle.std.specs.Prelude.{◌≡◌, ◌<◌, ◌+◌, length, IfErr};
+ghost use Rattle.std.specs.Prelude.{◌≡◌, length, map, IfErr, IfOk};
+ghost use Rattle.type_rules.specs.Faults.{IsFaultBelow};
+ghost use Rattle.type_rules.specs.Heads.{core_script_head, script_head};
 
 use crate::fault::TypeFault;
 use crate::first_faults::FirstFaults;
@@ -12,7 +14,10 @@ use type_scope::Catalog;
 ///
 /// `Broken` comes where a rule is broken, with the first one in the order of files, lines and the
 /// rules' numbers; K15 only where no other rule is broken in the set.
-pub fn elaborate(alloc: Global, set: &ScriptSet) -> Result<CoreSet, TypeFault> {
+pub fn elaborate(alloc: Global, set: &ScriptSet) -> Result<CoreSet, TypeFault>
+    ensures heads { IfOk result (λ made. map core_script_head made.scripts.items ≡ map script_head set.now) }
+    ensures broken { IfErr result (IsFaultBelow (length set.now)) }
+{
     let catalog = Catalog::new(alloc, set)?;
     let mut scripts = Vec::with_capacity(alloc, usize::from(set.count()))?;
     let mut faults = FirstFaults::none();

@@ -1,4 +1,6 @@
 // Functions, with their parameters and statements judged.
+ghost use Rattle.std.specs.Prelude.{◌≡◌, map, IfOk};
+ghost use Rattle.type_rules.specs.Heads.{core_function_head, function_head};
 
 use crate::sizes::function_size;
 use crate::statements::{BLOCK_LIMIT, Promise, core_block};
@@ -15,7 +17,9 @@ use std::alloc::Global;
 pub(crate) fn core_functions(
     work: &mut Work<'_>,
     functions: &[Function],
-) -> Result<Vec<CoreFunction>, OutOfMemory> {
+) -> Result<Vec<CoreFunction>, OutOfMemory>
+    ensures { IfOk result (λ found. map core_function_head found.items ≡ map function_head functions.now) }
+{
     let mut found = Vec::with_capacity(work.alloc(), functions.len())?;
     for function in functions {
         found.push(core_function(work, function)?)?;
@@ -27,7 +31,9 @@ pub(crate) fn core_functions(
 pub(crate) fn core_function(
     work: &mut Work<'_>,
     function: &Function,
-) -> Result<CoreFunction, OutOfMemory> {
+) -> Result<CoreFunction, OutOfMemory>
+    ensures { IfOk result (λ made. core_function_head made ≡ function_head function.now) }
+{
     let heading = &function.heading;
     let mut scope = work.open_scope(heading.is_global, function.line);
     let promise = promise_of(&mut scope, &heading.result)?;
@@ -82,7 +88,9 @@ fn assemble(
     scope: &Scope<'_>,
     promise: Promise,
     body: Vec<CoreLine>,
-) -> Result<CoreFunction, OutOfMemory> {
+) -> Result<CoreFunction, OutOfMemory>
+    ensures { IfOk result (λ made. core_function_head made ≡ function_head function.now) }
+{
     let heading = &function.heading;
     let kinds = scope.locals.kinds.as_slice();
     let (parameters, locals) = kinds.split_at(heading.parameters.len().min(kinds.len()));
@@ -116,7 +124,9 @@ fn result_of(promise: Promise) -> Option<CoreType> {
 }
 
 /// An equal text, where there is one.
-pub(crate) fn clone_text(alloc: Global, text: &Option<Text>) -> Result<Option<Text>, OutOfMemory> {
+pub(crate) fn clone_text(alloc: Global, text: &Option<Text>) -> Result<Option<Text>, OutOfMemory>
+    ensures { IfOk result (λ found. found ≡ text.now) }
+{
     match text {
         Some(text) => Ok(Some(text.try_clone(alloc)?)),
         None => Ok(None),

@@ -1,4 +1,6 @@
 // The properties and the states of a script.
+ghost use Rattle.std.specs.Prelude.{◌≡◌, map, IfOk};
+ghost use Rattle.type_rules.specs.Heads.{auto_state_of, core_property_head, core_state_head, property_head, state_heads};
 
 use crate::functions::{clone_text, core_function, core_functions};
 use crate::variables::{constant_value, known};
@@ -10,6 +12,7 @@ use core_tree::{
 use line_parser::Constant;
 use papy_base::{Name, OutOfMemory};
 use script_parser::{Function, Property, PropertyForm, Script, State};
+use std::alloc::Global;
 use type_scope::Layout;
 
 // The nodes of a Get that returns a constant: the Return and the literal.
@@ -19,7 +22,9 @@ const CONSTANT_GET_SIZE: u32 = 2;
 pub(crate) fn core_properties(
     work: &mut Work<'_>,
     properties: &[Property],
-) -> Result<Vec<CoreProperty>, OutOfMemory> {
+) -> Result<Vec<CoreProperty>, OutOfMemory>
+    ensures { IfOk result (λ found. map core_property_head found.items ≡ map property_head properties.now) }
+{
     let mut found = Vec::with_capacity(work.alloc(), properties.len())?;
     for (place, property) in properties.iter().enumerate() {
         found.push(core_property(work, place, property)?)?;
@@ -31,7 +36,9 @@ fn core_property(
     work: &mut Work<'_>,
     place: usize,
     property: &Property,
-) -> Result<CoreProperty, OutOfMemory> {
+) -> Result<CoreProperty, OutOfMemory>
+    ensures { IfOk result (λ made. core_property_head made ≡ property_head property.now) }
+{
     let kind = work.kind_at(property.line, &property.kind)?;
     let access = match &property.form {
         PropertyForm::Auto(_) => CoreAccess::Auto(auto_variable(work.layout, place)?),
@@ -109,7 +116,9 @@ fn full_access(work: &mut Work<'_>, functions: &[Function]) -> Result<CoreAccess
 pub(crate) fn core_states(
     work: &mut Work<'_>,
     script: &Script,
-) -> Result<Vec<CoreState>, OutOfMemory> {
+) -> Result<Vec<CoreState>, OutOfMemory>
+    ensures { IfOk result (λ found. map core_state_head found.items ≡ state_heads script.now) }
+{
     let alloc = work.alloc();
     let mut found = Vec::with_capacity(alloc, script.states.len())?;
     found.push(CoreState {
@@ -126,11 +135,13 @@ pub(crate) fn core_states(
 }
 
 /// The name of the first Auto state.
-pub(crate) fn auto_state<'a>(states: &'a [State]) -> Option<&'a Name> {
+pub(crate) fn auto_state(alloc: Global, states: &[State]) -> Result<Option<Name>, OutOfMemory>
+    ensures { IfOk result (λ found. found ≡ auto_state_of states.now) }
+{
     for state in states {
         if state.is_auto {
-            return Some(&state.name);
+            return Ok(Some(state.name.try_clone(alloc)?));
         }
     }
-    None
+    Ok(None)
 }

@@ -1,5 +1,7 @@
 // A script with all its members judged.
-ghost use Rattle.std.specs.Prelude.{◌<◌, length};
+ghost use Rattle.std.specs.Prelude.{◌≡◌, ◌<◌, length, map, slice_index_or, IfOk};
+ghost use Rattle.script_linker.specs.declared.set.SourceFile.{SourceFile};
+ghost use Rattle.type_rules.specs.Heads.{core_property_head, core_script_head, core_state_head, property_heads, script_head, state_heads};
 
 use crate::first_faults::ScriptFaults;
 use crate::functions::clone_text;
@@ -7,9 +9,8 @@ use crate::members::{auto_state, core_properties, core_states};
 use crate::variables::core_variables;
 use crate::work::Work;
 use core_tree::{CoreProperty, CoreScript, CoreState, CoreVariable};
-use papy_base::{Name, OutOfMemory};
+use papy_base::OutOfMemory;
 use script_parser::Script;
-use std::alloc::Global;
 use type_scope::{Catalog, Layout};
 
 /// A script, and what was found of it. Where a rule is broken nobody uses the script.
@@ -30,6 +31,7 @@ struct Members {
 /// The script of this number in its set.
 pub(crate) fn judge_script(catalog: &Catalog<'_>, number: u16) -> Result<Judged, OutOfMemory>
     requires { number < length catalog.now.set.now }
+    ensures { (file : SourceFile) → IfOk result (λ judged. core_script_head judged.script ≡ script_head (slice_index_or catalog.now.set.now number file)) }
 {
     let script = catalog.set.script(number);
     let layout = Layout::new(catalog.alloc, script)?;
@@ -43,7 +45,10 @@ pub(crate) fn judge_script(catalog: &Catalog<'_>, number: u16) -> Result<Judged,
 fn judge_members(
     mut work: Work<'_>,
     script: &Script,
-) -> Result<(Members, ScriptFaults), OutOfMemory> {
+) -> Result<(Members, ScriptFaults), OutOfMemory>
+    ensures properties { IfOk result (λ judged. map core_property_head judged.0.properties.items ≡ property_heads script.now) }
+    ensures states { IfOk result (λ judged. map core_state_head judged.0.states.items ≡ state_heads script.now) }
+{
     let variables = core_variables(&mut work)?;
     let properties = core_properties(&mut work, script.properties.as_slice())?;
     let states = core_states(&mut work, script)?;
@@ -61,6 +66,9 @@ fn core_script(
     members: Members,
 ) -> Result<CoreScript, OutOfMemory>
     requires { number < length catalog.now.set.now }
+    ensures { (file : SourceFile) → map core_property_head members.properties.items ≡ property_heads (slice_index_or catalog.now.set.now number file).script →
+        map core_state_head members.states.items ≡ state_heads (slice_index_or catalog.now.set.now number file).script →
+        IfOk result (λ made. core_script_head made ≡ script_head (slice_index_or catalog.now.set.now number file)) }
 {
     let alloc = catalog.alloc;
     let script = catalog.set.script(number);
@@ -70,16 +78,9 @@ fn core_script(
         parent: catalog.parent_of(number)?,
         flags: script.flags,
         doc: clone_text(alloc, &script.doc)?,
-        auto_state: clone_name(alloc, auto_state(script.states.as_slice()))?,
+        auto_state: auto_state(alloc, script.states.as_slice())?,
         variables: members.variables,
         properties: members.properties,
         states: members.states,
     })
-}
-
-fn clone_name(alloc: Global, name: Option<&Name>) -> Result<Option<Name>, OutOfMemory> {
-    match name {
-        Some(name) => Ok(Some(name.try_clone(alloc)?)),
-        None => Ok(None),
-    }
 }

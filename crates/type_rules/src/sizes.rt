@@ -1,4 +1,6 @@
 // How large functions and scripts are: the nodes of their trees, their parameters and their locals.
+ghost use Rattle.std.specs.Prelude.{◌≡◌, ◌+◌, ◌<◌, ◌≤◌, ◌^◌, Some, None, false, IsTrue};
+ghost use Rattle.type_rules.specs.Faults.{least_line};
 
 use core_tree::{Core, CoreFunction, CoreLine, CoreStatement};
 
@@ -17,7 +19,9 @@ pub(crate) struct Sizes {
 }
 
 impl Sizes {
-    pub(crate) fn none() -> Sizes {
+    pub(crate) fn none() -> Sizes
+        ensures { result ≡ record { total = 0; too_large = None } }
+    {
         Sizes {
             total: 0,
             too_large: None,
@@ -25,7 +29,11 @@ impl Sizes {
     }
 
     /// Notes a function of this line and size.
-    pub(crate) fn note(&mut self, line: u16, size: u32) {
+    pub(crate) fn note(&mut self, line: u16, size: u32)
+        ensures total { self.old.total + size < 2 ^ 32 → self.new.total ≡ self.old.total + size }
+        ensures large { 4000 < size → self.new.too_large ≡ Some (least_line self.old.too_large line) }
+        ensures small { size ≤ 4000 → self.new.too_large ≡ self.old.too_large }
+    {
         self.total = self.total.saturating_add(size);
         if size > FUNCTION_LIMIT {
             self.too_large = lesser_line(self.too_large, line);
@@ -34,7 +42,11 @@ impl Sizes {
 
     /// The least line at which the script is too large: that of a function, or that of the script,
     /// where its functions are too large together or what else it needs is.
-    pub(crate) fn too_large(&self, script_line: u16, is_else_too_large: bool) -> Option<u16> {
+    pub(crate) fn too_large(&self, script_line: u16, is_else_too_large: bool) -> Option<u16>
+        ensures large { 200000 < self.now.total → result ≡ Some (least_line self.now.too_large script_line) }
+        ensures other { IsTrue is_else_too_large → result ≡ Some (least_line self.now.too_large script_line) }
+        ensures small { self.now.total ≤ 200000 → is_else_too_large ≡ false → result ≡ self.now.too_large }
+    {
         if self.total > SCRIPT_LIMIT || is_else_too_large {
             lesser_line(self.too_large, script_line)
         } else {
@@ -43,7 +55,9 @@ impl Sizes {
     }
 }
 
-fn lesser_line(found: Option<u16>, line: u16) -> Option<u16> {
+fn lesser_line(found: Option<u16>, line: u16) -> Option<u16>
+    ensures { result ≡ Some (least_line found line) }
+{
     match found {
         Some(earlier) if earlier < line => Some(earlier),
         _ => Some(line),
