@@ -58,7 +58,7 @@ impl Arguments {
 }
 
 /// The arguments of a call in order of writing, and then the default arguments in order of parameters.
-pub(crate) fn arguments(
+pub(crate) fn place_arguments(
     scope: &mut Scope<'_>,
     given: Vec<Given<'_>>,
     parameters: Parameters<'_>,

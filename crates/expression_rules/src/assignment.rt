@@ -6,7 +6,7 @@ use crate::operators::{arithmetic, operand_type, operation};
 use crate::rule::TypeRule;
 use crate::scope::Scope;
 use crate::typed::{Typed, nothing};
-use crate::words::{Meaning, meaning, member_of_word};
+use crate::words::{Meaning, meaning_of, member_of_word};
 use core_tree::{Arith, Core, CoreStatement, CoreType};
 use line_parser::Expr;
 use papy_base::{Name, OutOfMemory};
@@ -37,7 +37,7 @@ pub(crate) fn assign(
     } else {
         Access::Write
     };
-    let place = place(scope, target, access)?;
+    let place = target_place(scope, target, access)?;
     let value = scope.value(value)?;
     match (place, change) {
         (None, _) => Ok(CoreStatement::Plain(nothing())),
@@ -59,7 +59,7 @@ fn change_of(sign: Sign) -> Option<Sign> {
 }
 
 // What is assigned to, none where a rule is broken in it.
-fn place<'t>(
+fn target_place<'t>(
     scope: &mut Scope<'_>,
     target: &'t Expr,
     access: Access,
@@ -81,7 +81,7 @@ fn word_place<'t>(
     name: &'t Name,
     access: Access,
 ) -> Result<Option<Place<'t>>, OutOfMemory> {
-    match meaning(scope, name)? {
+    match meaning_of(scope, name)? {
         None => {
             scope.fault(TypeRule::UnknownName);
             Ok(None)
@@ -106,7 +106,7 @@ fn member_place<'t>(
     access: Access,
 ) -> Result<Option<Place<'t>>, OutOfMemory> {
     if let Expr::Word(word) = of
-        && meaning(scope, word)?.is_none()
+        && meaning_of(scope, word)?.is_none()
     {
         let _ = member_of_word(scope, word)?;
         return Ok(None);
@@ -193,19 +193,21 @@ fn change_place(
         }
         Place::Property(of, name, kind) => {
             let name = name.try_clone(scope.catalog.alloc)?;
-            Ok(match change(scope, kind, sign, value)? {
+            Ok(match change_in_place(scope, kind, sign, value)? {
                 Some(new) => {
                     CoreStatement::ChangeProp(of, name, new.kind, new.operation, new.right)
                 }
                 None => CoreStatement::Plain(nothing()),
             })
         }
-        Place::Element(array, at, kind) => Ok(match change(scope, Some(kind), sign, value)? {
-            Some(new) => {
-                CoreStatement::ChangeElement(array, at, new.kind, new.operation, new.right)
-            }
-            None => CoreStatement::Plain(nothing()),
-        }),
+        Place::Element(array, at, kind) => Ok(
+            match change_in_place(scope, Some(kind), sign, value)? {
+                Some(new) => {
+                    CoreStatement::ChangeElement(array, at, new.kind, new.operation, new.right)
+                }
+                None => CoreStatement::Plain(nothing()),
+            },
+        ),
     }
 }
 
@@ -231,7 +233,7 @@ struct Change {
 
 // The change, none where a rule is broken in it. The tree has no place for a conversion of the old or of the
 // new value, so both have the type of the operation.
-fn change(
+fn change_in_place(
     scope: &mut Scope<'_>,
     kind: Option<CoreType>,
     sign: Sign,

@@ -1,6 +1,6 @@
 // The forms of calls.
 
-use crate::arguments::{Arguments, Given, arguments};
+use crate::arguments::{Arguments, Given, place_arguments};
 use crate::members::element_kind;
 use crate::parameters::Parameters;
 use crate::rule::TypeRule;
@@ -136,7 +136,7 @@ fn search_arguments(
     given: Vec<Given<'_>>,
     parameters: Parameters<'_>,
 ) -> Result<(Core, Core), OutOfMemory> {
-    let found = arguments(scope, given, parameters)?;
+    let found = place_arguments(scope, given, parameters)?;
     let mut value = nothing();
     let mut start = nothing();
     for (core, place) in found.cores.into_iter().zip(found.places) {
@@ -164,7 +164,7 @@ fn called(
     given: Vec<Given<'_>>,
 ) -> Result<Made, OutOfMemory> {
     let parameters = Parameters::Declared(heading.parameters.as_slice());
-    let Arguments { cores, places, .. } = arguments(scope, given, parameters)?;
+    let Arguments { cores, places, .. } = place_arguments(scope, given, parameters)?;
     let (result, kind) = match &heading.result {
         Some(name) => {
             let result = scope.catalog.type_of(name)?;

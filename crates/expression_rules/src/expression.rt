@@ -9,7 +9,7 @@ use crate::rule::TypeRule;
 use crate::scope::Scope;
 use crate::spine::{Leaf, Spine, Step};
 use crate::typed::Typed;
-use crate::words::{instance, meaning, member_of_word, read_word, unknown_word};
+use crate::words::{instance, meaning_of, member_of_word, read_word, unknown_word};
 use core_tree::{CoreType, Value};
 use line_parser::{Argument, Expr};
 use papy_base::{Name, OutOfMemory};
@@ -77,7 +77,7 @@ fn word(
     steps: &mut Vec<Step<'_>>,
     depth: u16,
 ) -> Result<Typed, OutOfMemory> {
-    if let Some(meaning) = meaning(scope, name)? {
+    if let Some(meaning) = meaning_of(scope, name)? {
         return read_word(scope, meaning, name);
     }
     match steps.last() {

@@ -21,7 +21,7 @@ pub(crate) enum Meaning {
 }
 
 /// What a word names: a local or a parameter, a variable of the script, or a property of it or of a parent.
-pub(crate) fn meaning(scope: &Scope<'_>, name: &Name) -> Result<Option<Meaning>, OutOfMemory> {
+pub(crate) fn meaning_of(scope: &Scope<'_>, name: &Name) -> Result<Option<Meaning>, OutOfMemory> {
     if name.as_bytes() == STATE_WORD {
         return Ok(Some(Meaning::State));
     }
