@@ -1,9 +1,10 @@
 // The arguments of a call: each finds its parameter, and default arguments follow.
 
+use crate::context::Context;
 use crate::conversions::convert;
+use crate::notes::Notes;
 use crate::parameters::Parameters;
 use crate::rule::TypeRule;
-use crate::scope::Scope;
 use crate::typed::Typed;
 use core_tree::Core;
 use papy_base::{Name, OutOfMemory};
@@ -59,11 +60,12 @@ impl Arguments {
 
 /// The arguments of a call in order of writing, and then the default arguments in order of parameters.
 pub(crate) fn place_arguments(
-    scope: &mut Scope<'_>,
+    context: &Context<'_>,
+    notes: &mut Notes,
     given: Vec<Given<'_>>,
     parameters: Parameters<'_>,
 ) -> Result<Arguments, OutOfMemory> {
-    let mut found = Arguments::new(scope.catalog.alloc, parameters.count())?;
+    let mut found = Arguments::new(context.catalog.alloc, parameters.count())?;
     let mut named = false;
     for (position, Given { name, value }) in given.into_iter().enumerate() {
         named = named || name.is_some();
@@ -74,18 +76,19 @@ pub(crate) fn place_arguments(
         };
         match found.free(place) {
             Some(place) => {
-                let kind = parameters.kind(scope.catalog, place)?;
-                found.add(place, convert(scope, value, kind)?)?;
+                let kind = parameters.kind(context.catalog, place)?;
+                found.add(place, convert(context, notes, value, kind)?)?;
             }
-            None => scope.fault(TypeRule::Arguments),
+            None => context.fault(notes, TypeRule::Arguments),
         }
     }
-    add_defaults(scope, &mut found, parameters)?;
+    add_defaults(context, notes, &mut found, parameters)?;
     Ok(found)
 }
 
 fn add_defaults(
-    scope: &mut Scope<'_>,
+    context: &Context<'_>,
+    notes: &mut Notes,
     found: &mut Arguments,
     parameters: Parameters<'_>,
 ) -> Result<(), OutOfMemory> {
@@ -93,15 +96,15 @@ fn add_defaults(
         if found.free(Some(place)).is_none() {
             continue;
         }
-        let Some(default) = parameters.default(scope.catalog, place)? else {
-            scope.fault(TypeRule::Arguments);
+        let Some(default) = parameters.default(context.catalog, place)? else {
+            context.fault(notes, TypeRule::Arguments);
             return Ok(());
         };
-        if !scope.notes.takes_default() {
+        if !notes.takes_default() {
             return Ok(());
         }
         if let Some(text) = parameters.default_text(place) {
-            scope.notes.write_out(text)?;
+            notes.write_out(text)?;
         }
         found.add(place, default)?;
     }

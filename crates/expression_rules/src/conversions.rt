@@ -1,7 +1,8 @@
 // Which types convert to which, and the conversions that are written out.
 
+use crate::context::Context;
+use crate::notes::Notes;
 use crate::rule::TypeRule;
-use crate::scope::Scope;
 use crate::typed::{Typed, boxed, nothing};
 use core_tree::{Core, CoreType};
 use line_parser::TypeName;
@@ -10,7 +11,8 @@ use type_scope::{Catalog, Kind};
 
 /// The tree of a value as this type: the value's own where it has the type, else with a `Cast`.
 pub(crate) fn convert(
-    scope: &mut Scope<'_>,
+    context: &Context<'_>,
+    notes: &mut Notes,
     typed: Typed,
     to: Option<CoreType>,
 ) -> Result<Core, OutOfMemory> {
@@ -20,22 +22,27 @@ pub(crate) fn convert(
     if typed.is_unknown() || typed.kind == Kind::Of(to) {
         return Ok(typed.core);
     }
-    if !converts(scope.catalog, typed.kind, to) {
-        scope.fault(TypeRule::NoConversion);
+    if !converts(context.catalog, typed.kind, to) {
+        context.fault(notes, TypeRule::NoConversion);
         return Ok(nothing());
     }
-    Ok(Core::Cast(to, boxed(scope.catalog.alloc, typed.core)?))
+    Ok(Core::Cast(to, boxed(context.catalog.alloc, typed.core)?))
 }
 
 /// `as`
-pub(crate) fn cast(scope: &mut Scope<'_>, of: Typed, to: &TypeName) -> Result<Typed, OutOfMemory> {
-    let Some(to) = scope.kind_named(to)? else {
+pub(crate) fn cast(
+    context: &Context<'_>,
+    notes: &mut Notes,
+    of: Typed,
+    to: &TypeName,
+) -> Result<Typed, OutOfMemory> {
+    let Some(to) = context.kind_named(notes, to)? else {
         return Ok(Typed::unknown());
     };
-    if !casts(scope.catalog, of.kind, to) {
-        scope.fault(TypeRule::NoConversion);
+    if !casts(context.catalog, of.kind, to) {
+        context.fault(notes, TypeRule::NoConversion);
     }
-    let core = Core::Cast(to, boxed(scope.catalog.alloc, of.core)?);
+    let core = Core::Cast(to, boxed(context.catalog.alloc, of.core)?);
     Ok(Typed::of(core, to))
 }
 

@@ -6,6 +6,7 @@ mod arguments;
 mod assignment;
 mod calls;
 mod constants;
+mod context;
 mod conversions;
 mod expression;
 mod members;

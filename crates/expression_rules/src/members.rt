@@ -1,8 +1,9 @@
 // Properties, and the lengths, elements and sizes of arrays.
 
+use crate::context::Context;
 use crate::conversions::convert;
+use crate::notes::Notes;
 use crate::rule::TypeRule;
-use crate::scope::Scope;
 use crate::typed::{Typed, boxed};
 use core_tree::{Core, CoreType};
 use papy_base::{Name, OutOfMemory};
@@ -20,40 +21,51 @@ pub(crate) enum Access {
 }
 
 /// `of.name`, read.
-pub(crate) fn member(scope: &mut Scope<'_>, of: Typed, name: &Name) -> Result<Typed, OutOfMemory> {
-    match property_of(scope, of.kind, name) {
-        Some(at) => read_property(scope, of.core, at, name),
+pub(crate) fn member(
+    context: &Context<'_>,
+    notes: &mut Notes,
+    of: Typed,
+    name: &Name,
+) -> Result<Typed, OutOfMemory> {
+    match property_of(context, notes, of.kind, name) {
+        Some(at) => read_property(context, notes, of.core, at, name),
         None => Ok(Typed::unknown()),
     }
 }
 
 /// The property of this name that values of the type have.
-pub(crate) fn property_of(scope: &mut Scope<'_>, kind: Kind, name: &Name) -> Option<PropertyRef> {
+pub(crate) fn property_of(
+    context: &Context<'_>,
+    notes: &mut Notes,
+    kind: Kind,
+    name: &Name,
+) -> Option<PropertyRef> {
     let found = match kind {
         Kind::Unknown => return None,
-        Kind::Of(CoreType::Script(script)) => scope.catalog.find_property(script, name),
+        Kind::Of(CoreType::Script(script)) => context.catalog.find_property(script, name),
         _ => None,
     };
     if found.is_none() {
-        scope.fault(TypeRule::NoProperty);
+        context.fault(notes, TypeRule::NoProperty);
     }
     found
 }
 
 /// The value of a property: a variable, where it is an own Auto property of the frame's instance.
 pub(crate) fn read_property(
-    scope: &mut Scope<'_>,
+    context: &Context<'_>,
+    notes: &mut Notes,
     of: Core,
     at: PropertyRef,
     name: &Name,
 ) -> Result<Typed, OutOfMemory> {
-    let Some(result) = property_type(scope, at, Access::Read)? else {
+    let Some(result) = property_type(context, notes, at, Access::Read)? else {
         return Ok(Typed::unknown());
     };
-    if let Some(number) = own_variable(scope, &of, at) {
+    if let Some(number) = own_variable(context, &of, at) {
         return Ok(Typed::of(Core::Field(number), result));
     }
-    let alloc = scope.catalog.alloc;
+    let alloc = context.catalog.alloc;
     let core = Core::PropGet {
         of: boxed(alloc, of)?,
         name: name.try_clone(alloc)?,
@@ -64,17 +76,18 @@ pub(crate) fn read_property(
 
 /// A property's type. `PropertyDirection` is broken where it can't be used so.
 pub(crate) fn property_type(
-    scope: &mut Scope<'_>,
+    context: &Context<'_>,
+    notes: &mut Notes,
     at: PropertyRef,
     access: Access,
 ) -> Result<Option<CoreType>, OutOfMemory> {
-    let Some(property) = scope.catalog.property(at) else {
+    let Some(property) = context.catalog.property(at) else {
         return Ok(None);
     };
     if !allows(property, access) {
-        scope.fault(TypeRule::PropertyDirection);
+        context.fault(notes, TypeRule::PropertyDirection);
     }
-    scope.catalog.type_of(&property.kind)
+    context.catalog.type_of(&property.kind)
 }
 
 fn allows(property: &Property, access: Access) -> bool {
@@ -102,41 +115,50 @@ fn has(functions: &[Function], name: &[u8]) -> bool {
 
 /// The number of the variable that keeps a property, where it is an Auto property of the frame's own script
 /// on the frame's own instance.
-pub(crate) fn own_variable(scope: &Scope<'_>, of: &Core, at: PropertyRef) -> Option<u16> {
-    if at.script == scope.script && matches!(of, Core::SelfValue) {
-        scope.layout.auto_variable(at.place)
+pub(crate) fn own_variable(context: &Context<'_>, of: &Core, at: PropertyRef) -> Option<u16> {
+    if at.script == context.script && matches!(of, Core::SelfValue) {
+        context.layout.auto_variable(at.place)
     } else {
         None
     }
 }
 
 /// `of.Length`
-pub(crate) fn length(scope: &mut Scope<'_>, of: Typed) -> Result<Typed, OutOfMemory> {
+pub(crate) fn length(
+    context: &Context<'_>,
+    notes: &mut Notes,
+    of: Typed,
+) -> Result<Typed, OutOfMemory> {
     if !of.is_unknown() && element_kind(of.kind).is_none() {
-        scope.fault(TypeRule::NoProperty);
+        context.fault(notes, TypeRule::NoProperty);
         return Ok(Typed::unknown());
     }
-    let core = Core::Length(boxed(scope.catalog.alloc, of.core)?);
+    let core = Core::Length(boxed(context.catalog.alloc, of.core)?);
     Ok(Typed::of(core, CoreType::Int))
 }
 
 /// `of[at]`, read.
-pub(crate) fn element(scope: &mut Scope<'_>, of: Typed, at: Typed) -> Result<Typed, OutOfMemory> {
-    let element = indexed(scope, of.kind);
-    let at = convert(scope, at, Some(CoreType::Int))?;
+pub(crate) fn element(
+    context: &Context<'_>,
+    notes: &mut Notes,
+    of: Typed,
+    at: Typed,
+) -> Result<Typed, OutOfMemory> {
+    let element = indexed(context, notes, of.kind);
+    let at = convert(context, notes, at, Some(CoreType::Int))?;
     let Some(element) = element else {
         return Ok(Typed::unknown());
     };
-    let alloc = scope.catalog.alloc;
+    let alloc = context.catalog.alloc;
     let core = Core::Element(boxed(alloc, of.core)?, boxed(alloc, at)?, element);
     Ok(Typed::of(core, element))
 }
 
 /// The type of the elements of what `[ ]` stands on.
-pub(crate) fn indexed(scope: &mut Scope<'_>, kind: Kind) -> Option<CoreType> {
+pub(crate) fn indexed(context: &Context<'_>, notes: &mut Notes, kind: Kind) -> Option<CoreType> {
     let element = element_kind(kind);
     if element.is_none() && kind != Kind::Unknown {
-        scope.fault(TypeRule::Operand);
+        context.fault(notes, TypeRule::Operand);
     }
     element
 }
@@ -151,16 +173,17 @@ pub(crate) fn element_kind(kind: Kind) -> Option<CoreType> {
 
 /// `New word[count]`
 pub(crate) fn new_array(
-    scope: &mut Scope<'_>,
+    context: &Context<'_>,
+    notes: &mut Notes,
     word: &Name,
     count: i32,
 ) -> Result<Typed, OutOfMemory> {
     let size = array_size(count);
     if size.is_none() {
-        scope.fault(TypeRule::ArraySize);
+        context.fault(notes, TypeRule::ArraySize);
     }
-    let Some(element) = scope.catalog.element_type(word)? else {
-        scope.fault(TypeRule::UnknownType);
+    let Some(element) = context.catalog.element_type(word)? else {
+        context.fault(notes, TypeRule::UnknownType);
         return Ok(Typed::unknown());
     };
     let core = Core::NewArray(element, size.unwrap_or(1));

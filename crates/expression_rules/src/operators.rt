@@ -1,8 +1,9 @@
 // The operators on one and two values.
 
+use crate::context::Context;
 use crate::conversions::{common_kind, convert, prints};
+use crate::notes::Notes;
 use crate::rule::TypeRule;
-use crate::scope::Scope;
 use crate::typed::{Typed, boxed};
 use core_tree::{Arith, Core, CoreType, Order};
 use papy_base::OutOfMemory;
@@ -14,29 +15,35 @@ const INT: Kind = Kind::Of(CoreType::Int);
 const TEXT: Kind = Kind::Of(CoreType::Text);
 
 /// `-of` or `!of`
-pub(crate) fn unary(scope: &mut Scope<'_>, sign: Sign, of: Typed) -> Result<Typed, OutOfMemory> {
+pub(crate) fn unary(
+    context: &Context<'_>,
+    notes: &mut Notes,
+    sign: Sign,
+    of: Typed,
+) -> Result<Typed, OutOfMemory> {
     if of.is_unknown() {
         return Ok(Typed::unknown());
     }
     if sign == Sign::Not {
-        return invert(scope, of);
+        return invert(context, notes, of);
     }
     if of.kind != INT {
-        return Ok(bad_operand(scope));
+        return Ok(bad_operand(context, notes));
     }
-    let core = Core::Neg(boxed(scope.catalog.alloc, of.core)?);
+    let core = Core::Neg(boxed(context.catalog.alloc, of.core)?);
     Ok(Typed::of(core, CoreType::Int))
 }
 
-fn invert(scope: &mut Scope<'_>, of: Typed) -> Result<Typed, OutOfMemory> {
-    let truth = convert(scope, of, Some(CoreType::Bool))?;
-    let core = Core::Not(boxed(scope.catalog.alloc, truth)?);
+fn invert(context: &Context<'_>, notes: &mut Notes, of: Typed) -> Result<Typed, OutOfMemory> {
+    let truth = convert(context, notes, of, Some(CoreType::Bool))?;
+    let core = Core::Not(boxed(context.catalog.alloc, truth)?);
     Ok(Typed::of(core, CoreType::Bool))
 }
 
 /// A sign between two values.
 pub(crate) fn binary(
-    scope: &mut Scope<'_>,
+    context: &Context<'_>,
+    notes: &mut Notes,
     sign: Sign,
     left: Typed,
     right: Typed,
@@ -45,82 +52,99 @@ pub(crate) fn binary(
         return Ok(Typed::unknown());
     }
     match sign {
-        Sign::And => both(scope, left, right),
-        Sign::Or => either(scope, left, right),
-        Sign::Equal => equal(scope, left, right),
+        Sign::And => both(context, notes, left, right),
+        Sign::Or => either(context, notes, left, right),
+        Sign::Equal => equal(context, notes, left, right),
         Sign::NotEqual => {
-            let equal = equal(scope, left, right)?;
+            let equal = equal(context, notes, left, right)?;
             if equal.is_unknown() {
                 return Ok(equal);
             }
-            invert(scope, equal)
+            invert(context, notes, equal)
         }
-        Sign::Less => compare(scope, Order::Less, left, right),
-        Sign::LessEqual => compare(scope, Order::LessEqual, left, right),
-        Sign::Greater => compare(scope, Order::Greater, left, right),
-        Sign::GreaterEqual => compare(scope, Order::GreaterEqual, left, right),
-        _ => arithmetic(scope, sign, left, right),
+        Sign::Less => compare(context, notes, Order::Less, left, right),
+        Sign::LessEqual => compare(context, notes, Order::LessEqual, left, right),
+        Sign::Greater => compare(context, notes, Order::Greater, left, right),
+        Sign::GreaterEqual => compare(context, notes, Order::GreaterEqual, left, right),
+        _ => arithmetic(context, notes, sign, left, right),
     }
 }
 
-fn both(scope: &mut Scope<'_>, left: Typed, right: Typed) -> Result<Typed, OutOfMemory> {
-    let alloc = scope.catalog.alloc;
-    let left = convert(scope, left, Some(CoreType::Bool))?;
-    let right = convert(scope, right, Some(CoreType::Bool))?;
+fn both(
+    context: &Context<'_>,
+    notes: &mut Notes,
+    left: Typed,
+    right: Typed,
+) -> Result<Typed, OutOfMemory> {
+    let alloc = context.catalog.alloc;
+    let left = convert(context, notes, left, Some(CoreType::Bool))?;
+    let right = convert(context, notes, right, Some(CoreType::Bool))?;
     let core = Core::And(boxed(alloc, left)?, boxed(alloc, right)?);
     Ok(Typed::of(core, CoreType::Bool))
 }
 
-fn either(scope: &mut Scope<'_>, left: Typed, right: Typed) -> Result<Typed, OutOfMemory> {
-    let alloc = scope.catalog.alloc;
-    let left = convert(scope, left, Some(CoreType::Bool))?;
-    let right = convert(scope, right, Some(CoreType::Bool))?;
+fn either(
+    context: &Context<'_>,
+    notes: &mut Notes,
+    left: Typed,
+    right: Typed,
+) -> Result<Typed, OutOfMemory> {
+    let alloc = context.catalog.alloc;
+    let left = convert(context, notes, left, Some(CoreType::Bool))?;
+    let right = convert(context, notes, right, Some(CoreType::Bool))?;
     let core = Core::Or(boxed(alloc, left)?, boxed(alloc, right)?);
     Ok(Typed::of(core, CoreType::Bool))
 }
 
-fn equal(scope: &mut Scope<'_>, left: Typed, right: Typed) -> Result<Typed, OutOfMemory> {
-    let to = match common_kind(scope.catalog, left.kind, right.kind) {
+fn equal(
+    context: &Context<'_>,
+    notes: &mut Notes,
+    left: Typed,
+    right: Typed,
+) -> Result<Typed, OutOfMemory> {
+    let to = match common_kind(context.catalog, left.kind, right.kind) {
         Some(Kind::Of(to)) => Some(to),
         // None is compared with None.
         Some(_) => None,
-        None => return Ok(bad_operand(scope)),
+        None => return Ok(bad_operand(context, notes)),
     };
-    let alloc = scope.catalog.alloc;
-    let left = convert(scope, left, to)?;
-    let right = convert(scope, right, to)?;
+    let alloc = context.catalog.alloc;
+    let left = convert(context, notes, left, to)?;
+    let right = convert(context, notes, right, to)?;
     let core = Core::Equal(boxed(alloc, left)?, boxed(alloc, right)?);
     Ok(Typed::of(core, CoreType::Bool))
 }
 
 fn compare(
-    scope: &mut Scope<'_>,
+    context: &Context<'_>,
+    notes: &mut Notes,
     order: Order,
     left: Typed,
     right: Typed,
 ) -> Result<Typed, OutOfMemory> {
     if left.kind != INT || right.kind != INT {
-        return Ok(bad_operand(scope));
+        return Ok(bad_operand(context, notes));
     }
-    let alloc = scope.catalog.alloc;
+    let alloc = context.catalog.alloc;
     let core = Core::Order(order, boxed(alloc, left.core)?, boxed(alloc, right.core)?);
     Ok(Typed::of(core, CoreType::Bool))
 }
 
 /// Arithmetic on whole numbers, or two texts joined.
 pub(crate) fn arithmetic(
-    scope: &mut Scope<'_>,
+    context: &Context<'_>,
+    notes: &mut Notes,
     sign: Sign,
     left: Typed,
     right: Typed,
 ) -> Result<Typed, OutOfMemory> {
-    let Some(operation) = operation(scope, sign, left.kind, right.kind) else {
+    let Some(operation) = operation(context, notes, sign, left.kind, right.kind) else {
         return Ok(Typed::unknown());
     };
-    let alloc = scope.catalog.alloc;
+    let alloc = context.catalog.alloc;
     let to = operand_type(operation);
-    let left = boxed(alloc, convert(scope, left, Some(to))?)?;
-    let right = boxed(alloc, convert(scope, right, Some(to))?)?;
+    let left = boxed(alloc, convert(context, notes, left, Some(to))?)?;
+    let right = boxed(alloc, convert(context, notes, right, Some(to))?)?;
     let core = match operation {
         Arith::Join => Core::Join(left, right),
         _ => Core::Arith(operation, left, right),
@@ -130,7 +154,8 @@ pub(crate) fn arithmetic(
 
 /// What a sign does with values of these types. `Operand` is broken where it does nothing with them.
 pub(crate) fn operation(
-    scope: &mut Scope<'_>,
+    context: &Context<'_>,
+    notes: &mut Notes,
     sign: Sign,
     left: Kind,
     right: Kind,
@@ -140,7 +165,7 @@ pub(crate) fn operation(
     }
     let found = operation_of(sign, left, right);
     if found.is_none() {
-        scope.fault(TypeRule::Operand);
+        context.fault(notes, TypeRule::Operand);
     }
     found
 }
@@ -176,7 +201,7 @@ fn whole_operation(sign: Sign) -> Option<Arith> {
     }
 }
 
-fn bad_operand(scope: &mut Scope<'_>) -> Typed {
-    scope.fault(TypeRule::Operand);
+fn bad_operand(context: &Context<'_>, notes: &mut Notes) -> Typed {
+    context.fault(notes, TypeRule::Operand);
     Typed::unknown()
 }

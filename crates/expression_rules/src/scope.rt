@@ -1,8 +1,9 @@
 // One function while its lines are judged.
 
 use crate::assignment::assign;
+use crate::context::Context;
 use crate::conversions::convert;
-use crate::expression::{DEPTH_LIMIT, expression, used};
+use crate::expression::{any, truth, value};
 use crate::notes::Notes;
 use crate::rule::TypeRule;
 use crate::typed::Typed;
@@ -61,11 +62,8 @@ impl<'a> Scope<'a> {
 
     /// The type of this name. `UnknownType` is broken where there is none.
     pub fn kind_named(&mut self, name: &TypeName) -> Result<Option<CoreType>, OutOfMemory> {
-        let found = self.catalog.type_of(name)?;
-        if found.is_none() {
-            self.fault(TypeRule::UnknownType);
-        }
-        Ok(found)
+        let (context, notes) = self.parts();
+        context.kind_named(notes, name)
     }
 
     /// Adds a parameter or a local, and gives its number. `DuplicateLocal` is broken where one of the name
@@ -78,36 +76,31 @@ impl<'a> Scope<'a> {
         Ok(u16::try_from(number).unwrap_or(u16::MAX))
     }
 
-    /// Notes that something needs an instance, which a Global function has not.
-    pub(crate) fn needs_instance(&mut self) {
-        if self.is_global {
-            self.fault(TypeRule::InstanceInGlobal);
-        }
-    }
-
-    /// An expression. What is known of its type is that it has none where it calls a function without result.
+    /// An expression. Its kind is `Nothing` where it calls a function without result.
     ///
     /// `OutOfMemory` is also the answer where the tree is deeper than any line's, here and below.
     pub fn any(&mut self, tree: &Expr) -> Result<Typed, OutOfMemory> {
-        expression(self, tree, DEPTH_LIMIT)
+        let (context, notes) = self.parts();
+        any(&context, notes, tree)
     }
 
     /// An expression whose value is needed. `NoValue` is broken where it has none.
     pub fn value(&mut self, tree: &Expr) -> Result<Typed, OutOfMemory> {
-        let typed = self.any(tree)?;
-        Ok(used(self, typed))
+        let (context, notes) = self.parts();
+        value(&context, notes, tree)
     }
 
     /// The tree of a value that is needed as this type. `NoConversion` is broken where it doesn't convert to
     /// it by itself.
     pub fn convert(&mut self, typed: Typed, to: Option<CoreType>) -> Result<Core, OutOfMemory> {
-        convert(self, typed, to)
+        let (context, notes) = self.parts();
+        convert(&context, notes, typed, to)
     }
 
     /// The tree of a value that is needed as a Bool.
     pub fn truth(&mut self, tree: &Expr) -> Result<Core, OutOfMemory> {
-        let typed = self.value(tree)?;
-        convert(self, typed, Some(CoreType::Bool))
+        let (context, notes) = self.parts();
+        truth(&context, notes, tree)
     }
 
     /// An assignment, also one such as `+=`.
@@ -117,6 +110,20 @@ impl<'a> Scope<'a> {
         sign: Sign,
         value: &Expr,
     ) -> Result<CoreStatement, OutOfMemory> {
-        assign(self, target, sign, value)
+        let (context, notes) = self.parts();
+        assign(&context, notes, target, sign, value)
+    }
+
+    // What is seen, and what is written to.
+    fn parts(&mut self) -> (Context<'_>, &mut Notes) {
+        let context = Context {
+            catalog: self.catalog,
+            layout: self.layout,
+            script: self.script,
+            is_global: self.is_global,
+            line: self.line,
+            locals: &self.locals,
+        };
+        (context, &mut self.notes)
     }
 }

@@ -1,8 +1,9 @@
 // What a word names.
 
+use crate::context::Context;
 use crate::members::read_property;
+use crate::notes::Notes;
 use crate::rule::TypeRule;
-use crate::scope::Scope;
 use crate::typed::Typed;
 use core_tree::{Core, CoreType};
 use papy_base::{Name, OutOfMemory};
@@ -21,18 +22,21 @@ pub(crate) enum Meaning {
 }
 
 /// What a word names: a local or a parameter, a variable of the script, or a property of it or of a parent.
-pub(crate) fn meaning_of(scope: &Scope<'_>, name: &Name) -> Result<Option<Meaning>, OutOfMemory> {
+pub(crate) fn meaning_of(
+    context: &Context<'_>,
+    name: &Name,
+) -> Result<Option<Meaning>, OutOfMemory> {
     if name.as_bytes() == STATE_WORD {
         return Ok(Some(Meaning::State));
     }
-    if let Some(local) = scope.locals.find(name)? {
+    if let Some(local) = context.locals.find(name)? {
         let number = u16::try_from(local.number).unwrap_or(u16::MAX);
         return Ok(Some(Meaning::Local(number, local.kind)));
     }
-    if let Some((number, kind)) = scope.layout.find(scope.catalog.alloc, name)? {
-        return Ok(Some(Meaning::Field(number, scope.catalog.type_of(kind)?)));
+    if let Some((number, kind)) = context.layout.find(context.catalog.alloc, name)? {
+        return Ok(Some(Meaning::Field(number, context.catalog.type_of(kind)?)));
     }
-    match scope.catalog.find_property(scope.script, name) {
+    match context.catalog.find_property(context.script, name) {
         Some(at) => Ok(Some(Meaning::Property(at))),
         None => Ok(None),
     }
@@ -40,7 +44,8 @@ pub(crate) fn meaning_of(scope: &Scope<'_>, name: &Name) -> Result<Option<Meanin
 
 /// The value of a word with this meaning.
 pub(crate) fn read_word(
-    scope: &mut Scope<'_>,
+    context: &Context<'_>,
+    notes: &mut Notes,
     meaning: Meaning,
     name: &Name,
 ) -> Result<Typed, OutOfMemory> {
@@ -48,33 +53,37 @@ pub(crate) fn read_word(
         Meaning::Local(number, kind) => Ok(Typed::found(Core::Local(number), kind)),
         Meaning::State => Ok(Typed::of(Core::StateText, CoreType::Text)),
         Meaning::Field(number, kind) => {
-            scope.needs_instance();
+            context.needs_instance(notes);
             Ok(Typed::found(Core::Field(number), kind))
         }
         Meaning::Property(at) => {
-            scope.needs_instance();
-            read_property(scope, Core::SelfValue, at, name)
+            context.needs_instance(notes);
+            read_property(context, notes, Core::SelfValue, at, name)
         }
     }
 }
 
 /// `Self`
-pub(crate) fn instance(scope: &mut Scope<'_>) -> Typed {
-    scope.needs_instance();
-    Typed::of(Core::SelfValue, CoreType::Script(scope.script))
+pub(crate) fn instance(context: &Context<'_>, notes: &mut Notes) -> Typed {
+    context.needs_instance(notes);
+    Typed::of(Core::SelfValue, CoreType::Script(context.script))
 }
 
 /// A word that names no value, where a value must stand.
-pub(crate) fn unknown_word(scope: &mut Scope<'_>) -> Typed {
-    scope.fault(TypeRule::UnknownName);
+pub(crate) fn unknown_word(context: &Context<'_>, notes: &mut Notes) -> Typed {
+    context.fault(notes, TypeRule::UnknownName);
     Typed::unknown()
 }
 
 /// A member of a word that names no value. It may name a script, which has no members.
-pub(crate) fn member_of_word(scope: &mut Scope<'_>, word: &Name) -> Result<Typed, OutOfMemory> {
-    match scope.catalog.find_script(word)? {
-        Some(_) => scope.fault(TypeRule::NoProperty),
-        None => scope.fault(TypeRule::UnknownName),
+pub(crate) fn member_of_word(
+    context: &Context<'_>,
+    notes: &mut Notes,
+    word: &Name,
+) -> Result<Typed, OutOfMemory> {
+    match context.catalog.find_script(word)? {
+        Some(_) => context.fault(notes, TypeRule::NoProperty),
+        None => context.fault(notes, TypeRule::UnknownName),
     }
     Ok(Typed::unknown())
 }
