@@ -1,4 +1,8 @@
 // Assignments.
+ghost use Rattle.std.specs.Prelude.{◌≡◌, IfOk, IfSome};
+ghost use Rattle.core_tree.specs.InRange.{ResultInRange};
+ghost use Rattle.expression_rules.specs.Operations.{sign_of_change};
+ghost use Rattle.expression_rules.specs.Ranges.{CoreInRange, FormInRange, TypedInRange, TargetInRange, ChangeInRange, ContextInRange, bounds_of};
 
 use crate::context::Context;
 use crate::conversions::convert;
@@ -7,7 +11,8 @@ use crate::members::{Access, indexed, own_variable, property_of, property_type};
 use crate::notes::Notes;
 use crate::operators::{arithmetic, operand_type, operation};
 use crate::rule::TypeRule;
-use crate::typed::{Typed, nothing};
+use crate::trees::{field, local, nothing, own_instance, state_text};
+use crate::typed::Typed;
 use crate::words::{Meaning, meaning_of, member_of_word};
 use core_tree::{Arith, Core, CoreStatement, CoreType};
 use line_parser::Expr;
@@ -18,7 +23,7 @@ use type_scope::Kind;
 
 /// What is assigned to, with its type where that is known.
 #[derive(Drop)]
-enum Place<'t> {
+pub(crate) enum Target<'t> {
     Local(u16, Option<CoreType>),
     Field(u16, Option<CoreType>),
     State,
@@ -33,7 +38,9 @@ pub(crate) fn assign(
     target: &Expr,
     sign: Sign,
     right: &Expr,
-) -> Result<CoreStatement, OutOfMemory> {
+) -> Result<CoreStatement, OutOfMemory>
+    ensures { ContextInRange context.now → IfOk result (FormInRange (bounds_of context.now)) }
+{
     let change = change_of(sign);
     let access = if change.is_some() {
         Access::Change
@@ -50,7 +57,9 @@ pub(crate) fn assign(
 }
 
 // The sign between two values that an assignment such as `+=` stands for.
-fn change_of(sign: Sign) -> Option<Sign> {
+fn change_of(sign: Sign) -> Option<Sign>
+    ensures { result ≡ sign_of_change sign }
+{
     match sign {
         Sign::PlusAssign => Some(Sign::Plus),
         Sign::MinusAssign => Some(Sign::Minus),
@@ -67,7 +76,9 @@ fn target_place<'t>(
     notes: &mut Notes,
     target: &'t Expr,
     access: Access,
-) -> Result<Option<Place<'t>>, OutOfMemory> {
+) -> Result<Option<Target<'t>>, OutOfMemory>
+    ensures { ContextInRange context.now → IfOk result (λ found. IfSome found (TargetInRange (bounds_of context.now))) }
+{
     match target {
         Expr::Word(name) => word_place(context, notes, name, access),
         Expr::Member { of, name } => member_place(context, notes, of, name, access),
@@ -85,21 +96,23 @@ fn word_place<'t>(
     notes: &mut Notes,
     name: &'t Name,
     access: Access,
-) -> Result<Option<Place<'t>>, OutOfMemory> {
+) -> Result<Option<Target<'t>>, OutOfMemory>
+    ensures { ContextInRange context.now → IfOk result (λ found. IfSome found (TargetInRange (bounds_of context.now))) }
+{
     match meaning_of(context, name)? {
         None => {
             context.fault(notes, TypeRule::UnknownName);
             Ok(None)
         }
-        Some(Meaning::Local(number, kind)) => Ok(Some(Place::Local(number, kind))),
-        Some(Meaning::State) => Ok(Some(Place::State)),
+        Some(Meaning::Local(number, kind)) => Ok(Some(Target::Local(number, kind))),
+        Some(Meaning::State) => Ok(Some(Target::State)),
         Some(Meaning::Field(number, kind)) => {
             context.needs_instance(notes);
-            Ok(Some(Place::Field(number, kind)))
+            Ok(Some(Target::Field(number, kind)))
         }
         Some(Meaning::Property(at)) => {
             context.needs_instance(notes);
-            property_place(context, notes, Core::SelfValue, at, name, access)
+            property_place(context, notes, own_instance(), at, name, access)
         }
     }
 }
@@ -110,7 +123,9 @@ fn member_place<'t>(
     of: &Expr,
     name: &'t Name,
     access: Access,
-) -> Result<Option<Place<'t>>, OutOfMemory> {
+) -> Result<Option<Target<'t>>, OutOfMemory>
+    ensures { ContextInRange context.now → IfOk result (λ found. IfSome found (TargetInRange (bounds_of context.now))) }
+{
     if let Expr::Word(word) = of
         && meaning_of(context, word)?.is_none()
     {
@@ -131,11 +146,13 @@ fn property_place<'t>(
     at: PropertyRef,
     name: &'t Name,
     access: Access,
-) -> Result<Option<Place<'t>>, OutOfMemory> {
+) -> Result<Option<Target<'t>>, OutOfMemory>
+    ensures { CoreInRange (bounds_of context.now) of → IfOk result (λ found. IfSome found (TargetInRange (bounds_of context.now))) }
+{
     let kind = property_type(context, notes, at, access)?;
     Ok(Some(match own_variable(context, &of, at) {
-        Some(number) => Place::Field(number, kind),
-        None => Place::Property(of, name, kind),
+        Some(number) => Target::Field(number, kind),
+        None => Target::Property(of, name, kind),
     }))
 }
 
@@ -144,12 +161,14 @@ fn element_place<'t>(
     notes: &mut Notes,
     of: &Expr,
     at: &Expr,
-) -> Result<Option<Place<'t>>, OutOfMemory> {
+) -> Result<Option<Target<'t>>, OutOfMemory>
+    ensures { ContextInRange context.now → IfOk result (λ found. IfSome found (TargetInRange (bounds_of context.now))) }
+{
     let of = value(context, notes, of)?;
     let at = value(context, notes, at)?;
     let at = convert(context, notes, at, Some(CoreType::Int))?;
     match indexed(context, notes, of.kind) {
-        Some(element) => Ok(Some(Place::Element(of.core, at, element))),
+        Some(element) => Ok(Some(Target::Element(of.core, at, element))),
         None => Ok(None),
     }
 }
@@ -158,27 +177,29 @@ fn element_place<'t>(
 fn store(
     context: &Context<'_>,
     notes: &mut Notes,
-    place: Place<'_>,
+    place: Target<'_>,
     value: Typed,
-) -> Result<CoreStatement, OutOfMemory> {
+) -> Result<CoreStatement, OutOfMemory>
+    ensures { TargetInRange (bounds_of context.now) place → TypedInRange (bounds_of context.now) value → IfOk result (FormInRange (bounds_of context.now)) }
+{
     Ok(match place {
-        Place::Local(number, kind) => {
+        Target::Local(number, kind) => {
             CoreStatement::SetLocal(number, convert(context, notes, value, kind)?)
         }
-        Place::Field(number, kind) => {
+        Target::Field(number, kind) => {
             CoreStatement::SetField(number, convert(context, notes, value, kind)?)
         }
-        Place::State => CoreStatement::SetState(convert(
+        Target::State => CoreStatement::SetState(convert(
             context,
             notes,
             value,
             Some(CoreType::Text),
         )?),
-        Place::Property(of, name, kind) => {
+        Target::Property(of, name, kind) => {
             let value = convert(context, notes, value, kind)?;
             CoreStatement::SetProp(of, name.try_clone(context.catalog.alloc)?, value)
         }
-        Place::Element(array, at, kind) => {
+        Target::Element(array, at, kind) => {
             CoreStatement::SetElement(array, at, convert(context, notes, value, Some(kind))?)
         }
     })
@@ -189,31 +210,33 @@ fn store(
 fn change_place(
     context: &Context<'_>,
     notes: &mut Notes,
-    place: Place<'_>,
+    place: Target<'_>,
     sign: Sign,
     value: Typed,
-) -> Result<CoreStatement, OutOfMemory> {
+) -> Result<CoreStatement, OutOfMemory>
+    ensures { TargetInRange (bounds_of context.now) place → TypedInRange (bounds_of context.now) value → IfOk result (FormInRange (bounds_of context.now)) }
+{
     match place {
-        Place::Local(number, kind) => {
-            let new = changed(context, notes, Core::Local(number), kind, sign, value)?;
+        Target::Local(number, kind) => {
+            let new = changed(context, notes, local(number), kind, sign, value)?;
             Ok(CoreStatement::SetLocal(number, new))
         }
-        Place::Field(number, kind) => {
-            let new = changed(context, notes, Core::Field(number), kind, sign, value)?;
+        Target::Field(number, kind) => {
+            let new = changed(context, notes, field(number), kind, sign, value)?;
             Ok(CoreStatement::SetField(number, new))
         }
-        Place::State => {
+        Target::State => {
             let new = changed(
                 context,
                 notes,
-                Core::StateText,
+                state_text(),
                 Some(CoreType::Text),
                 sign,
                 value,
             )?;
             Ok(CoreStatement::SetState(new))
         }
-        Place::Property(of, name, kind) => {
+        Target::Property(of, name, kind) => {
             let name = name.try_clone(context.catalog.alloc)?;
             Ok(match change_in_place(context, notes, kind, sign, value)? {
                 Some(new) => {
@@ -222,7 +245,7 @@ fn change_place(
                 None => CoreStatement::Plain(nothing()),
             })
         }
-        Place::Element(array, at, kind) => Ok(
+        Target::Element(array, at, kind) => Ok(
             match change_in_place(context, notes, Some(kind), sign, value)? {
                 Some(new) => {
                     CoreStatement::ChangeElement(array, at, new.kind, new.operation, new.right)
@@ -241,17 +264,19 @@ fn changed(
     kind: Option<CoreType>,
     sign: Sign,
     value: Typed,
-) -> Result<Core, OutOfMemory> {
+) -> Result<Core, OutOfMemory>
+    ensures { CoreInRange (bounds_of context.now) old → ResultInRange (bounds_of context.now).functions kind → TypedInRange (bounds_of context.now) value → IfOk result (CoreInRange (bounds_of context.now)) }
+{
     let new = arithmetic(context, notes, sign, Typed::found(old, kind), value)?;
     convert(context, notes, new, kind)
 }
 
 // A change of a property or an element: its type, the operation, and the right side.
 #[derive(Drop)]
-struct Change {
-    kind: CoreType,
-    operation: Arith,
-    right: Core,
+pub(crate) struct Change {
+    pub(crate) kind: CoreType,
+    pub(crate) operation: Arith,
+    pub(crate) right: Core,
 }
 
 // The change, none where a rule is broken in it. The tree has no place for a conversion of the old or of the
@@ -262,7 +287,9 @@ fn change_in_place(
     kind: Option<CoreType>,
     sign: Sign,
     value: Typed,
-) -> Result<Option<Change>, OutOfMemory> {
+) -> Result<Option<Change>, OutOfMemory>
+    ensures { ResultInRange (bounds_of context.now).functions kind → TypedInRange (bounds_of context.now) value → IfOk result (λ found. IfSome found (ChangeInRange (bounds_of context.now))) }
+{
     let Some(kind) = kind else {
         return Ok(None);
     };

@@ -1,4 +1,7 @@
 // What is seen where an expression stands.
+ghost use Rattle.std.specs.Prelude.{IfOk};
+ghost use Rattle.core_tree.specs.InRange.{ResultInRange};
+ghost use Rattle.type_scope.specs.Scope.{function_counts};
 
 use crate::notes::Notes;
 use crate::rule::TypeRule;
@@ -39,7 +42,9 @@ impl Context<'_> {
         &self,
         notes: &mut Notes,
         name: &TypeName,
-    ) -> Result<Option<CoreType>, OutOfMemory> {
+    ) -> Result<Option<CoreType>, OutOfMemory>
+        ensures { IfOk result (ResultInRange (function_counts self.now.catalog.now.set.now)) }
+    {
         let found = self.catalog.type_of(name)?;
         if found.is_none() {
             self.fault(notes, TypeRule::UnknownType);

@@ -1,4 +1,6 @@
 // Expressions: the first leaf, and then one step after the other.
+ghost use Rattle.std.specs.Prelude.{IfOk};
+ghost use Rattle.expression_rules.specs.Ranges.{CoreInRange, TypedInRange, GivenInRange, ContextInRange, bounds_of};
 
 use crate::arguments::Given;
 use crate::calls::{member_call, parent_call, plain_call, script_call};
@@ -8,7 +10,8 @@ use crate::members::{element, length, member, new_array};
 use crate::notes::Notes;
 use crate::operators::{binary, unary};
 use crate::rule::TypeRule;
-use crate::spine::{Leaf, Spine, Step};
+use crate::spine::{Leaf, Spine, Step, Written};
+use crate::trees::{literal, nothing};
 use crate::typed::Typed;
 use crate::words::{instance, meaning_of, member_of_word, read_word, unknown_word};
 use core_tree::{Core, CoreType, Value};
@@ -25,7 +28,9 @@ pub(crate) fn any(
     context: &Context<'_>,
     notes: &mut Notes,
     tree: &Expr,
-) -> Result<Typed, OutOfMemory> {
+) -> Result<Typed, OutOfMemory>
+    ensures { ContextInRange context.now → IfOk result (TypedInRange (bounds_of context.now)) }
+{
     expression(context, notes, tree, DEPTH_LIMIT)
 }
 
@@ -34,7 +39,9 @@ pub(crate) fn value(
     context: &Context<'_>,
     notes: &mut Notes,
     tree: &Expr,
-) -> Result<Typed, OutOfMemory> {
+) -> Result<Typed, OutOfMemory>
+    ensures { ContextInRange context.now → IfOk result (TypedInRange (bounds_of context.now)) }
+{
     let typed = any(context, notes, tree)?;
     Ok(used(context, notes, typed))
 }
@@ -44,7 +51,9 @@ pub(crate) fn truth(
     context: &Context<'_>,
     notes: &mut Notes,
     tree: &Expr,
-) -> Result<Core, OutOfMemory> {
+) -> Result<Core, OutOfMemory>
+    ensures { ContextInRange context.now → IfOk result (CoreInRange (bounds_of context.now)) }
+{
     let typed = value(context, notes, tree)?;
     convert(context, notes, typed, Some(CoreType::Bool))
 }
@@ -56,7 +65,9 @@ fn expression(
     notes: &mut Notes,
     tree: &Expr,
     depth: u16,
-) -> Result<Typed, OutOfMemory> {
+) -> Result<Typed, OutOfMemory>
+    ensures { ContextInRange context.now → IfOk result (TypedInRange (bounds_of context.now)) }
+{
     let Some(inner) = depth.checked_sub(1) else {
         return Err(OutOfMemory);
     };
@@ -78,7 +89,9 @@ fn leaf(
     leaf: Leaf<'_>,
     steps: &mut Vec<Step<'_>>,
     depth: u16,
-) -> Result<Typed, OutOfMemory> {
+) -> Result<Typed, OutOfMemory>
+    ensures { ContextInRange context.now → IfOk result (TypedInRange (bounds_of context.now)) }
+{
     match leaf {
         Leaf::Word(name) => word(context, notes, name, steps, depth),
         Leaf::Call(name, arguments) => {
@@ -91,13 +104,7 @@ fn leaf(
         }
         Leaf::SelfValue => Ok(instance(context, notes)),
         Leaf::NewArray(element, count) => new_array(context, notes, element, count),
-        Leaf::Int(number) => Ok(Typed::literal(Value::Int(number), Kind::Of(CoreType::Int))),
-        Leaf::Bool(truth) => Ok(Typed::literal(Value::Bool(truth), Kind::Of(CoreType::Bool))),
-        Leaf::Quoted(text) => {
-            let text = text.try_clone(context.catalog.alloc)?;
-            Ok(Typed::literal(Value::Text(text), Kind::Of(CoreType::Text)))
-        }
-        Leaf::NoneValue => Ok(Typed::literal(Value::NoneValue, Kind::NoneLiteral)),
+        Leaf::Constant(constant) => written(context, constant),
     }
 }
 
@@ -109,7 +116,9 @@ fn word(
     name: &Name,
     steps: &mut Vec<Step<'_>>,
     depth: u16,
-) -> Result<Typed, OutOfMemory> {
+) -> Result<Typed, OutOfMemory>
+    ensures { ContextInRange context.now → IfOk result (TypedInRange (bounds_of context.now)) }
+{
     if let Some(meaning) = meaning_of(context, name)? {
         return read_word(context, notes, meaning, name);
     }
@@ -135,7 +144,9 @@ fn step(
     of: Typed,
     step: Step<'_>,
     depth: u16,
-) -> Result<Typed, OutOfMemory> {
+) -> Result<Typed, OutOfMemory>
+    ensures { ContextInRange context.now → TypedInRange (bounds_of context.now) of → IfOk result (TypedInRange (bounds_of context.now)) }
+{
     let of = used(context, notes, of);
     match step {
         Step::Member(name) => member(context, notes, of, name),
@@ -166,7 +177,9 @@ fn given<'t>(
     notes: &mut Notes,
     arguments: &'t [Argument],
     depth: u16,
-) -> Result<Vec<Given<'t>>, OutOfMemory> {
+) -> Result<Vec<Given<'t>>, OutOfMemory>
+    ensures { ContextInRange context.now → IfOk result (λ found. GivenInRange (bounds_of context.now) found.items) }
+{
     let mut found = Vec::new(context.catalog.alloc);
     for argument in arguments {
         let value = expression(context, notes, &argument.value, depth)?;
@@ -180,10 +193,30 @@ fn given<'t>(
 }
 
 // The same where a value is needed.
-fn used(context: &Context<'_>, notes: &mut Notes, typed: Typed) -> Typed {
+fn used(context: &Context<'_>, notes: &mut Notes, typed: Typed) -> Typed
+    ensures { TypedInRange (bounds_of context.now) typed → TypedInRange (bounds_of context.now) result }
+{
     if typed.kind == Kind::Nothing {
         context.fault(notes, TypeRule::NoValue);
         return Typed::unknown();
     }
     typed
+}
+
+// A constant that is written out.
+fn written(context: &Context<'_>, constant: Written<'_>) -> Result<Typed, OutOfMemory>
+    ensures { IfOk result (TypedInRange (bounds_of context.now)) }
+{
+    Ok(match constant {
+        Written::Int(number) => Typed::of(literal(Value::Int(number)), CoreType::Int),
+        Written::Bool(truth) => Typed::of(literal(Value::Bool(truth)), CoreType::Bool),
+        Written::Quoted(text) => {
+            let text = text.try_clone(context.catalog.alloc)?;
+            Typed::of(literal(Value::Text(text)), CoreType::Text)
+        }
+        Written::NoneValue => Typed {
+            core: nothing(),
+            kind: Kind::NoneLiteral,
+        },
+    })
 }

@@ -16,6 +16,7 @@ mod parameters;
 mod rule;
 mod scope;
 mod spine;
+mod trees;
 mod typed;
 mod words;
 

@@ -1,10 +1,15 @@
 // Properties, and the lengths, elements and sizes of arrays.
+ghost use Rattle.std.specs.Prelude.{◌≡◌, ◌<◌, ◌≤◌, ◌×◌, ¬◌, pos, IfOk, IfSome, IfNone, List, ℕ};
+ghost use Rattle.core_tree.specs.InRange.{ResultInRange};
+ghost use Rattle.type_scope.specs.Scope.{KindInRange, function_counts};
+ghost use Rattle.expression_rules.specs.Ranges.{CoreInRange, TypedInRange, bounds_of};
 
 use crate::context::Context;
 use crate::conversions::convert;
 use crate::notes::Notes;
 use crate::rule::TypeRule;
-use crate::typed::{Typed, boxed};
+use crate::trees::{element_at, field, length_of, new_array_of, property_read};
+use crate::typed::Typed;
 use core_tree::{Core, CoreType};
 use papy_base::{Name, OutOfMemory};
 use script_linker::PropertyRef;
@@ -26,7 +31,9 @@ pub(crate) fn member(
     notes: &mut Notes,
     of: Typed,
     name: &Name,
-) -> Result<Typed, OutOfMemory> {
+) -> Result<Typed, OutOfMemory>
+    ensures { TypedInRange (bounds_of context.now) of → IfOk result (TypedInRange (bounds_of context.now)) }
+{
     match property_of(context, notes, of.kind, name) {
         Some(at) => read_property(context, notes, of.core, at, name),
         None => Ok(Typed::unknown()),
@@ -58,20 +65,17 @@ pub(crate) fn read_property(
     of: Core,
     at: PropertyRef,
     name: &Name,
-) -> Result<Typed, OutOfMemory> {
-    let Some(result) = property_type(context, notes, at, Access::Read)? else {
+) -> Result<Typed, OutOfMemory>
+    ensures { CoreInRange (bounds_of context.now) of → IfOk result (TypedInRange (bounds_of context.now)) }
+{
+    let Some(kind) = property_type(context, notes, at, Access::Read)? else {
         return Ok(Typed::unknown());
     };
     if let Some(number) = own_variable(context, &of, at) {
-        return Ok(Typed::of(Core::Field(number), result));
+        return Ok(Typed::of(field(number), kind));
     }
-    let alloc = context.catalog.alloc;
-    let core = Core::PropGet {
-        of: boxed(alloc, of)?,
-        name: name.try_clone(alloc)?,
-        result,
-    };
-    Ok(Typed::of(core, result))
+    let core = property_read(context.catalog.alloc, of, name, kind)?;
+    Ok(Typed::of(core, kind))
 }
 
 /// A property's type. `PropertyDirection` is broken where it can't be used so.
@@ -80,7 +84,9 @@ pub(crate) fn property_type(
     notes: &mut Notes,
     at: PropertyRef,
     access: Access,
-) -> Result<Option<CoreType>, OutOfMemory> {
+) -> Result<Option<CoreType>, OutOfMemory>
+    ensures { IfOk result (ResultInRange (function_counts context.now.catalog.now.set.now)) }
+{
     let Some(property) = context.catalog.property(at) else {
         return Ok(None);
     };
@@ -94,13 +100,15 @@ fn allows(property: &Property, access: Access) -> bool {
     match &property.form {
         PropertyForm::Auto(_) => true,
         PropertyForm::ReadOnly(_) => access == Access::Read,
-        PropertyForm::Full(functions) => match access {
-            Access::Read => has(functions.as_slice(), b"get"),
-            Access::Write => has(functions.as_slice(), b"set"),
-            Access::Change => {
-                has(functions.as_slice(), b"get") && has(functions.as_slice(), b"set")
-            }
-        },
+        PropertyForm::Full(functions) => has_accessors(functions.as_slice(), access),
+    }
+}
+
+fn has_accessors(functions: &[Function], access: Access) -> bool {
+    match access {
+        Access::Read => has(functions, b"get"),
+        Access::Write => has(functions, b"set"),
+        Access::Change => has(functions, b"get") && has(functions, b"set"),
     }
 }
 
@@ -115,7 +123,9 @@ fn has(functions: &[Function], name: &[u8]) -> bool {
 
 /// The number of the variable that keeps a property, where it is an Auto property of the frame's own script
 /// on the frame's own instance.
-pub(crate) fn own_variable(context: &Context<'_>, of: &Core, at: PropertyRef) -> Option<u16> {
+pub(crate) fn own_variable(context: &Context<'_>, of: &Core, at: PropertyRef) -> Option<u16>
+    ensures { IfSome result (λ number. number < (bounds_of context.now).variables) }
+{
     if at.script == context.script && matches!(of, Core::SelfValue) {
         context.layout.auto_variable(at.place)
     } else {
@@ -128,12 +138,14 @@ pub(crate) fn length(
     context: &Context<'_>,
     notes: &mut Notes,
     of: Typed,
-) -> Result<Typed, OutOfMemory> {
+) -> Result<Typed, OutOfMemory>
+    ensures { TypedInRange (bounds_of context.now) of → IfOk result (TypedInRange (bounds_of context.now)) }
+{
     if !of.is_unknown() && element_kind(of.kind).is_none() {
         context.fault(notes, TypeRule::NoProperty);
         return Ok(Typed::unknown());
     }
-    let core = Core::Length(boxed(context.catalog.alloc, of.core)?);
+    let core = length_of(context.catalog.alloc, of.core)?;
     Ok(Typed::of(core, CoreType::Int))
 }
 
@@ -143,19 +155,22 @@ pub(crate) fn element(
     notes: &mut Notes,
     of: Typed,
     at: Typed,
-) -> Result<Typed, OutOfMemory> {
+) -> Result<Typed, OutOfMemory>
+    ensures { TypedInRange (bounds_of context.now) of → TypedInRange (bounds_of context.now) at → IfOk result (TypedInRange (bounds_of context.now)) }
+{
     let element = indexed(context, notes, of.kind);
     let at = convert(context, notes, at, Some(CoreType::Int))?;
     let Some(element) = element else {
         return Ok(Typed::unknown());
     };
-    let alloc = context.catalog.alloc;
-    let core = Core::Element(boxed(alloc, of.core)?, boxed(alloc, at)?, element);
+    let core = element_at(context.catalog.alloc, of.core, at, element)?;
     Ok(Typed::of(core, element))
 }
 
 /// The type of the elements of what `[ ]` stands on.
-pub(crate) fn indexed(context: &Context<'_>, notes: &mut Notes, kind: Kind) -> Option<CoreType> {
+pub(crate) fn indexed(context: &Context<'_>, notes: &mut Notes, kind: Kind) -> Option<CoreType>
+    ensures { (functions : List ℕ) → KindInRange functions kind → ResultInRange functions result }
+{
     let element = element_kind(kind);
     if element.is_none() && kind != Kind::Unknown {
         context.fault(notes, TypeRule::Operand);
@@ -164,7 +179,9 @@ pub(crate) fn indexed(context: &Context<'_>, notes: &mut Notes, kind: Kind) -> O
 }
 
 /// The type of the elements, where this is the type of an array.
-pub(crate) fn element_kind(kind: Kind) -> Option<CoreType> {
+pub(crate) fn element_kind(kind: Kind) -> Option<CoreType>
+    ensures { (functions : List ℕ) → KindInRange functions kind → ResultInRange functions result }
+{
     match kind {
         Kind::Of(array) => element_of(array),
         _ => None,
@@ -177,7 +194,9 @@ pub(crate) fn new_array(
     notes: &mut Notes,
     word: &Name,
     count: i32,
-) -> Result<Typed, OutOfMemory> {
+) -> Result<Typed, OutOfMemory>
+    ensures { IfOk result (TypedInRange (bounds_of context.now)) }
+{
     let size = array_size(count);
     if size.is_none() {
         context.fault(notes, TypeRule::ArraySize);
@@ -186,12 +205,15 @@ pub(crate) fn new_array(
         context.fault(notes, TypeRule::UnknownType);
         return Ok(Typed::unknown());
     };
-    let core = Core::NewArray(element, size.unwrap_or(1));
+    let core = new_array_of(element, size.unwrap_or(1));
     Ok(Typed::of(core, array_of(element)))
 }
 
 // The size of an array, where it is one.
-fn array_size(count: i32) -> Option<u8> {
+fn array_size(count: i32) -> Option<u8>
+    ensures some { IfSome result (λ size. (pos size ≡ count) × (1 ≤ size) × (size ≤ 128)) }
+    ensures none { IfNone result ((size : ℕ) → 1 ≤ size → size ≤ 128 → ¬ (pos size ≡ count)) }
+{
     match u8::try_from(count) {
         Ok(size) if size >= 1 && size <= 128 => Some(size),
         _ => None,
