@@ -3,4 +3,5 @@ pub mod Conversions
 pub mod Operations
 pub mod Ranges
 pub mod Rules
+pub mod Scopes
 pub mod Spine

@@ -1,5 +1,5 @@
 // What is noted while a script is judged.
-ghost use Rattle.std.specs.Prelude.{◌≡◌, ◌<◌, ◌⊎◌, ◌×◌, ◌↔◌, None, IsTrue, IsSome, IfSome, OnOk};
+ghost use Rattle.std.specs.Prelude.{◌≡◌, ◌↔◌, None, IsTrue, IsSome, IfSome};
 ghost use Rattle.expression_rules.specs.Rules.{Before, IsFirst};
 
 use crate::rule::TypeRule;
