@@ -1,9 +1,13 @@
 // The arguments of a call: each finds its parameter, and default arguments follow.
+ghost use Rattle.std.specs.Prelude.{◌<◌, IfOk, OnOk, IfSome, vec_len};
+ghost use Rattle.core_tree.specs.InRange.{Bounds};
+ghost use Rattle.expression_rules.specs.Ranges.{CoreInRange, TypedInRange, GivenInRange, ParametersInRange, ArgumentsInRange, CompleteInRange, bounds_of};
 
+use crate::context::Context;
 use crate::conversions::convert;
+use crate::notes::Notes;
 use crate::parameters::Parameters;
 use crate::rule::TypeRule;
-use crate::scope::Scope;
 use crate::typed::Typed;
 use core_tree::Core;
 use papy_base::{Name, OutOfMemory};
@@ -26,7 +30,9 @@ pub(crate) struct Arguments {
 }
 
 impl Arguments {
-    fn new(alloc: Global, parameters: usize) -> Result<Arguments, OutOfMemory> {
+    fn new(alloc: Global, parameters: usize) -> Result<Arguments, OutOfMemory>
+        ensures { (b : Bounds) → IfOk result (ArgumentsInRange b) }
+    {
         Ok(Arguments {
             cores: Vec::new(alloc),
             places: Vec::new(alloc),
@@ -35,35 +41,52 @@ impl Arguments {
     }
 
     // The place, where it is a parameter's that has no argument yet.
-    fn free(&self, place: Option<usize>) -> Option<usize> {
-        let place = place?;
+    fn free(&self, place: usize) -> Option<usize>
+        ensures { IfSome result (λ found. found < vec_len self.now.filled) }
+    {
         match self.filled.get(place) {
             Some(false) => Some(place),
             _ => None,
         }
     }
 
-    fn add(&mut self, place: usize, core: Core) -> Result<(), OutOfMemory> {
+    fn add(&mut self, place: usize, core: Core) -> Result<(), OutOfMemory>
+        requires { place < vec_len self.old.filled }
+        ensures { (b : Bounds) → ArgumentsInRange b self.old → CoreInRange b core → OnOk result (ArgumentsInRange b self.new) }
+    {
         // A heading has at most 8,000 tokens.
         let Ok(number) = u16::try_from(place) else {
             return Err(OutOfMemory);
         };
-        if place < self.filled.len() {
-            self.filled[place] = true;
-        }
+        self.filled[place] = true;
         self.cores.push(core)?;
         self.places.push(number)?;
         Ok(())
     }
+
+    // The arguments, where each parameter has one.
+    fn complete(self) -> Option<Arguments>
+        ensures { (b : Bounds) → ArgumentsInRange b self → IfSome result (CompleteInRange b) }
+    {
+        if self.cores.len() == self.filled.len() {
+            Some(self)
+        } else {
+            None
+        }
+    }
 }
 
-/// The arguments of a call in order of writing, and then the default arguments in order of parameters.
-pub(crate) fn arguments(
-    scope: &mut Scope<'_>,
+/// The arguments of a call in order of writing, and then the default arguments in order of parameters. There
+/// are none where a rule is broken in them, or where too many defaults are written out.
+pub(crate) fn place_arguments(
+    context: &Context<'_>,
+    notes: &mut Notes,
     given: Vec<Given<'_>>,
     parameters: Parameters<'_>,
-) -> Result<Arguments, OutOfMemory> {
-    let mut found = Arguments::new(scope.catalog.alloc, parameters.count())?;
+) -> Result<Option<Arguments>, OutOfMemory>
+    ensures { GivenInRange (bounds_of context.now) given.items → ParametersInRange (bounds_of context.now) parameters → IfOk result (λ found. IfSome found (CompleteInRange (bounds_of context.now))) }
+{
+    let mut found = Arguments::new(context.catalog.alloc, parameters.count())?;
     let mut named = false;
     for (position, Given { name, value }) in given.into_iter().enumerate() {
         named = named || name.is_some();
@@ -72,38 +95,76 @@ pub(crate) fn arguments(
             None if named => None,
             None => Some(position),
         };
-        match found.free(place) {
-            Some(place) => {
-                let kind = parameters.kind(scope.catalog, place)?;
-                found.add(place, convert(scope, value, kind)?)?;
-            }
-            None => scope.fault(TypeRule::Arguments),
-        }
+        place_argument(context, notes, &mut found, parameters, place, value)?;
     }
-    add_defaults(scope, &mut found, parameters)?;
-    Ok(found)
+    add_defaults(context, notes, &mut found, parameters)?;
+    Ok(found.complete())
 }
 
-fn add_defaults(
-    scope: &mut Scope<'_>,
+// Gives the parameter at this place an argument.
+fn place_argument(
+    context: &Context<'_>,
+    notes: &mut Notes,
     found: &mut Arguments,
     parameters: Parameters<'_>,
-) -> Result<(), OutOfMemory> {
+    place: Option<usize>,
+    value: Typed,
+) -> Result<(), OutOfMemory>
+    ensures { ParametersInRange (bounds_of context.now) parameters → ArgumentsInRange (bounds_of context.now) found.old → TypedInRange (bounds_of context.now) value → OnOk result (ArgumentsInRange (bounds_of context.now) found.new) }
+{
+    let free = match place {
+        Some(place) => found.free(place),
+        None => None,
+    };
+    let Some(place) = free else {
+        context.fault(notes, TypeRule::Arguments);
+        return Ok(());
+    };
+    let kind = parameters.kind(context, place)?;
+    let core = convert(context, notes, value, kind)?;
+    found.add(place, core)
+}
+
+// Gives each parameter that has none its default argument.
+fn add_defaults(
+    context: &Context<'_>,
+    notes: &mut Notes,
+    found: &mut Arguments,
+    parameters: Parameters<'_>,
+) -> Result<(), OutOfMemory>
+    ensures { ArgumentsInRange (bounds_of context.now) found.old → OnOk result (ArgumentsInRange (bounds_of context.now) found.new) }
+{
     for place in 0..parameters.count() {
-        if found.free(Some(place)).is_none() {
-            continue;
-        }
-        let Some(default) = parameters.default(scope.catalog, place)? else {
-            scope.fault(TypeRule::Arguments);
-            return Ok(());
-        };
-        if !scope.notes.takes_default() {
+        if let Some(place) = found.free(place)
+            && !add_default(context, notes, found, parameters, place)?
+        {
             return Ok(());
         }
-        if let Some(text) = parameters.default_text(place) {
-            scope.notes.write_out(text)?;
-        }
-        found.add(place, default)?;
     }
     Ok(())
+}
+
+// Gives a parameter its default argument, and whether there is one.
+fn add_default(
+    context: &Context<'_>,
+    notes: &mut Notes,
+    found: &mut Arguments,
+    parameters: Parameters<'_>,
+    place: usize,
+) -> Result<bool, OutOfMemory>
+    requires { place < vec_len found.old.filled }
+    ensures { ArgumentsInRange (bounds_of context.now) found.old → OnOk result (ArgumentsInRange (bounds_of context.now) found.new) }
+{
+    let Some(default) = parameters.default(context, place)? else {
+        context.fault(notes, TypeRule::Arguments);
+        return Ok(false);
+    };
+    if !notes.takes_default() {
+        return Ok(false);
+    }
+    if let Some(text) = parameters.default_text(place) {
+        notes.write_out(text)?;
+    }
+    found.add(place, default)?;
+    Ok(true)
 }

@@ -1,12 +1,19 @@
 // Assignments.
+ghost use Rattle.std.specs.Prelude.{◌≡◌, IfOk, IfSome};
+ghost use Rattle.core_tree.specs.InRange.{ResultInRange};
+ghost use Rattle.expression_rules.specs.Operations.{sign_of_change};
+ghost use Rattle.expression_rules.specs.Ranges.{CoreInRange, FormInRange, TypedInRange, TargetInRange, ChangeInRange, ContextInRange, bounds_of};
 
+use crate::context::Context;
 use crate::conversions::convert;
+use crate::expression::{any, value};
 use crate::members::{Access, indexed, own_variable, property_of, property_type};
+use crate::notes::Notes;
 use crate::operators::{arithmetic, operand_type, operation};
 use crate::rule::TypeRule;
-use crate::scope::Scope;
-use crate::typed::{Typed, nothing};
-use crate::words::{Meaning, meaning, member_of_word};
+use crate::trees::{field, local, nothing, own_instance, state_text};
+use crate::typed::Typed;
+use crate::words::{Meaning, meaning_of, member_of_word};
 use core_tree::{Arith, Core, CoreStatement, CoreType};
 use line_parser::Expr;
 use papy_base::{Name, OutOfMemory};
@@ -16,7 +23,7 @@ use type_scope::Kind;
 
 /// What is assigned to, with its type where that is known.
 #[derive(Drop)]
-enum Place<'t> {
+pub(crate) enum Target<'t> {
     Local(u16, Option<CoreType>),
     Field(u16, Option<CoreType>),
     State,
@@ -26,28 +33,33 @@ enum Place<'t> {
 
 /// An assignment, also one such as `+=`.
 pub(crate) fn assign(
-    scope: &mut Scope<'_>,
+    context: &Context<'_>,
+    notes: &mut Notes,
     target: &Expr,
     sign: Sign,
-    value: &Expr,
-) -> Result<CoreStatement, OutOfMemory> {
+    right: &Expr,
+) -> Result<CoreStatement, OutOfMemory>
+    ensures { ContextInRange context.now → IfOk result (FormInRange (bounds_of context.now)) }
+{
     let change = change_of(sign);
     let access = if change.is_some() {
         Access::Change
     } else {
         Access::Write
     };
-    let place = place(scope, target, access)?;
-    let value = scope.value(value)?;
+    let place = target_place(context, notes, target, access)?;
+    let right = value(context, notes, right)?;
     match (place, change) {
         (None, _) => Ok(CoreStatement::Plain(nothing())),
-        (Some(place), None) => store(scope, place, value),
-        (Some(place), Some(sign)) => change_place(scope, place, sign, value),
+        (Some(place), None) => store(context, notes, place, right),
+        (Some(place), Some(sign)) => change_place(context, notes, place, sign, right),
     }
 }
 
 // The sign between two values that an assignment such as `+=` stands for.
-fn change_of(sign: Sign) -> Option<Sign> {
+fn change_of(sign: Sign) -> Option<Sign>
+    ensures { result ≡ sign_of_change sign }
+{
     match sign {
         Sign::PlusAssign => Some(Sign::Plus),
         Sign::MinusAssign => Some(Sign::Minus),
@@ -59,113 +71,136 @@ fn change_of(sign: Sign) -> Option<Sign> {
 }
 
 // What is assigned to, none where a rule is broken in it.
-fn place<'t>(
-    scope: &mut Scope<'_>,
+fn target_place<'t>(
+    context: &Context<'_>,
+    notes: &mut Notes,
     target: &'t Expr,
     access: Access,
-) -> Result<Option<Place<'t>>, OutOfMemory> {
+) -> Result<Option<Target<'t>>, OutOfMemory>
+    ensures { ContextInRange context.now → IfOk result (λ found. IfSome found (TargetInRange (bounds_of context.now))) }
+{
     match target {
-        Expr::Word(name) => word_place(scope, name, access),
-        Expr::Member { of, name } => member_place(scope, of, name, access),
-        Expr::Index { of, at } => element_place(scope, of, at),
+        Expr::Word(name) => word_place(context, notes, name, access),
+        Expr::Member { of, name } => member_place(context, notes, of, name, access),
+        Expr::Index { of, at } => element_place(context, notes, of, at),
         other => {
-            let _ = scope.any(other)?;
-            scope.fault(TypeRule::NotAssignable);
+            let _ = any(context, notes, other)?;
+            context.fault(notes, TypeRule::NotAssignable);
             Ok(None)
         }
     }
 }
 
 fn word_place<'t>(
-    scope: &mut Scope<'_>,
+    context: &Context<'_>,
+    notes: &mut Notes,
     name: &'t Name,
     access: Access,
-) -> Result<Option<Place<'t>>, OutOfMemory> {
-    match meaning(scope, name)? {
+) -> Result<Option<Target<'t>>, OutOfMemory>
+    ensures { ContextInRange context.now → IfOk result (λ found. IfSome found (TargetInRange (bounds_of context.now))) }
+{
+    match meaning_of(context, name)? {
         None => {
-            scope.fault(TypeRule::UnknownName);
+            context.fault(notes, TypeRule::UnknownName);
             Ok(None)
         }
-        Some(Meaning::Local(number, kind)) => Ok(Some(Place::Local(number, kind))),
-        Some(Meaning::State) => Ok(Some(Place::State)),
+        Some(Meaning::Local(number, kind)) => Ok(Some(Target::Local(number, kind))),
+        Some(Meaning::State) => Ok(Some(Target::State)),
         Some(Meaning::Field(number, kind)) => {
-            scope.needs_instance();
-            Ok(Some(Place::Field(number, kind)))
+            context.needs_instance(notes);
+            Ok(Some(Target::Field(number, kind)))
         }
         Some(Meaning::Property(at)) => {
-            scope.needs_instance();
-            property_place(scope, Core::SelfValue, at, name, access)
+            context.needs_instance(notes);
+            property_place(context, notes, own_instance(), at, name, access)
         }
     }
 }
 
 fn member_place<'t>(
-    scope: &mut Scope<'_>,
+    context: &Context<'_>,
+    notes: &mut Notes,
     of: &Expr,
     name: &'t Name,
     access: Access,
-) -> Result<Option<Place<'t>>, OutOfMemory> {
+) -> Result<Option<Target<'t>>, OutOfMemory>
+    ensures { ContextInRange context.now → IfOk result (λ found. IfSome found (TargetInRange (bounds_of context.now))) }
+{
     if let Expr::Word(word) = of
-        && meaning(scope, word)?.is_none()
+        && meaning_of(context, word)?.is_none()
     {
-        let _ = member_of_word(scope, word)?;
+        let _ = member_of_word(context, notes, word)?;
         return Ok(None);
     }
-    let of = scope.value(of)?;
-    match property_of(scope, of.kind, name) {
-        Some(at) => property_place(scope, of.core, at, name, access),
+    let of = value(context, notes, of)?;
+    match property_of(context, notes, of.kind, name) {
+        Some(at) => property_place(context, notes, of.core, at, name, access),
         None => Ok(None),
     }
 }
 
 fn property_place<'t>(
-    scope: &mut Scope<'_>,
+    context: &Context<'_>,
+    notes: &mut Notes,
     of: Core,
     at: PropertyRef,
     name: &'t Name,
     access: Access,
-) -> Result<Option<Place<'t>>, OutOfMemory> {
-    let kind = property_type(scope, at, access)?;
-    Ok(Some(match own_variable(scope, &of, at) {
-        Some(number) => Place::Field(number, kind),
-        None => Place::Property(of, name, kind),
+) -> Result<Option<Target<'t>>, OutOfMemory>
+    ensures { CoreInRange (bounds_of context.now) of → IfOk result (λ found. IfSome found (TargetInRange (bounds_of context.now))) }
+{
+    let kind = property_type(context, notes, at, access)?;
+    Ok(Some(match own_variable(context, &of, at) {
+        Some(number) => Target::Field(number, kind),
+        None => Target::Property(of, name, kind),
     }))
 }
 
 fn element_place<'t>(
-    scope: &mut Scope<'_>,
+    context: &Context<'_>,
+    notes: &mut Notes,
     of: &Expr,
     at: &Expr,
-) -> Result<Option<Place<'t>>, OutOfMemory> {
-    let of = scope.value(of)?;
-    let at = scope.value(at)?;
-    let at = convert(scope, at, Some(CoreType::Int))?;
-    match indexed(scope, of.kind) {
-        Some(element) => Ok(Some(Place::Element(of.core, at, element))),
+) -> Result<Option<Target<'t>>, OutOfMemory>
+    ensures { ContextInRange context.now → IfOk result (λ found. IfSome found (TargetInRange (bounds_of context.now))) }
+{
+    let of = value(context, notes, of)?;
+    let at = value(context, notes, at)?;
+    let at = convert(context, notes, at, Some(CoreType::Int))?;
+    match indexed(context, notes, of.kind) {
+        Some(element) => Ok(Some(Target::Element(of.core, at, element))),
         None => Ok(None),
     }
 }
 
 // `=`
 fn store(
-    scope: &mut Scope<'_>,
-    place: Place<'_>,
+    context: &Context<'_>,
+    notes: &mut Notes,
+    place: Target<'_>,
     value: Typed,
-) -> Result<CoreStatement, OutOfMemory> {
+) -> Result<CoreStatement, OutOfMemory>
+    ensures { TargetInRange (bounds_of context.now) place → TypedInRange (bounds_of context.now) value → IfOk result (FormInRange (bounds_of context.now)) }
+{
     Ok(match place {
-        Place::Local(number, kind) => {
-            CoreStatement::SetLocal(number, convert(scope, value, kind)?)
+        Target::Local(number, kind) => {
+            CoreStatement::SetLocal(number, convert(context, notes, value, kind)?)
         }
-        Place::Field(number, kind) => {
-            CoreStatement::SetField(number, convert(scope, value, kind)?)
+        Target::Field(number, kind) => {
+            CoreStatement::SetField(number, convert(context, notes, value, kind)?)
         }
-        Place::State => CoreStatement::SetState(convert(scope, value, Some(CoreType::Text))?),
-        Place::Property(of, name, kind) => {
-            let value = convert(scope, value, kind)?;
-            CoreStatement::SetProp(of, name.try_clone(scope.catalog.alloc)?, value)
+        Target::State => CoreStatement::SetState(convert(
+            context,
+            notes,
+            value,
+            Some(CoreType::Text),
+        )?),
+        Target::Property(of, name, kind) => {
+            let value = convert(context, notes, value, kind)?;
+            CoreStatement::SetProp(of, name.try_clone(context.catalog.alloc)?, value)
         }
-        Place::Element(array, at, kind) => {
-            CoreStatement::SetElement(array, at, convert(scope, value, Some(kind))?)
+        Target::Element(array, at, kind) => {
+            CoreStatement::SetElement(array, at, convert(context, notes, value, Some(kind))?)
         }
     })
 }
@@ -173,82 +208,100 @@ fn store(
 // An assignment such as `+=`. A local or a variable gets the new value, and a property or an element is
 // changed in one statement.
 fn change_place(
-    scope: &mut Scope<'_>,
-    place: Place<'_>,
+    context: &Context<'_>,
+    notes: &mut Notes,
+    place: Target<'_>,
     sign: Sign,
     value: Typed,
-) -> Result<CoreStatement, OutOfMemory> {
+) -> Result<CoreStatement, OutOfMemory>
+    ensures { TargetInRange (bounds_of context.now) place → TypedInRange (bounds_of context.now) value → IfOk result (FormInRange (bounds_of context.now)) }
+{
     match place {
-        Place::Local(number, kind) => {
-            let new = changed(scope, Core::Local(number), kind, sign, value)?;
+        Target::Local(number, kind) => {
+            let new = changed(context, notes, local(number), kind, sign, value)?;
             Ok(CoreStatement::SetLocal(number, new))
         }
-        Place::Field(number, kind) => {
-            let new = changed(scope, Core::Field(number), kind, sign, value)?;
+        Target::Field(number, kind) => {
+            let new = changed(context, notes, field(number), kind, sign, value)?;
             Ok(CoreStatement::SetField(number, new))
         }
-        Place::State => {
-            let new = changed(scope, Core::StateText, Some(CoreType::Text), sign, value)?;
+        Target::State => {
+            let new = changed(
+                context,
+                notes,
+                state_text(),
+                Some(CoreType::Text),
+                sign,
+                value,
+            )?;
             Ok(CoreStatement::SetState(new))
         }
-        Place::Property(of, name, kind) => {
-            let name = name.try_clone(scope.catalog.alloc)?;
-            Ok(match change(scope, kind, sign, value)? {
+        Target::Property(of, name, kind) => {
+            let name = name.try_clone(context.catalog.alloc)?;
+            Ok(match change_in_place(context, notes, kind, sign, value)? {
                 Some(new) => {
                     CoreStatement::ChangeProp(of, name, new.kind, new.operation, new.right)
                 }
                 None => CoreStatement::Plain(nothing()),
             })
         }
-        Place::Element(array, at, kind) => Ok(match change(scope, Some(kind), sign, value)? {
-            Some(new) => {
-                CoreStatement::ChangeElement(array, at, new.kind, new.operation, new.right)
-            }
-            None => CoreStatement::Plain(nothing()),
-        }),
+        Target::Element(array, at, kind) => Ok(
+            match change_in_place(context, notes, Some(kind), sign, value)? {
+                Some(new) => {
+                    CoreStatement::ChangeElement(array, at, new.kind, new.operation, new.right)
+                }
+                None => CoreStatement::Plain(nothing()),
+            },
+        ),
     }
 }
 
 // The new value, as the type of what keeps it.
 fn changed(
-    scope: &mut Scope<'_>,
+    context: &Context<'_>,
+    notes: &mut Notes,
     old: Core,
     kind: Option<CoreType>,
     sign: Sign,
     value: Typed,
-) -> Result<Core, OutOfMemory> {
-    let new = arithmetic(scope, sign, Typed::found(old, kind), value)?;
-    convert(scope, new, kind)
+) -> Result<Core, OutOfMemory>
+    ensures { CoreInRange (bounds_of context.now) old → ResultInRange (bounds_of context.now).functions kind → TypedInRange (bounds_of context.now) value → IfOk result (CoreInRange (bounds_of context.now)) }
+{
+    let new = arithmetic(context, notes, sign, Typed::found(old, kind), value)?;
+    convert(context, notes, new, kind)
 }
 
 // A change of a property or an element: its type, the operation, and the right side.
 #[derive(Drop)]
-struct Change {
-    kind: CoreType,
-    operation: Arith,
-    right: Core,
+pub(crate) struct Change {
+    pub(crate) kind: CoreType,
+    pub(crate) operation: Arith,
+    pub(crate) right: Core,
 }
 
 // The change, none where a rule is broken in it. The tree has no place for a conversion of the old or of the
 // new value, so both have the type of the operation.
-fn change(
-    scope: &mut Scope<'_>,
+fn change_in_place(
+    context: &Context<'_>,
+    notes: &mut Notes,
     kind: Option<CoreType>,
     sign: Sign,
     value: Typed,
-) -> Result<Option<Change>, OutOfMemory> {
+) -> Result<Option<Change>, OutOfMemory>
+    ensures { ResultInRange (bounds_of context.now).functions kind → TypedInRange (bounds_of context.now) value → IfOk result (λ found. IfSome found (ChangeInRange (bounds_of context.now))) }
+{
     let Some(kind) = kind else {
         return Ok(None);
     };
-    let Some(operation) = operation(scope, sign, Kind::Of(kind), value.kind) else {
+    let Some(operation) = operation(context, notes, sign, Kind::Of(kind), value.kind) else {
         return Ok(None);
     };
     let to = operand_type(operation);
     if kind != to {
-        scope.fault(TypeRule::NoConversion);
+        context.fault(notes, TypeRule::NoConversion);
         return Ok(None);
     }
-    let right = convert(scope, value, Some(to))?;
+    let right = convert(context, notes, value, Some(to))?;
     Ok(Some(Change {
         kind,
         operation,

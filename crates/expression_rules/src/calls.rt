@@ -1,249 +1,279 @@
 // The forms of calls.
+ghost use Rattle.std.specs.Prelude.{IfOk, IfSome};
+ghost use Rattle.core_tree.specs.InRange.{Bounds, FunctionThere, TypeInRange, ResultInRange};
+ghost use Rattle.type_scope.specs.Scope.{KindInRange};
+ghost use Rattle.expression_rules.specs.Ranges.{CoreInRange, TypedInRange, GivenInRange, CompleteInRange, OutcomeInRange, bounds_of};
 
-use crate::arguments::{Arguments, Given, arguments};
+use crate::arguments::{Arguments, Given, place_arguments};
+use crate::context::Context;
 use crate::members::element_kind;
+use crate::notes::Notes;
 use crate::parameters::Parameters;
 use crate::rule::TypeRule;
-use crate::scope::Scope;
-use crate::typed::{Typed, boxed, nothing};
+use crate::trees::{
+    Direction, Passed, global_called, method_called, native_called, nothing, own_instance,
+    parent_called, searched,
+};
+use crate::typed::Typed;
 use core_tree::{Core, CoreType};
-use line_parser::Heading;
+use line_parser::{Heading, TypeName};
 use papy_base::{Name, OutOfMemory};
 use type_scope::{Callee, Kind};
 
 /// `name(arguments)`: a function of the script or of a parent, else a Global one of an import.
 pub(crate) fn plain_call(
-    scope: &mut Scope<'_>,
+    context: &Context<'_>,
+    notes: &mut Notes,
     name: &Name,
     given: Vec<Given<'_>>,
-) -> Result<Typed, OutOfMemory> {
-    let found = match scope.catalog.find_function(scope.script, name) {
-        Some(callee) => Some(callee),
-        None => scope.catalog.find_imported(scope.script, name)?,
-    };
-    let Some(callee) = found else {
-        return Ok(no_function(scope));
+) -> Result<Typed, OutOfMemory>
+    ensures { GivenInRange (bounds_of context.now) given.items → IfOk result (TypedInRange (bounds_of context.now)) }
+{
+    let Some(callee) = plain_callee(context, name)? else {
+        return Ok(no_function(context, notes));
     };
     if callee.heading.is_global {
-        return global_call(scope, callee, given);
+        return global_call(context, notes, callee, given);
     }
-    scope.needs_instance();
-    method_call(scope, Core::SelfValue, callee, name, given)
+    context.needs_instance(notes);
+    method_call(context, notes, own_instance(), callee.heading, name, given)
+}
+
+fn plain_callee<'s>(context: &Context<'s>, name: &Name) -> Result<Option<Callee<'s>>, OutOfMemory>
+    ensures { IfOk result (λ found. IfSome found (λ callee. FunctionThere (bounds_of context.now).functions callee.at)) }
+{
+    match context.catalog.find_function(context.script, name) {
+        Some(callee) => Ok(Some(callee)),
+        None => context.catalog.find_imported(context.script, name),
+    }
 }
 
 /// `Parent.name(arguments)`
 pub(crate) fn parent_call(
-    scope: &mut Scope<'_>,
+    context: &Context<'_>,
+    notes: &mut Notes,
     name: &Name,
     given: Vec<Given<'_>>,
-) -> Result<Typed, OutOfMemory> {
-    scope.needs_instance();
-    let Some(parent) = scope.catalog.parent_of(scope.script)? else {
-        scope.fault(TypeRule::NoParent);
+) -> Result<Typed, OutOfMemory>
+    ensures { GivenInRange (bounds_of context.now) given.items → IfOk result (TypedInRange (bounds_of context.now)) }
+{
+    context.needs_instance(notes);
+    let Some(parent) = context.catalog.parent_of(context.script)? else {
+        context.fault(notes, TypeRule::NoParent);
         return Ok(Typed::unknown());
     };
-    let Some(callee) = method_named(scope, parent, name) else {
-        return Ok(no_function(scope));
+    let Some(heading) = method_named(context, parent, name) else {
+        return Ok(no_function(context, notes));
     };
-    let made = called(scope, callee.heading, given)?;
-    let core = Core::CallParent {
-        name: name.try_clone(scope.catalog.alloc)?,
-        arguments: made.arguments,
-        places: made.places,
-        result: made.result,
+    let Outcome { passed, kind } = called(context, notes, heading, given)?;
+    let core = match passed {
+        Some(passed) => parent_called(context.catalog.alloc, name, passed)?,
+        None => nothing(),
     };
-    Ok(Typed {
-        core,
-        kind: made.kind,
-    })
+    Ok(Typed { core, kind })
 }
 
 /// `word.name(arguments)` where the word names no value: a Global function of the script of that name, or of
 /// a parent of it.
 pub(crate) fn script_call(
-    scope: &mut Scope<'_>,
+    context: &Context<'_>,
+    notes: &mut Notes,
     word: &Name,
     name: &Name,
     given: Vec<Given<'_>>,
-) -> Result<Typed, OutOfMemory> {
-    let Some(script) = scope.catalog.find_script(word)? else {
-        scope.fault(TypeRule::UnknownName);
+) -> Result<Typed, OutOfMemory>
+    ensures { GivenInRange (bounds_of context.now) given.items → IfOk result (TypedInRange (bounds_of context.now)) }
+{
+    let Some(script) = context.catalog.find_script(word)? else {
+        context.fault(notes, TypeRule::UnknownName);
         return Ok(Typed::unknown());
     };
-    match scope.catalog.find_function(script, name) {
-        Some(callee) if callee.heading.is_global => global_call(scope, callee, given),
-        _ => Ok(no_function(scope)),
+    match context.catalog.find_function(script, name) {
+        Some(callee) if callee.heading.is_global => global_call(context, notes, callee, given),
+        _ => Ok(no_function(context, notes)),
     }
 }
 
 /// `of.name(arguments)`: a search in an array, or a function of the value's script or of a parent.
 pub(crate) fn member_call(
-    scope: &mut Scope<'_>,
+    context: &Context<'_>,
+    notes: &mut Notes,
     of: Typed,
     name: &Name,
     given: Vec<Given<'_>>,
-) -> Result<Typed, OutOfMemory> {
+) -> Result<Typed, OutOfMemory>
+    ensures { TypedInRange (bounds_of context.now) of → GivenInRange (bounds_of context.now) given.items → IfOk result (TypedInRange (bounds_of context.now)) }
+{
     if of.is_unknown() {
         return Ok(Typed::unknown());
     }
     if let Some(element) = element_kind(of.kind) {
-        return array_call(scope, of.core, element, name, given);
+        return array_call(context, notes, of.core, element, name, given);
     }
-    let Kind::Of(CoreType::Script(script)) = of.kind else {
-        return Ok(no_function(scope));
-    };
-    match method_named(scope, script, name) {
-        Some(callee) => method_call(scope, of.core, callee, name, given),
-        None => Ok(no_function(scope)),
+    match method_of(context, of.kind, name) {
+        Some(heading) => method_call(context, notes, of.core, heading, name, given),
+        None => Ok(no_function(context, notes)),
     }
 }
 
 fn array_call(
-    scope: &mut Scope<'_>,
+    context: &Context<'_>,
+    notes: &mut Notes,
     array: Core,
     element: CoreType,
     name: &Name,
     given: Vec<Given<'_>>,
-) -> Result<Typed, OutOfMemory> {
-    if name.as_bytes().eq_ignore_ascii_case(b"find") {
-        let parameters = Parameters::Search { element, start: 0 };
-        let (value, start) = search_arguments(scope, given, parameters)?;
-        let alloc = scope.catalog.alloc;
-        let core = Core::Find(
-            boxed(alloc, array)?,
-            boxed(alloc, value)?,
-            boxed(alloc, start)?,
-        );
-        return Ok(Typed::of(core, CoreType::Int));
-    }
-    if !name.as_bytes().eq_ignore_ascii_case(b"rfind") {
-        return Ok(no_function(scope));
-    }
-    let parameters = Parameters::Search { element, start: -1 };
-    let (value, start) = search_arguments(scope, given, parameters)?;
-    let alloc = scope.catalog.alloc;
-    let core = Core::FindBack(
-        boxed(alloc, array)?,
-        boxed(alloc, value)?,
-        boxed(alloc, start)?,
-    );
+) -> Result<Typed, OutOfMemory>
+    ensures { CoreInRange (bounds_of context.now) array → TypeInRange (bounds_of context.now).functions element → GivenInRange (bounds_of context.now) given.items → IfOk result (TypedInRange (bounds_of context.now)) }
+{
+    let Some(direction) = search_named(name) else {
+        return Ok(no_function(context, notes));
+    };
+    let parameters = Parameters::Search {
+        element,
+        start: first_place(direction),
+    };
+    let found = place_arguments(context, notes, given, parameters)?;
+    let core = match value_and_start(found) {
+        Some((value, start)) => { searched(context.catalog.alloc, direction, array, value, start)? }
+        None => nothing(),
+    };
     Ok(Typed::of(core, CoreType::Int))
 }
 
-// The value that is looked for, and the place to start at.
-fn search_arguments(
-    scope: &mut Scope<'_>,
-    given: Vec<Given<'_>>,
-    parameters: Parameters<'_>,
-) -> Result<(Core, Core), OutOfMemory> {
-    let found = arguments(scope, given, parameters)?;
-    let mut value = nothing();
-    let mut start = nothing();
-    for (core, place) in found.cores.into_iter().zip(found.places) {
-        if place == 0 {
-            value = core;
-        } else {
-            start = core;
-        }
+fn search_named(name: &Name) -> Option<Direction> {
+    if name.as_bytes().eq_ignore_ascii_case(b"find") {
+        Some(Direction::Forward)
+    } else if name.as_bytes().eq_ignore_ascii_case(b"rfind") {
+        Some(Direction::Back)
+    } else {
+        None
     }
-    Ok((value, start))
 }
 
-// What calls of a function have in common.
+// Where a search starts that doesn't say it.
+fn first_place(direction: Direction) -> i32 {
+    match direction {
+        Direction::Forward => 0,
+        Direction::Back => -1,
+    }
+}
+
+// The value that is looked for, and the place to start at.
+fn value_and_start(found: Option<Arguments>) -> Option<(Core, Core)>
+    ensures { (b : Bounds) → IfSome found (CompleteInRange b) → IfSome result (λ parts. CoreInRange b parts.0 × CoreInRange b parts.1) }
+{
+    let mut found = found?;
+    let second = found.cores.pop()?;
+    let first = found.cores.pop()?;
+    if found.places.first() == Some(&0) {
+        Some((first, second))
+    } else {
+        Some((second, first))
+    }
+}
+
+// What a call passes, none where a rule is broken in it, and what is known of the type that it gives.
 #[derive(Drop)]
-struct Made {
-    arguments: Vec<Core>,
-    places: Vec<u16>,
-    result: Option<CoreType>,
-    kind: Kind,
+pub(crate) struct Outcome {
+    pub(crate) passed: Option<Passed>,
+    pub(crate) kind: Kind,
 }
 
 fn called(
-    scope: &mut Scope<'_>,
+    context: &Context<'_>,
+    notes: &mut Notes,
     heading: &Heading,
     given: Vec<Given<'_>>,
-) -> Result<Made, OutOfMemory> {
+) -> Result<Outcome, OutOfMemory>
+    ensures { GivenInRange (bounds_of context.now) given.items → IfOk result (OutcomeInRange (bounds_of context.now)) }
+{
     let parameters = Parameters::Declared(heading.parameters.as_slice());
-    let Arguments { cores, places, .. } = arguments(scope, given, parameters)?;
-    let (result, kind) = match &heading.result {
-        Some(name) => {
-            let result = scope.catalog.type_of(name)?;
-            (result, Kind::from_type(result))
-        }
-        None => (None, Kind::Nothing),
+    let found = place_arguments(context, notes, given, parameters)?;
+    let (result_type, kind) = result_of(context, &heading.result)?;
+    let passed = match found {
+        Some(found) => Some(Passed {
+            arguments: found.cores,
+            places: found.places,
+            result: result_type,
+        }),
+        None => None,
     };
-    Ok(Made {
-        arguments: cores,
-        places,
-        result,
-        kind,
-    })
+    Ok(Outcome { passed, kind })
+}
+
+// The type that a function gives, and what is known of it.
+fn result_of(
+    context: &Context<'_>,
+    name: &Option<TypeName>,
+) -> Result<(Option<CoreType>, Kind), OutOfMemory>
+    ensures { IfOk result (λ found. ResultInRange (bounds_of context.now).functions found.0 × KindInRange (bounds_of context.now).functions found.1) }
+{
+    match name {
+        Some(name) => {
+            let found = context.catalog.type_of(name)?;
+            Ok((found, Kind::from_type(found)))
+        }
+        None => Ok((None, Kind::Nothing)),
+    }
 }
 
 fn global_call(
-    scope: &mut Scope<'_>,
+    context: &Context<'_>,
+    notes: &mut Notes,
     callee: Callee<'_>,
     given: Vec<Given<'_>>,
-) -> Result<Typed, OutOfMemory> {
-    scope.notes.write_out(callee.heading.name.as_bytes())?;
-    let Made {
-        arguments,
-        places,
-        result,
-        kind,
-    } = called(scope, callee.heading, given)?;
-    let at = callee.at;
-    let core = if callee.heading.is_native {
-        Core::CallNative {
-            at,
-            arguments,
-            places,
-            result,
-        }
-    } else {
-        Core::CallGlobal {
-            at,
-            arguments,
-            places,
-            result,
-        }
+) -> Result<Typed, OutOfMemory>
+    ensures { FunctionThere (bounds_of context.now).functions callee.at → GivenInRange (bounds_of context.now) given.items → IfOk result (TypedInRange (bounds_of context.now)) }
+{
+    notes.write_out(callee.heading.name.as_bytes())?;
+    let Outcome { passed, kind } = called(context, notes, callee.heading, given)?;
+    let core = match passed {
+        Some(passed) if callee.heading.is_native => native_called(callee.at, passed),
+        Some(passed) => global_called(callee.at, passed),
+        None => nothing(),
     };
     Ok(Typed { core, kind })
 }
 
 fn method_call(
-    scope: &mut Scope<'_>,
+    context: &Context<'_>,
+    notes: &mut Notes,
     of: Core,
-    callee: Callee<'_>,
+    heading: &Heading,
     name: &Name,
     given: Vec<Given<'_>>,
-) -> Result<Typed, OutOfMemory> {
-    let made = called(scope, callee.heading, given)?;
-    let alloc = scope.catalog.alloc;
-    let core = Core::CallMethod {
-        of: boxed(alloc, of)?,
-        name: name.try_clone(alloc)?,
-        arguments: made.arguments,
-        places: made.places,
-        result: made.result,
+) -> Result<Typed, OutOfMemory>
+    ensures { CoreInRange (bounds_of context.now) of → GivenInRange (bounds_of context.now) given.items → IfOk result (TypedInRange (bounds_of context.now)) }
+{
+    let Outcome { passed, kind } = called(context, notes, heading, given)?;
+    let core = match passed {
+        Some(passed) => method_called(context.catalog.alloc, of, name, passed)?,
+        None => nothing(),
     };
-    Ok(Typed {
-        core,
-        kind: made.kind,
-    })
+    Ok(Typed { core, kind })
 }
 
-// The nearest function of this name, where it isn't Global.
-fn method_named<'a>(scope: &Scope<'a>, script: u16, name: &Name) -> Option<Callee<'a>> {
-    let callee = scope.catalog.find_function(script, name)?;
-    if callee.heading.is_global {
-        None
-    } else {
-        Some(callee)
+fn method_of<'s>(context: &Context<'s>, kind: Kind, name: &Name) -> Option<&'s Heading> {
+    match kind {
+        Kind::Of(CoreType::Script(script)) => method_named(context, script, name),
+        _ => None,
     }
 }
 
-fn no_function(scope: &mut Scope<'_>) -> Typed {
-    scope.fault(TypeRule::NoFunction);
+// The nearest function of this name, where it isn't Global.
+fn method_named<'s>(context: &Context<'s>, script: u16, name: &Name) -> Option<&'s Heading> {
+    let callee = context.catalog.find_function(script, name)?;
+    if callee.heading.is_global {
+        None
+    } else {
+        Some(callee.heading)
+    }
+}
+
+fn no_function(context: &Context<'_>, notes: &mut Notes) -> Typed
+    ensures { TypedInRange (bounds_of context.now) result }
+{
+    context.fault(notes, TypeRule::NoFunction);
     Typed::unknown()
 }

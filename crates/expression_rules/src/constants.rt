@@ -1,4 +1,7 @@
 // Constants: their values, their types, and whether they fit a parameter.
+ghost use Rattle.std.specs.Prelude.{◌≡◌, IfOk};
+ghost use Rattle.core_tree.specs.InRange.{LiteralInRange};
+ghost use Rattle.expression_rules.specs.Constants.{default_value, constant_value, constant_kind};
 
 use crate::conversions::converts;
 use core_tree::{CoreType, Value};
@@ -8,7 +11,9 @@ use std::alloc::Global;
 use type_scope::{Catalog, Kind};
 
 /// The value at the start of a variable of this type: 0, False, the empty text or None.
-pub fn default_of(alloc: Global, kind: CoreType) -> Result<Value, OutOfMemory> {
+pub fn default_of(alloc: Global, kind: CoreType) -> Result<Value, OutOfMemory>
+    ensures { IfOk result (λ value. value ≡ default_value kind) }
+{
     Ok(match kind {
         CoreType::Int => Value::Int(0),
         CoreType::Bool => Value::Bool(false),
@@ -18,7 +23,10 @@ pub fn default_of(alloc: Global, kind: CoreType) -> Result<Value, OutOfMemory> {
 }
 
 /// A constant's value.
-pub fn value_of(alloc: Global, constant: &Constant) -> Result<Value, OutOfMemory> {
+pub fn value_of(alloc: Global, constant: &Constant) -> Result<Value, OutOfMemory>
+    ensures value { IfOk result (λ value. value ≡ constant_value constant.now) }
+    ensures in_range { IfOk result LiteralInRange }
+{
     Ok(match constant {
         Constant::Int(number) => Value::Int(*number),
         Constant::Bool(truth) => Value::Bool(*truth),
@@ -28,7 +36,9 @@ pub fn value_of(alloc: Global, constant: &Constant) -> Result<Value, OutOfMemory
 }
 
 /// What is known of a constant's type.
-pub fn kind_of(constant: &Constant) -> Kind {
+pub fn kind_of(constant: &Constant) -> Kind
+    ensures { result ≡ constant_kind constant.now }
+{
     match constant {
         Constant::Int(_) => Kind::Of(CoreType::Int),
         Constant::Bool(_) => Kind::Of(CoreType::Bool),
@@ -38,7 +48,10 @@ pub fn kind_of(constant: &Constant) -> Kind {
 }
 
 /// A constant's value, and what is known of its type.
-pub fn literal_of(alloc: Global, constant: &Constant) -> Result<(Value, Kind), OutOfMemory> {
+pub fn literal_of(alloc: Global, constant: &Constant) -> Result<(Value, Kind), OutOfMemory>
+    ensures value { IfOk result (λ found. found.0 ≡ constant_value constant.now) }
+    ensures kind { IfOk result (λ found. found.1 ≡ constant_kind constant.now) }
+{
     Ok((value_of(alloc, constant)?, kind_of(constant)))
 }
 

@@ -1,8 +1,15 @@
 // Which types convert to which, and the conversions that are written out.
+ghost use Rattle.std.specs.Prelude.{◌≡◌, IfOk, IfSome, List, ℕ};
+ghost use Rattle.core_tree.specs.InRange.{Bounds, ResultInRange};
+ghost use Rattle.type_scope.specs.Scope.{KindInRange};
+ghost use Rattle.expression_rules.specs.Conversions.{prints};
+ghost use Rattle.expression_rules.specs.Ranges.{CoreInRange, TypedInRange, bounds_of};
 
+use crate::context::Context;
+use crate::notes::Notes;
 use crate::rule::TypeRule;
-use crate::scope::Scope;
-use crate::typed::{Typed, boxed, nothing};
+use crate::trees::{cast_to, nothing};
+use crate::typed::Typed;
 use core_tree::{Core, CoreType};
 use line_parser::TypeName;
 use papy_base::OutOfMemory;
@@ -10,32 +17,42 @@ use type_scope::{Catalog, Kind};
 
 /// The tree of a value as this type: the value's own where it has the type, else with a `Cast`.
 pub(crate) fn convert(
-    scope: &mut Scope<'_>,
+    context: &Context<'_>,
+    notes: &mut Notes,
     typed: Typed,
     to: Option<CoreType>,
-) -> Result<Core, OutOfMemory> {
+) -> Result<Core, OutOfMemory>
+    ensures { (b : Bounds) → ResultInRange b.functions to → TypedInRange b typed → IfOk result (CoreInRange b) }
+{
     let Some(to) = to else {
         return Ok(typed.core);
     };
     if typed.is_unknown() || typed.kind == Kind::Of(to) {
         return Ok(typed.core);
     }
-    if !converts(scope.catalog, typed.kind, to) {
-        scope.fault(TypeRule::NoConversion);
+    if !converts(context.catalog, typed.kind, to) {
+        context.fault(notes, TypeRule::NoConversion);
         return Ok(nothing());
     }
-    Ok(Core::Cast(to, boxed(scope.catalog.alloc, typed.core)?))
+    cast_to(context.catalog.alloc, to, typed.core)
 }
 
 /// `as`
-pub(crate) fn cast(scope: &mut Scope<'_>, of: Typed, to: &TypeName) -> Result<Typed, OutOfMemory> {
-    let Some(to) = scope.kind_named(to)? else {
+pub(crate) fn cast(
+    context: &Context<'_>,
+    notes: &mut Notes,
+    of: Typed,
+    to: &TypeName,
+) -> Result<Typed, OutOfMemory>
+    ensures { TypedInRange (bounds_of context.now) of → IfOk result (TypedInRange (bounds_of context.now)) }
+{
+    let Some(to) = context.kind_named(notes, to)? else {
         return Ok(Typed::unknown());
     };
-    if !casts(scope.catalog, of.kind, to) {
-        scope.fault(TypeRule::NoConversion);
+    if !casts(context.catalog, of.kind, to) {
+        context.fault(notes, TypeRule::NoConversion);
     }
-    let core = Core::Cast(to, boxed(scope.catalog.alloc, of.core)?);
+    let core = cast_to(context.catalog.alloc, to, of.core)?;
     Ok(Typed::of(core, to))
 }
 
@@ -85,25 +102,29 @@ fn type_casts(catalog: &Catalog<'_>, from: CoreType, to: CoreType) -> bool {
 }
 
 /// Whether such values convert to texts by themselves.
-pub(crate) fn prints(kind: Kind) -> bool {
-    matches!(
-        kind,
-        Kind::NoneLiteral
-            | Kind::Of(CoreType::Int | CoreType::Bool | CoreType::Text | CoreType::Script(_))
-    )
+pub(crate) fn prints(kind: Kind) -> bool
+    ensures { result ≡ prints kind }
+{
+    match kind {
+        Kind::NoneLiteral => true,
+        Kind::Of(CoreType::Int | CoreType::Bool | CoreType::Text) => true,
+        Kind::Of(CoreType::Script(_)) => true,
+        _ => false,
+    }
 }
 
 /// The type that both sides of `==` have after at most one of them was cast, none where there is none.
-pub(crate) fn common_kind(catalog: &Catalog<'_>, left: Kind, right: Kind) -> Option<Kind> {
+pub(crate) fn common_kind(catalog: &Catalog<'_>, left: Kind, right: Kind) -> Option<Kind>
+    ensures { (functions : List ℕ) → KindInRange functions left → KindInRange functions right → IfSome result (KindInRange functions) }
+{
     if left == right {
         return Some(left);
     }
-    for to in [CoreType::Text, CoreType::Bool] {
-        if meets(catalog, left, right, to) {
-            return Some(Kind::Of(to));
-        }
-    }
-    if converts_to(catalog, left, right) {
+    if meets(catalog, left, right, CoreType::Text) {
+        Some(Kind::Of(CoreType::Text))
+    } else if meets(catalog, left, right, CoreType::Bool) {
+        Some(Kind::Of(CoreType::Bool))
+    } else if converts_to(catalog, left, right) {
         Some(right)
     } else if converts_to(catalog, right, left) {
         Some(left)

@@ -6,6 +6,7 @@ mod arguments;
 mod assignment;
 mod calls;
 mod constants;
+mod context;
 mod conversions;
 mod expression;
 mod members;
@@ -15,6 +16,7 @@ mod parameters;
 mod rule;
 mod scope;
 mod spine;
+mod trees;
 mod typed;
 mod words;
 

@@ -1,9 +1,15 @@
 // Properties, and the lengths, elements and sizes of arrays.
+ghost use Rattle.std.specs.Prelude.{◌≡◌, ◌<◌, ◌≤◌, ¬◌, pos, IfOk, IfSome, IfNone, List, ℕ};
+ghost use Rattle.core_tree.specs.InRange.{ResultInRange};
+ghost use Rattle.type_scope.specs.Scope.{KindInRange, function_counts};
+ghost use Rattle.expression_rules.specs.Ranges.{CoreInRange, TypedInRange, bounds_of};
 
+use crate::context::Context;
 use crate::conversions::convert;
+use crate::notes::Notes;
 use crate::rule::TypeRule;
-use crate::scope::Scope;
-use crate::typed::{Typed, boxed};
+use crate::trees::{element_at, field, length_of, new_array_of, property_read};
+use crate::typed::Typed;
 use core_tree::{Core, CoreType};
 use papy_base::{Name, OutOfMemory};
 use script_linker::PropertyRef;
@@ -20,74 +26,89 @@ pub(crate) enum Access {
 }
 
 /// `of.name`, read.
-pub(crate) fn member(scope: &mut Scope<'_>, of: Typed, name: &Name) -> Result<Typed, OutOfMemory> {
-    match property_of(scope, of.kind, name) {
-        Some(at) => read_property(scope, of.core, at, name),
+pub(crate) fn member(
+    context: &Context<'_>,
+    notes: &mut Notes,
+    of: Typed,
+    name: &Name,
+) -> Result<Typed, OutOfMemory>
+    ensures { TypedInRange (bounds_of context.now) of → IfOk result (TypedInRange (bounds_of context.now)) }
+{
+    match property_of(context, notes, of.kind, name) {
+        Some(at) => read_property(context, notes, of.core, at, name),
         None => Ok(Typed::unknown()),
     }
 }
 
 /// The property of this name that values of the type have.
-pub(crate) fn property_of(scope: &mut Scope<'_>, kind: Kind, name: &Name) -> Option<PropertyRef> {
+pub(crate) fn property_of(
+    context: &Context<'_>,
+    notes: &mut Notes,
+    kind: Kind,
+    name: &Name,
+) -> Option<PropertyRef> {
     let found = match kind {
         Kind::Unknown => return None,
-        Kind::Of(CoreType::Script(script)) => scope.catalog.find_property(script, name),
+        Kind::Of(CoreType::Script(script)) => context.catalog.find_property(script, name),
         _ => None,
     };
     if found.is_none() {
-        scope.fault(TypeRule::NoProperty);
+        context.fault(notes, TypeRule::NoProperty);
     }
     found
 }
 
 /// The value of a property: a variable, where it is an own Auto property of the frame's instance.
 pub(crate) fn read_property(
-    scope: &mut Scope<'_>,
+    context: &Context<'_>,
+    notes: &mut Notes,
     of: Core,
     at: PropertyRef,
     name: &Name,
-) -> Result<Typed, OutOfMemory> {
-    let Some(result) = property_type(scope, at, Access::Read)? else {
+) -> Result<Typed, OutOfMemory>
+    ensures { CoreInRange (bounds_of context.now) of → IfOk result (TypedInRange (bounds_of context.now)) }
+{
+    let Some(kind) = property_type(context, notes, at, Access::Read)? else {
         return Ok(Typed::unknown());
     };
-    if let Some(number) = own_variable(scope, &of, at) {
-        return Ok(Typed::of(Core::Field(number), result));
+    if let Some(number) = own_variable(context, &of, at) {
+        return Ok(Typed::of(field(number), kind));
     }
-    let alloc = scope.catalog.alloc;
-    let core = Core::PropGet {
-        of: boxed(alloc, of)?,
-        name: name.try_clone(alloc)?,
-        result,
-    };
-    Ok(Typed::of(core, result))
+    let core = property_read(context.catalog.alloc, of, name, kind)?;
+    Ok(Typed::of(core, kind))
 }
 
 /// A property's type. `PropertyDirection` is broken where it can't be used so.
 pub(crate) fn property_type(
-    scope: &mut Scope<'_>,
+    context: &Context<'_>,
+    notes: &mut Notes,
     at: PropertyRef,
     access: Access,
-) -> Result<Option<CoreType>, OutOfMemory> {
-    let Some(property) = scope.catalog.property(at) else {
+) -> Result<Option<CoreType>, OutOfMemory>
+    ensures { IfOk result (ResultInRange (function_counts context.now.catalog.now.set.now)) }
+{
+    let Some(property) = context.catalog.property(at) else {
         return Ok(None);
     };
     if !allows(property, access) {
-        scope.fault(TypeRule::PropertyDirection);
+        context.fault(notes, TypeRule::PropertyDirection);
     }
-    scope.catalog.type_of(&property.kind)
+    context.catalog.type_of(&property.kind)
 }
 
 fn allows(property: &Property, access: Access) -> bool {
     match &property.form {
         PropertyForm::Auto(_) => true,
         PropertyForm::ReadOnly(_) => access == Access::Read,
-        PropertyForm::Full(functions) => match access {
-            Access::Read => has(functions.as_slice(), b"get"),
-            Access::Write => has(functions.as_slice(), b"set"),
-            Access::Change => {
-                has(functions.as_slice(), b"get") && has(functions.as_slice(), b"set")
-            }
-        },
+        PropertyForm::Full(functions) => has_accessors(functions.as_slice(), access),
+    }
+}
+
+fn has_accessors(functions: &[Function], access: Access) -> bool {
+    match access {
+        Access::Read => has(functions, b"get"),
+        Access::Write => has(functions, b"set"),
+        Access::Change => has(functions, b"get") && has(functions, b"set"),
     }
 }
 
@@ -102,47 +123,65 @@ fn has(functions: &[Function], name: &[u8]) -> bool {
 
 /// The number of the variable that keeps a property, where it is an Auto property of the frame's own script
 /// on the frame's own instance.
-pub(crate) fn own_variable(scope: &Scope<'_>, of: &Core, at: PropertyRef) -> Option<u16> {
-    if at.script == scope.script && matches!(of, Core::SelfValue) {
-        scope.layout.auto_variable(at.place)
+pub(crate) fn own_variable(context: &Context<'_>, of: &Core, at: PropertyRef) -> Option<u16>
+    ensures { IfSome result (λ number. number < (bounds_of context.now).variables) }
+{
+    if at.script == context.script && matches!(of, Core::SelfValue) {
+        context.layout.auto_variable(at.place)
     } else {
         None
     }
 }
 
 /// `of.Length`
-pub(crate) fn length(scope: &mut Scope<'_>, of: Typed) -> Result<Typed, OutOfMemory> {
+pub(crate) fn length(
+    context: &Context<'_>,
+    notes: &mut Notes,
+    of: Typed,
+) -> Result<Typed, OutOfMemory>
+    ensures { TypedInRange (bounds_of context.now) of → IfOk result (TypedInRange (bounds_of context.now)) }
+{
     if !of.is_unknown() && element_kind(of.kind).is_none() {
-        scope.fault(TypeRule::NoProperty);
+        context.fault(notes, TypeRule::NoProperty);
         return Ok(Typed::unknown());
     }
-    let core = Core::Length(boxed(scope.catalog.alloc, of.core)?);
+    let core = length_of(context.catalog.alloc, of.core)?;
     Ok(Typed::of(core, CoreType::Int))
 }
 
 /// `of[at]`, read.
-pub(crate) fn element(scope: &mut Scope<'_>, of: Typed, at: Typed) -> Result<Typed, OutOfMemory> {
-    let element = indexed(scope, of.kind);
-    let at = convert(scope, at, Some(CoreType::Int))?;
+pub(crate) fn element(
+    context: &Context<'_>,
+    notes: &mut Notes,
+    of: Typed,
+    at: Typed,
+) -> Result<Typed, OutOfMemory>
+    ensures { TypedInRange (bounds_of context.now) of → TypedInRange (bounds_of context.now) at → IfOk result (TypedInRange (bounds_of context.now)) }
+{
+    let element = indexed(context, notes, of.kind);
+    let at = convert(context, notes, at, Some(CoreType::Int))?;
     let Some(element) = element else {
         return Ok(Typed::unknown());
     };
-    let alloc = scope.catalog.alloc;
-    let core = Core::Element(boxed(alloc, of.core)?, boxed(alloc, at)?, element);
+    let core = element_at(context.catalog.alloc, of.core, at, element)?;
     Ok(Typed::of(core, element))
 }
 
 /// The type of the elements of what `[ ]` stands on.
-pub(crate) fn indexed(scope: &mut Scope<'_>, kind: Kind) -> Option<CoreType> {
+pub(crate) fn indexed(context: &Context<'_>, notes: &mut Notes, kind: Kind) -> Option<CoreType>
+    ensures { (functions : List ℕ) → KindInRange functions kind → ResultInRange functions result }
+{
     let element = element_kind(kind);
     if element.is_none() && kind != Kind::Unknown {
-        scope.fault(TypeRule::Operand);
+        context.fault(notes, TypeRule::Operand);
     }
     element
 }
 
 /// The type of the elements, where this is the type of an array.
-pub(crate) fn element_kind(kind: Kind) -> Option<CoreType> {
+pub(crate) fn element_kind(kind: Kind) -> Option<CoreType>
+    ensures { (functions : List ℕ) → KindInRange functions kind → ResultInRange functions result }
+{
     match kind {
         Kind::Of(array) => element_of(array),
         _ => None,
@@ -151,24 +190,30 @@ pub(crate) fn element_kind(kind: Kind) -> Option<CoreType> {
 
 /// `New word[count]`
 pub(crate) fn new_array(
-    scope: &mut Scope<'_>,
+    context: &Context<'_>,
+    notes: &mut Notes,
     word: &Name,
     count: i32,
-) -> Result<Typed, OutOfMemory> {
+) -> Result<Typed, OutOfMemory>
+    ensures { IfOk result (TypedInRange (bounds_of context.now)) }
+{
     let size = array_size(count);
     if size.is_none() {
-        scope.fault(TypeRule::ArraySize);
+        context.fault(notes, TypeRule::ArraySize);
     }
-    let Some(element) = scope.catalog.element_type(word)? else {
-        scope.fault(TypeRule::UnknownType);
+    let Some(element) = context.catalog.element_type(word)? else {
+        context.fault(notes, TypeRule::UnknownType);
         return Ok(Typed::unknown());
     };
-    let core = Core::NewArray(element, size.unwrap_or(1));
+    let core = new_array_of(element, size.unwrap_or(1));
     Ok(Typed::of(core, array_of(element)))
 }
 
 // The size of an array, where it is one.
-fn array_size(count: i32) -> Option<u8> {
+fn array_size(count: i32) -> Option<u8>
+    ensures some { IfSome result (λ size. (pos size ≡ count) × (1 ≤ size) × (size ≤ 128)) }
+    ensures none { IfNone result ((size : ℕ) → 1 ≤ size → size ≤ 128 → ¬ (pos size ≡ count)) }
+{
     match u8::try_from(count) {
         Ok(size) if size >= 1 && size <= 128 => Some(size),
         _ => None,

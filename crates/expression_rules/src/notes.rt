@@ -1,4 +1,6 @@
 // What is noted while a script is judged.
+ghost use Rattle.std.specs.Prelude.{◌≡◌, ◌↔◌, None, IsTrue, IsSome, IfSome};
+ghost use Rattle.expression_rules.specs.Rules.{Before, IsFirst};
 
 use crate::rule::TypeRule;
 use papy_base::OutOfMemory;
@@ -16,13 +18,14 @@ pub struct Notes {
     first: Option<(u16, TypeRule)>,
     texts: HashSet<Vec<u8>>,
     text_bytes: usize,
-    // How many default arguments were written out.
     defaults: u32,
 }
 
 impl Notes {
     /// Nothing noted.
-    pub fn new(alloc: Global) -> Notes {
+    pub fn new(alloc: Global) -> Notes
+        ensures { result.first ≡ None }
+    {
         Notes {
             alloc,
             first: None,
@@ -33,12 +36,18 @@ impl Notes {
     }
 
     /// Notes that a rule is broken at this line. The first by line and rule number is kept.
-    pub fn note(&mut self, line: u16, rule: TypeRule) {
-        self.first = Some(earlier(self.first, line, rule));
+    pub fn note(&mut self, line: u16, rule: TypeRule)
+        ensures noted { IsSome self.new.first }
+        ensures least { IfSome self.new.first (IsFirst self.old.first line rule) }
+        ensures others { self.new.texts ≡ self.old.texts }
+    {
+        self.first = Some(first_of(self.first, line, rule));
     }
 
     /// The first broken rule by line and rule number, with its line.
-    pub fn first(&self) -> Option<(u16, TypeRule)> {
+    pub fn first(&self) -> Option<(u16, TypeRule)>
+        ensures { result ≡ self.now.first }
+    {
         self.first
     }
 
@@ -48,12 +57,24 @@ impl Notes {
     }
 
     /// How many bytes the different texts have together.
-    pub fn text_bytes(&self) -> usize {
+    pub fn text_bytes(&self) -> usize
+        ensures { result ≡ self.now.text_bytes }
+    {
         self.text_bytes
     }
 
+    /// How many default arguments were written out. A script with over 200,000 of them is too large, and no
+    /// more than 200,001 are written out.
+    pub fn defaults(&self) -> u32
+        ensures { result ≡ self.now.defaults }
+    {
+        self.defaults
+    }
+
     /// Notes that a call writes this text out.
-    pub(crate) fn write_out(&mut self, text: &[u8]) -> Result<(), OutOfMemory> {
+    pub(crate) fn write_out(&mut self, text: &[u8]) -> Result<(), OutOfMemory>
+        ensures { self.new.first ≡ self.old.first }
+    {
         if self.texts.contains(text) {
             return Ok(());
         }
@@ -62,24 +83,35 @@ impl Notes {
         Ok(())
     }
 
-    /// Notes that a default argument is to be written out, and gives whether that is needed: a script with
-    /// so many is refused for its size whatever follows them.
-    pub(crate) fn takes_default(&mut self) -> bool {
-        let fits = self.defaults < DEFAULT_LIMIT;
-        if fits {
-            self.defaults += 1;
+    /// Notes that a default argument is written out, unless there are too many already.
+    pub(crate) fn takes_default(&mut self) -> bool
+        ensures { self.new.first ≡ self.old.first }
+    {
+        if self.defaults > DEFAULT_LIMIT {
+            return false;
         }
-        fits
+        self.defaults += 1;
+        true
     }
 }
 
-fn earlier(first: Option<(u16, TypeRule)>, line: u16, rule: TypeRule) -> (u16, TypeRule) {
+fn first_of(first: Option<(u16, TypeRule)>, line: u16, rule: TypeRule) -> (u16, TypeRule)
+    ensures { IsFirst first line rule result }
+{
     match first {
-        Some((least, known)) if !comes_before(line, rule, least, known) => (least, known),
-        _ => (line, rule),
+        Some((least, known)) => {
+            if comes_before(line, rule, least, known) {
+                (line, rule)
+            } else {
+                (least, known)
+            }
+        }
+        None => (line, rule),
     }
 }
 
-fn comes_before(line: u16, rule: TypeRule, other: u16, known: TypeRule) -> bool {
+fn comes_before(line: u16, rule: TypeRule, other: u16, known: TypeRule) -> bool
+    ensures { IsTrue result ↔ Before line rule other known }
+{
     line < other || (line == other && rule.number() < known.number())
 }

@@ -1,171 +1,236 @@
 // The operators on one and two values.
+ghost use Rattle.std.specs.Prelude.{◌≡◌, IfOk};
+ghost use Rattle.core_tree.specs.InRange.{Bounds};
+ghost use Rattle.expression_rules.specs.Operations.{whole_operation, operation_with_text, operation_of, operand_type};
+ghost use Rattle.expression_rules.specs.Ranges.{TypedInRange};
 
+use crate::context::Context;
 use crate::conversions::{common_kind, convert, prints};
+use crate::notes::Notes;
 use crate::rule::TypeRule;
-use crate::scope::Scope;
-use crate::typed::{Typed, boxed};
-use core_tree::{Arith, Core, CoreType, Order};
+use crate::trees::{both, calculated, compared, either, equated, inverted, joined, negated};
+use crate::typed::Typed;
+use core_tree::{Arith, CoreType, Order};
 use papy_base::OutOfMemory;
 use script_lexer::Sign;
 use type_scope::Kind;
 
 const INT: Kind = Kind::Of(CoreType::Int);
 
-const TEXT: Kind = Kind::Of(CoreType::Text);
-
 /// `-of` or `!of`
-pub(crate) fn unary(scope: &mut Scope<'_>, sign: Sign, of: Typed) -> Result<Typed, OutOfMemory> {
+pub(crate) fn unary(
+    context: &Context<'_>,
+    notes: &mut Notes,
+    sign: Sign,
+    of: Typed,
+) -> Result<Typed, OutOfMemory>
+    ensures { (b : Bounds) → TypedInRange b of → IfOk result (TypedInRange b) }
+{
     if of.is_unknown() {
         return Ok(Typed::unknown());
     }
     if sign == Sign::Not {
-        return invert(scope, of);
+        return opposite(context, notes, of);
     }
     if of.kind != INT {
-        return Ok(bad_operand(scope));
+        return Ok(bad_operand(context, notes));
     }
-    let core = Core::Neg(boxed(scope.catalog.alloc, of.core)?);
+    let core = negated(context.catalog.alloc, of.core)?;
     Ok(Typed::of(core, CoreType::Int))
 }
 
-fn invert(scope: &mut Scope<'_>, of: Typed) -> Result<Typed, OutOfMemory> {
-    let truth = convert(scope, of, Some(CoreType::Bool))?;
-    let core = Core::Not(boxed(scope.catalog.alloc, truth)?);
+// Whether the value is False.
+fn opposite(context: &Context<'_>, notes: &mut Notes, of: Typed) -> Result<Typed, OutOfMemory>
+    ensures { (b : Bounds) → TypedInRange b of → IfOk result (TypedInRange b) }
+{
+    let truth = convert(context, notes, of, Some(CoreType::Bool))?;
+    let core = inverted(context.catalog.alloc, truth)?;
     Ok(Typed::of(core, CoreType::Bool))
 }
 
 /// A sign between two values.
 pub(crate) fn binary(
-    scope: &mut Scope<'_>,
+    context: &Context<'_>,
+    notes: &mut Notes,
     sign: Sign,
     left: Typed,
     right: Typed,
-) -> Result<Typed, OutOfMemory> {
+) -> Result<Typed, OutOfMemory>
+    ensures { (b : Bounds) → TypedInRange b left → TypedInRange b right → IfOk result (TypedInRange b) }
+{
     if left.is_unknown() || right.is_unknown() {
         return Ok(Typed::unknown());
     }
     match sign {
-        Sign::And => both(scope, left, right),
-        Sign::Or => either(scope, left, right),
-        Sign::Equal => equal(scope, left, right),
-        Sign::NotEqual => {
-            let equal = equal(scope, left, right)?;
-            if equal.is_unknown() {
-                return Ok(equal);
-            }
-            invert(scope, equal)
-        }
-        Sign::Less => compare(scope, Order::Less, left, right),
-        Sign::LessEqual => compare(scope, Order::LessEqual, left, right),
-        Sign::Greater => compare(scope, Order::Greater, left, right),
-        Sign::GreaterEqual => compare(scope, Order::GreaterEqual, left, right),
-        _ => arithmetic(scope, sign, left, right),
+        Sign::And | Sign::Or => logical(context, notes, sign, left, right),
+        Sign::Equal => equal(context, notes, left, right),
+        Sign::NotEqual => different(context, notes, left, right),
+        Sign::Less => compare(context, notes, Order::Less, left, right),
+        Sign::LessEqual => compare(context, notes, Order::LessEqual, left, right),
+        Sign::Greater => compare(context, notes, Order::Greater, left, right),
+        Sign::GreaterEqual => compare(context, notes, Order::GreaterEqual, left, right),
+        _ => arithmetic(context, notes, sign, left, right),
     }
 }
 
-fn both(scope: &mut Scope<'_>, left: Typed, right: Typed) -> Result<Typed, OutOfMemory> {
-    let alloc = scope.catalog.alloc;
-    let left = convert(scope, left, Some(CoreType::Bool))?;
-    let right = convert(scope, right, Some(CoreType::Bool))?;
-    let core = Core::And(boxed(alloc, left)?, boxed(alloc, right)?);
+// `&&` and `||`
+fn logical(
+    context: &Context<'_>,
+    notes: &mut Notes,
+    sign: Sign,
+    left: Typed,
+    right: Typed,
+) -> Result<Typed, OutOfMemory>
+    ensures { (b : Bounds) → TypedInRange b left → TypedInRange b right → IfOk result (TypedInRange b) }
+{
+    let left = convert(context, notes, left, Some(CoreType::Bool))?;
+    let right = convert(context, notes, right, Some(CoreType::Bool))?;
+    let core = if sign == Sign::And {
+        both(context.catalog.alloc, left, right)?
+    } else {
+        either(context.catalog.alloc, left, right)?
+    };
     Ok(Typed::of(core, CoreType::Bool))
 }
 
-fn either(scope: &mut Scope<'_>, left: Typed, right: Typed) -> Result<Typed, OutOfMemory> {
-    let alloc = scope.catalog.alloc;
-    let left = convert(scope, left, Some(CoreType::Bool))?;
-    let right = convert(scope, right, Some(CoreType::Bool))?;
-    let core = Core::Or(boxed(alloc, left)?, boxed(alloc, right)?);
-    Ok(Typed::of(core, CoreType::Bool))
-}
-
-fn equal(scope: &mut Scope<'_>, left: Typed, right: Typed) -> Result<Typed, OutOfMemory> {
-    let to = match common_kind(scope.catalog, left.kind, right.kind) {
+fn equal(
+    context: &Context<'_>,
+    notes: &mut Notes,
+    left: Typed,
+    right: Typed,
+) -> Result<Typed, OutOfMemory>
+    ensures { (b : Bounds) → TypedInRange b left → TypedInRange b right → IfOk result (TypedInRange b) }
+{
+    let to = match common_kind(context.catalog, left.kind, right.kind) {
         Some(Kind::Of(to)) => Some(to),
         // None is compared with None.
         Some(_) => None,
-        None => return Ok(bad_operand(scope)),
+        None => return Ok(bad_operand(context, notes)),
     };
-    let alloc = scope.catalog.alloc;
-    let left = convert(scope, left, to)?;
-    let right = convert(scope, right, to)?;
-    let core = Core::Equal(boxed(alloc, left)?, boxed(alloc, right)?);
+    let left = convert(context, notes, left, to)?;
+    let right = convert(context, notes, right, to)?;
+    let core = equated(context.catalog.alloc, left, right)?;
     Ok(Typed::of(core, CoreType::Bool))
 }
 
+fn different(
+    context: &Context<'_>,
+    notes: &mut Notes,
+    left: Typed,
+    right: Typed,
+) -> Result<Typed, OutOfMemory>
+    ensures { (b : Bounds) → TypedInRange b left → TypedInRange b right → IfOk result (TypedInRange b) }
+{
+    let equal = equal(context, notes, left, right)?;
+    if equal.is_unknown() {
+        return Ok(equal);
+    }
+    opposite(context, notes, equal)
+}
+
 fn compare(
-    scope: &mut Scope<'_>,
+    context: &Context<'_>,
+    notes: &mut Notes,
     order: Order,
     left: Typed,
     right: Typed,
-) -> Result<Typed, OutOfMemory> {
+) -> Result<Typed, OutOfMemory>
+    ensures { (b : Bounds) → TypedInRange b left → TypedInRange b right → IfOk result (TypedInRange b) }
+{
     if left.kind != INT || right.kind != INT {
-        return Ok(bad_operand(scope));
+        return Ok(bad_operand(context, notes));
     }
-    let alloc = scope.catalog.alloc;
-    let core = Core::Order(order, boxed(alloc, left.core)?, boxed(alloc, right.core)?);
+    let core = compared(context.catalog.alloc, order, left.core, right.core)?;
     Ok(Typed::of(core, CoreType::Bool))
 }
 
 /// Arithmetic on whole numbers, or two texts joined.
 pub(crate) fn arithmetic(
-    scope: &mut Scope<'_>,
+    context: &Context<'_>,
+    notes: &mut Notes,
     sign: Sign,
     left: Typed,
     right: Typed,
-) -> Result<Typed, OutOfMemory> {
-    let Some(operation) = operation(scope, sign, left.kind, right.kind) else {
-        return Ok(Typed::unknown());
-    };
-    let alloc = scope.catalog.alloc;
-    let to = operand_type(operation);
-    let left = boxed(alloc, convert(scope, left, Some(to))?)?;
-    let right = boxed(alloc, convert(scope, right, Some(to))?)?;
-    let core = match operation {
-        Arith::Join => Core::Join(left, right),
-        _ => Core::Arith(operation, left, right),
-    };
-    Ok(Typed::of(core, to))
+) -> Result<Typed, OutOfMemory>
+    ensures { (b : Bounds) → TypedInRange b left → TypedInRange b right → IfOk result (TypedInRange b) }
+{
+    match operation(context, notes, sign, left.kind, right.kind) {
+        Some(Arith::Join) => join(context, notes, left, right),
+        Some(operation) => {
+            let core = calculated(context.catalog.alloc, operation, left.core, right.core)?;
+            Ok(Typed::of(core, CoreType::Int))
+        }
+        None => Ok(Typed::unknown()),
+    }
+}
+
+fn join(
+    context: &Context<'_>,
+    notes: &mut Notes,
+    left: Typed,
+    right: Typed,
+) -> Result<Typed, OutOfMemory>
+    ensures { (b : Bounds) → TypedInRange b left → TypedInRange b right → IfOk result (TypedInRange b) }
+{
+    let left = convert(context, notes, left, Some(CoreType::Text))?;
+    let right = convert(context, notes, right, Some(CoreType::Text))?;
+    let core = joined(context.catalog.alloc, left, right)?;
+    Ok(Typed::of(core, CoreType::Text))
 }
 
 /// What a sign does with values of these types. `Operand` is broken where it does nothing with them.
 pub(crate) fn operation(
-    scope: &mut Scope<'_>,
+    context: &Context<'_>,
+    notes: &mut Notes,
     sign: Sign,
     left: Kind,
     right: Kind,
-) -> Option<Arith> {
-    if left == Kind::Unknown || right == Kind::Unknown {
-        return None;
-    }
+) -> Option<Arith>
+    ensures { result ≡ operation_of sign left right }
+{
     let found = operation_of(sign, left, right);
-    if found.is_none() {
-        scope.fault(TypeRule::Operand);
+    if found.is_none() && left != Kind::Unknown && right != Kind::Unknown {
+        context.fault(notes, TypeRule::Operand);
     }
     found
 }
 
 /// The type of the operands and of the result.
-pub(crate) fn operand_type(operation: Arith) -> CoreType {
+pub(crate) fn operand_type(operation: Arith) -> CoreType
+    ensures { result ≡ operand_type operation }
+{
     match operation {
         Arith::Join => CoreType::Text,
         _ => CoreType::Int,
     }
 }
 
-fn operation_of(sign: Sign, left: Kind, right: Kind) -> Option<Arith> {
-    if left == INT && right == INT {
-        return whole_operation(sign);
+fn operation_of(sign: Sign, left: Kind, right: Kind) -> Option<Arith>
+    ensures { result ≡ operation_of sign left right }
+{
+    match (left, right) {
+        (Kind::Of(CoreType::Int), Kind::Of(CoreType::Int)) => whole_operation(sign),
+        (Kind::Of(CoreType::Text), other) | (other, Kind::Of(CoreType::Text)) => {
+            joining(sign, other)
+        }
+        _ => None,
     }
-    let joins = left == TEXT || right == TEXT;
-    if sign == Sign::Plus && joins && prints(left) && prints(right) {
+}
+
+// `+` on a text and a value of the other type.
+fn joining(sign: Sign, other: Kind) -> Option<Arith>
+    ensures { result ≡ operation_with_text sign other }
+{
+    if sign == Sign::Plus && prints(other) {
         Some(Arith::Join)
     } else {
         None
     }
 }
 
-fn whole_operation(sign: Sign) -> Option<Arith> {
+fn whole_operation(sign: Sign) -> Option<Arith>
+    ensures { result ≡ whole_operation sign }
+{
     match sign {
         Sign::Plus => Some(Arith::Add),
         Sign::Minus => Some(Arith::Sub),
@@ -176,7 +241,9 @@ fn whole_operation(sign: Sign) -> Option<Arith> {
     }
 }
 
-fn bad_operand(scope: &mut Scope<'_>) -> Typed {
-    scope.fault(TypeRule::Operand);
+fn bad_operand(context: &Context<'_>, notes: &mut Notes) -> Typed
+    ensures { (b : Bounds) → TypedInRange b result }
+{
+    context.fault(notes, TypeRule::Operand);
     Typed::unknown()
 }

@@ -1,11 +1,15 @@
 // The parameters of what is called.
+ghost use Rattle.std.specs.Prelude.{IfOk, IfSome};
+ghost use Rattle.core_tree.specs.InRange.{Bounds, TypeInRange, ResultInRange};
+ghost use Rattle.expression_rules.specs.Ranges.{CoreInRange, ParametersInRange, bounds_of};
 
 use crate::constants::{default_fits, kind_of, value_of};
-use crate::typed::{boxed, nothing};
+use crate::context::Context;
+use crate::trees::{cast_to, literal, nothing};
 use core_tree::{Core, CoreType, Value};
 use line_parser::{Constant, Parameter};
 use papy_base::{Name, OutOfMemory};
-use type_scope::{Catalog, Kind};
+use type_scope::Kind;
 
 /// The parameters of what is called.
 #[derive(Clone, Copy)]
@@ -34,44 +38,35 @@ impl Parameters<'_> {
     /// The type of the parameter at this place, where it is known.
     pub(crate) fn kind(
         &self,
-        catalog: &Catalog<'_>,
+        context: &Context<'_>,
         place: usize,
-    ) -> Result<Option<CoreType>, OutOfMemory> {
+    ) -> Result<Option<CoreType>, OutOfMemory>
+        ensures { ParametersInRange (bounds_of context.now) self.now → IfOk result (ResultInRange (bounds_of context.now).functions) }
+    {
         match self {
-            Parameters::Declared(parameters) => match parameters.get(place) {
-                Some(parameter) => catalog.type_of(&parameter.kind),
-                None => Ok(None),
-            },
-            Parameters::Search { element, .. } if place == 0 => Ok(Some(*element)),
-            Parameters::Search { .. } => Ok(Some(CoreType::Int)),
+            Parameters::Declared(parameters) => declared_kind(context, parameters, place),
+            Parameters::Search { element, .. } => Ok(Some(search_kind(*element, place))),
         }
     }
 
     /// The default argument of the parameter at this place, as the parameter's type.
     pub(crate) fn default(
         &self,
-        catalog: &Catalog<'_>,
+        context: &Context<'_>,
         place: usize,
-    ) -> Result<Option<Core>, OutOfMemory> {
+    ) -> Result<Option<Core>, OutOfMemory>
+        ensures { IfOk result (λ found. IfSome found (CoreInRange (bounds_of context.now))) }
+    {
         match self {
-            Parameters::Declared(parameters) => match parameters.get(place) {
-                Some(parameter) => declared_default(catalog, parameter),
-                None => Ok(None),
-            },
-            Parameters::Search { start, .. } if place == 1 => {
-                Ok(Some(Core::Lit(Value::Int(*start))))
-            }
-            Parameters::Search { .. } => Ok(None),
+            Parameters::Declared(parameters) => declared_default(context, parameters, place),
+            Parameters::Search { start, .. } => Ok(search_default(*start, place)),
         }
     }
 
     /// The text that the default at this place writes out, where it is one.
     pub(crate) fn default_text(&self, place: usize) -> Option<&[u8]> {
         match self {
-            Parameters::Declared(parameters) => match parameters.get(place)?.default {
-                Some(Constant::Quoted(ref text)) => Some(text.as_bytes()),
-                _ => None,
-            },
+            Parameters::Declared(parameters) => default_text(parameters.get(place)?),
             Parameters::Search { .. } => None,
         }
     }
@@ -96,14 +91,58 @@ fn search_place(name: &Name) -> Option<usize> {
     }
 }
 
+fn declared_kind(
+    context: &Context<'_>,
+    parameters: &[Parameter],
+    place: usize,
+) -> Result<Option<CoreType>, OutOfMemory>
+    ensures { IfOk result (ResultInRange (bounds_of context.now).functions) }
+{
+    match parameters.get(place) {
+        Some(parameter) => context.catalog.type_of(&parameter.kind),
+        None => Ok(None),
+    }
+}
+
+fn search_kind(element: CoreType, place: usize) -> CoreType
+    ensures { (b : Bounds) → TypeInRange b.functions element → TypeInRange b.functions result }
+{
+    if place == 0 { element } else { CoreType::Int }
+}
+
+fn search_default(start: i32, place: usize) -> Option<Core>
+    ensures { (b : Bounds) → IfSome result (CoreInRange b) }
+{
+    if place == 1 {
+        Some(literal(Value::Int(start)))
+    } else {
+        None
+    }
+}
+
 fn declared_default(
-    catalog: &Catalog<'_>,
+    context: &Context<'_>,
+    parameters: &[Parameter],
+    place: usize,
+) -> Result<Option<Core>, OutOfMemory>
+    ensures { IfOk result (λ found. IfSome found (CoreInRange (bounds_of context.now))) }
+{
+    match parameters.get(place) {
+        Some(parameter) => default_of_parameter(context, parameter),
+        None => Ok(None),
+    }
+}
+
+fn default_of_parameter(
+    context: &Context<'_>,
     parameter: &Parameter,
-) -> Result<Option<Core>, OutOfMemory> {
+) -> Result<Option<Core>, OutOfMemory>
+    ensures { IfOk result (λ found. IfSome found (CoreInRange (bounds_of context.now))) }
+{
     match &parameter.default {
         Some(constant) => {
-            let to = catalog.type_of(&parameter.kind)?;
-            Ok(Some(default_argument(catalog, constant, to)?))
+            let to = context.catalog.type_of(&parameter.kind)?;
+            Ok(Some(default_argument(context, constant, to)?))
         }
         None => Ok(None),
     }
@@ -112,18 +151,27 @@ fn declared_default(
 // A default with the `Cast` that its parameter needs. One that doesn't convert is a broken rule of the
 // function that declares it.
 fn default_argument(
-    catalog: &Catalog<'_>,
+    context: &Context<'_>,
     constant: &Constant,
     kind: Option<CoreType>,
-) -> Result<Core, OutOfMemory> {
-    let literal = Core::Lit(value_of(catalog.alloc, constant)?);
+) -> Result<Core, OutOfMemory>
+    ensures { (b : Bounds) → ResultInRange b.functions kind → IfOk result (CoreInRange b) }
+{
+    let value = literal(value_of(context.catalog.alloc, constant)?);
     match kind {
         Some(to) if kind_of(constant) != Kind::Of(to) => {
-            if !default_fits(catalog, constant, kind) {
+            if !default_fits(context.catalog, constant, kind) {
                 return Ok(nothing());
             }
-            Ok(Core::Cast(to, boxed(catalog.alloc, literal)?))
+            cast_to(context.catalog.alloc, to, value)
         }
-        _ => Ok(literal),
+        _ => Ok(value),
+    }
+}
+
+fn default_text(parameter: &Parameter) -> Option<&[u8]> {
+    match &parameter.default {
+        Some(Constant::Quoted(text)) => Some(text.as_bytes()),
+        _ => None,
     }
 }

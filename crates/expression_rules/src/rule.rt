@@ -1,4 +1,6 @@
 // The rules of types and names.
+ghost use Rattle.std.specs.Prelude.{◌≡◌};
+ghost use Rattle.expression_rules.specs.Rules.{rule_number};
 
 /// A rule of types and names.
 #[derive(Clone, Copy, Debug, PartialEq, Eq)]
@@ -39,7 +41,9 @@ pub enum TypeRule {
 
 impl TypeRule {
     /// The rule's number, from 1 to 16.
-    pub fn number(self) -> u8 {
+    pub fn number(self) -> u8
+        ensures { result ≡ rule_number self }
+    {
         match self {
             TypeRule::UnknownName => 1,
             TypeRule::UnknownType => 2,

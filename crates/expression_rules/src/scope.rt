@@ -1,8 +1,14 @@
 // One function while its lines are judged.
+ghost use Rattle.std.specs.Prelude.{◌≡◌, ◌<◌, ◌++◌, ◌∷◌, [], IfOk, OnOk, min, vec_len};
+ghost use Rattle.core_tree.specs.InRange.{ResultInRange};
+ghost use Rattle.type_scope.specs.Scope.{function_counts};
+ghost use Rattle.expression_rules.specs.Ranges.{CoreInRange, FormInRange, TypedInRange};
+ghost use Rattle.expression_rules.specs.Scopes.{Keeps, ScopeInRange, scope_bounds};
 
 use crate::assignment::assign;
+use crate::context::Context;
 use crate::conversions::convert;
-use crate::expression::{DEPTH_LIMIT, expression, used};
+use crate::expression::{any, truth, value};
 use crate::notes::Notes;
 use crate::rule::TypeRule;
 use crate::typed::Typed;
@@ -11,6 +17,20 @@ use line_parser::{Expr, TypeName};
 use papy_base::{Name, OutOfMemory};
 use script_lexer::Sign;
 use type_scope::{Catalog, Layout, Locals};
+
+// What is seen in a scope.
+macro_rules! context_of {
+    ($scope:expr) => {
+        Context {
+            catalog: $scope.catalog,
+            layout: $scope.layout,
+            script: $scope.script,
+            is_global: $scope.is_global,
+            line: $scope.line,
+            locals: &$scope.locals,
+        }
+    };
+}
 
 /// One function while its lines are judged.
 #[derive(Drop)]
@@ -37,7 +57,13 @@ impl<'a> Scope<'a> {
         is_global: bool,
         line: u16,
         notes: Notes,
-    ) -> Scope<'a> {
+    ) -> Scope<'a>
+        ensures catalog { result.catalog ≡ catalog }
+        ensures layout { result.layout ≡ layout }
+        ensures script { result.script ≡ script }
+        ensures locals { result.locals.kinds.items ≡ [] }
+        ensures notes { result.notes ≡ notes }
+    {
         Scope {
             catalog,
             layout,
@@ -50,27 +76,34 @@ impl<'a> Scope<'a> {
     }
 
     /// What was noted.
-    pub fn into_notes(self) -> Notes {
+    pub fn into_notes(self) -> Notes
+        ensures { result ≡ self.notes }
+    {
         self.notes
     }
 
     /// Notes that a rule is broken at the present line.
-    pub fn fault(&mut self, rule: TypeRule) {
+    pub fn fault(&mut self, rule: TypeRule)
+        ensures kept { Keeps self.old self.new }
+    {
         self.notes.note(self.line, rule);
     }
 
     /// The type of this name. `UnknownType` is broken where there is none.
-    pub fn kind_named(&mut self, name: &TypeName) -> Result<Option<CoreType>, OutOfMemory> {
-        let found = self.catalog.type_of(name)?;
-        if found.is_none() {
-            self.fault(TypeRule::UnknownType);
-        }
-        Ok(found)
+    pub fn kind_named(&mut self, name: &TypeName) -> Result<Option<CoreType>, OutOfMemory>
+        ensures in_range { IfOk result (ResultInRange (function_counts self.old.catalog.now.set.now)) }
+        ensures kept { Keeps self.old self.new }
+    {
+        let context = context_of!(self);
+        context.kind_named(&mut self.notes, name)
     }
 
     /// Adds a parameter or a local, and gives its number. `DuplicateLocal` is broken where one of the name
     /// is seen. All that come after the 65,535th have its number.
-    pub fn new_local(&mut self, name: &Name, kind: Option<CoreType>) -> Result<u16, OutOfMemory> {
+    pub fn new_local(&mut self, name: &Name, kind: Option<CoreType>) -> Result<u16, OutOfMemory>
+        ensures number { IfOk result (λ number. number ≡ min (vec_len self.old.locals.kinds) 65535) }
+        ensures added { OnOk result (self.new.locals.kinds.items ≡ self.old.locals.kinds.items ++ kind ∷ []) }
+    {
         if self.locals.find(name)?.is_some() {
             self.fault(TypeRule::DuplicateLocal);
         }
@@ -78,36 +111,43 @@ impl<'a> Scope<'a> {
         Ok(u16::try_from(number).unwrap_or(u16::MAX))
     }
 
-    /// Notes that something needs an instance, which a Global function has not.
-    pub(crate) fn needs_instance(&mut self) {
-        if self.is_global {
-            self.fault(TypeRule::InstanceInGlobal);
-        }
-    }
-
-    /// An expression. What is known of its type is that it has none where it calls a function without result.
+    /// An expression. Its kind is `Nothing` where it calls a function without result.
     ///
     /// `OutOfMemory` is also the answer where the tree is deeper than any line's, here and below.
-    pub fn any(&mut self, tree: &Expr) -> Result<Typed, OutOfMemory> {
-        expression(self, tree, DEPTH_LIMIT)
+    pub fn any(&mut self, tree: &Expr) -> Result<Typed, OutOfMemory>
+        ensures in_range { ScopeInRange self.old → IfOk result (TypedInRange (scope_bounds self.old)) }
+        ensures kept { Keeps self.old self.new }
+    {
+        let context = context_of!(self);
+        any(&context, &mut self.notes, tree)
     }
 
     /// An expression whose value is needed. `NoValue` is broken where it has none.
-    pub fn value(&mut self, tree: &Expr) -> Result<Typed, OutOfMemory> {
-        let typed = self.any(tree)?;
-        Ok(used(self, typed))
+    pub fn value(&mut self, tree: &Expr) -> Result<Typed, OutOfMemory>
+        ensures in_range { ScopeInRange self.old → IfOk result (TypedInRange (scope_bounds self.old)) }
+        ensures kept { Keeps self.old self.new }
+    {
+        let context = context_of!(self);
+        value(&context, &mut self.notes, tree)
     }
 
     /// The tree of a value that is needed as this type. `NoConversion` is broken where it doesn't convert to
     /// it by itself.
-    pub fn convert(&mut self, typed: Typed, to: Option<CoreType>) -> Result<Core, OutOfMemory> {
-        convert(self, typed, to)
+    pub fn convert(&mut self, typed: Typed, to: Option<CoreType>) -> Result<Core, OutOfMemory>
+        ensures in_range { ResultInRange (scope_bounds self.old).functions to → TypedInRange (scope_bounds self.old) typed → IfOk result (CoreInRange (scope_bounds self.old)) }
+        ensures kept { Keeps self.old self.new }
+    {
+        let context = context_of!(self);
+        convert(&context, &mut self.notes, typed, to)
     }
 
     /// The tree of a value that is needed as a Bool.
-    pub fn truth(&mut self, tree: &Expr) -> Result<Core, OutOfMemory> {
-        let typed = self.value(tree)?;
-        convert(self, typed, Some(CoreType::Bool))
+    pub fn truth(&mut self, tree: &Expr) -> Result<Core, OutOfMemory>
+        ensures in_range { ScopeInRange self.old → IfOk result (CoreInRange (scope_bounds self.old)) }
+        ensures kept { Keeps self.old self.new }
+    {
+        let context = context_of!(self);
+        truth(&context, &mut self.notes, tree)
     }
 
     /// An assignment, also one such as `+=`.
@@ -116,7 +156,11 @@ impl<'a> Scope<'a> {
         target: &Expr,
         sign: Sign,
         value: &Expr,
-    ) -> Result<CoreStatement, OutOfMemory> {
-        assign(self, target, sign, value)
+    ) -> Result<CoreStatement, OutOfMemory>
+        ensures in_range { ScopeInRange self.old → IfOk result (FormInRange (scope_bounds self.old)) }
+        ensures kept { Keeps self.old self.new }
+    {
+        let context = context_of!(self);
+        assign(&context, &mut self.notes, target, sign, value)
     }
 }

@@ -6,13 +6,19 @@ use papy_base::{Name, OutOfMemory, Text};
 use script_lexer::Sign;
 use std::alloc::Global;
 
-/// What an expression begins with.
+/// A constant that is written out.
 #[derive(Clone, Copy)]
-pub(crate) enum Leaf<'t> {
+pub(crate) enum Written<'t> {
     Int(i32),
     Bool(bool),
     Quoted(&'t Text),
     NoneValue,
+}
+
+/// What an expression begins with.
+#[derive(Clone, Copy)]
+pub(crate) enum Leaf<'t> {
+    Constant(Written<'t>),
     SelfValue,
     Word(&'t Name),
     Call(&'t Name, &'t [Argument]),
@@ -68,10 +74,10 @@ fn top_of(tree: &Expr) -> Top<'_>
     ensures { GoesDown tree.now result }
 {
     match tree {
-        Expr::Int(number) => Top::Leaf(Leaf::Int(*number)),
-        Expr::Bool(truth) => Top::Leaf(Leaf::Bool(*truth)),
-        Expr::Quoted(text) => Top::Leaf(Leaf::Quoted(text)),
-        Expr::NoneValue => Top::Leaf(Leaf::NoneValue),
+        Expr::Int(number) => Top::Leaf(Leaf::Constant(Written::Int(*number))),
+        Expr::Bool(truth) => Top::Leaf(Leaf::Constant(Written::Bool(*truth))),
+        Expr::Quoted(text) => Top::Leaf(Leaf::Constant(Written::Quoted(text))),
+        Expr::NoneValue => Top::Leaf(Leaf::Constant(Written::NoneValue)),
         Expr::SelfValue => Top::Leaf(Leaf::SelfValue),
         Expr::Word(name) => Top::Leaf(Leaf::Word(name)),
         Expr::Call { name, arguments } => Top::Leaf(Leaf::Call(name, arguments.as_slice())),

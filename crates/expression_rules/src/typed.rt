@@ -1,8 +1,9 @@
 // An expression's tree with what is known of its type.
+ghost use Rattle.core_tree.specs.InRange.{Bounds, TypeInRange, ResultInRange};
+ghost use Rattle.expression_rules.specs.Ranges.{CoreInRange, TypedInRange};
 
-use core_tree::{Core, CoreType, Value};
-use papy_base::OutOfMemory;
-use std::alloc::Global;
+use crate::trees::nothing;
+use core_tree::{Core, CoreType};
 use type_scope::Kind;
 
 /// An expression's tree, and what is known of its type.
@@ -16,7 +17,9 @@ pub struct Typed {
 
 impl Typed {
     /// A tree of this type.
-    pub(crate) fn of(core: Core, kind: CoreType) -> Typed {
+    pub(crate) fn of(core: Core, kind: CoreType) -> Typed
+        ensures { (b : Bounds) → CoreInRange b core → TypeInRange b.functions kind → TypedInRange b result }
+    {
         Typed {
             core,
             kind: Kind::Of(kind),
@@ -24,7 +27,9 @@ impl Typed {
     }
 
     /// A tree of the type that was looked up.
-    pub(crate) fn found(core: Core, kind: Option<CoreType>) -> Typed {
+    pub(crate) fn found(core: Core, kind: Option<CoreType>) -> Typed
+        ensures { (b : Bounds) → CoreInRange b core → ResultInRange b.functions kind → TypedInRange b result }
+    {
         Typed {
             core,
             kind: Kind::from_type(kind),
@@ -32,31 +37,16 @@ impl Typed {
     }
 
     /// What stands where a rule is broken.
-    pub(crate) fn unknown() -> Typed {
+    pub(crate) fn unknown() -> Typed
+        ensures { (b : Bounds) → TypedInRange b result }
+    {
         Typed {
             core: nothing(),
             kind: Kind::Unknown,
         }
     }
 
-    /// A literal of this type.
-    pub(crate) fn literal(value: Value, kind: Kind) -> Typed {
-        Typed {
-            core: Core::Lit(value),
-            kind,
-        }
-    }
-
     pub(crate) fn is_unknown(&self) -> bool {
         self.kind == Kind::Unknown
     }
-}
-
-/// The literal that stands where a rule is broken.
-pub(crate) fn nothing() -> Core {
-    Core::Lit(Value::NoneValue)
-}
-
-pub(crate) fn boxed(alloc: Global, core: Core) -> Result<Box<Core>, OutOfMemory> {
-    Ok(Box::new(alloc, core)?)
 }
