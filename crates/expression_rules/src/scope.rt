@@ -103,6 +103,9 @@ impl<'a> Scope<'a> {
     pub fn new_local(&mut self, name: &Name, kind: Option<CoreType>) -> Result<u16, OutOfMemory>
         ensures number { IfOk result (λ number. number ≡ min (vec_len self.old.locals.kinds) 65535) }
         ensures added { OnOk result (self.new.locals.kinds.items ≡ self.old.locals.kinds.items ++ kind ∷ []) }
+        ensures catalog { self.new.catalog ≡ self.old.catalog }
+        ensures layout { self.new.layout ≡ self.old.layout }
+        ensures script { self.new.script ≡ self.old.script }
     {
         if self.locals.find(name)?.is_some() {
             self.fault(TypeRule::DuplicateLocal);

@@ -137,16 +137,23 @@ fn read_sources<D: Desk>(
     Ok(files)
 }
 
+/// How a command ends where the file of this number breaks a rule.
+fn refused_in(file: u16, line: u32, rule: Rule) -> Ending
+    ensures { result ≡ Ending.Refused (file + 1) (Place.Line line) rule }
+{
+    Ending::Refused {
+        word: usize::from(file) + 1,
+        place: Place::Line(line),
+        rule,
+    }
+}
+
 /// How a command ends whose scripts' set is refused.
 fn link_ending(fault: LinkFault) -> Ending
     ensures { result ≡ link_ending fault }
 {
     match fault {
-        LinkFault::Broken { file, line, rule } => Ending::Refused {
-            word: file as usize + 1,
-            place: Place::Line(line),
-            rule: Rule::Link(rule),
-        },
+        LinkFault::Broken { file, line, rule } => refused_in(file, line, Rule::Link(rule)),
         LinkFault::OutOfMemory => Ending::OutOfMemory,
     }
 }
@@ -156,11 +163,7 @@ fn type_ending(fault: TypeFault) -> Ending
     ensures { result ≡ type_ending fault }
 {
     match fault {
-        TypeFault::Broken { file, line, rule } => Ending::Refused {
-            word: file as usize + 1,
-            place: Place::Line(line),
-            rule: Rule::Typing(rule),
-        },
+        TypeFault::Broken { file, line, rule } => refused_in(file, line, Rule::Typing(rule)),
         TypeFault::OutOfMemory => Ending::OutOfMemory,
     }
 }

@@ -16,6 +16,9 @@ const TEXT_LIMIT: usize = 8_192;
 /// The most bytes of them together.
 const TEXT_BYTES_LIMIT: usize = 524_288;
 
+/// The most default arguments, each of which is a node. Behind one more none are written out.
+const DEFAULT_LIMIT: u32 = 200_000;
+
 /// A script while it is judged: what its names mean, and what was found so far.
 #[derive(Drop)]
 pub(crate) struct Work<'a> {
@@ -86,11 +89,16 @@ impl<'a> Work<'a> {
 
     /// What was found of the script, which begins at this line.
     pub(crate) fn faults(&self, script_line: u16) -> ScriptFaults {
-        let writes_too_much =
-            self.notes.texts() > TEXT_LIMIT || self.notes.text_bytes() > TEXT_BYTES_LIMIT;
         ScriptFaults {
             broken: self.notes.first(),
-            too_large: self.sizes.too_large(script_line, writes_too_much),
+            too_large: self.sizes.too_large(script_line, writes_too_much(&self.notes)),
         }
     }
+}
+
+// Whether the calls of a script write out too many texts, bytes of texts, or default arguments.
+fn writes_too_much(notes: &Notes) -> bool {
+    notes.texts() > TEXT_LIMIT
+        || notes.text_bytes() > TEXT_BYTES_LIMIT
+        || notes.defaults() > DEFAULT_LIMIT
 }
