@@ -58,8 +58,8 @@ impl<'a> Scope<'a> {
         line: u16,
         notes: Notes,
     ) -> Scope<'a>
-        ensures catalog { result.catalog ≡ catalog }
-        ensures layout { result.layout ≡ layout }
+        ensures catalog { result.catalog ≡ catalog.entry }
+        ensures layout { result.layout ≡ layout.entry }
         ensures script { result.script ≡ script }
         ensures locals { result.locals.kinds.items ≡ [] }
         ensures notes { result.notes ≡ notes }
@@ -77,7 +77,7 @@ impl<'a> Scope<'a> {
 
     /// What was noted.
     pub fn into_notes(self) -> Notes
-        ensures { result ≡ self.notes }
+        ensures { result ≡ self.entry.notes }
     {
         self.notes
     }

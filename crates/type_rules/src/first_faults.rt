@@ -46,8 +46,10 @@ impl FirstFaults {
         let Some(file) = script.checked_sub(PRELUDE_COUNT) else {
             return;
         };
-        self.broken = earlier(self.broken, broken_in(file, faults.broken));
-        self.too_large = earlier(self.too_large, too_large_in(file, faults.too_large));
+        let broken = earlier(self.broken, broken_in(file, faults.broken));
+        let too_large = earlier(self.too_large, too_large_in(file, faults.too_large));
+        self.broken = broken;
+        self.too_large = too_large;
     }
 
     /// The fault that is reported: one of K15 only where no other rule is broken.

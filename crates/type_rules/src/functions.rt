@@ -1,5 +1,10 @@
 // Functions, with their parameters and statements judged.
-ghost use Rattle.std.specs.Prelude.{◌≡◌, map, IfOk};
+ghost use Rattle.std.specs.Prelude.{◌≡◌, All, map, IfOk, OnOk};
+ghost use Rattle.core_tree.specs.InRange.{BlockInRange, FunctionInRange};
+ghost use Rattle.core_tree.specs.Set.{function_of};
+ghost use Rattle.core_tree.specs.Tree.{block_of};
+ghost use Rattle.expression_rules.specs.Scopes.{Keeps, ScopeInRange, scope_bounds};
+ghost use Rattle.type_rules.specs.Ranges.{CoreFunctionInRange, Grows, KeepsScript, PromiseInRange, WorkInRange, known, promised};
 ghost use Rattle.type_rules.specs.Heads.{core_function_head, function_head};
 
 use crate::sizes::function_size;
@@ -18,7 +23,9 @@ pub(crate) fn core_functions(
     work: &mut Work<'_>,
     functions: &[Function],
 ) -> Result<Vec<CoreFunction>, OutOfMemory>
-    ensures { IfOk result (λ found. map core_function_head found.items ≡ map function_head functions.now) }
+    ensures heads { IfOk result (λ found. map core_function_head found.items ≡ map function_head functions.now) }
+    ensures kept { OnOk result (KeepsScript work.old work.new) }
+    ensures in_range { WorkInRange work.old → IfOk result (λ found. All (CoreFunctionInRange work.old) found.items) }
 {
     let mut found = Vec::with_capacity(work.alloc(), functions.len())?;
     for function in functions {
@@ -32,7 +39,9 @@ pub(crate) fn core_function(
     work: &mut Work<'_>,
     function: &Function,
 ) -> Result<CoreFunction, OutOfMemory>
-    ensures { IfOk result (λ made. core_function_head made ≡ function_head function.now) }
+    ensures head { IfOk result (λ made. core_function_head made ≡ function_head function.now) }
+    ensures kept { OnOk result (KeepsScript work.old work.new) }
+    ensures in_range { WorkInRange work.old → IfOk result (CoreFunctionInRange work.old) }
 {
     let heading = &function.heading;
     let mut scope = work.open_scope(heading.is_global, function.line);
@@ -48,7 +57,10 @@ pub(crate) fn core_function(
 fn promise_of(
     scope: &mut Scope<'_>,
     result_type: &Option<TypeName>,
-) -> Result<Promise, OutOfMemory> {
+) -> Result<Promise, OutOfMemory>
+    ensures kept { Keeps scope.old scope.new }
+    ensures in_range { IfOk result (PromiseInRange (scope_bounds scope.old).functions) }
+{
     match result_type {
         Some(name) => Ok(Promise::Value(scope.kind_named(name)?)),
         None => Ok(Promise::Nothing),
@@ -56,7 +68,9 @@ fn promise_of(
 }
 
 // A default that doesn't convert to its parameter's type by itself breaks K6.
-fn add_parameters(scope: &mut Scope<'_>, parameters: &[Parameter]) -> Result<(), OutOfMemory> {
+fn add_parameters(scope: &mut Scope<'_>, parameters: &[Parameter]) -> Result<(), OutOfMemory>
+    ensures { OnOk result (Grows scope.old scope.new) }
+{
     for parameter in parameters {
         let kind = scope.kind_named(&parameter.kind)?;
         let _number = scope.new_local(&parameter.name, kind)?;
@@ -73,7 +87,11 @@ fn core_body(
     scope: &mut Scope<'_>,
     body: &Body,
     promise: Promise,
-) -> Result<Vec<CoreLine>, OutOfMemory> {
+) -> Result<Vec<CoreLine>, OutOfMemory>
+    ensures grows { OnOk result (Grows scope.old scope.new) }
+    ensures in_range { ScopeInRange scope.old → PromiseInRange (scope_bounds scope.old).functions promise →
+        IfOk result (λ lines. BlockInRange (scope_bounds scope.new) (block_of lines.items)) }
+{
     match body {
         Body::Native => Ok(Vec::new(scope.catalog.alloc)),
         Body::Lines(statements) => {
@@ -89,7 +107,9 @@ fn assemble(
     promise: Promise,
     body: Vec<CoreLine>,
 ) -> Result<CoreFunction, OutOfMemory>
-    ensures { IfOk result (λ made. core_function_head made ≡ function_head function.now) }
+    ensures in_range { ScopeInRange scope.now → PromiseInRange (scope_bounds scope.now).functions promise → BlockInRange (scope_bounds scope.now) (block_of body.items) →
+        IfOk result (λ made. FunctionInRange (scope_bounds scope.now).functions (scope_bounds scope.now).variables (function_of made)) }
+    ensures head { IfOk result (λ made. core_function_head made ≡ function_head function.now) }
 {
     let heading = &function.heading;
     let kinds = scope.locals.kinds.as_slice();
@@ -108,7 +128,9 @@ fn assemble(
     })
 }
 
-fn known_types(alloc: Global, kinds: &[Option<CoreType>]) -> Result<Vec<CoreType>, OutOfMemory> {
+fn known_types(alloc: Global, kinds: &[Option<CoreType>]) -> Result<Vec<CoreType>, OutOfMemory>
+    ensures { IfOk result (λ found. found.items ≡ map known kinds.now) }
+{
     let mut found = Vec::with_capacity(alloc, kinds.len())?;
     for kind in kinds {
         found.push(known(*kind))?;
@@ -116,7 +138,9 @@ fn known_types(alloc: Global, kinds: &[Option<CoreType>]) -> Result<Vec<CoreType
     Ok(found)
 }
 
-fn result_of(promise: Promise) -> Option<CoreType> {
+fn result_of(promise: Promise) -> Option<CoreType>
+    ensures { result ≡ promised promise }
+{
     match promise {
         Promise::Nothing => None,
         Promise::Value(kind) => Some(known(kind)),

@@ -1,6 +1,9 @@
 // The properties and the states of a script.
-ghost use Rattle.std.specs.Prelude.{◌≡◌, map, IfOk};
-ghost use Rattle.type_rules.specs.Heads.{auto_state_of, core_property_head, core_state_head, property_head, state_heads};
+ghost use Rattle.std.specs.Prelude.{◌≡◌, ◌<◌, All, map, IfOk, OnOk, vec_len};
+ghost use Rattle.core_tree.specs.InRange.{AccessInRange, ResultInRange};
+ghost use Rattle.core_tree.specs.Set.{access_of};
+ghost use Rattle.type_rules.specs.Ranges.{CoreFunctionInRange, CorePropertyInRange, CoreStateInRange, KeepsScript, WorkInRange, functions_of, variables_of};
+ghost use Rattle.type_rules.specs.Heads.{auto_state_of, core_property_head, core_state_head, function_head, property_head, state_heads};
 
 use crate::functions::{clone_text, core_function, core_functions};
 use crate::variables::{constant_value, known};
@@ -23,7 +26,9 @@ pub(crate) fn core_properties(
     work: &mut Work<'_>,
     properties: &[Property],
 ) -> Result<Vec<CoreProperty>, OutOfMemory>
-    ensures { IfOk result (λ found. map core_property_head found.items ≡ map property_head properties.now) }
+    ensures heads { IfOk result (λ found. map core_property_head found.items ≡ map property_head properties.now) }
+    ensures kept { OnOk result (KeepsScript work.old work.new) }
+    ensures in_range { WorkInRange work.old → IfOk result (λ found. All (CorePropertyInRange work.old) found.items) }
 {
     let mut found = Vec::with_capacity(work.alloc(), properties.len())?;
     for (place, property) in properties.iter().enumerate() {
@@ -37,7 +42,9 @@ fn core_property(
     place: usize,
     property: &Property,
 ) -> Result<CoreProperty, OutOfMemory>
-    ensures { IfOk result (λ made. core_property_head made ≡ property_head property.now) }
+    ensures head { IfOk result (λ made. core_property_head made ≡ property_head property.now) }
+    ensures kept { OnOk result (KeepsScript work.old work.new) }
+    ensures in_range { WorkInRange work.old → IfOk result (CorePropertyInRange work.old) }
 {
     let kind = work.kind_at(property.line, &property.kind)?;
     let access = match &property.form {
@@ -58,7 +65,9 @@ fn core_property(
 }
 
 // The variable of the Auto property at this place. Its layout has one for each such property.
-fn auto_variable(layout: &Layout<'_>, place: usize) -> Result<u16, OutOfMemory> {
+fn auto_variable(layout: &Layout<'_>, place: usize) -> Result<u16, OutOfMemory>
+    ensures { IfOk result (λ number. number < vec_len layout.now.sources) }
+{
     let Ok(place) = u16::try_from(place) else {
         return Err(OutOfMemory);
     };
@@ -74,7 +83,10 @@ fn constant_get(
     line: u16,
     constant: &Constant,
     kind: Option<CoreType>,
-) -> Result<CoreFunction, OutOfMemory> {
+) -> Result<CoreFunction, OutOfMemory>
+    ensures kept { OnOk result (KeepsScript work.old work.new) }
+    ensures in_range { ResultInRange (functions_of work.old) kind → IfOk result (CoreFunctionInRange work.old) }
+{
     let alloc = work.alloc();
     let value = constant_value(work, line, constant, kind)?;
     let mut body = Vec::with_capacity(alloc, 1)?;
@@ -98,7 +110,10 @@ fn constant_get(
 }
 
 // The functions of a full property are at most one Get and one Set.
-fn full_access(work: &mut Work<'_>, functions: &[Function]) -> Result<CoreAccess, OutOfMemory> {
+fn full_access(work: &mut Work<'_>, functions: &[Function]) -> Result<CoreAccess, OutOfMemory>
+    ensures kept { OnOk result (KeepsScript work.old work.new) }
+    ensures in_range { WorkInRange work.old → IfOk result (λ access. AccessInRange (functions_of work.old) (variables_of work.old) (access_of access)) }
+{
     let mut read = None;
     let mut write = None;
     for function in functions {
@@ -117,21 +132,32 @@ pub(crate) fn core_states(
     work: &mut Work<'_>,
     script: &Script,
 ) -> Result<Vec<CoreState>, OutOfMemory>
-    ensures { IfOk result (λ found. map core_state_head found.items ≡ state_heads script.now) }
+    ensures heads { IfOk result (λ found. map core_state_head found.items ≡ state_heads script.now) }
+    ensures kept { OnOk result (KeepsScript work.old work.new) }
+    ensures in_range { WorkInRange work.old → IfOk result (λ found. All (CoreStateInRange work.old) found.items) }
 {
     let alloc = work.alloc();
     let mut found = Vec::with_capacity(alloc, script.states.len())?;
-    found.push(CoreState {
-        name: Name::from_bytes(alloc, b"")?,
-        functions: core_functions(work, script.functions.as_slice())?,
-    })?;
+    let empty = Name::from_bytes(alloc, b"")?;
+    found.push(core_state(work, empty, script.functions.as_slice())?)?;
     for state in &script.states {
-        found.push(CoreState {
-            name: state.name.try_clone(alloc)?,
-            functions: core_functions(work, state.functions.as_slice())?,
-        })?;
+        let name = state.name.try_clone(alloc)?;
+        found.push(core_state(work, name, state.functions.as_slice())?)?;
     }
     Ok(found)
+}
+
+fn core_state(
+    work: &mut Work<'_>,
+    name: Name,
+    functions: &[Function],
+) -> Result<CoreState, OutOfMemory>
+    ensures head { IfOk result (λ made. core_state_head made ≡ record { name = name; functions = map function_head functions.now }) }
+    ensures kept { OnOk result (KeepsScript work.old work.new) }
+    ensures in_range { WorkInRange work.old → IfOk result (CoreStateInRange work.old) }
+{
+    let functions = core_functions(work, functions)?;
+    Ok(CoreState { name, functions })
 }
 
 /// The name of the first Auto state.

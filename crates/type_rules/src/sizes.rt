@@ -2,6 +2,7 @@
 ghost use Rattle.std.specs.Prelude.{◌≡◌, ◌+◌, ◌<◌, ◌≤◌, ◌^◌, Some, None, false, IsTrue};
 ghost use Rattle.type_rules.specs.Faults.{least_line};
 
+use crate::statements::BLOCK_LIMIT;
 use core_tree::{Core, CoreFunction, CoreLine, CoreStatement};
 
 /// The most nodes, parameters and locals of a function.
@@ -67,7 +68,7 @@ fn lesser_line(found: Option<u16>, line: u16) -> Option<u16>
 /// How many nodes, parameters and locals a function has, at most 2^32 - 1 of them counted.
 pub(crate) fn function_size(function: &CoreFunction) -> u32 {
     let slots = function.parameters.len().saturating_add(function.locals.len());
-    count_of(slots).saturating_add(block_size(function.body.as_slice()))
+    count_of(slots).saturating_add(block_size(function.body.as_slice(), BLOCK_LIMIT))
 }
 
 fn count_of(number: usize) -> u32 {
@@ -78,44 +79,52 @@ fn count_of(number: usize) -> u32 {
 }
 
 #[cycle(lines)]
-fn block_size(lines: &[CoreLine]) -> u32 {
+fn block_size(lines: &[CoreLine], depth: u8) -> u32 {
     let mut size: u32 = 0;
     for line in lines {
-        size = size.saturating_add(statement_size(&line.form));
+        size = size.saturating_add(statement_size(&line.form, depth));
     }
     size
 }
 
+// The size of a block inside another one. Statements never pass the limit of blocks.
 #[cycle(lines)]
-fn statement_size(statement: &CoreStatement) -> u32 {
+fn inner_size(lines: &[CoreLine], depth: u8) -> u32 {
+    match depth.checked_sub(1) {
+        Some(inner) => block_size(lines, inner),
+        None => u32::MAX,
+    }
+}
+
+#[cycle(lines)]
+fn statement_size(statement: &CoreStatement, depth: u8) -> u32 {
     let parts = match statement {
         CoreStatement::SetLocal(_, value) | CoreStatement::SetField(_, value) => size_of(value),
         CoreStatement::SetState(value) | CoreStatement::Plain(value) => size_of(value),
-        CoreStatement::SetProp(of, _, value) => size_of_two(of, value),
-        CoreStatement::ChangeProp(of, _, _, _, right) => size_of_two(of, right),
-        CoreStatement::SetElement(array, index, value) => size_of_three(array, index, value),
+        CoreStatement::SetProp(of, _, value) => size_of(of).saturating_add(size_of(value)),
+        CoreStatement::ChangeProp(of, _, _, _, right) => size_of(of).saturating_add(size_of(right)),
+        CoreStatement::SetElement(array, index, value) => {
+            sum_of(size_of(array), size_of(index), size_of(value))
+        }
         CoreStatement::ChangeElement(array, index, _, _, right) => {
-            size_of_three(array, index, right)
+            sum_of(size_of(array), size_of(index), size_of(right))
         }
         CoreStatement::Return(Some(value)) => size_of(value),
         CoreStatement::Return(None) => 0,
-        CoreStatement::If(tests, otherwise) => {
-            branches_size(tests.as_slice()).saturating_add(block_size(otherwise.as_slice()))
-        }
+        CoreStatement::If(tests, otherwise) => branches_size(tests.as_slice(), depth)
+            .saturating_add(inner_size(otherwise.as_slice(), depth)),
         CoreStatement::While(test, body, _) => {
-            size_of(test).saturating_add(block_size(body.as_slice()))
+            size_of(test).saturating_add(inner_size(body.as_slice(), depth))
         }
     };
     parts.saturating_add(1)
 }
 
 #[cycle(lines)]
-fn branches_size(branches: &[(u16, Core, Vec<CoreLine>)]) -> u32 {
+fn branches_size(branches: &[(u16, Core, Vec<CoreLine>)], depth: u8) -> u32 {
     let mut size: u32 = 0;
     for (_, test, body) in branches {
-        size = size
-            .saturating_add(size_of(test))
-            .saturating_add(block_size(body.as_slice()));
+        size = sum_of(size, size_of(test), inner_size(body.as_slice(), depth));
     }
     size
 }
@@ -129,13 +138,13 @@ fn size_of(core: &Core) -> u32 {
         Core::Neg(of) | Core::Not(of) | Core::Length(of) => size_of(of),
         Core::Cast(_, of) => size_of(of),
         Core::PropGet { of, .. } => size_of(of),
-        Core::Join(left, right) | Core::Equal(left, right) => size_of_two(left, right),
-        Core::And(left, right) | Core::Or(left, right) => size_of_two(left, right),
-        Core::Arith(_, left, right) => size_of_two(left, right),
-        Core::Order(_, left, right) => size_of_two(left, right),
-        Core::Element(array, index, _) => size_of_two(array, index),
-        Core::Find(array, value, start) => size_of_three(array, value, start),
-        Core::FindBack(array, value, start) => size_of_three(array, value, start),
+        Core::Join(left, right) | Core::Equal(left, right) => size_of(left).saturating_add(size_of(right)),
+        Core::And(left, right) | Core::Or(left, right) => size_of(left).saturating_add(size_of(right)),
+        Core::Arith(_, left, right) => size_of(left).saturating_add(size_of(right)),
+        Core::Order(_, left, right) => size_of(left).saturating_add(size_of(right)),
+        Core::Element(array, index, _) => size_of(array).saturating_add(size_of(index)),
+        Core::Find(array, value, start) => sum_of(size_of(array), size_of(value), size_of(start)),
+        Core::FindBack(array, value, start) => sum_of(size_of(array), size_of(value), size_of(start)),
         Core::CallMethod { of, arguments, .. } => {
             size_of(of).saturating_add(sizes_of(arguments.as_slice()))
         }
@@ -147,20 +156,14 @@ fn size_of(core: &Core) -> u32 {
 }
 
 #[cycle(nodes)]
-fn size_of_two(first: &Core, second: &Core) -> u32 {
-    size_of(first).saturating_add(size_of(second))
-}
-
-#[cycle(nodes)]
-fn size_of_three(first: &Core, second: &Core, third: &Core) -> u32 {
-    size_of_two(first, second).saturating_add(size_of(third))
-}
-
-#[cycle(nodes)]
 fn sizes_of(expressions: &[Core]) -> u32 {
     let mut size: u32 = 0;
     for expression in expressions {
         size = size.saturating_add(size_of(expression));
     }
     size
+}
+
+fn sum_of(first: u32, second: u32, third: u32) -> u32 {
+    first.saturating_add(second).saturating_add(third)
 }

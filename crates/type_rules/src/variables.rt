@@ -1,4 +1,7 @@
 // The variables of a script, and the values with which they and its properties begin.
+ghost use Rattle.std.specs.Prelude.{◌≡◌, All, IfOk, vec_len};
+ghost use Rattle.core_tree.specs.InRange.{LiteralInRange, VariableInRange};
+ghost use Rattle.type_rules.specs.Ranges.{KeepsScript, functions_of, known, variables_of};
 
 use crate::work::Work;
 use core_tree::{CoreType, CoreVariable, Value};
@@ -10,7 +13,11 @@ use std::alloc::Global;
 use type_scope::{Kind, Source};
 
 /// The variables of the script, those of its Auto properties among them, in order of line.
-pub(crate) fn core_variables(work: &mut Work<'_>) -> Result<Vec<CoreVariable>, OutOfMemory> {
+pub(crate) fn core_variables(work: &mut Work<'_>) -> Result<Vec<CoreVariable>, OutOfMemory>
+    ensures kept { KeepsScript work.old work.new }
+    ensures count { IfOk result (λ found. vec_len found ≡ variables_of work.old) }
+    ensures in_range { IfOk result (λ found. All (VariableInRange (functions_of work.old)) found.items) }
+{
     let layout = work.layout;
     let mut found = Vec::with_capacity(work.alloc(), layout.sources.len())?;
     for source in &layout.sources {
@@ -23,7 +30,10 @@ pub(crate) fn core_variables(work: &mut Work<'_>) -> Result<Vec<CoreVariable>, O
     Ok(found)
 }
 
-fn declared_variable(work: &mut Work<'_>, variable: &Variable) -> Result<CoreVariable, OutOfMemory> {
+fn declared_variable(work: &mut Work<'_>, variable: &Variable) -> Result<CoreVariable, OutOfMemory>
+    ensures kept { KeepsScript work.old work.new }
+    ensures in_range { IfOk result (VariableInRange (functions_of work.old)) }
+{
     let kind = work.kind_at(variable.line, &variable.kind)?;
     Ok(CoreVariable {
         name: variable.name.try_clone(work.alloc())?,
@@ -34,18 +44,31 @@ fn declared_variable(work: &mut Work<'_>, variable: &Variable) -> Result<CoreVar
 }
 
 // The variable in which an Auto property keeps its value.
-fn property_variable(work: &mut Work<'_>, property: &Property) -> Result<CoreVariable, OutOfMemory> {
+fn property_variable(work: &mut Work<'_>, property: &Property) -> Result<CoreVariable, OutOfMemory>
+    ensures kept { KeepsScript work.old work.new }
+    ensures in_range { IfOk result (VariableInRange (functions_of work.old)) }
+{
     let kind = work.kind_at(property.line, &property.kind)?;
-    let value = match &property.form {
-        PropertyForm::Auto(value) => first_value(work, property.line, value, kind)?,
-        _ => initial_value(work.alloc(), kind)?,
-    };
     Ok(CoreVariable {
         name: variable_name(work.alloc(), &property.name)?,
         kind: known(kind),
-        value,
+        value: property_value(work, property, kind)?,
         flags: 0,
     })
+}
+
+fn property_value(
+    work: &mut Work<'_>,
+    property: &Property,
+    kind: Option<CoreType>,
+) -> Result<Value, OutOfMemory>
+    ensures kept { KeepsScript work.old work.new }
+    ensures in_range { IfOk result LiteralInRange }
+{
+    match &property.form {
+        PropertyForm::Auto(value) => first_value(work, property.line, value, kind),
+        _ => initial_value(work.alloc(), kind),
+    }
 }
 
 // The name of the variable of the Auto property of this name.
@@ -64,7 +87,10 @@ pub(crate) fn first_value(
     line: u16,
     constant: &Option<Constant>,
     kind: Option<CoreType>,
-) -> Result<Value, OutOfMemory> {
+) -> Result<Value, OutOfMemory>
+    ensures kept { KeepsScript work.old work.new }
+    ensures in_range { IfOk result LiteralInRange }
+{
     match constant {
         Some(constant) => constant_value(work, line, constant, kind),
         None => initial_value(work.alloc(), kind),
@@ -77,7 +103,10 @@ pub(crate) fn constant_value(
     line: u16,
     constant: &Constant,
     kind: Option<CoreType>,
-) -> Result<Value, OutOfMemory> {
+) -> Result<Value, OutOfMemory>
+    ensures kept { KeepsScript work.old work.new }
+    ensures in_range { IfOk result LiteralInRange }
+{
     let (value, given) = literal_of(work.alloc(), constant)?;
     if !is_value_of(given, kind) {
         work.fault(line, TypeRule::NoConversion);
@@ -98,7 +127,9 @@ fn holds_none(kind: CoreType) -> bool {
 }
 
 /// The value with which a thing of this type begins that is given none.
-pub(crate) fn initial_value(alloc: Global, kind: Option<CoreType>) -> Result<Value, OutOfMemory> {
+pub(crate) fn initial_value(alloc: Global, kind: Option<CoreType>) -> Result<Value, OutOfMemory>
+    ensures { IfOk result LiteralInRange }
+{
     match kind {
         Some(kind) => default_of(alloc, kind),
         None => Ok(Value::NoneValue),
@@ -106,6 +137,11 @@ pub(crate) fn initial_value(alloc: Global, kind: Option<CoreType>) -> Result<Val
 }
 
 /// A type, or where it isn't known some type of a tree that nobody uses.
-pub(crate) fn known(kind: Option<CoreType>) -> CoreType {
-    kind.unwrap_or(CoreType::Int)
+pub(crate) fn known(kind: Option<CoreType>) -> CoreType
+    ensures { result ≡ known kind }
+{
+    match kind {
+        Some(kind) => kind,
+        None => CoreType::Int,
+    }
 }

@@ -1,4 +1,7 @@
 // A script while it is judged.
+ghost use Rattle.std.specs.Prelude.{◌≡◌, [], IfOk};
+ghost use Rattle.core_tree.specs.InRange.{ResultInRange};
+ghost use Rattle.type_rules.specs.Ranges.{KeepsScript, functions_of};
 
 use crate::first_faults::ScriptFaults;
 use crate::sizes::Sizes;
@@ -31,7 +34,11 @@ pub(crate) struct Work<'a> {
 }
 
 impl<'a> Work<'a> {
-    pub(crate) fn new(catalog: &'a Catalog<'a>, layout: &'a Layout<'a>, number: u16) -> Work<'a> {
+    pub(crate) fn new(catalog: &'a Catalog<'a>, layout: &'a Layout<'a>, number: u16) -> Work<'a>
+        ensures catalog { result.catalog ≡ catalog.entry }
+        ensures layout { result.layout ≡ layout.entry }
+        ensures number { result.number ≡ number }
+    {
         Work {
             catalog,
             layout,
@@ -46,7 +53,9 @@ impl<'a> Work<'a> {
     }
 
     /// Notes that a rule is broken at this line.
-    pub(crate) fn fault(&mut self, line: u16, rule: TypeRule) {
+    pub(crate) fn fault(&mut self, line: u16, rule: TypeRule)
+        ensures { KeepsScript self.old self.new }
+    {
         self.notes.note(line, rule);
     }
 
@@ -55,7 +64,10 @@ impl<'a> Work<'a> {
         &mut self,
         line: u16,
         name: &TypeName,
-    ) -> Result<Option<CoreType>, OutOfMemory> {
+    ) -> Result<Option<CoreType>, OutOfMemory>
+        ensures kept { KeepsScript self.old self.new }
+        ensures in_range { IfOk result (ResultInRange (functions_of self.old)) }
+    {
         let kind = self.catalog.type_of(name)?;
         if kind.is_none() {
             self.fault(line, TypeRule::UnknownType);
@@ -64,7 +76,13 @@ impl<'a> Work<'a> {
     }
 
     /// The scope of a function of this line. It holds what was noted so far until it is closed.
-    pub(crate) fn open_scope(&mut self, is_global: bool, line: u16) -> Scope<'a> {
+    pub(crate) fn open_scope(&mut self, is_global: bool, line: u16) -> Scope<'a>
+        ensures kept { KeepsScript self.old self.new }
+        ensures catalog { result.catalog ≡ self.old.catalog }
+        ensures layout { result.layout ≡ self.old.layout }
+        ensures script { result.script ≡ self.old.number }
+        ensures locals { result.locals.kinds.items ≡ [] }
+    {
         let notes = mem::replace(&mut self.notes, Notes::new(self.catalog.alloc));
         Scope::new(
             self.catalog,
@@ -77,13 +95,17 @@ impl<'a> Work<'a> {
     }
 
     /// Takes back what was noted, with a function's line and size.
-    pub(crate) fn close_scope(&mut self, notes: Notes, line: u16, size: u32) {
+    pub(crate) fn close_scope(&mut self, notes: Notes, line: u16, size: u32)
+        ensures { KeepsScript self.old self.new }
+    {
         self.notes = notes;
         self.note_size(line, size);
     }
 
     /// Notes a function's line and size.
-    pub(crate) fn note_size(&mut self, line: u16, size: u32) {
+    pub(crate) fn note_size(&mut self, line: u16, size: u32)
+        ensures { KeepsScript self.old self.new }
+    {
         self.sizes.note(line, size);
     }
 
