@@ -35,7 +35,7 @@ pub scripts-push : (functions : List ℕ) (scripts all : List CoreScript) (made 
     ScriptInRange functions (script_of made) → All (ScriptInRange functions) (map script_of all)
 scripts-push functions scripts all made pushed so_far here =
     All-same (ScriptInRange functions) (map script_of all) (map script_of scripts ++ script_of made ∷ []) (ap (map script_of) pushed ∙ map-append script_of scripts (made ∷ []))
-        (All-push (ScriptInRange functions) (map script_of scripts) (script_of made) so_far here)
+    (All-push (ScriptInRange functions) (map script_of scripts) (script_of made) so_far here)
 
 -- ---- how many functions the empty state has
 

@@ -20,4 +20,4 @@ promised-in_range functions (Value kind) r = known-in_range functions kind r
 pub types-in_range : (functions : List ℕ) (kinds : List (Option CoreType)) (types : List CoreType) → types ≡ map known kinds → All (ResultInRange functions) kinds → All (TypeInRange functions) types
 types-in_range functions kinds types is all =
     All-same (TypeInRange functions) types (map known kinds) is
-        (All-map (TypeInRange functions) known kinds (All-weaker (ResultInRange functions) (λ (kind : Option CoreType). TypeInRange functions (known kind)) (known-in_range functions) kinds all))
+    (All-map (TypeInRange functions) known kinds (All-weaker (ResultInRange functions) (λ (kind : Option CoreType). TypeInRange functions (known kind)) (known-in_range functions) kinds all))

@@ -54,10 +54,7 @@ pub(crate) fn core_function(
     Ok(made)
 }
 
-fn promise_of(
-    scope: &mut Scope<'_>,
-    result_type: &Option<TypeName>,
-) -> Result<Promise, OutOfMemory>
+fn promise_of(scope: &mut Scope<'_>, result_type: &Option<TypeName>) -> Result<Promise, OutOfMemory>
     ensures kept { Keeps scope.old scope.new }
     ensures in_range { IfOk result (PromiseInRange (scope_bounds scope.old).functions) }
 {

@@ -67,7 +67,10 @@ fn lesser_line(found: Option<u16>, line: u16) -> Option<u16>
 
 /// How many nodes, parameters and locals a function has, at most 2^32 - 1 of them counted.
 pub(crate) fn function_size(function: &CoreFunction) -> u32 {
-    let slots = function.parameters.len().saturating_add(function.locals.len());
+    let slots = function
+        .parameters
+        .len()
+        .saturating_add(function.locals.len());
     count_of(slots).saturating_add(block_size(function.body.as_slice(), BLOCK_LIMIT))
 }
 
@@ -111,8 +114,10 @@ fn statement_size(statement: &CoreStatement, depth: u8) -> u32 {
         }
         CoreStatement::Return(Some(value)) => size_of(value),
         CoreStatement::Return(None) => 0,
-        CoreStatement::If(tests, otherwise) => branches_size(tests.as_slice(), depth)
-            .saturating_add(inner_size(otherwise.as_slice(), depth)),
+        CoreStatement::If(tests, otherwise) => branches_size(
+            tests.as_slice(),
+            depth,
+        ).saturating_add(inner_size(otherwise.as_slice(), depth)),
         CoreStatement::While(test, body, _) => {
             size_of(test).saturating_add(inner_size(body.as_slice(), depth))
         }
@@ -138,13 +143,21 @@ fn size_of(core: &Core) -> u32 {
         Core::Neg(of) | Core::Not(of) | Core::Length(of) => size_of(of),
         Core::Cast(_, of) => size_of(of),
         Core::PropGet { of, .. } => size_of(of),
-        Core::Join(left, right) | Core::Equal(left, right) => size_of(left).saturating_add(size_of(right)),
-        Core::And(left, right) | Core::Or(left, right) => size_of(left).saturating_add(size_of(right)),
+        Core::Join(left, right) | Core::Equal(left, right) => size_of(left).saturating_add(size_of(
+            right,
+        )),
+        Core::And(left, right) | Core::Or(left, right) => size_of(left).saturating_add(size_of(
+            right,
+        )),
         Core::Arith(_, left, right) => size_of(left).saturating_add(size_of(right)),
         Core::Order(_, left, right) => size_of(left).saturating_add(size_of(right)),
         Core::Element(array, index, _) => size_of(array).saturating_add(size_of(index)),
         Core::Find(array, value, start) => sum_of(size_of(array), size_of(value), size_of(start)),
-        Core::FindBack(array, value, start) => sum_of(size_of(array), size_of(value), size_of(start)),
+        Core::FindBack(array, value, start) => sum_of(
+            size_of(array),
+            size_of(value),
+            size_of(start),
+        ),
         Core::CallMethod { of, arguments, .. } => {
             size_of(of).saturating_add(sizes_of(arguments.as_slice()))
         }

@@ -75,7 +75,13 @@ fn core_statement(
         }
         StatementForm::Return(value) => return_statement(scope, value, promise),
         StatementForm::If { tests, otherwise } => {
-            if_statement(scope, tests.as_slice(), otherwise.as_slice(), promise, depth)
+            if_statement(
+                scope,
+                tests.as_slice(),
+                otherwise.as_slice(),
+                promise,
+                depth,
+            )
         }
         StatementForm::While {
             test,

@@ -92,7 +92,11 @@ fn statements_that_break_a_rule(rt: HostRuntime) -> Result<(), Fail> {
         ("Slots = New Int[0]", 1, TypeRule::ArraySize),
         ("Int i = 0\nInt I = 1", 2, TypeRule::DuplicateLocal),
         ("Int n = G()", 1, TypeRule::NoValue),
-        ("Int n = 0\nWhile n\nn = m\nEndWhile", 3, TypeRule::UnknownName),
+        (
+            "Int n = 0\nWhile n\nn = m\nEndWhile",
+            3,
+            TypeRule::UnknownName,
+        ),
         ("If 1\nElseIf m\nEndIf", 2, TypeRule::UnknownName),
         ("If 1\nElse\nm = 1\nEndIf", 3, TypeRule::UnknownName),
         ("If 1\nInt n = 0\nEndIf\nn = 1", 4, TypeRule::UnknownName),
@@ -153,25 +157,52 @@ fn a_part_of_unknown_type_breaks_no_second_rule(rt: HostRuntime) -> Result<(), F
 #[test]
 fn rules_of_declarations(rt: HostRuntime) -> Result<(), Fail> {
     let cases = [
-        ("ScriptName A\nInt N = True", Some((0, 2, TypeRule::NoConversion))),
-        ("ScriptName A\nInt N = None", Some((0, 2, TypeRule::NoConversion))),
-        ("ScriptName A\nString S = 1", Some((0, 2, TypeRule::NoConversion))),
+        (
+            "ScriptName A\nInt N = True",
+            Some((0, 2, TypeRule::NoConversion)),
+        ),
+        (
+            "ScriptName A\nInt N = None",
+            Some((0, 2, TypeRule::NoConversion)),
+        ),
+        (
+            "ScriptName A\nString S = 1",
+            Some((0, 2, TypeRule::NoConversion)),
+        ),
         ("ScriptName A\nA Other = None\nInt[] Slots = None", None),
         ("ScriptName A\nDebug D", Some((0, 2, TypeRule::UnknownType))),
-        ("ScriptName A\nGate G = 1", Some((0, 2, TypeRule::UnknownType))),
-        ("ScriptName A\nBool Property P = 1 Auto", Some((0, 2, TypeRule::NoConversion))),
-        ("ScriptName A\nBool Property P = 1 AutoReadOnly", Some((0, 2, TypeRule::NoConversion))),
-        ("ScriptName A\nGate Property P Auto", Some((0, 2, TypeRule::UnknownType))),
+        (
+            "ScriptName A\nGate G = 1",
+            Some((0, 2, TypeRule::UnknownType)),
+        ),
+        (
+            "ScriptName A\nBool Property P = 1 Auto",
+            Some((0, 2, TypeRule::NoConversion)),
+        ),
+        (
+            "ScriptName A\nBool Property P = 1 AutoReadOnly",
+            Some((0, 2, TypeRule::NoConversion)),
+        ),
+        (
+            "ScriptName A\nGate Property P Auto",
+            Some((0, 2, TypeRule::UnknownType)),
+        ),
         (
             "ScriptName A\nFunction F(Int n = True) Native",
             Some((0, 2, TypeRule::NoConversion)),
         ),
-        ("ScriptName A\nFunction F(String s = 1, Bool b = \"a\") Native", None),
+        (
+            "ScriptName A\nFunction F(String s = 1, Bool b = \"a\") Native",
+            None,
+        ),
         (
             "ScriptName A\nFunction F(Int n, Bool N) Native",
             Some((0, 2, TypeRule::DuplicateLocal)),
         ),
-        ("ScriptName A\nGate Function F() Native", Some((0, 2, TypeRule::UnknownType))),
+        (
+            "ScriptName A\nGate Function F() Native",
+            Some((0, 2, TypeRule::UnknownType)),
+        ),
         (
             "ScriptName A\nFunction F() Global\nDebug.Trace(Self)\nEndFunction",
             Some((0, 3, TypeRule::InstanceInGlobal)),

@@ -113,7 +113,9 @@ impl<'a> Work<'a> {
     pub(crate) fn faults(&self, script_line: u16) -> ScriptFaults {
         ScriptFaults {
             broken: self.notes.first(),
-            too_large: self.sizes.too_large(script_line, writes_too_much(&self.notes)),
+            too_large: self
+                .sizes
+                .too_large(script_line, writes_too_much(&self.notes)),
         }
     }
 }
