@@ -84,7 +84,7 @@ pub(crate) fn place_arguments(
     given: Vec<Given<'_>>,
     parameters: Parameters<'_>,
 ) -> Result<Option<Arguments>, OutOfMemory>
-    ensures { GivenInRange (bounds_of context.now) given.items → ParametersInRange (bounds_of context.now) parameters → IfOk result (λ found. IfSome found (CompleteInRange (bounds_of context.now))) }
+    ensures { GivenInRange (bounds_of context.now) given.entry.items → ParametersInRange (bounds_of context.now) parameters.entry → IfOk result (λ found. IfSome found (CompleteInRange (bounds_of context.now))) }
 {
     let mut found = Arguments::new(context.catalog.alloc, parameters.count())?;
     let mut named = false;
@@ -110,7 +110,7 @@ fn place_argument(
     place: Option<usize>,
     value: Typed,
 ) -> Result<(), OutOfMemory>
-    ensures { ParametersInRange (bounds_of context.now) parameters → ArgumentsInRange (bounds_of context.now) found.old → TypedInRange (bounds_of context.now) value → OnOk result (ArgumentsInRange (bounds_of context.now) found.new) }
+    ensures { ParametersInRange (bounds_of context.now) parameters.entry → ArgumentsInRange (bounds_of context.now) found.old → TypedInRange (bounds_of context.now) value → OnOk result (ArgumentsInRange (bounds_of context.now) found.new) }
 {
     let free = match place {
         Some(place) => found.free(place),

@@ -180,7 +180,7 @@ fn store(
     place: Target<'_>,
     value: Typed,
 ) -> Result<CoreStatement, OutOfMemory>
-    ensures { TargetInRange (bounds_of context.now) place → TypedInRange (bounds_of context.now) value → IfOk result (FormInRange (bounds_of context.now)) }
+    ensures { TargetInRange (bounds_of context.now) place.entry → TypedInRange (bounds_of context.now) value → IfOk result (FormInRange (bounds_of context.now)) }
 {
     Ok(match place {
         Target::Local(number, kind) => {
@@ -214,7 +214,7 @@ fn change_place(
     sign: Sign,
     value: Typed,
 ) -> Result<CoreStatement, OutOfMemory>
-    ensures { TargetInRange (bounds_of context.now) place → TypedInRange (bounds_of context.now) value → IfOk result (FormInRange (bounds_of context.now)) }
+    ensures { TargetInRange (bounds_of context.now) place.entry → TypedInRange (bounds_of context.now) value → IfOk result (FormInRange (bounds_of context.now)) }
 {
     match place {
         Target::Local(number, kind) => {

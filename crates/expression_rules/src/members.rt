@@ -1,5 +1,5 @@
 // Properties, and the lengths, elements and sizes of arrays.
-ghost use Rattle.std.specs.Prelude.{◌≡◌, ◌<◌, ◌≤◌, ¬◌, pos, IfOk, IfSome, IfNone, List, ℕ};
+ghost use Rattle.std.specs.Prelude.{◌≡◌, ◌<◌, ◌≤◌, pos, IfOk, IfSome, IfNone, List, ℕ};
 ghost use Rattle.core_tree.specs.InRange.{ResultInRange};
 ghost use Rattle.type_scope.specs.Scope.{KindInRange, function_counts};
 ghost use Rattle.expression_rules.specs.Ranges.{CoreInRange, TypedInRange, bounds_of};

@@ -58,8 +58,8 @@ impl<'a> Scope<'a> {
         line: u16,
         notes: Notes,
     ) -> Scope<'a>
-        ensures catalog { result.catalog ≡ catalog }
-        ensures layout { result.layout ≡ layout }
+        ensures catalog { result.catalog ≡ catalog.entry }
+        ensures layout { result.layout ≡ layout.entry }
         ensures script { result.script ≡ script }
         ensures locals { result.locals.kinds.items ≡ [] }
         ensures notes { result.notes ≡ notes }
@@ -77,7 +77,7 @@ impl<'a> Scope<'a> {
 
     /// What was noted.
     pub fn into_notes(self) -> Notes
-        ensures { result ≡ self.notes }
+        ensures { result ≡ self.entry.notes }
     {
         self.notes
     }
@@ -103,6 +103,11 @@ impl<'a> Scope<'a> {
     pub fn new_local(&mut self, name: &Name, kind: Option<CoreType>) -> Result<u16, OutOfMemory>
         ensures number { IfOk result (λ number. number ≡ min (vec_len self.old.locals.kinds) 65535) }
         ensures added { OnOk result (self.new.locals.kinds.items ≡ self.old.locals.kinds.items ++ kind ∷ []) }
+        ensures catalog { self.new.catalog ≡ self.old.catalog }
+        ensures layout { self.new.layout ≡ self.old.layout }
+        ensures script { self.new.script ≡ self.old.script }
+        ensures is_global { self.new.is_global ≡ self.old.is_global }
+        ensures line { self.new.line ≡ self.old.line }
     {
         if self.locals.find(name)?.is_some() {
             self.fault(TypeRule::DuplicateLocal);
