@@ -7,11 +7,11 @@ use Rattle.core_tree.specs.Tree.{expression_of, statement_of}
 use Rattle.type_scope.specs.Scope.{function_counts, KindInRange}
 use Rattle.expression_rules.specs.declared.arguments.Given.{Given}
 use Rattle.expression_rules.specs.declared.arguments.Arguments.{Arguments}
-use Rattle.expression_rules.specs.declared.assignment.Change.{Change}
 use Rattle.expression_rules.specs.declared.assignment.Target.{Target}
 use Rattle.expression_rules.specs.declared.assignment.Target.TheVariants as targets
 use Rattle.expression_rules.specs.declared.calls.Outcome.{Outcome}
 use Rattle.expression_rules.specs.declared.context.Context.{Context}
+use Rattle.expression_rules.specs.declared.forms.Change.{Change}
 use Rattle.expression_rules.specs.declared.parameters.Parameters.{Parameters}
 use Rattle.expression_rules.specs.declared.parameters.Parameters.TheVariants as parameters
 use Rattle.expression_rules.specs.declared.trees.Passed.{Passed}
@@ -25,8 +25,9 @@ CoreInRange b core = ExpressionInRange b (expression_of core)
 abbrev pub FormInRange : Bounds → CoreStatement → Type 0
 FormInRange b form = StatementInRange b (statement_of form)
 
-abbrev pub TypedInRange : Bounds → Typed → Type 0
-TypedInRange b typed = CoreInRange b typed.core × KindInRange b.functions typed.kind
+pub record TypedInRange (b : Bounds) (typed : Typed) : Type 0 where
+  pub core : CoreInRange b typed.core
+  pub kind : KindInRange b.functions typed.kind
 
 -- the values of arguments as they are written
 abbrev pub GivenInRange : Bounds → List Given → Type 0
@@ -72,8 +73,9 @@ pub record CompleteInRange (b : Bounds) (found : Arguments) : Type 0 where
   pub cores : All (CoreInRange b) found.cores.items
   pub places : PlacesInRange found.places.items (length found.cores.items)
 
-abbrev pub OutcomeInRange : Bounds → Outcome → Type 0
-OutcomeInRange b outcome = IfSome outcome.passed (PassedInRange b) × KindInRange b.functions outcome.kind
+pub record OutcomeInRange (b : Bounds) (outcome : Outcome) : Type 0 where
+  pub passed : IfSome outcome.passed (PassedInRange b)
+  pub kind : KindInRange b.functions outcome.kind
 
 -- what is assigned to
 abbrev pub TargetInRange : Bounds → Target → Type 0
@@ -84,5 +86,6 @@ TargetInRange b (targets.Property of name kind) = CoreInRange b of × ResultInRa
 TargetInRange b (targets.Element array at kind) =
     CoreInRange b array × CoreInRange b at × TypeInRange b.functions kind
 
-abbrev pub ChangeInRange : Bounds → Change → Type 0
-ChangeInRange b change = TypeInRange b.functions change.kind × CoreInRange b change.right
+pub record ChangeInRange (b : Bounds) (change : Change) : Type 0 where
+  pub kind : TypeInRange b.functions change.kind
+  pub right : CoreInRange b change.right

@@ -14,6 +14,8 @@ use papy_base::{Name, OutOfMemory};
 use std::alloc::Global;
 
 /// An argument as it is written: its value, and the parameter's name where that stands before it.
+///
+/// A call's arguments are kept with the last one first, so that each is taken from the end.
 #[derive(Drop)]
 pub(crate) struct Given<'t> {
     pub(crate) name: Option<&'t Name>,
@@ -84,21 +86,34 @@ pub(crate) fn place_arguments(
     given: Vec<Given<'_>>,
     parameters: Parameters<'_>,
 ) -> Result<Option<Arguments>, OutOfMemory>
-    ensures { GivenInRange (bounds_of context.now) given.items → ParametersInRange (bounds_of context.now) parameters → IfOk result (λ found. IfSome found (CompleteInRange (bounds_of context.now))) }
+    ensures { GivenInRange (bounds_of context.now) given.entry.items → ParametersInRange (bounds_of context.now) parameters.entry → IfOk result (λ found. IfSome found (CompleteInRange (bounds_of context.now))) }
 {
+    let mut given = given;
     let mut found = Arguments::new(context.catalog.alloc, parameters.count())?;
     let mut named = false;
-    for (position, Given { name, value }) in given.into_iter().enumerate() {
+    let mut position = 0;
+    'given: while let Some(Given { name, value }) = given.pop() {
         named = named || name.is_some();
-        let place = match name {
-            Some(name) => parameters.place_of(name),
-            None if named => None,
-            None => Some(position),
-        };
+        let place = written_place(parameters, name, named, position);
         place_argument(context, notes, &mut found, parameters, place, value)?;
+        position = usize::saturating_add(position, 1);
     }
     add_defaults(context, notes, &mut found, parameters)?;
     Ok(found.complete())
+}
+
+// The place of the parameter that an argument is for.
+fn written_place(
+    parameters: Parameters<'_>,
+    name: Option<&Name>,
+    named: bool,
+    position: usize,
+) -> Option<usize> {
+    match name {
+        Some(name) => parameters.place_of(name),
+        None if named => None,
+        None => Some(position),
+    }
 }
 
 // Gives the parameter at this place an argument.
@@ -110,7 +125,7 @@ fn place_argument(
     place: Option<usize>,
     value: Typed,
 ) -> Result<(), OutOfMemory>
-    ensures { ParametersInRange (bounds_of context.now) parameters → ArgumentsInRange (bounds_of context.now) found.old → TypedInRange (bounds_of context.now) value → OnOk result (ArgumentsInRange (bounds_of context.now) found.new) }
+    ensures { ParametersInRange (bounds_of context.now) parameters.entry → ArgumentsInRange (bounds_of context.now) found.old → TypedInRange (bounds_of context.now) value → OnOk result (ArgumentsInRange (bounds_of context.now) found.new) }
 {
     let free = match place {
         Some(place) => found.free(place),

@@ -7,14 +7,18 @@ ghost use Rattle.expression_rules.specs.Ranges.{CoreInRange, FormInRange, TypedI
 use crate::context::Context;
 use crate::conversions::convert;
 use crate::expression::{any, value};
+use crate::forms::{
+    Change, change_element, change_property, no_form, set_element, set_field, set_local,
+    set_property, set_state,
+};
 use crate::members::{Access, indexed, own_variable, property_of, property_type};
 use crate::notes::Notes;
 use crate::operators::{arithmetic, operand_type, operation};
 use crate::rule::TypeRule;
-use crate::trees::{field, local, nothing, own_instance, state_text};
+use crate::trees::{field, local, own_instance, state_text};
 use crate::typed::Typed;
 use crate::words::{Meaning, meaning_of, member_of_word};
-use core_tree::{Arith, Core, CoreStatement, CoreType};
+use core_tree::{Core, CoreStatement, CoreType};
 use line_parser::Expr;
 use papy_base::{Name, OutOfMemory};
 use script_lexer::Sign;
@@ -50,7 +54,7 @@ pub(crate) fn assign(
     let place = target_place(context, notes, target, access)?;
     let right = value(context, notes, right)?;
     match (place, change) {
-        (None, _) => Ok(CoreStatement::Plain(nothing())),
+        (None, _) => Ok(no_form()),
         (Some(place), None) => store(context, notes, place, right),
         (Some(place), Some(sign)) => change_place(context, notes, place, sign, right),
     }
@@ -180,29 +184,30 @@ fn store(
     place: Target<'_>,
     value: Typed,
 ) -> Result<CoreStatement, OutOfMemory>
-    ensures { TargetInRange (bounds_of context.now) place → TypedInRange (bounds_of context.now) value → IfOk result (FormInRange (bounds_of context.now)) }
+    ensures { TargetInRange (bounds_of context.now) place.entry → TypedInRange (bounds_of context.now) value → IfOk result (FormInRange (bounds_of context.now)) }
 {
-    Ok(match place {
+    match place {
         Target::Local(number, kind) => {
-            CoreStatement::SetLocal(number, convert(context, notes, value, kind)?)
+            let value = convert(context, notes, value, kind)?;
+            Ok(set_local(number, value))
         }
         Target::Field(number, kind) => {
-            CoreStatement::SetField(number, convert(context, notes, value, kind)?)
+            let value = convert(context, notes, value, kind)?;
+            Ok(set_field(number, value))
         }
-        Target::State => CoreStatement::SetState(convert(
-            context,
-            notes,
-            value,
-            Some(CoreType::Text),
-        )?),
+        Target::State => {
+            let value = convert(context, notes, value, Some(CoreType::Text))?;
+            Ok(set_state(value))
+        }
         Target::Property(of, name, kind) => {
             let value = convert(context, notes, value, kind)?;
-            CoreStatement::SetProp(of, name.try_clone(context.catalog.alloc)?, value)
+            set_property(context.catalog.alloc, of, name, value)
         }
         Target::Element(array, at, kind) => {
-            CoreStatement::SetElement(array, at, convert(context, notes, value, Some(kind))?)
+            let value = convert(context, notes, value, Some(kind))?;
+            Ok(set_element(array, at, value))
         }
-    })
+    }
 }
 
 // An assignment such as `+=`. A local or a variable gets the new value, and a property or an element is
@@ -214,45 +219,34 @@ fn change_place(
     sign: Sign,
     value: Typed,
 ) -> Result<CoreStatement, OutOfMemory>
-    ensures { TargetInRange (bounds_of context.now) place → TypedInRange (bounds_of context.now) value → IfOk result (FormInRange (bounds_of context.now)) }
+    ensures { TargetInRange (bounds_of context.now) place.entry → TypedInRange (bounds_of context.now) value → IfOk result (FormInRange (bounds_of context.now)) }
 {
     match place {
         Target::Local(number, kind) => {
             let new = changed(context, notes, local(number), kind, sign, value)?;
-            Ok(CoreStatement::SetLocal(number, new))
+            Ok(set_local(number, new))
         }
         Target::Field(number, kind) => {
             let new = changed(context, notes, field(number), kind, sign, value)?;
-            Ok(CoreStatement::SetField(number, new))
+            Ok(set_field(number, new))
         }
         Target::State => {
-            let new = changed(
-                context,
-                notes,
-                state_text(),
-                Some(CoreType::Text),
-                sign,
-                value,
-            )?;
-            Ok(CoreStatement::SetState(new))
+            let text = Some(CoreType::Text);
+            let new = changed(context, notes, state_text(), text, sign, value)?;
+            Ok(set_state(new))
         }
         Target::Property(of, name, kind) => {
-            let name = name.try_clone(context.catalog.alloc)?;
-            Ok(match change_in_place(context, notes, kind, sign, value)? {
-                Some(new) => {
-                    CoreStatement::ChangeProp(of, name, new.kind, new.operation, new.right)
-                }
-                None => CoreStatement::Plain(nothing()),
-            })
+            match change_in_place(context, notes, kind, sign, value)? {
+                Some(change) => change_property(context.catalog.alloc, of, name, change),
+                None => Ok(no_form()),
+            }
         }
-        Target::Element(array, at, kind) => Ok(
+        Target::Element(array, at, kind) => {
             match change_in_place(context, notes, Some(kind), sign, value)? {
-                Some(new) => {
-                    CoreStatement::ChangeElement(array, at, new.kind, new.operation, new.right)
-                }
-                None => CoreStatement::Plain(nothing()),
-            },
-        ),
+                Some(change) => Ok(change_element(array, at, change)),
+                None => Ok(no_form()),
+            }
+        }
     }
 }
 
@@ -269,14 +263,6 @@ fn changed(
 {
     let new = arithmetic(context, notes, sign, Typed::found(old, kind), value)?;
     convert(context, notes, new, kind)
-}
-
-// A change of a property or an element: its type, the operation, and the right side.
-#[derive(Drop)]
-pub(crate) struct Change {
-    pub(crate) kind: CoreType,
-    pub(crate) operation: Arith,
-    pub(crate) right: Core,
 }
 
 // The change, none where a rule is broken in it. The tree has no place for a conversion of the old or of the

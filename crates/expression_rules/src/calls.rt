@@ -27,7 +27,7 @@ pub(crate) fn plain_call(
     name: &Name,
     given: Vec<Given<'_>>,
 ) -> Result<Typed, OutOfMemory>
-    ensures { GivenInRange (bounds_of context.now) given.items → IfOk result (TypedInRange (bounds_of context.now)) }
+    ensures { GivenInRange (bounds_of context.now) given.entry.items → IfOk result (TypedInRange (bounds_of context.now)) }
 {
     let Some(callee) = plain_callee(context, name)? else {
         return Ok(no_function(context, notes));
@@ -55,7 +55,7 @@ pub(crate) fn parent_call(
     name: &Name,
     given: Vec<Given<'_>>,
 ) -> Result<Typed, OutOfMemory>
-    ensures { GivenInRange (bounds_of context.now) given.items → IfOk result (TypedInRange (bounds_of context.now)) }
+    ensures { GivenInRange (bounds_of context.now) given.entry.items → IfOk result (TypedInRange (bounds_of context.now)) }
 {
     context.needs_instance(notes);
     let Some(parent) = context.catalog.parent_of(context.script)? else {
@@ -82,7 +82,7 @@ pub(crate) fn script_call(
     name: &Name,
     given: Vec<Given<'_>>,
 ) -> Result<Typed, OutOfMemory>
-    ensures { GivenInRange (bounds_of context.now) given.items → IfOk result (TypedInRange (bounds_of context.now)) }
+    ensures { GivenInRange (bounds_of context.now) given.entry.items → IfOk result (TypedInRange (bounds_of context.now)) }
 {
     let Some(script) = context.catalog.find_script(word)? else {
         context.fault(notes, TypeRule::UnknownName);
@@ -102,7 +102,7 @@ pub(crate) fn member_call(
     name: &Name,
     given: Vec<Given<'_>>,
 ) -> Result<Typed, OutOfMemory>
-    ensures { TypedInRange (bounds_of context.now) of → GivenInRange (bounds_of context.now) given.items → IfOk result (TypedInRange (bounds_of context.now)) }
+    ensures { TypedInRange (bounds_of context.now) of → GivenInRange (bounds_of context.now) given.entry.items → IfOk result (TypedInRange (bounds_of context.now)) }
 {
     if of.is_unknown() {
         return Ok(Typed::unknown());
@@ -124,7 +124,7 @@ fn array_call(
     name: &Name,
     given: Vec<Given<'_>>,
 ) -> Result<Typed, OutOfMemory>
-    ensures { CoreInRange (bounds_of context.now) array → TypeInRange (bounds_of context.now).functions element → GivenInRange (bounds_of context.now) given.items → IfOk result (TypedInRange (bounds_of context.now)) }
+    ensures { CoreInRange (bounds_of context.now) array → TypeInRange (bounds_of context.now).functions element → GivenInRange (bounds_of context.now) given.entry.items → IfOk result (TypedInRange (bounds_of context.now)) }
 {
     let Some(direction) = search_named(name) else {
         return Ok(no_function(context, notes));
@@ -186,7 +186,7 @@ fn called(
     heading: &Heading,
     given: Vec<Given<'_>>,
 ) -> Result<Outcome, OutOfMemory>
-    ensures { GivenInRange (bounds_of context.now) given.items → IfOk result (OutcomeInRange (bounds_of context.now)) }
+    ensures { GivenInRange (bounds_of context.now) given.entry.items → IfOk result (OutcomeInRange (bounds_of context.now)) }
 {
     let parameters = Parameters::Declared(heading.parameters.as_slice());
     let found = place_arguments(context, notes, given, parameters)?;
@@ -224,7 +224,7 @@ fn global_call(
     callee: Callee<'_>,
     given: Vec<Given<'_>>,
 ) -> Result<Typed, OutOfMemory>
-    ensures { FunctionThere (bounds_of context.now).functions callee.at → GivenInRange (bounds_of context.now) given.items → IfOk result (TypedInRange (bounds_of context.now)) }
+    ensures { FunctionThere (bounds_of context.now).functions callee.entry.at → GivenInRange (bounds_of context.now) given.entry.items → IfOk result (TypedInRange (bounds_of context.now)) }
 {
     notes.write_out(callee.heading.name.as_bytes())?;
     let Outcome { passed, kind } = called(context, notes, callee.heading, given)?;
@@ -244,7 +244,7 @@ fn method_call(
     name: &Name,
     given: Vec<Given<'_>>,
 ) -> Result<Typed, OutOfMemory>
-    ensures { CoreInRange (bounds_of context.now) of → GivenInRange (bounds_of context.now) given.items → IfOk result (TypedInRange (bounds_of context.now)) }
+    ensures { CoreInRange (bounds_of context.now) of → GivenInRange (bounds_of context.now) given.entry.items → IfOk result (TypedInRange (bounds_of context.now)) }
 {
     let Outcome { passed, kind } = called(context, notes, heading, given)?;
     let core = match passed {

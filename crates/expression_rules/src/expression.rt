@@ -11,7 +11,6 @@ use crate::notes::Notes;
 use crate::operators::{binary, unary};
 use crate::rule::TypeRule;
 use crate::spine::{Leaf, Spine, Step, Written};
-use crate::trees::{literal, nothing};
 use crate::typed::Typed;
 use crate::words::{instance, meaning_of, member_of_word, read_word, unknown_word};
 use core_tree::{Core, CoreType, Value};
@@ -170,7 +169,7 @@ fn step(
     }
 }
 
-// The values of arguments.
+// The values of arguments, the last one first.
 #[cycle(expression)]
 fn given<'t>(
     context: &Context<'_>,
@@ -181,7 +180,7 @@ fn given<'t>(
     ensures { ContextInRange context.now → IfOk result (λ found. GivenInRange (bounds_of context.now) found.items) }
 {
     let mut found = Vec::new(context.catalog.alloc);
-    for argument in arguments {
+    for argument in arguments.iter().rev() {
         let value = expression(context, notes, &argument.value, depth)?;
         let value = used(context, notes, value);
         found.push(Given {
@@ -207,16 +206,13 @@ fn used(context: &Context<'_>, notes: &mut Notes, typed: Typed) -> Typed
 fn written(context: &Context<'_>, constant: Written<'_>) -> Result<Typed, OutOfMemory>
     ensures { IfOk result (TypedInRange (bounds_of context.now)) }
 {
-    Ok(match constant {
-        Written::Int(number) => Typed::of(literal(Value::Int(number)), CoreType::Int),
-        Written::Bool(truth) => Typed::of(literal(Value::Bool(truth)), CoreType::Bool),
+    match constant {
+        Written::Int(number) => Ok(Typed::literal(Value::Int(number), Kind::Of(CoreType::Int))),
+        Written::Bool(truth) => Ok(Typed::literal(Value::Bool(truth), Kind::Of(CoreType::Bool))),
         Written::Quoted(text) => {
             let text = text.try_clone(context.catalog.alloc)?;
-            Typed::of(literal(Value::Text(text)), CoreType::Text)
+            Ok(Typed::literal(Value::Text(text), Kind::Of(CoreType::Text)))
         }
-        Written::NoneValue => Typed {
-            core: nothing(),
-            kind: Kind::NoneLiteral,
-        },
-    })
+        Written::NoneValue => Ok(Typed::literal(Value::NoneValue, Kind::NoneLiteral)),
+    }
 }

@@ -9,6 +9,7 @@ mod constants;
 mod context;
 mod conversions;
 mod expression;
+mod forms;
 mod members;
 mod notes;
 mod operators;

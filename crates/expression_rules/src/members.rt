@@ -1,6 +1,6 @@
 // Properties, and the lengths, elements and sizes of arrays.
-ghost use Rattle.std.specs.Prelude.{◌≡◌, ◌<◌, ◌≤◌, ¬◌, pos, IfOk, IfSome, IfNone, List, ℕ};
-ghost use Rattle.core_tree.specs.InRange.{ResultInRange};
+ghost use Rattle.std.specs.Prelude.{◌≡◌, ◌<◌, ◌≤◌, pos, IfOk, IfSome, IfNone, List, ℕ};
+ghost use Rattle.core_tree.specs.InRange.{TypeInRange, ResultInRange};
 ghost use Rattle.type_scope.specs.Scope.{KindInRange, function_counts};
 ghost use Rattle.expression_rules.specs.Ranges.{CoreInRange, TypedInRange, bounds_of};
 
@@ -68,14 +68,28 @@ pub(crate) fn read_property(
 ) -> Result<Typed, OutOfMemory>
     ensures { CoreInRange (bounds_of context.now) of → IfOk result (TypedInRange (bounds_of context.now)) }
 {
-    let Some(kind) = property_type(context, notes, at, Access::Read)? else {
-        return Ok(Typed::unknown());
-    };
-    if let Some(number) = own_variable(context, &of, at) {
-        return Ok(Typed::of(field(number), kind));
+    match property_type(context, notes, at, Access::Read)? {
+        Some(kind) => property_value(context, of, at, name, kind),
+        None => Ok(Typed::unknown()),
     }
-    let core = property_read(context.catalog.alloc, of, name, kind)?;
-    Ok(Typed::of(core, kind))
+}
+
+fn property_value(
+    context: &Context<'_>,
+    of: Core,
+    at: PropertyRef,
+    name: &Name,
+    kind: CoreType,
+) -> Result<Typed, OutOfMemory>
+    ensures { TypeInRange (bounds_of context.now).functions kind → CoreInRange (bounds_of context.now) of → IfOk result (TypedInRange (bounds_of context.now)) }
+{
+    match own_variable(context, &of, at) {
+        Some(number) => Ok(Typed::of(field(number), kind)),
+        None => {
+            let core = property_read(context.catalog.alloc, of, name, kind)?;
+            Ok(Typed::of(core, kind))
+        }
+    }
 }
 
 /// A property's type. `PropertyDirection` is broken where it can't be used so.

@@ -106,6 +106,8 @@ impl<'a> Scope<'a> {
         ensures catalog { self.new.catalog ≡ self.old.catalog }
         ensures layout { self.new.layout ≡ self.old.layout }
         ensures script { self.new.script ≡ self.old.script }
+        ensures is_global { self.new.is_global ≡ self.old.is_global }
+        ensures line { self.new.line ≡ self.old.line }
     {
         if self.locals.find(name)?.is_some() {
             self.fault(TypeRule::DuplicateLocal);

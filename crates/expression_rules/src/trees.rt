@@ -53,19 +53,22 @@ pub(crate) fn new_array_of(element: CoreType, count: u8) -> Core
 pub(crate) fn cast_to(alloc: Global, to: CoreType, of: Core) -> Result<Core, OutOfMemory>
     ensures { (b : Bounds) → TypeInRange b.functions to → CoreInRange b of → IfOk result (CoreInRange b) }
 {
-    Ok(Core::Cast(to, Box::new(alloc, of)?))
+    let of = Box::new(alloc, of)?;
+    Ok(Core::Cast(to, of))
 }
 
 pub(crate) fn negated(alloc: Global, of: Core) -> Result<Core, OutOfMemory>
     ensures { (b : Bounds) → CoreInRange b of → IfOk result (CoreInRange b) }
 {
-    Ok(Core::Neg(Box::new(alloc, of)?))
+    let of = Box::new(alloc, of)?;
+    Ok(Core::Neg(of))
 }
 
 pub(crate) fn inverted(alloc: Global, of: Core) -> Result<Core, OutOfMemory>
     ensures { (b : Bounds) → CoreInRange b of → IfOk result (CoreInRange b) }
 {
-    Ok(Core::Not(Box::new(alloc, of)?))
+    let of = Box::new(alloc, of)?;
+    Ok(Core::Not(of))
 }
 
 pub(crate) fn calculated(
@@ -76,21 +79,24 @@ pub(crate) fn calculated(
 ) -> Result<Core, OutOfMemory>
     ensures { (b : Bounds) → CoreInRange b left → CoreInRange b right → IfOk result (CoreInRange b) }
 {
-    let (left, right) = (Box::new(alloc, left)?, Box::new(alloc, right)?);
+    let left = Box::new(alloc, left)?;
+    let right = Box::new(alloc, right)?;
     Ok(Core::Arith(operation, left, right))
 }
 
 pub(crate) fn joined(alloc: Global, left: Core, right: Core) -> Result<Core, OutOfMemory>
     ensures { (b : Bounds) → CoreInRange b left → CoreInRange b right → IfOk result (CoreInRange b) }
 {
-    let (left, right) = (Box::new(alloc, left)?, Box::new(alloc, right)?);
+    let left = Box::new(alloc, left)?;
+    let right = Box::new(alloc, right)?;
     Ok(Core::Join(left, right))
 }
 
 pub(crate) fn equated(alloc: Global, left: Core, right: Core) -> Result<Core, OutOfMemory>
     ensures { (b : Bounds) → CoreInRange b left → CoreInRange b right → IfOk result (CoreInRange b) }
 {
-    let (left, right) = (Box::new(alloc, left)?, Box::new(alloc, right)?);
+    let left = Box::new(alloc, left)?;
+    let right = Box::new(alloc, right)?;
     Ok(Core::Equal(left, right))
 }
 
@@ -102,21 +108,24 @@ pub(crate) fn compared(
 ) -> Result<Core, OutOfMemory>
     ensures { (b : Bounds) → CoreInRange b left → CoreInRange b right → IfOk result (CoreInRange b) }
 {
-    let (left, right) = (Box::new(alloc, left)?, Box::new(alloc, right)?);
+    let left = Box::new(alloc, left)?;
+    let right = Box::new(alloc, right)?;
     Ok(Core::Order(order, left, right))
 }
 
 pub(crate) fn both(alloc: Global, left: Core, right: Core) -> Result<Core, OutOfMemory>
     ensures { (b : Bounds) → CoreInRange b left → CoreInRange b right → IfOk result (CoreInRange b) }
 {
-    let (left, right) = (Box::new(alloc, left)?, Box::new(alloc, right)?);
+    let left = Box::new(alloc, left)?;
+    let right = Box::new(alloc, right)?;
     Ok(Core::And(left, right))
 }
 
 pub(crate) fn either(alloc: Global, left: Core, right: Core) -> Result<Core, OutOfMemory>
     ensures { (b : Bounds) → CoreInRange b left → CoreInRange b right → IfOk result (CoreInRange b) }
 {
-    let (left, right) = (Box::new(alloc, left)?, Box::new(alloc, right)?);
+    let left = Box::new(alloc, left)?;
+    let right = Box::new(alloc, right)?;
     Ok(Core::Or(left, right))
 }
 
@@ -128,9 +137,11 @@ pub(crate) fn property_read(
 ) -> Result<Core, OutOfMemory>
     ensures { (b : Bounds) → TypeInRange b.functions kind → CoreInRange b of → IfOk result (CoreInRange b) }
 {
+    let of = Box::new(alloc, of)?;
+    let name = name.try_clone(alloc)?;
     Ok(Core::PropGet {
-        of: Box::new(alloc, of)?,
-        name: name.try_clone(alloc)?,
+        of,
+        name,
         result: kind,
     })
 }
@@ -138,7 +149,8 @@ pub(crate) fn property_read(
 pub(crate) fn length_of(alloc: Global, array: Core) -> Result<Core, OutOfMemory>
     ensures { (b : Bounds) → CoreInRange b array → IfOk result (CoreInRange b) }
 {
-    Ok(Core::Length(Box::new(alloc, array)?))
+    let array = Box::new(alloc, array)?;
+    Ok(Core::Length(array))
 }
 
 pub(crate) fn element_at(
@@ -149,7 +161,8 @@ pub(crate) fn element_at(
 ) -> Result<Core, OutOfMemory>
     ensures { (b : Bounds) → TypeInRange b.functions kind → CoreInRange b array → CoreInRange b index → IfOk result (CoreInRange b) }
 {
-    let (array, index) = (Box::new(alloc, array)?, Box::new(alloc, index)?);
+    let array = Box::new(alloc, array)?;
+    let index = Box::new(alloc, index)?;
     Ok(Core::Element(array, index, kind))
 }
 
@@ -170,11 +183,12 @@ pub(crate) fn searched(
     ensures { (b : Bounds) → CoreInRange b array → CoreInRange b value → CoreInRange b start → IfOk result (CoreInRange b) }
 {
     let array = Box::new(alloc, array)?;
-    let (value, start) = (Box::new(alloc, value)?, Box::new(alloc, start)?);
-    Ok(match direction {
-        Direction::Forward => Core::Find(array, value, start),
-        Direction::Back => Core::FindBack(array, value, start),
-    })
+    let value = Box::new(alloc, value)?;
+    let start = Box::new(alloc, start)?;
+    match direction {
+        Direction::Forward => Ok(Core::Find(array, value, start)),
+        Direction::Back => Ok(Core::FindBack(array, value, start)),
+    }
 }
 
 /// What a call is given, each argument with the number of its parameter, and what it gives.
@@ -193,9 +207,11 @@ pub(crate) fn method_called(
 ) -> Result<Core, OutOfMemory>
     ensures { (b : Bounds) → CoreInRange b of → PassedInRange b passed → IfOk result (CoreInRange b) }
 {
+    let of = Box::new(alloc, of)?;
+    let name = name.try_clone(alloc)?;
     Ok(Core::CallMethod {
-        of: Box::new(alloc, of)?,
-        name: name.try_clone(alloc)?,
+        of,
+        name,
         arguments: passed.arguments,
         places: passed.places,
         result: passed.result,
@@ -205,8 +221,9 @@ pub(crate) fn method_called(
 pub(crate) fn parent_called(alloc: Global, name: &Name, passed: Passed) -> Result<Core, OutOfMemory>
     ensures { (b : Bounds) → PassedInRange b passed → IfOk result (CoreInRange b) }
 {
+    let name = name.try_clone(alloc)?;
     Ok(Core::CallParent {
-        name: name.try_clone(alloc)?,
+        name,
         arguments: passed.arguments,
         places: passed.places,
         result: passed.result,

@@ -1,9 +1,10 @@
 // An expression's tree with what is known of its type.
-ghost use Rattle.core_tree.specs.InRange.{Bounds, TypeInRange, ResultInRange};
+ghost use Rattle.core_tree.specs.InRange.{Bounds, TypeInRange, ResultInRange, LiteralInRange};
+ghost use Rattle.type_scope.specs.Scope.{KindInRange};
 ghost use Rattle.expression_rules.specs.Ranges.{CoreInRange, TypedInRange};
 
-use crate::trees::nothing;
-use core_tree::{Core, CoreType};
+use crate::trees::{literal, nothing};
+use core_tree::{Core, CoreType, Value};
 use type_scope::Kind;
 
 /// An expression's tree, and what is known of its type.
@@ -33,6 +34,16 @@ impl Typed {
         Typed {
             core,
             kind: Kind::from_type(kind),
+        }
+    }
+
+    /// A literal.
+    pub(crate) fn literal(value: Value, kind: Kind) -> Typed
+        ensures { (b : Bounds) → LiteralInRange value → KindInRange b.functions kind → TypedInRange b result }
+    {
+        Typed {
+            core: literal(value),
+            kind,
         }
     }
 
