@@ -1,5 +1,5 @@
 -- Statements and tests that are put behind others.
-use Rattle.std.proofs.Common.{◌≡◌, ◌++◌, ◌∷◌, [], ℕ, List, map, sym, subst}
+use Rattle.std.proofs.Common.{◌++◌, ◌∷◌, [], ℕ, List, map, sym, subst}
 use Rattle.std.proofs.lemmas.List.{map-append}
 use Rattle.std.specs.declared.alloc.Global.{Global}
 use Rattle.std.specs.declared.vec.Vec.{Vec}
@@ -7,7 +7,7 @@ use Rattle.core_tree.proofs.Ranges.{block-push}
 use Rattle.core_tree.specs.declared.expression.Core.{Core}
 use Rattle.core_tree.specs.declared.statement.CoreLine.{CoreLine}
 use Rattle.core_tree.specs.InRange.{Bounds, BlockInRange, BranchesInRange, StatementInRange}
-use Rattle.core_tree.specs.Tree.{Block, Statement, block, block_of, branches_of, line_of}
+use Rattle.core_tree.specs.Tree.{Statement, block, block_of, branches_of, line_of}
 use Rattle.expression_rules.specs.Ranges.{CoreInRange}
 
 pub block_of-push : (b : Bounds) (lines : List CoreLine) (last : CoreLine) → BlockInRange b (block_of lines) → StatementInRange b (line_of last).1 → BlockInRange b (block_of (lines ++ last ∷ []))

@@ -1,4 +1,4 @@
-use Rattle.std.proofs.Common.{◌≡◌, ◌<◌, ◌≤◌, length, map, arith, ◌∙◌, ap}
+use Rattle.std.proofs.Common.{◌<◌, ◌≤◌, length, map, arith, ◌∙◌, ap}
 use Rattle.std.proofs.lemmas.List.{take_all}
 use Rattle.type_scope.specs.Scope.{function_counts}
 use Rattle.type_rules.proofs.Heads.{heads-push, scripts-push, set-in_range}

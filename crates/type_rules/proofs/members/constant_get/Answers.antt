@@ -1,10 +1,10 @@
 use Rattle.std.proofs.lemmas.List.Elements.{All-nil}
 use Rattle.core_tree.proofs.StatementViews.{statement_views}
 use Rattle.core_tree.proofs.Views.{expression_views}
-use Rattle.core_tree.specs.InRange.{Bounds, TypeInRange}
+use Rattle.core_tree.specs.InRange.{TypeInRange}
 use Rattle.type_rules.proofs.Trees.{block_of-push}
 use Rattle.type_rules.proofs.Types.{known-in_range}
-use Rattle.type_rules.specs.Ranges.{functions_of, variables_of}
+use Rattle.type_rules.specs.Ranges.{functions_of}
 use Rattle.type_rules.proofs.members.constant_get.Goals as goal
 
 pub returns-clause-in_range : goal.returns-clause-in_range
