@@ -11,8 +11,8 @@ use crate::notes::Notes;
 use crate::parameters::Parameters;
 use crate::rule::TypeRule;
 use crate::trees::{
-    Direction, Passed, global_called, method_called, native_called, nothing, own_instance,
-    parent_called, searched,
+    Direction, Passed, global_called, method_called, native_called, own_instance, parent_called,
+    searched,
 };
 use crate::typed::Typed;
 use core_tree::{Core, CoreType};
@@ -59,18 +59,19 @@ pub(crate) fn parent_call(
 {
     context.needs_instance(notes);
     let Some(parent) = context.catalog.parent_of(context.script)? else {
-        context.fault(notes, TypeRule::NoParent);
-        return Ok(Typed::unknown());
+        return Ok(context.broken(notes, TypeRule::NoParent));
     };
     let Some(heading) = method_named(context, parent, name) else {
         return Ok(no_function(context, notes));
     };
     let Outcome { passed, kind } = called(context, notes, heading, given)?;
-    let core = match passed {
-        Some(passed) => parent_called(context.catalog.alloc, name, passed)?,
-        None => nothing(),
-    };
-    Ok(Typed { core, kind })
+    match passed {
+        Some(passed) => {
+            let core = parent_called(context.catalog.alloc, name, passed)?;
+            Ok(Typed::known(core, kind))
+        }
+        None => Ok(context.without_tree(kind)),
+    }
 }
 
 /// `word.name(arguments)` where the word names no value: a Global function of the script of that name, or of
@@ -85,8 +86,7 @@ pub(crate) fn script_call(
     ensures { GivenInRange (bounds_of context.now) given.entry.items → IfOk result (TypedInRange (bounds_of context.now)) }
 {
     let Some(script) = context.catalog.find_script(word)? else {
-        context.fault(notes, TypeRule::UnknownName);
-        return Ok(Typed::unknown());
+        return Ok(context.broken(notes, TypeRule::UnknownName));
     };
     match context.catalog.find_function(script, name) {
         Some(callee) if callee.heading.is_global => global_call(context, notes, callee, given),
@@ -105,7 +105,7 @@ pub(crate) fn member_call(
     ensures { TypedInRange (bounds_of context.now) of → GivenInRange (bounds_of context.now) given.entry.items → IfOk result (TypedInRange (bounds_of context.now)) }
 {
     if of.is_unknown() {
-        return Ok(Typed::unknown());
+        return Ok(context.unknown());
     }
     if let Some(element) = element_kind(of.kind) {
         return array_call(context, notes, of.core, element, name, given);
@@ -134,11 +134,13 @@ fn array_call(
         start: first_place(direction),
     };
     let found = place_arguments(context, notes, given, parameters)?;
-    let core = match value_and_start(found) {
-        Some((value, start)) => { searched(context.catalog.alloc, direction, array, value, start)? }
-        None => nothing(),
-    };
-    Ok(Typed::of(core, CoreType::Int))
+    match value_and_start(found) {
+        Some((value, start)) => {
+            let core = searched(context.catalog.alloc, direction, array, value, start)?;
+            Ok(Typed::of(core, CoreType::Int))
+        }
+        None => Ok(context.without_tree(Kind::Of(CoreType::Int))),
+    }
 }
 
 fn search_named(name: &Name) -> Option<Direction> {
@@ -228,12 +230,13 @@ fn global_call(
 {
     notes.write_out(callee.heading.name.as_bytes())?;
     let Outcome { passed, kind } = called(context, notes, callee.heading, given)?;
-    let core = match passed {
-        Some(passed) if callee.heading.is_native => native_called(callee.at, passed),
-        Some(passed) => global_called(callee.at, passed),
-        None => nothing(),
-    };
-    Ok(Typed { core, kind })
+    match passed {
+        Some(passed) if callee.heading.is_native => {
+            Ok(Typed::known(native_called(callee.at, passed), kind))
+        }
+        Some(passed) => Ok(Typed::known(global_called(callee.at, passed), kind)),
+        None => Ok(context.without_tree(kind)),
+    }
 }
 
 fn method_call(
@@ -247,11 +250,13 @@ fn method_call(
     ensures { CoreInRange (bounds_of context.now) of → GivenInRange (bounds_of context.now) given.entry.items → IfOk result (TypedInRange (bounds_of context.now)) }
 {
     let Outcome { passed, kind } = called(context, notes, heading, given)?;
-    let core = match passed {
-        Some(passed) => method_called(context.catalog.alloc, of, name, passed)?,
-        None => nothing(),
-    };
-    Ok(Typed { core, kind })
+    match passed {
+        Some(passed) => {
+            let core = method_called(context.catalog.alloc, of, name, passed)?;
+            Ok(Typed::known(core, kind))
+        }
+        None => Ok(context.without_tree(kind)),
+    }
 }
 
 fn method_of<'s>(context: &Context<'s>, kind: Kind, name: &Name) -> Option<&'s Heading> {
@@ -274,6 +279,5 @@ fn method_named<'s>(context: &Context<'s>, script: u16, name: &Name) -> Option<&
 fn no_function(context: &Context<'_>, notes: &mut Notes) -> Typed
     ensures { TypedInRange (bounds_of context.now) result }
 {
-    context.fault(notes, TypeRule::NoFunction);
-    Typed::unknown()
+    context.broken(notes, TypeRule::NoFunction)
 }
