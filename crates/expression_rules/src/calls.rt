@@ -2,7 +2,7 @@
 ghost use Rattle.std.specs.Prelude.{IfOk, IfSome};
 ghost use Rattle.core_tree.specs.InRange.{Bounds, FunctionThere, TypeInRange, ResultInRange};
 ghost use Rattle.type_scope.specs.Scope.{KindInRange};
-ghost use Rattle.expression_rules.specs.Ranges.{CoreInRange, TypedInRange, GivenInRange, CompleteInRange, OutcomeInRange, bounds_of};
+ghost use Rattle.expression_rules.specs.Ranges.{CoreInRange, TypedInRange, GivenInRange, CompleteInRange, PassedInRange, OutcomeInRange, bounds_of};
 
 use crate::arguments::{Arguments, Given, place_arguments};
 use crate::context::Context;
@@ -15,7 +15,7 @@ use crate::trees::{
     searched,
 };
 use crate::typed::Typed;
-use core_tree::{Core, CoreType};
+use core_tree::{Core, CoreType, FunctionPlace};
 use line_parser::{Heading, TypeName};
 use papy_base::{Name, OutOfMemory};
 use type_scope::{Callee, Kind};
@@ -64,7 +64,14 @@ pub(crate) fn parent_call(
     let Some(heading) = method_named(context, parent, name) else {
         return Ok(no_function(context, notes));
     };
-    let Outcome { passed, kind } = called(context, notes, heading, given)?;
+    let outcome = called(context, notes, heading, given)?;
+    parent_value(context, name, outcome)
+}
+
+fn parent_value(context: &Context<'_>, name: &Name, outcome: Outcome) -> Result<Typed, OutOfMemory>
+    ensures { OutcomeInRange (bounds_of context.now) outcome → IfOk result (TypedInRange (bounds_of context.now)) }
+{
+    let Outcome { passed, kind } = outcome;
     match passed {
         Some(passed) => {
             let core = parent_called(context.catalog.alloc, name, passed)?;
@@ -229,13 +236,33 @@ fn global_call(
     ensures { FunctionThere (bounds_of context.now).functions callee.entry.at → GivenInRange (bounds_of context.now) given.entry.items → IfOk result (TypedInRange (bounds_of context.now)) }
 {
     notes.write_out(callee.heading.name.as_bytes())?;
-    let Outcome { passed, kind } = called(context, notes, callee.heading, given)?;
+    let outcome = called(context, notes, callee.heading, given)?;
+    let is_native = callee.heading.is_native;
+    Ok(global_value(context, callee.at, is_native, outcome))
+}
+
+fn global_value(
+    context: &Context<'_>,
+    at: FunctionPlace,
+    is_native: bool,
+    outcome: Outcome,
+) -> Typed
+    ensures { FunctionThere (bounds_of context.now).functions at → OutcomeInRange (bounds_of context.now) outcome → TypedInRange (bounds_of context.now) result }
+{
+    let Outcome { passed, kind } = outcome;
     match passed {
-        Some(passed) if callee.heading.is_native => {
-            Ok(Typed::known(native_called(callee.at, passed), kind))
-        }
-        Some(passed) => Ok(Typed::known(global_called(callee.at, passed), kind)),
-        None => Ok(context.without_tree(kind)),
+        Some(passed) => Typed::known(global_core(at, is_native, passed), kind),
+        None => context.without_tree(kind),
+    }
+}
+
+fn global_core(at: FunctionPlace, is_native: bool, passed: Passed) -> Core
+    ensures { (b : Bounds) → FunctionThere b.functions at → PassedInRange b passed → CoreInRange b result }
+{
+    if is_native {
+        native_called(at, passed)
+    } else {
+        global_called(at, passed)
     }
 }
 
