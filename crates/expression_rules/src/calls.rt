@@ -2,7 +2,7 @@
 ghost use Rattle.std.specs.Prelude.{IfOk, IfSome};
 ghost use Rattle.core_tree.specs.InRange.{Bounds, FunctionThere, TypeInRange, ResultInRange};
 ghost use Rattle.type_scope.specs.Scope.{KindInRange};
-ghost use Rattle.expression_rules.specs.Ranges.{CoreInRange, TypedInRange, GivenInRange, CompleteInRange, OutcomeInRange, bounds_of};
+ghost use Rattle.expression_rules.specs.Ranges.{CoreInRange, TypedInRange, GivenInRange, CompleteInRange, PassedInRange, OutcomeInRange, bounds_of};
 
 use crate::arguments::{Arguments, Given, place_arguments};
 use crate::context::Context;
@@ -11,11 +11,11 @@ use crate::notes::Notes;
 use crate::parameters::Parameters;
 use crate::rule::TypeRule;
 use crate::trees::{
-    Direction, Passed, global_called, method_called, native_called, nothing, own_instance,
-    parent_called, searched,
+    Direction, Passed, global_called, method_called, native_called, own_instance, parent_called,
+    searched,
 };
 use crate::typed::Typed;
-use core_tree::{Core, CoreType};
+use core_tree::{Core, CoreType, FunctionPlace};
 use line_parser::{Heading, TypeName};
 use papy_base::{Name, OutOfMemory};
 use type_scope::{Callee, Kind};
@@ -59,18 +59,26 @@ pub(crate) fn parent_call(
 {
     context.needs_instance(notes);
     let Some(parent) = context.catalog.parent_of(context.script)? else {
-        context.fault(notes, TypeRule::NoParent);
-        return Ok(Typed::unknown());
+        return Ok(context.broken(notes, TypeRule::NoParent));
     };
     let Some(heading) = method_named(context, parent, name) else {
         return Ok(no_function(context, notes));
     };
-    let Outcome { passed, kind } = called(context, notes, heading, given)?;
-    let core = match passed {
-        Some(passed) => parent_called(context.catalog.alloc, name, passed)?,
-        None => nothing(),
-    };
-    Ok(Typed { core, kind })
+    let outcome = called(context, notes, heading, given)?;
+    parent_value(context, name, outcome)
+}
+
+fn parent_value(context: &Context<'_>, name: &Name, outcome: Outcome) -> Result<Typed, OutOfMemory>
+    ensures { OutcomeInRange (bounds_of context.now) outcome → IfOk result (TypedInRange (bounds_of context.now)) }
+{
+    let Outcome { passed, kind } = outcome;
+    match passed {
+        Some(passed) => {
+            let core = parent_called(context.catalog.alloc, name, passed)?;
+            Ok(Typed::known(core, kind))
+        }
+        None => Ok(context.without_tree(kind)),
+    }
 }
 
 /// `word.name(arguments)` where the word names no value: a Global function of the script of that name, or of
@@ -85,8 +93,7 @@ pub(crate) fn script_call(
     ensures { GivenInRange (bounds_of context.now) given.entry.items → IfOk result (TypedInRange (bounds_of context.now)) }
 {
     let Some(script) = context.catalog.find_script(word)? else {
-        context.fault(notes, TypeRule::UnknownName);
-        return Ok(Typed::unknown());
+        return Ok(context.broken(notes, TypeRule::UnknownName));
     };
     match context.catalog.find_function(script, name) {
         Some(callee) if callee.heading.is_global => global_call(context, notes, callee, given),
@@ -105,7 +112,7 @@ pub(crate) fn member_call(
     ensures { TypedInRange (bounds_of context.now) of → GivenInRange (bounds_of context.now) given.entry.items → IfOk result (TypedInRange (bounds_of context.now)) }
 {
     if of.is_unknown() {
-        return Ok(Typed::unknown());
+        return Ok(context.unknown());
     }
     if let Some(element) = element_kind(of.kind) {
         return array_call(context, notes, of.core, element, name, given);
@@ -134,11 +141,13 @@ fn array_call(
         start: first_place(direction),
     };
     let found = place_arguments(context, notes, given, parameters)?;
-    let core = match value_and_start(found) {
-        Some((value, start)) => { searched(context.catalog.alloc, direction, array, value, start)? }
-        None => nothing(),
-    };
-    Ok(Typed::of(core, CoreType::Int))
+    match value_and_start(found) {
+        Some((value, start)) => {
+            let core = searched(context.catalog.alloc, direction, array, value, start)?;
+            Ok(Typed::of(core, CoreType::Int))
+        }
+        None => Ok(context.without_tree(Kind::Of(CoreType::Int))),
+    }
 }
 
 fn search_named(name: &Name) -> Option<Direction> {
@@ -227,13 +236,34 @@ fn global_call(
     ensures { FunctionThere (bounds_of context.now).functions callee.entry.at → GivenInRange (bounds_of context.now) given.entry.items → IfOk result (TypedInRange (bounds_of context.now)) }
 {
     notes.write_out(callee.heading.name.as_bytes())?;
-    let Outcome { passed, kind } = called(context, notes, callee.heading, given)?;
-    let core = match passed {
-        Some(passed) if callee.heading.is_native => native_called(callee.at, passed),
-        Some(passed) => global_called(callee.at, passed),
-        None => nothing(),
-    };
-    Ok(Typed { core, kind })
+    let outcome = called(context, notes, callee.heading, given)?;
+    let is_native = callee.heading.is_native;
+    Ok(global_value(context, callee.at, is_native, outcome))
+}
+
+fn global_value(
+    context: &Context<'_>,
+    at: FunctionPlace,
+    is_native: bool,
+    outcome: Outcome,
+) -> Typed
+    ensures { FunctionThere (bounds_of context.now).functions at → OutcomeInRange (bounds_of context.now) outcome → TypedInRange (bounds_of context.now) result }
+{
+    let Outcome { passed, kind } = outcome;
+    match passed {
+        Some(passed) => Typed::known(global_core(at, is_native, passed), kind),
+        None => context.without_tree(kind),
+    }
+}
+
+fn global_core(at: FunctionPlace, is_native: bool, passed: Passed) -> Core
+    ensures { (b : Bounds) → FunctionThere b.functions at → PassedInRange b passed → CoreInRange b result }
+{
+    if is_native {
+        native_called(at, passed)
+    } else {
+        global_called(at, passed)
+    }
 }
 
 fn method_call(
@@ -247,11 +277,13 @@ fn method_call(
     ensures { CoreInRange (bounds_of context.now) of → GivenInRange (bounds_of context.now) given.entry.items → IfOk result (TypedInRange (bounds_of context.now)) }
 {
     let Outcome { passed, kind } = called(context, notes, heading, given)?;
-    let core = match passed {
-        Some(passed) => method_called(context.catalog.alloc, of, name, passed)?,
-        None => nothing(),
-    };
-    Ok(Typed { core, kind })
+    match passed {
+        Some(passed) => {
+            let core = method_called(context.catalog.alloc, of, name, passed)?;
+            Ok(Typed::known(core, kind))
+        }
+        None => Ok(context.without_tree(kind)),
+    }
 }
 
 fn method_of<'s>(context: &Context<'s>, kind: Kind, name: &Name) -> Option<&'s Heading> {
@@ -274,6 +306,5 @@ fn method_named<'s>(context: &Context<'s>, script: u16, name: &Name) -> Option<&
 fn no_function(context: &Context<'_>, notes: &mut Notes) -> Typed
     ensures { TypedInRange (bounds_of context.now) result }
 {
-    context.fault(notes, TypeRule::NoFunction);
-    Typed::unknown()
+    context.broken(notes, TypeRule::NoFunction)
 }

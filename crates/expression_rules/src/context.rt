@@ -1,14 +1,17 @@
 // What is seen where an expression stands.
 ghost use Rattle.std.specs.Prelude.{IfOk};
 ghost use Rattle.core_tree.specs.InRange.{ResultInRange};
-ghost use Rattle.type_scope.specs.Scope.{function_counts};
+ghost use Rattle.type_scope.specs.Scope.{function_counts, KindInRange};
+ghost use Rattle.expression_rules.specs.Ranges.{TypedInRange, bounds_of};
 
 use crate::notes::Notes;
 use crate::rule::TypeRule;
+use crate::trees::nothing;
+use crate::typed::Typed;
 use core_tree::CoreType;
 use line_parser::TypeName;
 use papy_base::OutOfMemory;
-use type_scope::{Catalog, Layout, Locals};
+use type_scope::{Catalog, Kind, Layout, Locals};
 
 /// What is seen where an expression stands.
 #[derive(Clone, Copy)]
@@ -25,6 +28,28 @@ pub(crate) struct Context<'s> {
 }
 
 impl Context<'_> {
+    /// What stands where something is unknown since a rule is broken.
+    pub(crate) fn unknown(&self) -> Typed
+        ensures { TypedInRange (bounds_of self.now) result }
+    {
+        Typed::unknown()
+    }
+
+    /// The same where this rule is broken.
+    pub(crate) fn broken(&self, notes: &mut Notes, rule: TypeRule) -> Typed
+        ensures { TypedInRange (bounds_of self.now) result }
+    {
+        self.fault(notes, rule);
+        Typed::unknown()
+    }
+
+    /// What stands for a value of which only the type is known, since a rule is broken.
+    pub(crate) fn without_tree(&self, kind: Kind) -> Typed
+        ensures { KindInRange (bounds_of self.now).functions kind → TypedInRange (bounds_of self.now) result }
+    {
+        Typed::known(nothing(), kind)
+    }
+
     /// Notes that a rule is broken.
     pub(crate) fn fault(&self, notes: &mut Notes, rule: TypeRule) {
         notes.note(self.line, rule);

@@ -1,5 +1,5 @@
 // Which types convert to which, and the conversions that are written out.
-ghost use Rattle.std.specs.Prelude.{◌≡◌, IfOk, IfSome, List, ℕ};
+ghost use Rattle.std.specs.Prelude.{◌≡◌, IfOk, List, ℕ};
 ghost use Rattle.core_tree.specs.InRange.{Bounds, ResultInRange};
 ghost use Rattle.type_scope.specs.Scope.{KindInRange};
 ghost use Rattle.expression_rules.specs.Conversions.{prints};
@@ -47,7 +47,7 @@ pub(crate) fn cast(
     ensures { TypedInRange (bounds_of context.now) of → IfOk result (TypedInRange (bounds_of context.now)) }
 {
     let Some(to) = context.kind_named(notes, to)? else {
-        return Ok(Typed::unknown());
+        return Ok(context.unknown());
     };
     if !casts(context.catalog, of.kind, to) {
         context.fault(notes, TypeRule::NoConversion);
@@ -114,22 +114,30 @@ pub(crate) fn prints(kind: Kind) -> bool
 }
 
 /// The type that both sides of `==` have after at most one of them was cast, none where there is none.
-pub(crate) fn common_kind(catalog: &Catalog<'_>, left: Kind, right: Kind) -> Option<Kind>
-    ensures { (functions : List ℕ) → KindInRange functions left → KindInRange functions right → IfSome result (KindInRange functions) }
+pub(crate) fn common_type(catalog: &Catalog<'_>, left: Kind, right: Kind) -> Option<CoreType>
+    ensures { (functions : List ℕ) → KindInRange functions left → KindInRange functions right → ResultInRange functions result }
 {
     if left == right {
-        return Some(left);
-    }
-    if meets(catalog, left, right, CoreType::Text) {
-        Some(Kind::Of(CoreType::Text))
+        type_of(left)
+    } else if meets(catalog, left, right, CoreType::Text) {
+        Some(CoreType::Text)
     } else if meets(catalog, left, right, CoreType::Bool) {
-        Some(Kind::Of(CoreType::Bool))
+        Some(CoreType::Bool)
     } else if converts_to(catalog, left, right) {
-        Some(right)
+        type_of(right)
     } else if converts_to(catalog, right, left) {
-        Some(left)
+        type_of(left)
     } else {
         None
+    }
+}
+
+fn type_of(kind: Kind) -> Option<CoreType>
+    ensures { (functions : List ℕ) → KindInRange functions kind → ResultInRange functions result }
+{
+    match kind {
+        Kind::Of(known) => Some(known),
+        _ => None,
     }
 }
 

@@ -196,8 +196,7 @@ fn used(context: &Context<'_>, notes: &mut Notes, typed: Typed) -> Typed
     ensures { TypedInRange (bounds_of context.now) typed → TypedInRange (bounds_of context.now) result }
 {
     if typed.kind == Kind::Nothing {
-        context.fault(notes, TypeRule::NoValue);
-        return Typed::unknown();
+        return context.broken(notes, TypeRule::NoValue);
     }
     typed
 }

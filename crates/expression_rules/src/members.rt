@@ -1,6 +1,6 @@
 // Properties, and the lengths, elements and sizes of arrays.
 ghost use Rattle.std.specs.Prelude.{◌≡◌, ◌<◌, ◌≤◌, pos, IfOk, IfSome, IfNone, List, ℕ};
-ghost use Rattle.core_tree.specs.InRange.{TypeInRange, ResultInRange};
+ghost use Rattle.core_tree.specs.InRange.{Bounds, TypeInRange, ResultInRange};
 ghost use Rattle.type_scope.specs.Scope.{KindInRange, function_counts};
 ghost use Rattle.expression_rules.specs.Ranges.{CoreInRange, TypedInRange, bounds_of};
 
@@ -36,7 +36,7 @@ pub(crate) fn member(
 {
     match property_of(context, notes, of.kind, name) {
         Some(at) => read_property(context, notes, of.core, at, name),
-        None => Ok(Typed::unknown()),
+        None => Ok(context.unknown()),
     }
 }
 
@@ -70,7 +70,7 @@ pub(crate) fn read_property(
 {
     match property_type(context, notes, at, Access::Read)? {
         Some(kind) => property_value(context, of, at, name, kind),
-        None => Ok(Typed::unknown()),
+        None => Ok(context.unknown()),
     }
 }
 
@@ -156,8 +156,7 @@ pub(crate) fn length(
     ensures { TypedInRange (bounds_of context.now) of → IfOk result (TypedInRange (bounds_of context.now)) }
 {
     if !of.is_unknown() && element_kind(of.kind).is_none() {
-        context.fault(notes, TypeRule::NoProperty);
-        return Ok(Typed::unknown());
+        return Ok(context.broken(notes, TypeRule::NoProperty));
     }
     let core = length_of(context.catalog.alloc, of.core)?;
     Ok(Typed::of(core, CoreType::Int))
@@ -172,13 +171,14 @@ pub(crate) fn element(
 ) -> Result<Typed, OutOfMemory>
     ensures { TypedInRange (bounds_of context.now) of → TypedInRange (bounds_of context.now) at → IfOk result (TypedInRange (bounds_of context.now)) }
 {
-    let element = indexed(context, notes, of.kind);
     let at = convert(context, notes, at, Some(CoreType::Int))?;
-    let Some(element) = element else {
-        return Ok(Typed::unknown());
-    };
-    let core = element_at(context.catalog.alloc, of.core, at, element)?;
-    Ok(Typed::of(core, element))
+    match indexed(context, notes, of.kind) {
+        Some(element) => {
+            let core = element_at(context.catalog.alloc, of.core, at, element)?;
+            Ok(Typed::of(core, element))
+        }
+        None => Ok(context.unknown()),
+    }
 }
 
 /// The type of the elements of what `[ ]` stands on.
@@ -215,12 +215,17 @@ pub(crate) fn new_array(
     if size.is_none() {
         context.fault(notes, TypeRule::ArraySize);
     }
-    let Some(element) = context.catalog.element_type(word)? else {
-        context.fault(notes, TypeRule::UnknownType);
-        return Ok(Typed::unknown());
-    };
+    match context.catalog.element_type(word)? {
+        Some(element) => Ok(array_made(element, size)),
+        None => Ok(context.broken(notes, TypeRule::UnknownType)),
+    }
+}
+
+fn array_made(element: CoreType, size: Option<u8>) -> Typed
+    ensures { (b : Bounds) → TypeInRange b.functions element → TypedInRange b result }
+{
     let core = new_array_of(element, size.unwrap_or(1));
-    Ok(Typed::of(core, array_of(element)))
+    Typed::of(core, array_of(element))
 }
 
 // The size of an array, where it is one.

@@ -1,11 +1,11 @@
 // The operators on one and two values.
 ghost use Rattle.std.specs.Prelude.{◌≡◌, IfOk};
-ghost use Rattle.core_tree.specs.InRange.{Bounds};
+ghost use Rattle.core_tree.specs.InRange.{ResultInRange};
 ghost use Rattle.expression_rules.specs.Operations.{whole_operation, operation_with_text, operation_of, operand_type};
-ghost use Rattle.expression_rules.specs.Ranges.{TypedInRange};
+ghost use Rattle.expression_rules.specs.Ranges.{TypedInRange, bounds_of};
 
 use crate::context::Context;
-use crate::conversions::{common_kind, convert, prints};
+use crate::conversions::{common_type, convert, prints};
 use crate::notes::Notes;
 use crate::rule::TypeRule;
 use crate::trees::{both, calculated, compared, either, equated, inverted, joined, negated};
@@ -24,10 +24,10 @@ pub(crate) fn unary(
     sign: Sign,
     of: Typed,
 ) -> Result<Typed, OutOfMemory>
-    ensures { (b : Bounds) → TypedInRange b of → IfOk result (TypedInRange b) }
+    ensures { TypedInRange (bounds_of context.now) of → IfOk result (TypedInRange (bounds_of context.now)) }
 {
     if of.is_unknown() {
-        return Ok(Typed::unknown());
+        return Ok(context.unknown());
     }
     if sign == Sign::Not {
         return opposite(context, notes, of);
@@ -41,7 +41,7 @@ pub(crate) fn unary(
 
 // Whether the value is False.
 fn opposite(context: &Context<'_>, notes: &mut Notes, of: Typed) -> Result<Typed, OutOfMemory>
-    ensures { (b : Bounds) → TypedInRange b of → IfOk result (TypedInRange b) }
+    ensures { TypedInRange (bounds_of context.now) of → IfOk result (TypedInRange (bounds_of context.now)) }
 {
     let truth = convert(context, notes, of, Some(CoreType::Bool))?;
     let core = inverted(context.catalog.alloc, truth)?;
@@ -56,10 +56,10 @@ pub(crate) fn binary(
     left: Typed,
     right: Typed,
 ) -> Result<Typed, OutOfMemory>
-    ensures { (b : Bounds) → TypedInRange b left → TypedInRange b right → IfOk result (TypedInRange b) }
+    ensures { TypedInRange (bounds_of context.now) left → TypedInRange (bounds_of context.now) right → IfOk result (TypedInRange (bounds_of context.now)) }
 {
     if left.is_unknown() || right.is_unknown() {
-        return Ok(Typed::unknown());
+        return Ok(context.unknown());
     }
     match sign {
         Sign::And | Sign::Or => logical(context, notes, sign, left, right),
@@ -81,16 +81,17 @@ fn logical(
     left: Typed,
     right: Typed,
 ) -> Result<Typed, OutOfMemory>
-    ensures { (b : Bounds) → TypedInRange b left → TypedInRange b right → IfOk result (TypedInRange b) }
+    ensures { TypedInRange (bounds_of context.now) left → TypedInRange (bounds_of context.now) right → IfOk result (TypedInRange (bounds_of context.now)) }
 {
     let left = convert(context, notes, left, Some(CoreType::Bool))?;
     let right = convert(context, notes, right, Some(CoreType::Bool))?;
-    let core = if sign == Sign::And {
-        both(context.catalog.alloc, left, right)?
+    if sign == Sign::And {
+        let core = both(context.catalog.alloc, left, right)?;
+        Ok(Typed::of(core, CoreType::Bool))
     } else {
-        either(context.catalog.alloc, left, right)?
-    };
-    Ok(Typed::of(core, CoreType::Bool))
+        let core = either(context.catalog.alloc, left, right)?;
+        Ok(Typed::of(core, CoreType::Bool))
+    }
 }
 
 fn equal(
@@ -99,14 +100,27 @@ fn equal(
     left: Typed,
     right: Typed,
 ) -> Result<Typed, OutOfMemory>
-    ensures { (b : Bounds) → TypedInRange b left → TypedInRange b right → IfOk result (TypedInRange b) }
+    ensures { TypedInRange (bounds_of context.now) left → TypedInRange (bounds_of context.now) right → IfOk result (TypedInRange (bounds_of context.now)) }
 {
-    let to = match common_kind(context.catalog, left.kind, right.kind) {
-        Some(Kind::Of(to)) => Some(to),
-        // None is compared with None.
-        Some(_) => None,
-        None => return Ok(bad_operand(context, notes)),
-    };
+    if left.kind == Kind::NoneLiteral && right.kind == Kind::NoneLiteral {
+        return equated_as(context, notes, left, right, None);
+    }
+    match common_type(context.catalog, left.kind, right.kind) {
+        Some(to) => equated_as(context, notes, left, right, Some(to)),
+        None => Ok(bad_operand(context, notes)),
+    }
+}
+
+// Whether the two values are equal once both have this type.
+fn equated_as(
+    context: &Context<'_>,
+    notes: &mut Notes,
+    left: Typed,
+    right: Typed,
+    to: Option<CoreType>,
+) -> Result<Typed, OutOfMemory>
+    ensures { ResultInRange (bounds_of context.now).functions to → TypedInRange (bounds_of context.now) left → TypedInRange (bounds_of context.now) right → IfOk result (TypedInRange (bounds_of context.now)) }
+{
     let left = convert(context, notes, left, to)?;
     let right = convert(context, notes, right, to)?;
     let core = equated(context.catalog.alloc, left, right)?;
@@ -119,7 +133,7 @@ fn different(
     left: Typed,
     right: Typed,
 ) -> Result<Typed, OutOfMemory>
-    ensures { (b : Bounds) → TypedInRange b left → TypedInRange b right → IfOk result (TypedInRange b) }
+    ensures { TypedInRange (bounds_of context.now) left → TypedInRange (bounds_of context.now) right → IfOk result (TypedInRange (bounds_of context.now)) }
 {
     let equal = equal(context, notes, left, right)?;
     if equal.is_unknown() {
@@ -135,7 +149,7 @@ fn compare(
     left: Typed,
     right: Typed,
 ) -> Result<Typed, OutOfMemory>
-    ensures { (b : Bounds) → TypedInRange b left → TypedInRange b right → IfOk result (TypedInRange b) }
+    ensures { TypedInRange (bounds_of context.now) left → TypedInRange (bounds_of context.now) right → IfOk result (TypedInRange (bounds_of context.now)) }
 {
     if left.kind != INT || right.kind != INT {
         return Ok(bad_operand(context, notes));
@@ -152,7 +166,7 @@ pub(crate) fn arithmetic(
     left: Typed,
     right: Typed,
 ) -> Result<Typed, OutOfMemory>
-    ensures { (b : Bounds) → TypedInRange b left → TypedInRange b right → IfOk result (TypedInRange b) }
+    ensures { TypedInRange (bounds_of context.now) left → TypedInRange (bounds_of context.now) right → IfOk result (TypedInRange (bounds_of context.now)) }
 {
     match operation(context, notes, sign, left.kind, right.kind) {
         Some(Arith::Join) => join(context, notes, left, right),
@@ -160,7 +174,7 @@ pub(crate) fn arithmetic(
             let core = calculated(context.catalog.alloc, operation, left.core, right.core)?;
             Ok(Typed::of(core, CoreType::Int))
         }
-        None => Ok(Typed::unknown()),
+        None => Ok(context.unknown()),
     }
 }
 
@@ -170,7 +184,7 @@ fn join(
     left: Typed,
     right: Typed,
 ) -> Result<Typed, OutOfMemory>
-    ensures { (b : Bounds) → TypedInRange b left → TypedInRange b right → IfOk result (TypedInRange b) }
+    ensures { TypedInRange (bounds_of context.now) left → TypedInRange (bounds_of context.now) right → IfOk result (TypedInRange (bounds_of context.now)) }
 {
     let left = convert(context, notes, left, Some(CoreType::Text))?;
     let right = convert(context, notes, right, Some(CoreType::Text))?;
@@ -242,8 +256,7 @@ fn whole_operation(sign: Sign) -> Option<Arith>
 }
 
 fn bad_operand(context: &Context<'_>, notes: &mut Notes) -> Typed
-    ensures { (b : Bounds) → TypedInRange b result }
+    ensures { TypedInRange (bounds_of context.now) result }
 {
-    context.fault(notes, TypeRule::Operand);
-    Typed::unknown()
+    context.broken(notes, TypeRule::Operand)
 }

@@ -37,6 +37,13 @@ impl Typed {
         }
     }
 
+    /// A tree of whose type this is known.
+    pub(crate) fn known(core: Core, kind: Kind) -> Typed
+        ensures { (b : Bounds) → CoreInRange b core → KindInRange b.functions kind → TypedInRange b result }
+    {
+        Typed { core, kind }
+    }
+
     /// A literal.
     pub(crate) fn literal(value: Value, kind: Kind) -> Typed
         ensures { (b : Bounds) → LiteralInRange value → KindInRange b.functions kind → TypedInRange b result }

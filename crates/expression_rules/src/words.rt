@@ -97,8 +97,7 @@ pub(crate) fn instance(context: &Context<'_>, notes: &mut Notes) -> Typed
 pub(crate) fn unknown_word(context: &Context<'_>, notes: &mut Notes) -> Typed
     ensures { TypedInRange (bounds_of context.now) result }
 {
-    context.fault(notes, TypeRule::UnknownName);
-    Typed::unknown()
+    context.broken(notes, TypeRule::UnknownName)
 }
 
 /// A member of a word that names no value. It may name a script, which has no members.
@@ -110,8 +109,7 @@ pub(crate) fn member_of_word(
     ensures { IfOk result (TypedInRange (bounds_of context.now)) }
 {
     match context.catalog.find_script(word)? {
-        Some(_) => context.fault(notes, TypeRule::NoProperty),
-        None => context.fault(notes, TypeRule::UnknownName),
+        Some(_) => Ok(context.broken(notes, TypeRule::NoProperty)),
+        None => Ok(context.broken(notes, TypeRule::UnknownName)),
     }
-    Ok(Typed::unknown())
 }

@@ -69,32 +69,41 @@ fn order(order: Order) -> &'static str {
     }
 }
 
+// A node's front and its first part.
 #[cycle(show)]
-fn one(out: &mut String, front: &str, of: &Core) -> Shown {
+fn opened(out: &mut String, front: &str, of: &Core) -> Shown {
     write!(out, "({front} ")?;
+    core(out, of)
+}
+
+// A node's last part.
+#[cycle(show)]
+fn closed(out: &mut String, of: &Core) -> Shown {
+    out.push_str(" ")?;
     core(out, of)?;
     out.push_str(")")
 }
 
 #[cycle(show)]
-fn two(out: &mut String, front: &str, left: &Core, right: &Core) -> Shown {
-    write!(out, "({front} ")?;
-    core(out, left)?;
-    out.push_str(" ")?;
-    core(out, right)?;
+fn one(out: &mut String, front: &str, of: &Core) -> Shown {
+    opened(out, front, of)?;
     out.push_str(")")
 }
 
 #[cycle(show)]
-fn arguments(out: &mut String, arguments: &[Core], places: &[u16]) -> Shown {
-    for place in places {
-        write!(out, " {place}")?;
-    }
+fn arguments(out: &mut String, arguments: &Vec<Core>) -> Shown {
     for argument in arguments {
         out.push_str(" ")?;
         core(out, argument)?;
     }
     out.push_str(")")
+}
+
+fn numbers(out: &mut String, places: &Vec<u16>) -> Shown {
+    for place in places {
+        write!(out, " {place}")?;
+    }
+    Ok(())
 }
 
 #[cycle(show)]
@@ -105,14 +114,32 @@ fn core(out: &mut String, tree: &Core) -> Shown {
         Core::Field(number) => write!(out, "f{number}"),
         Core::SelfValue => out.push_str("self"),
         Core::StateText => out.push_str("state"),
-        Core::Arith(operation, left, right) => two(out, arith(*operation), left, right),
+        Core::Arith(operation, left, right) => {
+            opened(out, arith(*operation), left)?;
+            closed(out, right)
+        }
         Core::Neg(of) => one(out, "neg", of),
         Core::Not(of) => one(out, "not", of),
-        Core::Join(left, right) => two(out, "join", left, right),
-        Core::Equal(left, right) => two(out, "equal", left, right),
-        Core::Order(way, left, right) => two(out, order(*way), left, right),
-        Core::And(left, right) => two(out, "and", left, right),
-        Core::Or(left, right) => two(out, "or", left, right),
+        Core::Join(left, right) => {
+            opened(out, "join", left)?;
+            closed(out, right)
+        }
+        Core::Equal(left, right) => {
+            opened(out, "equal", left)?;
+            closed(out, right)
+        }
+        Core::Order(way, left, right) => {
+            opened(out, order(*way), left)?;
+            closed(out, right)
+        }
+        Core::And(left, right) => {
+            opened(out, "and", left)?;
+            closed(out, right)
+        }
+        Core::Or(left, right) => {
+            opened(out, "or", left)?;
+            closed(out, right)
+        }
         Core::Cast(to, of) => {
             out.push_str("(as ")?;
             kind(out, *to)?;
@@ -126,7 +153,10 @@ fn core(out: &mut String, tree: &Core) -> Shown {
             write!(out, " {count})")
         }
         Core::Length(of) => one(out, "length", of),
-        Core::Element(array, at, _) => two(out, "element", array, at),
+        Core::Element(array, at, _) => {
+            opened(out, "element", array)?;
+            closed(out, at)
+        }
         other => call(out, other),
     }
 }
@@ -145,7 +175,8 @@ fn call(out: &mut String, tree: &Core) -> Shown {
             core(out, of)?;
             out.push_str(" ")?;
             bytes(out, name.as_bytes())?;
-            arguments(out, given.as_slice(), places.as_slice())
+            numbers(out, places)?;
+            arguments(out, given)
         }
         Core::CallParent {
             name,
@@ -155,7 +186,8 @@ fn call(out: &mut String, tree: &Core) -> Shown {
         } => {
             out.push_str("(parent ")?;
             bytes(out, name.as_bytes())?;
-            arguments(out, given.as_slice(), places.as_slice())
+            numbers(out, places)?;
+            arguments(out, given)
         }
         Core::CallGlobal {
             at,
@@ -164,7 +196,8 @@ fn call(out: &mut String, tree: &Core) -> Shown {
             ..
         } => {
             write!(out, "(global {} {}", at.script, at.place)?;
-            arguments(out, given.as_slice(), places.as_slice())
+            numbers(out, places)?;
+            arguments(out, given)
         }
         Core::CallNative {
             at,
@@ -173,7 +206,8 @@ fn call(out: &mut String, tree: &Core) -> Shown {
             ..
         } => {
             write!(out, "(native {} {}", at.script, at.place)?;
-            arguments(out, given.as_slice(), places.as_slice())
+            numbers(out, places)?;
+            arguments(out, given)
         }
         Core::PropGet { of, name, .. } => {
             out.push_str("(get ")?;
@@ -183,11 +217,13 @@ fn call(out: &mut String, tree: &Core) -> Shown {
             out.push_str(")")
         }
         Core::Find(array, value, start) => {
-            two(out, "find", array, value)?;
+            opened(out, "find", array)?;
+            closed(out, value)?;
             one(out, "from", start)
         }
         Core::FindBack(array, value, start) => {
-            two(out, "rfind", array, value)?;
+            opened(out, "rfind", array)?;
+            closed(out, value)?;
             one(out, "from", start)
         }
         _ => out.push_str("?"),
@@ -208,21 +244,25 @@ fn form(out: &mut String, statement: &CoreStatement) -> Shown {
         CoreStatement::SetProp(of, name, new) => {
             out.push_str("(set ")?;
             bytes(out, name.as_bytes())?;
-            two(out, "", of, new)?;
+            opened(out, "", of)?;
+            closed(out, new)?;
             out.push_str(")")
         }
         CoreStatement::ChangeProp(of, name, _, operation, right) => {
             out.push_str("(change ")?;
             bytes(out, name.as_bytes())?;
-            two(out, arith(*operation), of, right)?;
+            opened(out, arith(*operation), of)?;
+            closed(out, right)?;
             out.push_str(")")
         }
         CoreStatement::SetElement(array, at, new) => {
-            two(out, "element", array, at)?;
+            opened(out, "element", array)?;
+            closed(out, at)?;
             one(out, " =", new)
         }
         CoreStatement::ChangeElement(array, at, _, operation, right) => {
-            two(out, "element", array, at)?;
+            opened(out, "element", array)?;
+            closed(out, at)?;
             one(out, arith(*operation), right)
         }
         CoreStatement::Plain(of) => core(out, of),

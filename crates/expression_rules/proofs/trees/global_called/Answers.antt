@@ -5,4 +5,4 @@ use Rattle.expression_rules.proofs.trees.global_called.Goals as goal
 pub returns : goal.returns
 returns c = λ b there passed.
     let p = operands-passed b c.args.passed passed in
-    simp expression_views ((there, p.0), p.1)
+    simp expression_views ((there, p.0.0, p.0.1), p.1)
