@@ -168,11 +168,11 @@ fn element_place<'t>(
 ) -> Result<Option<Target<'t>>, OutOfMemory>
     ensures { ContextInRange context.now → IfOk result (λ found. IfSome found (TargetInRange (bounds_of context.now))) }
 {
-    let of = value(context, notes, of)?;
-    let at = value(context, notes, at)?;
-    let at = convert(context, notes, at, Some(CoreType::Int))?;
-    match indexed(context, notes, of.kind) {
-        Some(element) => Ok(Some(Target::Element(of.core, at, element))),
+    let array = value(context, notes, of)?;
+    let index = value(context, notes, at)?;
+    let place = convert(context, notes, index, Some(CoreType::Int))?;
+    match indexed(context, notes, array.kind) {
+        Some(element) => Ok(Some(Target::Element(array.core, place, element))),
         None => Ok(None),
     }
 }
