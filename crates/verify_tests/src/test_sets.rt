@@ -35,11 +35,11 @@ pub(crate) fn files_of(alloc: Global, text: &[u8]) -> Result<Vec<Pex>, OutOfMemo
 fn file(alloc: Global, part: &[u8]) -> Result<Pex, OutOfMemory>
     ensures { IfOk result IsFile }
 {
-    let text = listing(alloc, part)?;
+    let text = listing_text(alloc, part)?;
     assemble(alloc, text.as_slice()).map_err(|_| OutOfMemory)
 }
 
-fn listing(alloc: Global, part: &[u8]) -> Result<Vec<u8>, OutOfMemory> {
+fn listing_text(alloc: Global, part: &[u8]) -> Result<Vec<u8>, OutOfMemory> {
     let mut listing = Listing {
         alloc,
         strings: Vec::new(alloc),
