@@ -45,7 +45,7 @@ core_block-loop-statement-preserved t c =
 pub core_statement-returns-in_ok-typed-in-Plain-clause-in_range : goal.core_statement-returns-in_ok-typed-in-Plain-clause-in_range
 core_statement-returns-in_ok-typed-in-Plain-clause-in_range t c = λ r p.
     let typed = c.in_ok-typed-in-Plain.ensures.in_range r in
-    let tree = kept-expression c.args.scope.now c.any.new.self c.in_ok-typed-in-Plain.ensures.kept (expression_of c.in_ok-typed-in-Plain.typed.core) typed.0 in
+    let tree = kept-expression c.args.scope.now c.any.new.self c.in_ok-typed-in-Plain.ensures.kept (expression_of c.in_ok-typed-in-Plain.typed.core) typed.core in
     simp statement_views (tt, (tree, tt))
 
 pub core_statement-returns-in_ok-body-in-While-clause-in_range : goal.core_statement-returns-in_ok-body-in-While-clause-in_range

@@ -20,4 +20,4 @@ returns-in_ok-typed-in-Some-Nothing-clause-in_range c = λ r p.
     let noted = c.fault-in-Some-Nothing.new.self in
     let kept = c.fault-in-Some-Nothing.ensures.kept in
     let typed = c.in_ok-typed-in-Some-Nothing.ensures.in_range (keeps-in_range before noted kept r) in
-    simp statement_views (tt, (kept-back before noted kept (expression_of c.in_ok-typed-in-Some-Nothing.typed.core) typed.0, tt))
+    simp statement_views (tt, (kept-back before noted kept (expression_of c.in_ok-typed-in-Some-Nothing.typed.core) typed.core, tt))
