@@ -1,7 +1,7 @@
 // Each case is a line of a function of the script Here, and what it gives: its tree, or the rule that it
 // breaks.
 use super::*;
-use core_tree::{Core, CoreStatement, CoreType};
+use core_tree::{Core, CoreStatement};
 use papy_base::Text;
 use script_lexer::lex;
 use script_linker::{ScriptSet, SourceFile, link};
@@ -60,15 +60,38 @@ fn elaborated(
     line: &str,
 ) -> Result<(CoreStatement, Option<TypeRule>), Fail> {
     let set = linked(alloc, rt, heading, line)?;
-    let catalog = Catalog::new(alloc, &set)?;
+    in_set(alloc, rt, &set)
+}
+
+fn in_set(
+    alloc: Global,
+    rt: &impl Abort,
+    set: &ScriptSet,
+) -> Result<(CoreStatement, Option<TypeRule>), Fail> {
+    let catalog = Catalog::new(alloc, set)?;
+    in_catalog(rt, &catalog)
+}
+
+fn in_catalog<'c>(
+    rt: &impl Abort,
+    catalog: &'c Catalog<'c>,
+) -> Result<(CoreStatement, Option<TypeRule>), Fail> {
     let script = catalog
         .script(HERE_NUMBER)
         .expect(rt, "the script is there");
-    let layout = Layout::new(alloc, script)?;
     let function = script.functions.last().expect(rt, "the function is there");
+    let layout = Layout::new(catalog.alloc, script)?;
+    in_layout(catalog, &layout, function)
+}
+
+fn in_layout<'c>(
+    catalog: &'c Catalog<'c>,
+    layout: &'c Layout<'c>,
+    function: &Function,
+) -> Result<(CoreStatement, Option<TypeRule>), Fail> {
     let is_global = function.heading.is_global;
-    let notes = Notes::new(alloc);
-    let mut scope = Scope::new(&catalog, &layout, HERE_NUMBER, is_global, 1, notes);
+    let notes = Notes::new(catalog.alloc);
+    let mut scope = Scope::new(catalog, layout, HERE_NUMBER, is_global, 1, notes);
     let form = last_line(&mut scope, function)?;
     let rule = scope.into_notes().first().map(|(_, rule)| rule);
     Ok((form, rule))
@@ -295,22 +318,11 @@ fn the_first_rule_by_line_and_number_is_kept(rt: HostRuntime) {
 }
 
 #[test]
-fn locals_are_numbered_and_their_names_differ(rt: HostRuntime) -> Result<(), Fail> {
-    let alloc = rt.alloc();
-    let set = linked(alloc, &rt, METHOD, "n = 1")?;
-    let catalog = Catalog::new(alloc, &set)?;
-    let script = catalog
-        .script(HERE_NUMBER)
-        .expect(&rt, "the script is there");
-    let layout = Layout::new(alloc, script)?;
-    let mut scope = Scope::new(&catalog, &layout, HERE_NUMBER, false, 3, Notes::new(alloc));
-    let first = papy_base::Name::from_bytes(alloc, b"One")?;
-    let again = papy_base::Name::from_bytes(alloc, b"oNE")?;
-    assert_eq!(rt; scope.new_local(&first, Some(CoreType::Int))?, 0);
-    assert!(rt; scope.notes.first().is_none());
-    assert_eq!(rt; scope.new_local(&again, None)?, 1);
-    assert_eq!(rt; scope.notes.first(), Some((3, TypeRule::DuplicateLocal)));
-    Ok(())
+fn names_of_parameters_differ(rt: HostRuntime) -> Result<(), Fail> {
+    let twice = [("One", "K14")];
+    try_cases(rt.alloc(), &rt, "Function F(Int One, String oNE)", &twice)?;
+    let once = [("Two", "l1")];
+    try_cases(rt.alloc(), &rt, "Function F(Int One, String Two)", &once)
 }
 
 fn repeated(alloc: Global, front: &str, part: &str, count: usize) -> Result<String, Fail> {
@@ -342,11 +354,11 @@ fn the_longest_and_the_deepest_lines_are_judged(rt: HostRuntime) -> Result<(), F
     let joined = repeated(alloc, "s = s", " + n", 3_998)?;
     let (form, rule) = elaborated(alloc, &rt, METHOD, joined.as_str())?;
     assert!(rt; rule.is_none());
-    assert!(rt; matches!(form, CoreStatement::SetLocal(1, tree) if levels(&tree) == 3_998));
+    assert!(rt; matches!(&form, CoreStatement::SetLocal(1, tree) if levels(tree) == 3_998));
     let chain = repeated(alloc, "Other", ".Next", 3_999)?;
     let (form, rule) = elaborated(alloc, &rt, METHOD, chain.as_str())?;
     assert!(rt; rule.is_none());
-    assert!(rt; matches!(form, CoreStatement::Plain(tree) if levels(&tree) == 3_999));
+    assert!(rt; matches!(&form, CoreStatement::Plain(tree) if levels(tree) == 3_999));
     let open = repeated(alloc, "b = 0 ||", " 1 && 2 == 3 + 4 * - (b ||", 64)?;
     let closed = repeated(alloc, open.as_str(), " 1)", 1)?;
     let deep = repeated(alloc, closed.as_str(), ")", 63)?;
