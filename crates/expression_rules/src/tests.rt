@@ -72,9 +72,9 @@ fn in_set(
     in_catalog(rt, &catalog)
 }
 
-fn in_catalog<'c>(
+fn in_catalog(
     rt: &impl Abort,
-    catalog: &'c Catalog<'c>,
+    catalog: &Catalog<'_>,
 ) -> Result<(CoreStatement, Option<TypeRule>), Fail> {
     let script = catalog
         .script(HERE_NUMBER)
@@ -84,9 +84,9 @@ fn in_catalog<'c>(
     in_layout(catalog, &layout, function)
 }
 
-fn in_layout<'c>(
-    catalog: &'c Catalog<'c>,
-    layout: &'c Layout<'c>,
+fn in_layout(
+    catalog: &Catalog<'_>,
+    layout: &Layout<'_>,
     function: &Function,
 ) -> Result<(CoreStatement, Option<TypeRule>), Fail> {
     let is_global = function.heading.is_global;
