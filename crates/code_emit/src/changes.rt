@@ -1,0 +1,108 @@
+// Assignments, plain and compound.
+use crate::conditions::store_value;
+use crate::expressions::{field, get_property, state_text, value, value_before, value_before_two};
+use crate::faults::EmitFault;
+use crate::opcodes::{ARRAY_GETELEMENT, ARRAY_SETELEMENT, ASSIGN, PROPSET, arith_opcode};
+use crate::operand::Operand;
+use crate::writer::Writer;
+use core_tree::{Arith, Core, CoreType};
+use papy_base::Name;
+
+pub(crate) fn set_local(
+    writer: &mut Writer<'_>,
+    number: u16,
+    of: &Core,
+    depth: u16,
+) -> Result<(), EmitFault> {
+    let name = writer.local(number)?;
+    store_value(writer, name, of, depth)
+}
+
+pub(crate) fn set_field(
+    writer: &mut Writer<'_>,
+    number: u16,
+    of: &Core,
+    depth: u16,
+) -> Result<(), EmitFault> {
+    let variable = field(writer, number)?;
+    set_variable(writer, variable, of, depth)
+}
+
+pub(crate) fn set_state(writer: &mut Writer<'_>, of: &Core, depth: u16) -> Result<(), EmitFault> {
+    let variable = state_text(writer)?;
+    set_variable(writer, variable, of, depth)
+}
+
+fn set_variable(
+    writer: &mut Writer<'_>,
+    variable: Operand,
+    of: &Core,
+    depth: u16,
+) -> Result<(), EmitFault> {
+    let of = value(writer, of, depth)?;
+    writer.act(ASSIGN, &[variable, of])
+}
+
+pub(crate) fn set_property(
+    writer: &mut Writer<'_>,
+    of: &Core,
+    name: &Name,
+    to: &Core,
+    depth: u16,
+) -> Result<(), EmitFault> {
+    let of = value_before(writer, of, to, depth)?;
+    let to = value(writer, to, depth)?;
+    let name = writer.string(name.as_bytes())?;
+    writer.act(PROPSET, &[Operand::Word(name), of, to])
+}
+
+/// The property is read, then the right side is evaluated, then it is written.
+pub(crate) fn change_property(
+    writer: &mut Writer<'_>,
+    of: &Core,
+    name: &Name,
+    kind: CoreType,
+    operation: Arith,
+    right: &Core,
+    depth: u16,
+) -> Result<(), EmitFault> {
+    let of = value(writer, of, depth)?;
+    // Reading it is an act.
+    let of = writer.kept(of)?;
+    let old = get_property(writer, of.lasting(), name, kind)?;
+    let right = value(writer, right, depth)?;
+    let new = writer.compute(arith_opcode(operation), kind, &[old, right])?;
+    let name = writer.string(name.as_bytes())?;
+    writer.act(PROPSET, &[Operand::Word(name), of, new])
+}
+
+pub(crate) fn set_element(
+    writer: &mut Writer<'_>,
+    array: &Core,
+    index: &Core,
+    to: &Core,
+    depth: u16,
+) -> Result<(), EmitFault> {
+    let array = value_before_two(writer, array, index, to, depth)?;
+    let index = value_before(writer, index, to, depth)?;
+    let to = value(writer, to, depth)?;
+    writer.act(ARRAY_SETELEMENT, &[array, index, to])
+}
+
+/// The element is read, then the right side is evaluated, then it is written.
+pub(crate) fn change_element(
+    writer: &mut Writer<'_>,
+    array: &Core,
+    index: &Core,
+    kind: CoreType,
+    operation: Arith,
+    right: &Core,
+    depth: u16,
+) -> Result<(), EmitFault> {
+    let array = value_before_two(writer, array, index, right, depth)?;
+    let index = value_before(writer, index, right, depth)?;
+    let old = writer.compute(ARRAY_GETELEMENT, kind, &[array.lasting(), index.lasting()])?;
+    let right = value(writer, right, depth)?;
+    let new = writer.compute(arith_opcode(operation), kind, &[old, right])?;
+    writer.act(ARRAY_SETELEMENT, &[array, index, new])
+}

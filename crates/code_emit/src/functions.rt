@@ -1,0 +1,54 @@
+// Functions, with their debug entries.
+use crate::expressions::MOST_NESTED;
+use crate::faults::EmitFault;
+use crate::statements::block;
+use crate::writer::Writer;
+use core_tree::CoreFunction;
+use pex_values::PexFunction;
+
+/// Where a function stands: the name of its state, its own name, and what its debug entry has as its kind.
+#[derive(Clone, Copy, Debug)]
+pub(crate) struct Place<'a> {
+    pub state: &'a [u8],
+    pub name: &'a [u8],
+    pub kind: u8,
+}
+
+/// The bits of a function.
+const GLOBAL: u8 = 1;
+
+const NATIVE: u8 = 2;
+
+/// What the file has of a function. A function with a body gets its debug entry.
+pub(crate) fn function(
+    writer: &mut Writer<'_>,
+    function: &CoreFunction,
+    place: Place<'_>,
+) -> Result<PexFunction, EmitFault> {
+    let result = writer.type_name(function.result)?;
+    let doc = writer.text(&function.doc)?;
+    writer.begin(function)?;
+    block(writer, &function.body, MOST_NESTED)?;
+    let written = writer.end()?;
+    if !function.is_native {
+        writer.note_lines(place, written.lines)?;
+    }
+    Ok(PexFunction {
+        result,
+        doc,
+        flags: function.flags,
+        bits: function_bits(function.is_global, function.is_native),
+        parameters: written.parameters,
+        locals: written.locals,
+        code: written.code,
+    })
+}
+
+fn function_bits(is_global: bool, is_native: bool) -> u8 {
+    match (is_global, is_native) {
+        (false, false) => 0,
+        (true, false) => GLOBAL,
+        (false, true) => NATIVE,
+        (true, true) => GLOBAL | NATIVE,
+    }
+}

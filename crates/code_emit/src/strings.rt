@@ -1,0 +1,76 @@
+// The strings of a file, each once, in order of first use.
+ghost use Rattle.std.specs.Prelude.{◌≡◌, ◌<◌, [], Some, length, slice_get, IfOk, OnOk, OnErr};
+ghost use Rattle.code_emit.specs.Strings.{with_string};
+
+use crate::faults::EmitFault;
+use indexmap::IndexSet;
+use papy_base::{OutOfMemory, Text};
+use std::alloc::Global;
+use std::marker::Model;
+
+/// The most strings of a file.
+const MOST_STRINGS: usize = 65_535;
+
+/// The strings so far. Contracts see them as a list, in which none stands twice.
+#[derive(Drop)]
+pub(crate) struct Strings {
+    alloc: Global,
+    numbers: IndexSet<Vec<u8>>,
+}
+
+impl Model for Strings {
+    ghost use Rattle.std.specs.Prelude.{ℕ, List, map};
+
+    ghost Value = { List (List ℕ) };
+
+    ghost view = { λ s. map (λ k. k.items) s.numbers.keys };
+}
+
+impl Strings {
+    /// No strings.
+    pub(crate) fn new(alloc: Global) -> Strings
+        ensures { result ≡ [] }
+    {
+        Strings {
+            alloc,
+            numbers: IndexSet::new(alloc),
+        }
+    }
+
+    /// The place of this string, which is added where it isn't there.
+    pub(crate) fn place_of(&mut self, string: &[u8]) -> Result<u16, EmitFault>
+        ensures added { OnOk result (self.new ≡ with_string self.old string.now) }
+        ensures kept { OnErr result (self.new ≡ self.old) }
+        ensures place { IfOk result (λ place. place < length self.new) }
+    {
+        if let Some(place) = self.numbers.get_index_of(string) {
+            return place_within(place);
+        }
+        let next = self.numbers.len();
+        if next >= MOST_STRINGS {
+            return Err(EmitFault::TooLarge);
+        }
+        self.numbers.insert(string.to_vec(self.alloc)?)?;
+        Ok(next as u16)
+    }
+
+    /// The strings as texts, in their order.
+    pub(crate) fn texts(&self) -> Result<Vec<Text>, OutOfMemory>
+        ensures { IfOk result (λ texts. texts.items ≡ self.now) }
+    {
+        let mut texts = Vec::with_capacity(self.alloc, self.numbers.len())?;
+        for string in self.numbers.iter() {
+            texts.push(Text::try_from_bytes(self.alloc, string.as_slice())?)?;
+        }
+        Ok(texts)
+    }
+}
+
+fn place_within(place: usize) -> Result<u16, EmitFault>
+    ensures { IfOk result (λ small. small ≡ place) }
+{
+    match u16::try_from(place) {
+        Ok(place) => Ok(place),
+        Err(_) => Err(EmitFault::TooLarge),
+    }
+}
