@@ -1,0 +1,4 @@
+pub mod Operands
+pub mod Spare
+pub mod Strings
+pub mod Writing

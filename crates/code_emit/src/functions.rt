@@ -2,7 +2,7 @@
 use crate::expressions::MOST_NESTED;
 use crate::faults::EmitFault;
 use crate::statements::block;
-use crate::writer::Writer;
+use crate::writer::{Writer, Written};
 use core_tree::CoreFunction;
 use pex_values::PexFunction;
 
@@ -29,18 +29,23 @@ pub(crate) fn function(
     let doc = writer.text(&function.doc)?;
     writer.begin(function)?;
     block(writer, &function.body, MOST_NESTED)?;
-    let written = writer.end()?;
+    let Written {
+        parameters,
+        locals,
+        code,
+        lines,
+    } = writer.end()?;
     if !function.is_native {
-        writer.note_lines(place, written.lines)?;
+        writer.note_lines(place, lines)?;
     }
     Ok(PexFunction {
         result,
         doc,
         flags: function.flags,
         bits: function_bits(function.is_global, function.is_native),
-        parameters: written.parameters,
-        locals: written.locals,
-        code: written.code,
+        parameters,
+        locals,
+        code,
     })
 }
 
