@@ -1,3 +1,4 @@
+pub mod Function
 pub mod Operands
 pub mod Spare
 pub mod Strings

@@ -1,105 +1,60 @@
-// Calls: the target, then the arguments in order of writing, each placed at its parameter.
+// Calls: the arguments in order of writing, each placed at its parameter.
 use crate::acts::up_to_last_act;
-use crate::expressions::value;
+use crate::expressions::kept_value;
 use crate::faults::EmitFault;
-use crate::opcodes::{CALL_METHOD, CALL_PARENT, CALL_STATIC};
 use crate::operand::Operand;
 use crate::writer::Writer;
-use core_tree::{Core, CoreScript, CoreType, FunctionPlace};
-use papy_base::Name;
+use core_tree::{Core, CoreType, FunctionPlace};
 use pex_values::Datum;
 use std::alloc::Global;
 
+/// The operands of the arguments. Each keeps its value while those behind it are evaluated.
 #[cycle(expression)]
-pub(crate) fn call_method(
-    writer: &mut Writer<'_>,
-    of: &Core,
-    name: &Name,
-    arguments: &[Core],
-    places: &[u16],
-    kind: Option<CoreType>,
-    depth: u16,
-) -> Result<Operand, EmitFault> {
-    let mut target = value(writer, of, depth)?;
-    if up_to_last_act(arguments, depth) > 0 {
-        target = writer.kept(target)?;
-    }
-    let values = argument_values(writer, arguments, depth)?;
-    let name = writer.string(name.as_bytes())?;
-    let more = placed(writer.alloc, &values, places)?;
-    let given = writer.call(CALL_METHOD, &[Operand::Word(name), target], kind, more)?;
-    writer.give_all_back(&values)?;
-    Ok(given)
-}
-
-#[cycle(expression)]
-pub(crate) fn call_parent(
-    writer: &mut Writer<'_>,
-    name: &Name,
-    arguments: &[Core],
-    places: &[u16],
-    kind: Option<CoreType>,
-    depth: u16,
-) -> Result<Operand, EmitFault> {
-    let values = argument_values(writer, arguments, depth)?;
-    let name = writer.string(name.as_bytes())?;
-    let more = placed(writer.alloc, &values, places)?;
-    let given = writer.call(CALL_PARENT, &[Operand::Word(name)], kind, more)?;
-    writer.give_all_back(&values)?;
-    Ok(given)
-}
-
-#[cycle(expression)]
-pub(crate) fn call_global(
-    writer: &mut Writer<'_>,
-    at: FunctionPlace,
-    arguments: &[Core],
-    places: &[u16],
-    kind: Option<CoreType>,
-    depth: u16,
-) -> Result<Operand, EmitFault> {
-    let values = argument_values(writer, arguments, depth)?;
-    let (script, function) = global_names(writer.scripts(), at)?;
-    let script = writer.string(script.as_bytes())?;
-    let function = writer.string(function.as_bytes())?;
-    let more = placed(writer.alloc, &values, places)?;
-    let names = [Operand::Word(script), Operand::Word(function)];
-    let given = writer.call(CALL_STATIC, &names, kind, more)?;
-    writer.give_all_back(&values)?;
-    Ok(given)
-}
-
-// The names of a script and of a function of its empty state.
-fn global_names(scripts: &[CoreScript], at: FunctionPlace) -> Result<(&Name, &Name), EmitFault> {
-    let Some(script) = scripts.get(usize::from(at.script)) else {
-        return Err(EmitFault::OutOfRange);
-    };
-    let Some(empty) = script.states.first() else {
-        return Err(EmitFault::OutOfRange);
-    };
-    match empty.functions.get(usize::from(at.place)) {
-        Some(function) => Ok((&script.name, &function.name)),
-        None => Err(EmitFault::OutOfRange),
-    }
-}
-
-// The operands of the arguments. Each keeps its value while those behind it are evaluated.
-#[cycle(expression)]
-fn argument_values(
+pub(crate) fn argument_values(
     writer: &mut Writer<'_>,
     arguments: &[Core],
     depth: u16,
 ) -> Result<Vec<Operand>, EmitFault> {
     let acting = up_to_last_act(arguments, depth);
-    let mut values = Vec::with_capacity(writer.alloc, arguments.len())?;
+    let mut values = Vec::with_capacity(writer.alloc(), arguments.len())?;
     for (place, argument) in arguments.iter().enumerate() {
-        let mut operand = value(writer, argument, depth)?;
-        if place + 1 < acting {
-            operand = writer.kept(operand)?;
-        }
-        values.push(operand)?;
+        values.push(kept_value(writer, argument, place + 1 < acting, depth)?)?;
     }
     Ok(values)
+}
+
+/// Appends a call whose operands and arguments are evaluated.
+pub(crate) fn call(
+    writer: &mut Writer<'_>,
+    opcode: u8,
+    operands: &[Operand],
+    values: &[Operand],
+    places: &[u16],
+    kind: Option<CoreType>,
+) -> Result<Operand, EmitFault> {
+    let more = placed(writer.alloc(), values, places)?;
+    let given = writer.call(opcode, operands, kind, more)?;
+    writer.give_all_back(values)?;
+    Ok(given)
+}
+
+/// The names of the script and of a function of its empty state.
+pub(crate) fn global_names(
+    writer: &mut Writer<'_>,
+    at: FunctionPlace,
+) -> Result<(Operand, Operand), EmitFault> {
+    let Some(script) = writer.scripts().get(usize::from(at.script)) else {
+        return Err(EmitFault::OutOfRange);
+    };
+    let Some(empty) = script.states.first() else {
+        return Err(EmitFault::OutOfRange);
+    };
+    let Some(function) = empty.functions.get(usize::from(at.place)) else {
+        return Err(EmitFault::OutOfRange);
+    };
+    let script = writer.string(script.name.as_bytes())?;
+    let function = writer.string(function.name.as_bytes())?;
+    Ok((Operand::Word(script), Operand::Word(function)))
 }
 
 // The operands in the order of their parameters.

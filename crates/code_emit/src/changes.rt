@@ -1,6 +1,7 @@
 // Assignments, plain and compound.
+use crate::acts::may_act;
 use crate::conditions::store_value;
-use crate::expressions::{field, get_property, state_text, value, value_before, value_before_two};
+use crate::expressions::{field, get_property, kept_value, state_text, value};
 use crate::faults::EmitFault;
 use crate::opcodes::{ARRAY_GETELEMENT, ARRAY_SETELEMENT, ASSIGN, PROPSET, arith_opcode};
 use crate::operand::Operand;
@@ -50,7 +51,7 @@ pub(crate) fn set_property(
     to: &Core,
     depth: u16,
 ) -> Result<(), EmitFault> {
-    let of = value_before(writer, of, to, depth)?;
+    let of = kept_value(writer, of, may_act(to, depth), depth)?;
     let to = value(writer, to, depth)?;
     let name = writer.string(name.as_bytes())?;
     writer.act(PROPSET, &[Operand::Word(name), of, to])
@@ -66,9 +67,8 @@ pub(crate) fn change_property(
     right: &Core,
     depth: u16,
 ) -> Result<(), EmitFault> {
-    let of = value(writer, of, depth)?;
     // Reading it is an act.
-    let of = writer.kept(of)?;
+    let of = kept_value(writer, of, true, depth)?;
     let old = get_property(writer, of.lasting(), name, kind)?;
     let right = value(writer, right, depth)?;
     let new = writer.compute(arith_opcode(operation), kind, &[old, right])?;
@@ -83,8 +83,9 @@ pub(crate) fn set_element(
     to: &Core,
     depth: u16,
 ) -> Result<(), EmitFault> {
-    let array = value_before_two(writer, array, index, to, depth)?;
-    let index = value_before(writer, index, to, depth)?;
+    let acts = may_act(to, depth);
+    let array = kept_value(writer, array, acts || may_act(index, depth), depth)?;
+    let index = kept_value(writer, index, acts, depth)?;
     let to = value(writer, to, depth)?;
     writer.act(ARRAY_SETELEMENT, &[array, index, to])
 }
@@ -99,8 +100,9 @@ pub(crate) fn change_element(
     right: &Core,
     depth: u16,
 ) -> Result<(), EmitFault> {
-    let array = value_before_two(writer, array, index, right, depth)?;
-    let index = value_before(writer, index, right, depth)?;
+    let acts = may_act(right, depth);
+    let array = kept_value(writer, array, acts || may_act(index, depth), depth)?;
+    let index = kept_value(writer, index, acts, depth)?;
     let old = writer.compute(ARRAY_GETELEMENT, kind, &[array.lasting(), index.lasting()])?;
     let right = value(writer, right, depth)?;
     let new = writer.compute(arith_opcode(operation), kind, &[old, right])?;

@@ -57,6 +57,6 @@ pub(crate) fn jump_unless(
     depth: u16,
 ) -> Result<Ahead, EmitFault> {
     let test = value(writer, test, depth)?;
-    writer.discard(test)?;
+    writer.give_back(test)?;
     writer.jump_ahead(JumpKind::IfFalse(test.datum()))
 }

@@ -58,7 +58,7 @@ fn emit_file(alloc: Global, set: &CoreSet, script: &CoreScript) -> Result<Pex, E
 fn user_flags(writer: &mut Writer<'_>) -> Result<Vec<(u16, u8)>, EmitFault> {
     let hidden = writer.string(b"hidden")?;
     let conditional = writer.string(b"conditional")?;
-    let mut flags = Vec::with_capacity(writer.alloc, 2)?;
+    let mut flags = Vec::with_capacity(writer.alloc(), 2)?;
     flags.push((hidden, 0))?;
     flags.push((conditional, 1))?;
     Ok(flags)

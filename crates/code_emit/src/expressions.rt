@@ -1,11 +1,11 @@
 // Expressions: for each form a function that appends its code.
-use crate::acts::may_act;
-use crate::calls::{call_global, call_method, call_parent};
+use crate::acts::{may_act, up_to_last_act};
+use crate::calls::{argument_values, call, global_names};
 use crate::conditions::either;
 use crate::faults::EmitFault;
 use crate::opcodes::{
-    ARRAY_CREATE, ARRAY_FINDELEMENT, ARRAY_GETELEMENT, ARRAY_LENGTH, ARRAY_RFINDELEMENT, CAST,
-    CMP_EQ, INEG, NOT, PROPGET, STRCAT, arith_opcode, order_opcode,
+    ARRAY_CREATE, ARRAY_FINDELEMENT, ARRAY_GETELEMENT, ARRAY_LENGTH, ARRAY_RFINDELEMENT, CALL_METHOD,
+    CALL_PARENT, CALL_STATIC, CAST, CMP_EQ, INEG, NOT, PROPGET, STRCAT, arith_opcode, order_opcode,
 };
 use crate::operand::Operand;
 use crate::writer::Writer;
@@ -61,16 +61,52 @@ pub(crate) fn value(
         Core::FindBack(array, searched, start) => {
             find(writer, ARRAY_RFINDELEMENT, array, searched, start, depth)
         }
-        Core::PropGet { of, name, result } => property(writer, of, name, *result, depth),
-        Core::CallMethod { of, name, arguments, places, result } => {
-            call_method(writer, of, name, arguments, places, *result, depth)
+        Core::PropGet {
+            of,
+            name,
+            result: kind,
+        } => {
+            let of = value(writer, of, depth)?;
+            get_property(writer, of, name, *kind)
         }
-        Core::CallParent { name, arguments, places, result } => {
-            call_parent(writer, name, arguments, places, *result, depth)
+        Core::CallMethod {
+            of,
+            name,
+            arguments,
+            places,
+            result: kind,
+        } => {
+            let acts = up_to_last_act(arguments, depth) > 0;
+            let of = kept_value(writer, of, acts, depth)?;
+            let name = Operand::Word(writer.string(name.as_bytes())?);
+            let values = argument_values(writer, arguments, depth)?;
+            call(writer, CALL_METHOD, &[name, of], &values, places, *kind)
         }
-        Core::CallGlobal { at, arguments, places, result }
-        | Core::CallNative { at, arguments, places, result } => {
-            call_global(writer, *at, arguments, places, *result, depth)
+        Core::CallParent {
+            name,
+            arguments,
+            places,
+            result: kind,
+        } => {
+            let name = Operand::Word(writer.string(name.as_bytes())?);
+            let values = argument_values(writer, arguments, depth)?;
+            call(writer, CALL_PARENT, &[name], &values, places, *kind)
+        }
+        Core::CallGlobal {
+            at,
+            arguments,
+            places,
+            result: kind,
+        }
+        | Core::CallNative {
+            at,
+            arguments,
+            places,
+            result: kind,
+        } => {
+            let (script, function) = global_names(writer, *at)?;
+            let values = argument_values(writer, arguments, depth)?;
+            call(writer, CALL_STATIC, &[script, function], &values, places, *kind)
         }
     }
 }
@@ -108,33 +144,16 @@ pub(crate) fn state_text(writer: &mut Writer<'_>) -> Result<Operand, EmitFault> 
     })
 }
 
-/// The operand of an expression that keeps its value while another is evaluated.
+/// The operand of an expression. Where acts may come before it is read, it keeps the value that it has now.
 #[cycle(expression)]
-pub(crate) fn value_before(
+pub(crate) fn kept_value(
     writer: &mut Writer<'_>,
     expression: &Core,
-    later: &Core,
+    is_kept: bool,
     depth: u16,
 ) -> Result<Operand, EmitFault> {
     let operand = value(writer, expression, depth)?;
-    if may_act(later, depth) {
-        writer.kept(operand)
-    } else {
-        Ok(operand)
-    }
-}
-
-/// The operand of an expression that keeps its value while two other expressions are evaluated.
-#[cycle(expression)]
-pub(crate) fn value_before_two(
-    writer: &mut Writer<'_>,
-    expression: &Core,
-    second: &Core,
-    third: &Core,
-    depth: u16,
-) -> Result<Operand, EmitFault> {
-    let operand = value(writer, expression, depth)?;
-    if may_act(second, depth) || may_act(third, depth) {
+    if is_kept {
         writer.kept(operand)
     } else {
         Ok(operand)
@@ -162,7 +181,7 @@ fn binary(
     right: &Core,
     depth: u16,
 ) -> Result<Operand, EmitFault> {
-    let left = value_before(writer, left, right, depth)?;
+    let left = kept_value(writer, left, may_act(right, depth), depth)?;
     let right = value(writer, right, depth)?;
     writer.compute(opcode, kind, &[left, right])
 }
@@ -176,8 +195,9 @@ fn find(
     start: &Core,
     depth: u16,
 ) -> Result<Operand, EmitFault> {
-    let array = value_before_two(writer, array, searched, start, depth)?;
-    let searched = value_before(writer, searched, start, depth)?;
+    let acts = may_act(start, depth);
+    let array = kept_value(writer, array, acts || may_act(searched, depth), depth)?;
+    let searched = kept_value(writer, searched, acts, depth)?;
     let start = value(writer, start, depth)?;
     let name = writer.take(CoreType::Int)?;
     writer.act(opcode, &[array, Operand::Word(name), searched, start])?;
@@ -205,18 +225,6 @@ fn array_of(element: CoreType) -> Option<CoreType> {
     }
 }
 
-#[cycle(expression)]
-fn property(
-    writer: &mut Writer<'_>,
-    of: &Core,
-    name: &Name,
-    kind: CoreType,
-    depth: u16,
-) -> Result<Operand, EmitFault> {
-    let of = value(writer, of, depth)?;
-    get_property(writer, of, name, kind)
-}
-
 /// Appends the use of a property of an instance.
 pub(crate) fn get_property(
     writer: &mut Writer<'_>,
@@ -225,6 +233,6 @@ pub(crate) fn get_property(
     kind: CoreType,
 ) -> Result<Operand, EmitFault> {
     let name = writer.string(name.as_bytes())?;
-    let more = Vec::new(writer.alloc);
+    let more = Vec::new(writer.alloc());
     writer.call(PROPGET, &[Operand::Word(name), of], Some(kind), more)
 }

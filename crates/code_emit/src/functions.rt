@@ -2,7 +2,7 @@
 use crate::expressions::MOST_NESTED;
 use crate::faults::EmitFault;
 use crate::statements::block;
-use crate::writer::{Writer, Written};
+use crate::writer::{Body, Writer};
 use core_tree::CoreFunction;
 use pex_values::PexFunction;
 
@@ -29,12 +29,12 @@ pub(crate) fn function(
     let doc = writer.text(&function.doc)?;
     writer.begin(function)?;
     block(writer, &function.body, MOST_NESTED)?;
-    let Written {
+    let Body {
         parameters,
         locals,
         code,
         lines,
-    } = writer.end()?;
+    } = writer.end();
     if !function.is_native {
         writer.note_lines(place, lines)?;
     }

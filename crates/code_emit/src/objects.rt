@@ -59,7 +59,7 @@ fn variables(
     writer: &mut Writer<'_>,
     variables: &[CoreVariable],
 ) -> Result<Vec<PexVariable>, EmitFault> {
-    let mut found = Vec::with_capacity(writer.alloc, variables.len())?;
+    let mut found = Vec::with_capacity(writer.alloc(), variables.len())?;
     for variable in variables {
         found.push(one_variable(writer, variable)?)?;
     }
@@ -85,7 +85,7 @@ fn properties(
     writer: &mut Writer<'_>,
     properties: &[CoreProperty],
 ) -> Result<Vec<PexProperty>, EmitFault> {
-    let mut found = Vec::with_capacity(writer.alloc, properties.len())?;
+    let mut found = Vec::with_capacity(writer.alloc(), properties.len())?;
     for property in properties {
         found.push(one_property(writer, property)?)?;
     }
@@ -163,7 +163,7 @@ fn accessor(
 }
 
 fn states(writer: &mut Writer<'_>, states: &[CoreState]) -> Result<Vec<PexState>, EmitFault> {
-    let mut found = Vec::with_capacity(writer.alloc, states.len())?;
+    let mut found = Vec::with_capacity(writer.alloc(), states.len())?;
     for state in states {
         found.push(one_state(writer, state)?)?;
     }
@@ -181,7 +181,7 @@ fn state_functions(
     state: &[u8],
     functions: &[CoreFunction],
 ) -> Result<Vec<(u16, PexFunction)>, EmitFault> {
-    let mut found = Vec::with_capacity(writer.alloc, functions.len())?;
+    let mut found = Vec::with_capacity(writer.alloc(), functions.len())?;
     for each in functions {
         let name = writer.string(each.name.as_bytes())?;
         let place = Place {

@@ -58,7 +58,7 @@ fn statement(
 // An expression whose value isn't used.
 fn plain(writer: &mut Writer<'_>, of: &Core, depth: u16) -> Result<(), EmitFault> {
     let of = value(writer, of, depth)?;
-    writer.discard(of)
+    writer.give_back(of)
 }
 
 fn give(writer: &mut Writer<'_>, of: &Option<Core>, depth: u16) -> Result<(), EmitFault> {

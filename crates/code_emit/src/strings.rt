@@ -1,5 +1,6 @@
 // The strings of a file, each once, in order of first use.
-ghost use Rattle.std.specs.Prelude.{◌≡◌, ◌<◌, [], Some, length, slice_get, IfOk, OnOk, OnErr};
+ghost use Rattle.std.specs.Prelude.{◌≡◌, ◌≤◌, [], length, IfOk, OnOk, OnErr};
+ghost use Rattle.pex_values.specs.Shape.{IsReference};
 ghost use Rattle.code_emit.specs.Strings.{with_string};
 
 use crate::faults::EmitFault;
@@ -41,7 +42,8 @@ impl Strings {
     pub(crate) fn place_of(&mut self, string: &[u8]) -> Result<u16, EmitFault>
         ensures added { OnOk result (self.new ≡ with_string self.old string.now) }
         ensures kept { OnErr result (self.new ≡ self.old) }
-        ensures place { IfOk result (λ place. place < length self.new) }
+        ensures place { IfOk result (IsReference (length self.new)) }
+        ensures grows { length self.old ≤ length self.new }
     {
         if let Some(place) = self.numbers.get_index_of(string) {
             return place_within(place);

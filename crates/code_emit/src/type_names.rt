@@ -1,5 +1,6 @@
 // The names of types.
-ghost use Rattle.std.specs.Prelude.{◌<◌, ◌≤◌, length, IfOk};
+ghost use Rattle.std.specs.Prelude.{◌≤◌, length, IfOk};
+ghost use Rattle.pex_values.specs.Shape.{IsReference};
 
 use crate::faults::EmitFault;
 use crate::strings::Strings;
@@ -13,7 +14,7 @@ pub(crate) fn type_name(
     scripts: &[CoreScript],
     kind: Option<CoreType>,
 ) -> Result<u16, EmitFault>
-    ensures place { IfOk result (λ place. place < length strings.new) }
+    ensures place { IfOk result (IsReference (length strings.new)) }
     ensures kept { length strings.old ≤ length strings.new }
 {
     match kind {

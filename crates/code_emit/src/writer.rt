@@ -1,12 +1,13 @@
 // What is written of a file: its strings and debug entries, and the function that is being written.
-ghost use Rattle.std.specs.Prelude.{◌≡◌, ◌+◌, ◌<◌, ◌≤◌, ℕ, [], ◌∷◌, ◌++◌, pos, length, suc, false, Some, IfOk, OnOk, OnErr, Contains};
+ghost use Rattle.std.specs.Prelude.{◌≡◌, ◌<◌, ◌≤◌, ◌^◌, [], pos, length, suc, map, vec_len, IfOk, IfSome, OnErr, Contains};
 ghost use Rattle.std.specs.List.{AllByRecursion};
-ghost use Rattle.jump_patch.specs.Jumps.{without};
+ghost use Rattle.jump_patch.specs.Jumps.{jump};
 ghost use Rattle.pex_values.specs.Opcodes.{operands_of};
-ghost use Rattle.pex_values.specs.Plain.{plain_instruction, plain_function};
-ghost use Rattle.pex_values.specs.Shape.{AgreesWith, IsShapedInstruction, IsShapedFunction};
+ghost use Rattle.pex_values.specs.Plain.{plain_instruction, plain_lines};
+ghost use Rattle.pex_values.specs.Shape.{IsReference, AgreesWith, IsShapedDatum, IsShapedInstruction, IsShapedLines};
+ghost use Rattle.code_emit.specs.Function.{IsBody};
 ghost use Rattle.code_emit.specs.Operands.{needs};
-ghost use Rattle.code_emit.specs.Writing.{GoesOn};
+ghost use Rattle.code_emit.specs.Writing.{GoesOn, Leaps, AreThere, Takes, landed};
 
 use crate::faults::EmitFault;
 use crate::functions::Place;
@@ -18,7 +19,7 @@ use crate::type_names::type_name;
 use core_tree::{CoreFunction, CoreScript, CoreSet, CoreType};
 use jump_patch::{Ahead, Code, CodeBuffer, JumpKind, Mark};
 use papy_base::Text;
-use pex_values::{Datum, Instruction, PexFunction, PexLines};
+use pex_values::{Datum, Instruction, PexLines};
 use std::alloc::Global;
 use std::marker::Model;
 use std::mem;
@@ -33,7 +34,7 @@ const MOST_VARIABLES: usize = 8_192;
 /// that haven't landed.
 #[derive(Drop)]
 pub(crate) struct Writer<'a> {
-    pub(crate) alloc: Global,
+    alloc: Global,
     set: &'a CoreSet,
     script: &'a CoreScript,
     strings: Strings,
@@ -51,9 +52,31 @@ pub(crate) struct Writer<'a> {
     none_variable: Option<u16>,
 }
 
+impl<'a> Model for Writer<'a> {
+    ghost use Rattle.std.specs.Prelude.{length};
+    ghost use Rattle.code_emit.specs.Writing.{Written, IsWriting};
+
+    ghost Value = { Written };
+
+    ghost view = { λ w. record { strings = length w.strings; count = w.count; ahead = w.code.ahead } };
+
+    ghost invariant = { λ w. IsWriting (length w.strings) w.count w.code w.debug.items w.parameters.items w.locals.items w.spare w.none_variable };
+}
+
+/// A function's parameters, locals and code, with a line for each instruction.
+#[derive(Debug, Drop)]
+pub(crate) struct Body {
+    pub parameters: Vec<(u16, u16)>,
+    pub locals: Vec<(u16, u16)>,
+    pub code: Vec<Instruction>,
+    pub lines: Vec<u16>,
+}
+
 impl<'a> Writer<'a> {
     /// A writer for the file of a script of the set.
-    pub(crate) fn new(alloc: Global, set: &'a CoreSet, script: &'a CoreScript) -> Writer<'a> {
+    pub(crate) fn new(alloc: Global, set: &'a CoreSet, script: &'a CoreScript) -> Writer<'a>
+        ensures { result.ahead ≡ [] }
+    {
         Writer {
             alloc,
             set,
@@ -71,15 +94,9 @@ impl<'a> Writer<'a> {
         }
     }
 
-    /// The place of a string in the file's table.
-    pub(crate) fn string(&mut self, string: &[u8]) -> Result<u16, EmitFault> {
-        self.strings.place_of(string)
-    }
-
-    /// The place of a type's name.
-    pub(crate) fn type_name(&mut self, kind: Option<CoreType>) -> Result<u16, EmitFault> {
-        let scripts = self.set.scripts.as_slice();
-        type_name(self.alloc, &mut self.strings, scripts, kind)
+    /// The allocator of what is written.
+    pub(crate) fn alloc(&self) -> Global {
+        self.alloc
     }
 
     /// The scripts of the set.
@@ -92,13 +109,45 @@ impl<'a> Writer<'a> {
         self.script
     }
 
+    /// The place of a string in the file's table.
+    pub(crate) fn string(&mut self, string: &[u8]) -> Result<u16, EmitFault>
+        ensures place { IfOk result (IsReference self.new.strings) }
+        ensures goes { GoesOn self.old self.new }
+    {
+        self.strings.place_of(string)
+    }
+
+    /// The place of a text that may be missing, which is then the empty one.
+    pub(crate) fn text(&mut self, text: &Option<Text>) -> Result<u16, EmitFault>
+        ensures place { IfOk result (IsReference self.new.strings) }
+        ensures goes { GoesOn self.old self.new }
+    {
+        match text {
+            Some(text) => self.string(text.as_bytes()),
+            None => self.string(b""),
+        }
+    }
+
+    /// The place of a type's name.
+    pub(crate) fn type_name(&mut self, kind: Option<CoreType>) -> Result<u16, EmitFault>
+        ensures place { IfOk result (IsReference self.new.strings) }
+        ensures goes { GoesOn self.old self.new }
+    {
+        let scripts = self.set.scripts.as_slice();
+        type_name(self.alloc, &mut self.strings, scripts, kind)
+    }
+
     /// The line of the instructions from now on.
-    pub(crate) fn set_line(&mut self, line: u16) {
+    pub(crate) fn set_line(&mut self, line: u16)
+        ensures { self.new ≡ self.old }
+    {
         self.line = line;
     }
 
     /// The name of a parameter or a local of the function, by its number.
-    pub(crate) fn local(&self, number: u16) -> Result<u16, EmitFault> {
+    pub(crate) fn local(&self, number: u16) -> Result<u16, EmitFault>
+        ensures { IfOk result (λ name. name < self.now.strings) }
+    {
         let number = usize::from(number);
         if number >= self.numbered {
             return Err(EmitFault::OutOfRange);
@@ -113,61 +162,130 @@ impl<'a> Writer<'a> {
         }
     }
 
-    fn next_name(&mut self) -> Result<u16, EmitFault> {
-        let number = self.parameters.len() + self.locals.len();
-        if number >= MOST_VARIABLES {
+    fn next_name(&mut self) -> Result<u16, EmitFault>
+        ensures place { IfOk result (IsReference self.new.strings) }
+        ensures goes { GoesOn self.old self.new }
+    {
+        let (parameters, locals) = (self.parameters.len(), self.locals.len());
+        if parameters >= MOST_VARIABLES || locals >= MOST_VARIABLES - parameters {
             return Err(EmitFault::TooLarge);
         }
+        let number = parameters + locals;
         let name = format!(in self.alloc; "::temp{number}")?;
         self.string(name.as_bytes())
     }
 
     /// Begins a function.
-    pub(crate) fn begin(&mut self, function: &CoreFunction) -> Result<(), EmitFault> {
-        for kind in &function.parameters {
-            let name = self.next_name()?;
-            let kind = self.type_name(Some(*kind))?;
-            self.parameters.push((name, kind))?;
-        }
-        for kind in &function.locals {
-            self.new_local(*kind)?;
-        }
-        self.numbered = self.parameters.len() + self.locals.len();
+    pub(crate) fn begin(&mut self, function: &CoreFunction) -> Result<(), EmitFault>
+        ensures { GoesOn self.old self.new }
+    {
+        self.begin_parameters(&function.parameters)?;
+        self.begin_locals(&function.locals)?;
+        self.numbered = self.parameters.len().saturating_add(self.locals.len());
         self.line = 0;
         Ok(())
     }
 
-    fn new_local(&mut self, kind: CoreType) -> Result<u16, EmitFault> {
+    fn begin_parameters(&mut self, kinds: &[CoreType]) -> Result<(), EmitFault>
+        ensures { GoesOn self.old self.new }
+    {
+        for kind in kinds {
+            self.new_parameter(*kind)?;
+        }
+        Ok(())
+    }
+
+    fn begin_locals(&mut self, kinds: &[CoreType]) -> Result<(), EmitFault>
+        ensures { GoesOn self.old self.new }
+    {
+        for kind in kinds {
+            self.new_local(*kind)?;
+        }
+        Ok(())
+    }
+
+    fn new_parameter(&mut self, kind: CoreType) -> Result<(), EmitFault>
+        ensures { GoesOn self.old self.new }
+    {
         let name = self.next_name()?;
         let kind = self.type_name(Some(kind))?;
-        self.locals.push((name, kind))?;
+        self.add_parameter(name, kind)
+    }
+
+    fn add_parameter(&mut self, name: u16, kind: u16) -> Result<(), EmitFault>
+        requires name { IsReference self.old.strings name }
+        requires kind { IsReference self.old.strings kind }
+        ensures { self.new ≡ self.old }
+    {
+        self.parameters.push((name, kind))?;
+        Ok(())
+    }
+
+    fn new_local(&mut self, kind: CoreType) -> Result<u16, EmitFault>
+        ensures name { IfOk result (λ name. name < self.new.strings) }
+        ensures goes { GoesOn self.old self.new }
+    {
+        let name = self.next_name()?;
+        let kind = self.type_name(Some(kind))?;
+        self.add_local(name, kind)?;
         Ok(name)
     }
 
+    fn add_local(&mut self, name: u16, kind: u16) -> Result<(), EmitFault>
+        requires name { IsReference self.old.strings name }
+        requires kind { IsReference self.old.strings kind }
+        ensures { self.new ≡ self.old }
+    {
+        self.locals.push((name, kind))?;
+        Ok(())
+    }
+
     /// A temporary of this type that isn't still to be read.
-    pub(crate) fn take(&mut self, kind: CoreType) -> Result<u16, EmitFault> {
-        match self.spare.take(kind) {
+    pub(crate) fn take(&mut self, kind: CoreType) -> Result<u16, EmitFault>
+        ensures name { IfOk result (λ name. name < self.new.strings) }
+        ensures goes { GoesOn self.old self.new }
+    {
+        match self.take_spare(kind) {
             Some(name) => Ok(name),
             None => self.new_local(kind),
         }
     }
 
+    fn take_spare(&mut self, kind: CoreType) -> Option<u16>
+        ensures name { IfSome result (λ name. name < self.new.strings) }
+        ensures same { self.new ≡ self.old }
+    {
+        self.spare.take(kind)
+    }
+
     /// The variable for what a function without result gives.
-    pub(crate) fn none_variable(&mut self) -> Result<u16, EmitFault> {
+    pub(crate) fn none_variable(&mut self) -> Result<u16, EmitFault>
+        ensures name { IfOk result (λ name. name < self.new.strings) }
+        ensures goes { GoesOn self.old self.new }
+    {
         if let Some(name) = self.none_variable {
             return Ok(name);
         }
-        if self.locals.len() >= MOST_VARIABLES {
-            return Err(EmitFault::TooLarge);
-        }
         let name = self.string(b"::NoneVar")?;
         let kind = self.type_name(None)?;
-        self.locals.push((name, kind))?;
-        self.none_variable = Some(name);
+        self.add_none(name, kind)?;
         Ok(name)
     }
 
-    fn add(&mut self, instruction: Instruction) -> Result<(), EmitFault> {
+    fn add_none(&mut self, name: u16, kind: u16) -> Result<(), EmitFault>
+        requires name { IsReference self.old.strings name }
+        requires kind { IsReference self.old.strings kind }
+        ensures { self.new ≡ self.old }
+    {
+        self.add_local(name, kind)?;
+        self.none_variable = Some(name);
+        Ok(())
+    }
+
+    fn add(&mut self, instruction: Instruction) -> Result<(), EmitFault>
+        requires { IsShapedInstruction self.old.strings (plain_instruction instruction) }
+        ensures { GoesOn self.old self.new }
+    {
         if self.count >= MOST_INSTRUCTIONS {
             return Err(EmitFault::TooLarge);
         }
@@ -176,7 +294,33 @@ impl<'a> Writer<'a> {
         Ok(())
     }
 
-    fn give_back(&mut self, operand: Operand) -> Result<(), EmitFault> {
+    // Adds an instruction, and gives back the temporaries that it reads.
+    fn instruct(
+        &mut self,
+        opcode: u8,
+        fixed: Vec<Datum>,
+        more: Vec<Datum>,
+        read: &[Operand],
+    ) -> Result<(), EmitFault>
+        requires agrees { AgreesWith (operands_of opcode) (vec_len fixed) (vec_len more) }
+        requires fixed { AllByRecursion (IsShapedDatum self.old.strings) fixed.items }
+        requires more { AllByRecursion (IsShapedDatum self.old.strings) more.items }
+        requires read { AreThere self.old.strings read.now }
+        ensures { GoesOn self.old self.new }
+    {
+        self.add(Instruction {
+            opcode,
+            fixed,
+            more,
+        })?;
+        self.give_all_back(read)
+    }
+
+    /// Gives a temporary back that is read no more.
+    pub(crate) fn give_back(&mut self, operand: Operand) -> Result<(), EmitFault>
+        requires { needs operand ≤ self.old.strings }
+        ensures { self.new ≡ self.old }
+    {
         if let Operand::Temporary { name, kind } = operand {
             self.spare.give_back(kind, name)?;
         }
@@ -184,28 +328,25 @@ impl<'a> Writer<'a> {
     }
 
     /// Gives back the temporaries among operands that are read no more.
-    pub(crate) fn give_all_back(&mut self, operands: &[Operand]) -> Result<(), EmitFault> {
+    pub(crate) fn give_all_back(&mut self, operands: &[Operand]) -> Result<(), EmitFault>
+        requires { AreThere self.old.strings operands.now }
+        ensures { self.new ≡ self.old }
+    {
         for operand in operands {
             self.give_back(*operand)?;
         }
         Ok(())
     }
 
-    /// Drops a value that nothing reads.
-    pub(crate) fn discard(&mut self, operand: Operand) -> Result<(), EmitFault> {
-        self.give_back(operand)
-    }
-
     /// Writes an instruction without a result, and gives back the temporaries that it reads.
-    pub(crate) fn act(&mut self, opcode: u8, operands: &[Operand]) -> Result<(), EmitFault> {
+    pub(crate) fn act(&mut self, opcode: u8, operands: &[Operand]) -> Result<(), EmitFault>
+        requires opcode { Takes opcode (length operands.now) }
+        requires operands { AreThere self.old.strings operands.now }
+        ensures { GoesOn self.old self.new }
+    {
         let fixed = data(self.alloc, operands)?;
         let more = Vec::new(self.alloc);
-        self.add(Instruction {
-            opcode,
-            fixed,
-            more,
-        })?;
-        self.give_all_back(operands)
+        self.instruct(opcode, fixed, more, operands)
     }
 
     /// Writes an instruction whose result stands before its operands, and gives back the temporaries that it reads.
@@ -214,7 +355,12 @@ impl<'a> Writer<'a> {
         opcode: u8,
         kind: CoreType,
         operands: &[Operand],
-    ) -> Result<Operand, EmitFault> {
+    ) -> Result<Operand, EmitFault>
+        requires opcode { Takes opcode (suc (length operands.now)) }
+        requires operands { AreThere self.old.strings operands.now }
+        ensures operand { IfOk result (λ operand. needs operand ≤ self.new.strings) }
+        ensures goes { GoesOn self.old self.new }
+    {
         let name = self.take(kind)?;
         self.store(opcode, name, operands)?;
         Ok(Operand::Temporary { name, kind })
@@ -226,16 +372,16 @@ impl<'a> Writer<'a> {
         opcode: u8,
         name: u16,
         operands: &[Operand],
-    ) -> Result<(), EmitFault> {
+    ) -> Result<(), EmitFault>
+        requires opcode { Takes opcode (suc (length operands.now)) }
+        requires name { name < self.old.strings }
+        requires operands { AreThere self.old.strings operands.now }
+        ensures { GoesOn self.old self.new }
+    {
         let mut fixed = data(self.alloc, operands)?;
         fixed.insert(0, Datum::Word(name))?;
         let more = Vec::new(self.alloc);
-        self.add(Instruction {
-            opcode,
-            fixed,
-            more,
-        })?;
-        self.give_all_back(operands)
+        self.instruct(opcode, fixed, more, operands)
     }
 
     /// Writes an instruction whose result stands behind its fixed operands, and gives back the temporaries that it reads.
@@ -246,27 +392,40 @@ impl<'a> Writer<'a> {
         operands: &[Operand],
         kind: Option<CoreType>,
         more: Vec<Datum>,
-    ) -> Result<Operand, EmitFault> {
-        let (name, result) = match kind {
+    ) -> Result<Operand, EmitFault>
+        requires agrees { AgreesWith (operands_of opcode) (suc (length operands.now)) (vec_len more) }
+        requires operands { AreThere self.old.strings operands.now }
+        requires more { AllByRecursion (IsShapedDatum self.old.strings) more.items }
+        ensures operand { IfOk result (λ operand. needs operand ≤ self.new.strings) }
+        ensures goes { GoesOn self.old self.new }
+    {
+        let given = self.place_for(kind)?;
+        let mut fixed = data(self.alloc, operands)?;
+        fixed.push(given.datum())?;
+        self.instruct(opcode, fixed, more, operands)?;
+        Ok(given)
+    }
+
+    // The variable that takes the result of a call.
+    fn place_for(&mut self, kind: Option<CoreType>) -> Result<Operand, EmitFault>
+        ensures operand { IfOk result (λ operand. needs operand ≤ self.new.strings) }
+        ensures goes { GoesOn self.old self.new }
+    {
+        match kind {
             Some(kind) => {
                 let name = self.take(kind)?;
-                (name, Operand::Temporary { name, kind })
+                Ok(Operand::Temporary { name, kind })
             }
-            None => (self.none_variable()?, Operand::NoneValue),
-        };
-        let mut fixed = data(self.alloc, operands)?;
-        fixed.push(Datum::Word(name))?;
-        self.add(Instruction {
-            opcode,
-            fixed,
-            more,
-        })?;
-        self.give_all_back(operands)?;
-        Ok(result)
+            None => Ok(Operand::Word(self.none_variable()?)),
+        }
     }
 
     /// The operand, or where an act may change it a temporary with its value.
-    pub(crate) fn kept(&mut self, operand: Operand) -> Result<Operand, EmitFault> {
+    pub(crate) fn kept(&mut self, operand: Operand) -> Result<Operand, EmitFault>
+        requires { needs operand ≤ self.old.strings }
+        ensures operand { IfOk result (λ operand. needs operand ≤ self.new.strings) }
+        ensures goes { GoesOn self.old self.new }
+    {
         match operand {
             Operand::Variable { kind, .. } => self.compute(ASSIGN, kind, &[operand]),
             other => Ok(other),
@@ -274,12 +433,17 @@ impl<'a> Writer<'a> {
     }
 
     /// The place of the next instruction.
-    pub(crate) fn mark(&self) -> Mark {
+    pub(crate) fn mark(&self) -> Mark
+        ensures { result ≡ self.now.count }
+    {
         self.code.mark()
     }
 
     /// Adds a jump back to a mark.
-    pub(crate) fn jump_back(&mut self, mark: Mark) -> Result<(), EmitFault> {
+    pub(crate) fn jump_back(&mut self, mark: Mark) -> Result<(), EmitFault>
+        requires { mark ≤ self.old.count }
+        ensures { GoesOn self.old self.new }
+    {
         if self.count >= MOST_INSTRUCTIONS {
             return Err(EmitFault::TooLarge);
         }
@@ -289,7 +453,11 @@ impl<'a> Writer<'a> {
     }
 
     /// Adds a jump whose place is still ahead.
-    pub(crate) fn jump_ahead(&mut self, kind: JumpKind) -> Result<Ahead, EmitFault> {
+    pub(crate) fn jump_ahead(&mut self, kind: JumpKind) -> Result<Ahead, EmitFault>
+        requires { IsShapedInstruction self.old.strings (jump kind (pos 0)) }
+        ensures leaps { IfOk result (λ ahead. Leaps self.old ahead self.new) }
+        ensures err { OnErr result (self.new ≡ self.old) }
+    {
         if self.count >= MOST_INSTRUCTIONS {
             return Err(EmitFault::TooLarge);
         }
@@ -299,61 +467,67 @@ impl<'a> Writer<'a> {
     }
 
     /// Lets a jump lead to the place of the next instruction.
-    pub(crate) fn land(&mut self, ahead: Ahead) {
+    pub(crate) fn land(&mut self, ahead: Ahead)
+        requires { Contains self.old.ahead ahead }
+        ensures { self.new ≡ landed self.old ahead }
+    {
         self.code.land(ahead);
     }
 
     /// Ends the function. Every jump must have landed.
-    pub(crate) fn end(&mut self) -> Result<Written, EmitFault> {
+    pub(crate) fn end(&mut self) -> Body
+        requires { self.old.ahead ≡ [] }
+        ensures body { IsBody self.new.strings result }
+        ensures strings { self.new.strings ≡ self.old.strings }
+        ensures ahead { self.new.ahead ≡ [] }
+    {
         let alloc = self.alloc;
-        let code = mem::replace(&mut self.code, CodeBuffer::new(alloc));
-        let Code { code, lines } = code.finish();
+        let buffer = mem::replace(&mut self.code, CodeBuffer::new(alloc));
+        let Code { code, lines } = buffer.finish();
         self.count = 0;
         self.numbered = 0;
         self.spare = Spare::new(alloc);
         self.none_variable = None;
-        Ok(Written {
+        Body {
             parameters: mem::replace(&mut self.parameters, Vec::new(alloc)),
             locals: mem::replace(&mut self.locals, Vec::new(alloc)),
             code,
             lines,
-        })
+        }
     }
 
     /// Adds the debug entry of a function.
-    pub(crate) fn note_lines(&mut self, place: Place<'_>, lines: Vec<u16>) -> Result<(), EmitFault> {
+    pub(crate) fn note_lines(&mut self, place: Place<'_>, lines: Vec<u16>) -> Result<(), EmitFault>
+        requires { AllByRecursion (λ line. line < 2 ^ 16) lines.items }
+        ensures { GoesOn self.old self.new }
+    {
         let script = self.script;
-        let entry = PexLines {
-            object: self.string(script.name.as_bytes())?,
-            state: self.string(place.state)?,
-            function: self.string(place.name)?,
+        let object = self.string(script.name.as_bytes())?;
+        let state = self.string(place.state)?;
+        let function = self.string(place.name)?;
+        self.add_entry(PexLines {
+            object,
+            state,
+            function,
             kind: place.kind,
             lines,
-        };
+        })
+    }
+
+    fn add_entry(&mut self, entry: PexLines) -> Result<(), EmitFault>
+        requires { IsShapedLines self.old.strings (plain_lines entry) }
+        ensures { self.new ≡ self.old }
+    {
         self.debug.push(entry)?;
         Ok(())
     }
 
-    /// The place of a text that may be missing, which is then the empty one.
-    pub(crate) fn text(&mut self, text: &Option<Text>) -> Result<u16, EmitFault> {
-        match text {
-            Some(text) => self.string(text.as_bytes()),
-            None => self.string(b""),
-        }
-    }
-
     /// The strings of the file, and its debug entries.
-    pub(crate) fn finish(self) -> Result<(Vec<Text>, Vec<PexLines>), EmitFault> {
+    pub(crate) fn finish(self) -> Result<(Vec<Text>, Vec<PexLines>), EmitFault>
+        ensures strings { IfOk result (λ parts. vec_len parts.0 ≡ self.strings) }
+        ensures entries { IfOk result (λ parts. AllByRecursion (IsShapedLines self.strings) (map plain_lines parts.1.items)) }
+    {
         let texts = self.strings.texts()?;
         Ok((texts, self.debug))
     }
-}
-
-/// A function's parameters, locals and code, with a line for each instruction.
-#[derive(Debug, Drop)]
-pub(crate) struct Written {
-    pub parameters: Vec<(u16, u16)>,
-    pub locals: Vec<(u16, u16)>,
-    pub code: Vec<Instruction>,
-    pub lines: Vec<u16>,
 }
