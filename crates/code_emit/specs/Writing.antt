@@ -51,3 +51,8 @@ AreThere strings operands = AllByRecursion (λ operand. needs operand ≤ string
 -- an instruction of this opcode has so many fixed operands, the result among them, and no others
 abbrev pub Takes : ℕ → ℕ → Type 0
 Takes opcode operands = operands_of opcode ≡ Some (operands, false)
+
+-- whole functions were added
+pub record Advances (old new : Written) : Type 0 where
+  pub strings : old.strings ≤ new.strings
+  pub ahead : new.ahead ≡ old.ahead

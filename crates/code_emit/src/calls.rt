@@ -1,6 +1,13 @@
 // Calls: the arguments in order of writing, each placed at its parameter.
+ghost use Rattle.std.specs.Prelude.{◌≡◌, ℕ, ◌≤◌, [], ◌∷◌, suc, Some, true, length, IfOk};
+ghost use Rattle.std.specs.List.{AllByRecursion};
+ghost use Rattle.pex_values.specs.Opcodes.{operands_of};
+ghost use Rattle.pex_values.specs.Shape.{IsShapedDatum};
+ghost use Rattle.code_emit.specs.Operands.{needs};
+ghost use Rattle.code_emit.specs.Writing.{GoesOn, AreThere};
+
 use crate::acts::up_to_last_act;
-use crate::expressions::kept_value;
+use crate::expressions::value;
 use crate::faults::EmitFault;
 use crate::operand::Operand;
 use crate::writer::Writer;
@@ -14,11 +21,16 @@ pub(crate) fn argument_values(
     writer: &mut Writer<'_>,
     arguments: &[Core],
     depth: u16,
-) -> Result<Vec<Operand>, EmitFault> {
+) -> Result<Vec<Operand>, EmitFault>
+    ensures operands { IfOk result (λ operands. AreThere writer.new.strings operands.items) }
+    ensures goes { GoesOn writer.old writer.new }
+{
     let acting = up_to_last_act(arguments, depth);
     let mut values = Vec::with_capacity(writer.alloc(), arguments.len())?;
     for (place, argument) in arguments.iter().enumerate() {
-        values.push(kept_value(writer, argument, place + 1 < acting, depth)?)?;
+        let operand = value(writer, argument, depth)?;
+        let is_before = acting > 0 && place < acting - 1;
+        values.push(writer.kept(operand, is_before)?)?;
     }
     Ok(values)
 }
@@ -31,7 +43,13 @@ pub(crate) fn call(
     values: &[Operand],
     places: &[u16],
     kind: Option<CoreType>,
-) -> Result<Operand, EmitFault> {
+) -> Result<Operand, EmitFault>
+    requires opcode { operands_of opcode ≡ Some (suc (length operands.now), true) }
+    requires operands { AreThere writer.old.strings operands.now }
+    requires values { AreThere writer.old.strings values.now }
+    ensures operand { IfOk result (λ operand. needs operand ≤ writer.new.strings) }
+    ensures goes { GoesOn writer.old writer.new }
+{
     let more = placed(writer.alloc(), values, places)?;
     let given = writer.call(opcode, operands, kind, more)?;
     writer.give_all_back(values)?;
@@ -42,7 +60,10 @@ pub(crate) fn call(
 pub(crate) fn global_names(
     writer: &mut Writer<'_>,
     at: FunctionPlace,
-) -> Result<(Operand, Operand), EmitFault> {
+) -> Result<(Operand, Operand), EmitFault>
+    ensures names { IfOk result (λ names. AreThere writer.new.strings (names.0 ∷ names.1 ∷ [])) }
+    ensures goes { GoesOn writer.old writer.new }
+{
     let Some(script) = writer.scripts().get(usize::from(at.script)) else {
         return Err(EmitFault::OutOfRange);
     };
@@ -58,7 +79,9 @@ pub(crate) fn global_names(
 }
 
 // The operands in the order of their parameters.
-fn placed(alloc: Global, values: &[Operand], places: &[u16]) -> Result<Vec<Datum>, EmitFault> {
+fn placed(alloc: Global, values: &[Operand], places: &[u16]) -> Result<Vec<Datum>, EmitFault>
+    ensures { IfOk result (λ data. (strings : ℕ) → AreThere strings values.now → AllByRecursion (IsShapedDatum strings) data.items) }
+{
     if places.len() != values.len() {
         return Err(EmitFault::OutOfRange);
     }

@@ -1,4 +1,8 @@
 // Assignments, plain and compound.
+ghost use Rattle.std.specs.Prelude.{◌≡◌, ◌≤◌};
+ghost use Rattle.code_emit.specs.Operands.{needs};
+ghost use Rattle.code_emit.specs.Writing.{GoesOn};
+
 use crate::acts::may_act;
 use crate::conditions::store_value;
 use crate::expressions::{field, get_property, kept_value, state_text, value};
@@ -14,7 +18,9 @@ pub(crate) fn set_local(
     number: u16,
     of: &Core,
     depth: u16,
-) -> Result<(), EmitFault> {
+) -> Result<(), EmitFault>
+    ensures { GoesOn writer.old writer.new }
+{
     let name = writer.local(number)?;
     store_value(writer, name, of, depth)
 }
@@ -24,12 +30,16 @@ pub(crate) fn set_field(
     number: u16,
     of: &Core,
     depth: u16,
-) -> Result<(), EmitFault> {
+) -> Result<(), EmitFault>
+    ensures { GoesOn writer.old writer.new }
+{
     let variable = field(writer, number)?;
     set_variable(writer, variable, of, depth)
 }
 
-pub(crate) fn set_state(writer: &mut Writer<'_>, of: &Core, depth: u16) -> Result<(), EmitFault> {
+pub(crate) fn set_state(writer: &mut Writer<'_>, of: &Core, depth: u16) -> Result<(), EmitFault>
+    ensures { GoesOn writer.old writer.new }
+{
     let variable = state_text(writer)?;
     set_variable(writer, variable, of, depth)
 }
@@ -39,7 +49,10 @@ fn set_variable(
     variable: Operand,
     of: &Core,
     depth: u16,
-) -> Result<(), EmitFault> {
+) -> Result<(), EmitFault>
+    requires { needs variable ≤ writer.old.strings }
+    ensures { GoesOn writer.old writer.new }
+{
     let of = value(writer, of, depth)?;
     writer.act(ASSIGN, &[variable, of])
 }
@@ -50,7 +63,9 @@ pub(crate) fn set_property(
     name: &Name,
     to: &Core,
     depth: u16,
-) -> Result<(), EmitFault> {
+) -> Result<(), EmitFault>
+    ensures { GoesOn writer.old writer.new }
+{
     let of = kept_value(writer, of, may_act(to, depth), depth)?;
     let to = value(writer, to, depth)?;
     let name = writer.string(name.as_bytes())?;
@@ -66,7 +81,9 @@ pub(crate) fn change_property(
     operation: Arith,
     right: &Core,
     depth: u16,
-) -> Result<(), EmitFault> {
+) -> Result<(), EmitFault>
+    ensures { GoesOn writer.old writer.new }
+{
     // Reading it is an act.
     let of = kept_value(writer, of, true, depth)?;
     let old = get_property(writer, of.lasting(), name, kind)?;
@@ -82,7 +99,9 @@ pub(crate) fn set_element(
     index: &Core,
     to: &Core,
     depth: u16,
-) -> Result<(), EmitFault> {
+) -> Result<(), EmitFault>
+    ensures { GoesOn writer.old writer.new }
+{
     let acts = may_act(to, depth);
     let array = kept_value(writer, array, acts || may_act(index, depth), depth)?;
     let index = kept_value(writer, index, acts, depth)?;
@@ -99,7 +118,9 @@ pub(crate) fn change_element(
     operation: Arith,
     right: &Core,
     depth: u16,
-) -> Result<(), EmitFault> {
+) -> Result<(), EmitFault>
+    ensures { GoesOn writer.old writer.new }
+{
     let acts = may_act(right, depth);
     let array = kept_value(writer, array, acts || may_act(index, depth), depth)?;
     let index = kept_value(writer, index, acts, depth)?;

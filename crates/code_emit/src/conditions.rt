@@ -1,4 +1,10 @@
 // And and Or, and the jumps of tests.
+ghost use Rattle.std.specs.Prelude.{◌≡◌, ℕ, ◌<◌, ◌≤◌, pos, IfOk, OnErr};
+ghost use Rattle.jump_patch.specs.Jumps.{jump};
+ghost use Rattle.pex_values.specs.Shape.{IsShapedDatum, IsShapedInstruction};
+ghost use Rattle.code_emit.specs.Operands.{needs};
+ghost use Rattle.code_emit.specs.Writing.{GoesOn, Leaps};
+
 use crate::expressions::value;
 use crate::faults::EmitFault;
 use crate::opcodes::ASSIGN;
@@ -13,11 +19,14 @@ use pex_values::Datum;
 pub(crate) fn either(
     writer: &mut Writer<'_>,
     decided: bool,
-    left: &Core,
+    left: Operand,
     right: &Core,
     depth: u16,
-) -> Result<Operand, EmitFault> {
-    let left = value(writer, left, depth)?;
+) -> Result<Operand, EmitFault>
+    requires { needs left ≤ writer.old.strings }
+    ensures operand { IfOk result (λ operand. needs operand ≤ writer.new.strings) }
+    ensures goes { GoesOn writer.old writer.new }
+{
     let name = writer.take(CoreType::Bool)?;
     writer.store(ASSIGN, name, &[left])?;
     let over = writer.jump_ahead(jump_where(decided, Datum::Word(name)))?;
@@ -30,7 +39,9 @@ pub(crate) fn either(
     })
 }
 
-fn jump_where(decided: bool, condition: Datum) -> JumpKind {
+fn jump_where(decided: bool, condition: Datum) -> JumpKind
+    ensures { (strings : ℕ) → IsShapedDatum strings condition → IsShapedInstruction strings (jump result (pos 0)) }
+{
     if decided {
         JumpKind::IfTrue(condition)
     } else {
@@ -45,7 +56,10 @@ pub(crate) fn store_value(
     name: u16,
     of: &Core,
     depth: u16,
-) -> Result<(), EmitFault> {
+) -> Result<(), EmitFault>
+    requires { name < writer.old.strings }
+    ensures { GoesOn writer.old writer.new }
+{
     let of = value(writer, of, depth)?;
     writer.store(ASSIGN, name, &[of])
 }
@@ -55,7 +69,10 @@ pub(crate) fn jump_unless(
     writer: &mut Writer<'_>,
     test: &Core,
     depth: u16,
-) -> Result<Ahead, EmitFault> {
+) -> Result<Ahead, EmitFault>
+    ensures leaps { IfOk result (λ ahead. Leaps writer.old ahead writer.new) }
+    ensures err { OnErr result (GoesOn writer.old writer.new) }
+{
     let test = value(writer, test, depth)?;
     writer.give_back(test)?;
     writer.jump_ahead(JumpKind::IfFalse(test.datum()))

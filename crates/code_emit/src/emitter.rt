@@ -1,8 +1,9 @@
 // The files of a set of scripts.
 ghost use Rattle.std.specs.Prelude.{◌≡◌, ◌-◌, IfOk, vec_len, map};
-ghost use Rattle.std.specs.List.{All};
+ghost use Rattle.std.specs.List.{AllByRecursion};
 ghost use Rattle.pex_values.specs.Plain.{plain};
-ghost use Rattle.pex_values.specs.Shape.{IsWellShaped};
+ghost use Rattle.pex_values.specs.Shape.{IsShapedFlag, IsWellShaped};
+ghost use Rattle.code_emit.specs.Writing.{GoesOn};
 
 use crate::faults::EmitFault;
 use crate::objects::object;
@@ -25,7 +26,10 @@ pub const PRELUDE_COUNT: usize = 6;
 ///
 /// `OutOfRange` comes where a number of the set names nothing, `TooLarge` where a function or the strings of a script
 /// pass the limits that `EmitFault` tells, and `OutOfMemory` where no memory is found.
-pub fn emit(alloc: Global, set: &CoreSet) -> Result<Vec<Pex>, EmitFault> {
+pub fn emit(alloc: Global, set: &CoreSet) -> Result<Vec<Pex>, EmitFault>
+    ensures shaped { IfOk result (λ files. AllByRecursion IsWellShaped (map plain files.items)) }
+    ensures count { IfOk result (λ files. vec_len files ≡ vec_len set.now.scripts - PRELUDE_COUNT) }
+{
     let mut files = Vec::new(alloc);
     for (number, script) in set.scripts.as_slice().iter().enumerate() {
         if number >= PRELUDE_COUNT {
@@ -35,7 +39,9 @@ pub fn emit(alloc: Global, set: &CoreSet) -> Result<Vec<Pex>, EmitFault> {
     Ok(files)
 }
 
-fn emit_file(alloc: Global, set: &CoreSet, script: &CoreScript) -> Result<Pex, EmitFault> {
+fn emit_file(alloc: Global, set: &CoreSet, script: &CoreScript) -> Result<Pex, EmitFault>
+    ensures { IfOk result (λ file. IsWellShaped (plain file)) }
+{
     let mut writer = Writer::new(alloc, set, script);
     let object = object(&mut writer)?;
     let user_flags = user_flags(&mut writer)?;
@@ -55,7 +61,10 @@ fn emit_file(alloc: Global, set: &CoreSet, script: &CoreScript) -> Result<Pex, E
     })
 }
 
-fn user_flags(writer: &mut Writer<'_>) -> Result<Vec<(u16, u8)>, EmitFault> {
+fn user_flags(writer: &mut Writer<'_>) -> Result<Vec<(u16, u8)>, EmitFault>
+    ensures flags { IfOk result (λ flags. AllByRecursion (IsShapedFlag writer.new.strings) flags.items) }
+    ensures goes { GoesOn writer.old writer.new }
+{
     let hidden = writer.string(b"hidden")?;
     let conditional = writer.string(b"conditional")?;
     let mut flags = Vec::with_capacity(writer.alloc(), 2)?;

@@ -12,7 +12,8 @@ pub enum EmitFault {
     #[error("a number names nothing")]
     OutOfRange,
     /// More than 65,535 strings, or in a function more than 65,535 instructions, more than 8,192 parameters and
-    /// locals, or more than 4,000 expressions and statements inside each other.
+    /// locals, an expression with more than 4,000 first operands inside each other, an If with more than 4,000
+    /// tests, or more than 1,000 expressions and statements inside each other in another way.
     #[error("too large for a file")]
     TooLarge,
     /// No memory was found.

@@ -15,6 +15,7 @@ mod objects;
 mod opcodes;
 mod operand;
 mod spare;
+mod spine;
 mod statements;
 mod strings;
 mod type_names;

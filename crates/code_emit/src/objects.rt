@@ -1,4 +1,11 @@
 // The object of a script, with its members in order.
+ghost use Rattle.std.specs.Prelude.{◌≡◌, [], false, IfOk, IfSome, map, option_map};
+ghost use Rattle.std.specs.List.{AllByRecursion};
+ghost use Rattle.pex_values.specs.Bits.{has_variable, has_read, has_write};
+ghost use Rattle.pex_values.specs.Plain.{plain_function, plain_named, plain_property, plain_state, plain_object};
+ghost use Rattle.pex_values.specs.Shape.{IsReference, IsShapedFunction, IsShapedNamed, IsShapedVariable, IsShapedProperty, IsShapedState, IsShapedObject};
+ghost use Rattle.code_emit.specs.Writing.{GoesOn, Advances};
+
 use crate::expressions::constant;
 use crate::faults::EmitFault;
 use crate::functions::{Place, function};
@@ -20,7 +27,11 @@ const WRITE: u8 = 2;
 const AUTO_BITS: u8 = 7;
 
 /// What the file has of the writer's script.
-pub(crate) fn object(writer: &mut Writer<'_>) -> Result<PexObject, EmitFault> {
+pub(crate) fn object(writer: &mut Writer<'_>) -> Result<PexObject, EmitFault>
+    requires { writer.old.ahead ≡ [] }
+    ensures object { IfOk result (λ o. IsShapedObject writer.new.strings (plain_object o)) }
+    ensures advances { Advances writer.old writer.new }
+{
     let script = writer.script();
     let name = writer.string(script.name.as_bytes())?;
     let parent = parent(writer, script)?;
@@ -45,7 +56,10 @@ pub(crate) fn object(writer: &mut Writer<'_>) -> Result<PexObject, EmitFault> {
     })
 }
 
-fn parent(writer: &mut Writer<'_>, script: &CoreScript) -> Result<u16, EmitFault> {
+fn parent(writer: &mut Writer<'_>, script: &CoreScript) -> Result<u16, EmitFault>
+    ensures place { IfOk result (IsReference writer.new.strings) }
+    ensures goes { GoesOn writer.old writer.new }
+{
     match script.parent {
         Some(number) => {
             let name = script_name(writer.scripts(), number)?;
@@ -58,7 +72,10 @@ fn parent(writer: &mut Writer<'_>, script: &CoreScript) -> Result<u16, EmitFault
 fn variables(
     writer: &mut Writer<'_>,
     variables: &[CoreVariable],
-) -> Result<Vec<PexVariable>, EmitFault> {
+) -> Result<Vec<PexVariable>, EmitFault>
+    ensures variables { IfOk result (λ found. AllByRecursion (IsShapedVariable writer.new.strings) found.items) }
+    ensures goes { GoesOn writer.old writer.new }
+{
     let mut found = Vec::with_capacity(writer.alloc(), variables.len())?;
     for variable in variables {
         found.push(one_variable(writer, variable)?)?;
@@ -69,7 +86,10 @@ fn variables(
 fn one_variable(
     writer: &mut Writer<'_>,
     variable: &CoreVariable,
-) -> Result<PexVariable, EmitFault> {
+) -> Result<PexVariable, EmitFault>
+    ensures variable { IfOk result (IsShapedVariable writer.new.strings) }
+    ensures goes { GoesOn writer.old writer.new }
+{
     let name = writer.string(variable.name.as_bytes())?;
     let kind = writer.type_name(Some(variable.kind))?;
     let value = constant(writer, &variable.value)?;
@@ -84,7 +104,11 @@ fn one_variable(
 fn properties(
     writer: &mut Writer<'_>,
     properties: &[CoreProperty],
-) -> Result<Vec<PexProperty>, EmitFault> {
+) -> Result<Vec<PexProperty>, EmitFault>
+    requires { writer.old.ahead ≡ [] }
+    ensures properties { IfOk result (λ found. AllByRecursion (IsShapedProperty writer.new.strings) (map plain_property found.items)) }
+    ensures advances { Advances writer.old writer.new }
+{
     let mut found = Vec::with_capacity(writer.alloc(), properties.len())?;
     for property in properties {
         found.push(one_property(writer, property)?)?;
@@ -95,7 +119,11 @@ fn properties(
 fn one_property(
     writer: &mut Writer<'_>,
     property: &CoreProperty,
-) -> Result<PexProperty, EmitFault> {
+) -> Result<PexProperty, EmitFault>
+    requires { writer.old.ahead ≡ [] }
+    ensures property { IfOk result (λ p. IsShapedProperty writer.new.strings (plain_property p)) }
+    ensures advances { Advances writer.old writer.new }
+{
     let name = writer.string(property.name.as_bytes())?;
     let kind = writer.type_name(Some(property.kind))?;
     let doc = writer.text(&property.doc)?;
@@ -127,7 +155,10 @@ fn one_property(
     }
 }
 
-fn variable_name(writer: &mut Writer<'_>, number: u16) -> Result<u16, EmitFault> {
+fn variable_name(writer: &mut Writer<'_>, number: u16) -> Result<u16, EmitFault>
+    ensures place { IfOk result (IsReference writer.new.strings) }
+    ensures goes { GoesOn writer.old writer.new }
+{
     let script = writer.script();
     match script.variables.get(usize::from(number)) {
         Some(variable) => writer.string(variable.name.as_bytes()),
@@ -135,7 +166,11 @@ fn variable_name(writer: &mut Writer<'_>, number: u16) -> Result<u16, EmitFault>
     }
 }
 
-fn accessor_bits(reads: bool, writes: bool) -> u8 {
+fn accessor_bits(reads: bool, writes: bool) -> u8
+    ensures variable { has_variable result ≡ false }
+    ensures read { has_read result ≡ reads }
+    ensures write { has_write result ≡ writes }
+{
     match (reads, writes) {
         (false, false) => 0,
         (true, false) => 1,
@@ -150,7 +185,11 @@ fn accessor(
     property: &CoreProperty,
     found: &Option<CoreFunction>,
     kind: u8,
-) -> Result<Option<PexFunction>, EmitFault> {
+) -> Result<Option<PexFunction>, EmitFault>
+    requires { writer.old.ahead ≡ [] }
+    ensures accessor { IfOk result (λ f. IfSome (option_map plain_function f) (IsShapedFunction writer.new.strings)) }
+    ensures advances { Advances writer.old writer.new }
+{
     let Some(found) = found else {
         return Ok(None);
     };
@@ -162,7 +201,11 @@ fn accessor(
     Ok(Some(function(writer, found, place)?))
 }
 
-fn states(writer: &mut Writer<'_>, states: &[CoreState]) -> Result<Vec<PexState>, EmitFault> {
+fn states(writer: &mut Writer<'_>, states: &[CoreState]) -> Result<Vec<PexState>, EmitFault>
+    requires { writer.old.ahead ≡ [] }
+    ensures states { IfOk result (λ found. AllByRecursion (IsShapedState writer.new.strings) (map plain_state found.items)) }
+    ensures advances { Advances writer.old writer.new }
+{
     let mut found = Vec::with_capacity(writer.alloc(), states.len())?;
     for state in states {
         found.push(one_state(writer, state)?)?;
@@ -170,7 +213,11 @@ fn states(writer: &mut Writer<'_>, states: &[CoreState]) -> Result<Vec<PexState>
     Ok(found)
 }
 
-fn one_state(writer: &mut Writer<'_>, state: &CoreState) -> Result<PexState, EmitFault> {
+fn one_state(writer: &mut Writer<'_>, state: &CoreState) -> Result<PexState, EmitFault>
+    requires { writer.old.ahead ≡ [] }
+    ensures state { IfOk result (λ s. IsShapedState writer.new.strings (plain_state s)) }
+    ensures advances { Advances writer.old writer.new }
+{
     let name = writer.string(state.name.as_bytes())?;
     let functions = state_functions(writer, state.name.as_bytes(), &state.functions)?;
     Ok(PexState { name, functions })
@@ -180,7 +227,11 @@ fn state_functions(
     writer: &mut Writer<'_>,
     state: &[u8],
     functions: &[CoreFunction],
-) -> Result<Vec<(u16, PexFunction)>, EmitFault> {
+) -> Result<Vec<(u16, PexFunction)>, EmitFault>
+    requires { writer.old.ahead ≡ [] }
+    ensures functions { IfOk result (λ found. AllByRecursion (IsShapedNamed writer.new.strings) (map plain_named found.items)) }
+    ensures advances { Advances writer.old writer.new }
+{
     let mut found = Vec::with_capacity(writer.alloc(), functions.len())?;
     for each in functions {
         let name = writer.string(each.name.as_bytes())?;

@@ -420,15 +420,15 @@ impl<'a> Writer<'a> {
         }
     }
 
-    /// The operand, or where an act may change it a temporary with its value.
-    pub(crate) fn kept(&mut self, operand: Operand) -> Result<Operand, EmitFault>
+    /// The operand, or where acts come before it is read and may change it, a temporary with its value.
+    pub(crate) fn kept(&mut self, operand: Operand, acts: bool) -> Result<Operand, EmitFault>
         requires { needs operand ≤ self.old.strings }
         ensures operand { IfOk result (λ operand. needs operand ≤ self.new.strings) }
         ensures goes { GoesOn self.old self.new }
     {
-        match operand {
-            Operand::Variable { kind, .. } => self.compute(ASSIGN, kind, &[operand]),
-            other => Ok(other),
+        match (acts, operand) {
+            (true, Operand::Variable { kind, .. }) => self.compute(ASSIGN, kind, &[operand]),
+            _ => Ok(operand),
         }
     }
 
