@@ -2,7 +2,6 @@
 use Rattle.std.proofs.Common.{◌≡◌, ℕ, ◌<◌, ◌≤◌, ◌^◌, List, [], ◌∷◌, ◌++◌, length, map, Option, Some, None, arith}
 use Rattle.std.specs.Prelude.{IfSome}
 use Rattle.std.specs.List.{AllByRecursion}
-use Rattle.core_tree.specs.declared.core_type.CoreType.{CoreType}
 use Rattle.jump_patch.specs.Jumps.{Buffer}
 use Rattle.pex_values.specs.declared.debug.PexLines.{PexLines}
 use Rattle.pex_values.specs.declared.values.Datum.{Datum}
@@ -19,6 +18,11 @@ all_later P Q each (x ∷ xs) all = (each x all.0, all_later P Q each xs all.1)
 some_later : {A : Type 0} (P Q : A → Type 0) (each : (x : A) → P x → Q x) (x : Option A) → IfSome x P → IfSome x Q
 some_later P Q each None is = tt
 some_later P Q each (Some x) is = each x is
+
+-- a list that grows by one item, which may name strings that are new
+pub each_grown : {X Y : Type 0} (P Q : Y → Type 0) (view : X → Y) (later : (y : Y) → P y → Q y) (xs : List X) (x : X) → AllByRecursion P (map view xs) → Q (view x) → AllByRecursion Q (map view (xs ++ x ∷ []))
+each_grown P Q view later [] x all here = (here, tt)
+each_grown P Q view later (y ∷ ys) x all here = (later (view y) all.0, each_grown P Q view later ys x all.1 here)
 
 module _ (n m : ℕ) (more : n ≤ m) where
   pub reference_later : (k : ℕ) → IsReference n k → IsReference m k
@@ -103,15 +107,17 @@ module _ (n m : ℕ) (more : n ≤ m) where
   below_later : (k : ℕ) → k < n → k < m
   below_later k below = omega arith
 
-  pub writing_later : (count : ℕ) (code : Buffer) (debug : List PexLines) (parameters locals : List (ℕ × ℕ)) (spare : List (CoreType × ℕ)) (none : Option ℕ)
+  pub writing_later : (count : ℕ) (code : Buffer) (debug : List PexLines) (parameters locals : List (ℕ × ℕ)) (spare : List (ℕ × ℕ)) (none : Option ℕ)
       → IsWriting n count code debug parameters locals spare none → IsWriting m count code debug parameters locals spare none
   writing_later count code debug parameters locals spare none is = record {
     count_is = is.count_is;
+    few = is.few;
+    ahead_are = is.ahead_are;
     instructions = all_later (IsShapedInstruction n) (IsShapedInstruction m) instruction_later code.code is.instructions;
     lines = is.lines;
     entries = all_later (IsShapedLines n) (IsShapedLines m) lines_later (map plain_lines debug) is.entries;
     parameters_are = pairs_later parameters is.parameters_are;
     locals_are = pairs_later locals is.locals_are;
-    spare_are = all_later (λ (s : CoreType × ℕ). s.1 < n) (λ (s : CoreType × ℕ). s.1 < m) (λ (s : CoreType × ℕ) (below : s.1 < n). below_later s.1 below) spare is.spare_are;
+    spare_are = all_later (λ (s : ℕ × ℕ). s.1 < n) (λ (s : ℕ × ℕ). s.1 < m) (λ (s : ℕ × ℕ) (below : s.1 < n). below_later s.1 below) spare is.spare_are;
     none_is = some_later (λ (k : ℕ). k < n) (λ (k : ℕ). k < m) below_later none is.none_is;
   }

@@ -1,1 +1,5 @@
+pub mod Data
+pub mod Goes
+pub mod Landing
 pub mod Later
+pub mod Writings

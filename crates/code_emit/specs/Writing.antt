@@ -1,7 +1,6 @@
 -- What is written of a file.
 use Rattle.std.specs.Prelude.{◌≡◌, ℕ, ◌<◌, ◌≤◌, ◌^◌, List, [], ◌∷◌, ◌++◌, length, map, false, Option, Some, IfSome, Contains}
 use Rattle.std.specs.List.{AllByRecursion}
-use Rattle.core_tree.specs.declared.core_type.CoreType.{CoreType}
 use Rattle.jump_patch.specs.Jumps.{Buffer, without}
 use Rattle.pex_values.specs.declared.debug.PexLines.{PexLines}
 use Rattle.pex_values.specs.Opcodes.{operands_of}
@@ -23,8 +22,10 @@ pub record GoesOn (old new : Written) : Type 0 where
   pub ahead : new.ahead ≡ old.ahead
 
 -- each part of what is written names strings that are there
-pub record IsWriting (strings count : ℕ) (code : Buffer) (debug : List PexLines) (parameters locals : List (ℕ × ℕ)) (spare : List (CoreType × ℕ)) (none : Option ℕ) : Type 0 where
+pub record IsWriting (strings count : ℕ) (code : Buffer) (debug : List PexLines) (parameters locals : List (ℕ × ℕ)) (spare : List (ℕ × ℕ)) (none : Option ℕ) : Type 0 where
   pub count_is : count ≡ length code.code
+  pub few : count ≤ 65535
+  pub ahead_are : AllByRecursion (λ place. place < 2 ^ 16) code.ahead
   pub instructions : AllByRecursion (IsShapedInstruction strings) code.code
   pub lines : AllByRecursion (λ n. n < 2 ^ 16) code.lines
   pub entries : AllByRecursion (IsShapedLines strings) (map plain_lines debug)

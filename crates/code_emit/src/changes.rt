@@ -22,7 +22,7 @@ pub(crate) fn set_local(
     ensures { GoesOn writer.old writer.new }
 {
     let name = writer.local(number)?;
-    store_value(writer, name, of, depth)
+    store_value(writer, Operand::Word(name), of, depth)
 }
 
 pub(crate) fn set_field(
@@ -34,27 +34,14 @@ pub(crate) fn set_field(
     ensures { GoesOn writer.old writer.new }
 {
     let variable = field(writer, number)?;
-    set_variable(writer, variable, of, depth)
+    store_value(writer, variable, of, depth)
 }
 
 pub(crate) fn set_state(writer: &mut Writer<'_>, of: &Core, depth: u16) -> Result<(), EmitFault>
     ensures { GoesOn writer.old writer.new }
 {
     let variable = state_text(writer)?;
-    set_variable(writer, variable, of, depth)
-}
-
-fn set_variable(
-    writer: &mut Writer<'_>,
-    variable: Operand,
-    of: &Core,
-    depth: u16,
-) -> Result<(), EmitFault>
-    requires { needs variable ≤ writer.old.strings }
-    ensures { GoesOn writer.old writer.new }
-{
-    let of = value(writer, of, depth)?;
-    writer.act(ASSIGN, &[variable, of])
+    store_value(writer, variable, of, depth)
 }
 
 pub(crate) fn set_property(

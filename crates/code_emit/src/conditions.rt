@@ -1,5 +1,5 @@
 // And and Or, and the jumps of tests.
-ghost use Rattle.std.specs.Prelude.{◌≡◌, ℕ, ◌<◌, ◌≤◌, pos, IfOk, OnErr};
+ghost use Rattle.std.specs.Prelude.{◌≡◌, ℕ, ◌≤◌, pos, IfOk, OnErr};
 ghost use Rattle.jump_patch.specs.Jumps.{jump};
 ghost use Rattle.pex_values.specs.Shape.{IsShapedDatum, IsShapedInstruction};
 ghost use Rattle.code_emit.specs.Operands.{needs};
@@ -27,16 +27,13 @@ pub(crate) fn either(
     ensures operand { IfOk result (λ operand. needs operand ≤ writer.new.strings) }
     ensures goes { GoesOn writer.old writer.new }
 {
-    let name = writer.take(CoreType::Bool)?;
-    writer.store(ASSIGN, name, &[left])?;
-    let over = writer.jump_ahead(jump_where(decided, Datum::Word(name)))?;
-    let stored = store_value(writer, name, right, depth);
+    let place = writer.take(CoreType::Bool)?;
+    writer.store(ASSIGN, place, &[left])?;
+    let over = writer.jump_ahead(jump_where(decided, place.datum()))?;
+    let stored = store_value(writer, place, right, depth);
     writer.land(over);
     stored?;
-    Ok(Operand::Temporary {
-        name,
-        kind: CoreType::Bool,
-    })
+    Ok(place)
 }
 
 fn jump_where(decided: bool, condition: Datum) -> JumpKind
@@ -53,15 +50,15 @@ fn jump_where(decided: bool, condition: Datum) -> JumpKind
 #[cycle(expression)]
 pub(crate) fn store_value(
     writer: &mut Writer<'_>,
-    name: u16,
+    place: Operand,
     of: &Core,
     depth: u16,
 ) -> Result<(), EmitFault>
-    requires { name < writer.old.strings }
+    requires { needs place ≤ writer.old.strings }
     ensures { GoesOn writer.old writer.new }
 {
     let of = value(writer, of, depth)?;
-    writer.store(ASSIGN, name, &[of])
+    writer.store(ASSIGN, place, &[of])
 }
 
 /// Appends the code of a test, and a jump where it doesn't hold.

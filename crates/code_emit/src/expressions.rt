@@ -251,12 +251,9 @@ fn find(
     let searched = value(writer, searched, depth)?;
     let searched = writer.kept(searched, acts)?;
     let start = value(writer, start, depth)?;
-    let name = writer.take(CoreType::Int)?;
-    writer.act(opcode, &[array, Operand::Word(name), searched, start])?;
-    Ok(Operand::Temporary {
-        name,
-        kind: CoreType::Int,
-    })
+    let place = writer.take(CoreType::Int)?;
+    writer.act(opcode, &[array, place.lasting(), searched, start])?;
+    Ok(place)
 }
 
 fn new_array(writer: &mut Writer<'_>, kind: CoreType, count: u8) -> Result<Operand, EmitFault>

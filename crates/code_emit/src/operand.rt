@@ -22,10 +22,10 @@ pub(crate) enum Operand {
         name: u16,
         kind: CoreType,
     },
-    /// A temporary, which is given back with the instruction that reads it.
+    /// A temporary, which is given back with the instruction that reads it. Its type is given as its name is.
     Temporary {
         name: u16,
-        kind: CoreType,
+        kind: u16,
     },
 }
 

@@ -48,12 +48,11 @@ impl Strings {
         if let Some(place) = self.numbers.get_index_of(string) {
             return place_within(place);
         }
-        let next = self.numbers.len();
-        if next >= MOST_STRINGS {
+        if self.numbers.len() >= MOST_STRINGS {
             return Err(EmitFault::TooLarge);
         }
-        self.numbers.insert(string.to_vec(self.alloc)?)?;
-        Ok(next as u16)
+        let (place, _) = self.numbers.insert_full(string.to_vec(self.alloc)?)?;
+        place_within(place)
     }
 
     /// The strings as texts, in their order.
@@ -61,8 +60,10 @@ impl Strings {
         ensures { IfOk result (λ texts. texts.items ≡ self.now) }
     {
         let mut texts = Vec::with_capacity(self.alloc, self.numbers.len())?;
-        for string in self.numbers.iter() {
-            texts.push(Text::try_from_bytes(self.alloc, string.as_slice())?)?;
+        for place in 0..self.numbers.len() {
+            if let Some(string) = self.numbers.get_index(place) {
+                texts.push(Text::try_from_bytes(self.alloc, string.as_slice())?)?;
+            }
         }
         Ok(texts)
     }

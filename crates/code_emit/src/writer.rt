@@ -199,8 +199,16 @@ impl<'a> Writer<'a> {
         ensures { GoesOn self.old self.new }
     {
         for kind in kinds {
-            self.new_local(*kind)?;
+            self.begin_local(*kind)?;
         }
+        Ok(())
+    }
+
+    fn begin_local(&mut self, kind: CoreType) -> Result<(), EmitFault>
+        ensures { GoesOn self.old self.new }
+    {
+        let kind = self.type_name(Some(kind))?;
+        self.new_local(kind)?;
         Ok(())
     }
 
@@ -221,12 +229,12 @@ impl<'a> Writer<'a> {
         Ok(())
     }
 
-    fn new_local(&mut self, kind: CoreType) -> Result<u16, EmitFault>
+    fn new_local(&mut self, kind: u16) -> Result<u16, EmitFault>
+        requires { IsReference self.old.strings kind }
         ensures name { IfOk result (λ name. name < self.new.strings) }
         ensures goes { GoesOn self.old self.new }
     {
         let name = self.next_name()?;
-        let kind = self.type_name(Some(kind))?;
         self.add_local(name, kind)?;
         Ok(name)
     }
@@ -241,7 +249,17 @@ impl<'a> Writer<'a> {
     }
 
     /// A temporary of this type that isn't still to be read.
-    pub(crate) fn take(&mut self, kind: CoreType) -> Result<u16, EmitFault>
+    pub(crate) fn take(&mut self, kind: CoreType) -> Result<Operand, EmitFault>
+        ensures operand { IfOk result (λ operand. needs operand ≤ self.new.strings) }
+        ensures goes { GoesOn self.old self.new }
+    {
+        let kind = self.type_name(Some(kind))?;
+        let name = self.spare_or_new(kind)?;
+        Ok(Operand::Temporary { name, kind })
+    }
+
+    fn spare_or_new(&mut self, kind: u16) -> Result<u16, EmitFault>
+        requires { IsReference self.old.strings kind }
         ensures name { IfOk result (λ name. name < self.new.strings) }
         ensures goes { GoesOn self.old self.new }
     {
@@ -251,7 +269,7 @@ impl<'a> Writer<'a> {
         }
     }
 
-    fn take_spare(&mut self, kind: CoreType) -> Option<u16>
+    fn take_spare(&mut self, kind: u16) -> Option<u16>
         ensures name { IfSome result (λ name. name < self.new.strings) }
         ensures same { self.new ≡ self.old }
     {
@@ -361,25 +379,25 @@ impl<'a> Writer<'a> {
         ensures operand { IfOk result (λ operand. needs operand ≤ self.new.strings) }
         ensures goes { GoesOn self.old self.new }
     {
-        let name = self.take(kind)?;
-        self.store(opcode, name, operands)?;
-        Ok(Operand::Temporary { name, kind })
+        let place = self.take(kind)?;
+        self.store(opcode, place, operands)?;
+        Ok(place)
     }
 
     /// As `compute`, into a variable that is there.
     pub(crate) fn store(
         &mut self,
         opcode: u8,
-        name: u16,
+        place: Operand,
         operands: &[Operand],
     ) -> Result<(), EmitFault>
         requires opcode { Takes opcode (suc (length operands.now)) }
-        requires name { name < self.old.strings }
+        requires place { needs place ≤ self.old.strings }
         requires operands { AreThere self.old.strings operands.now }
         ensures { GoesOn self.old self.new }
     {
         let mut fixed = data(self.alloc, operands)?;
-        fixed.insert(0, Datum::Word(name))?;
+        fixed.insert(0, place.datum())?;
         let more = Vec::new(self.alloc);
         self.instruct(opcode, fixed, more, operands)
     }
@@ -412,10 +430,7 @@ impl<'a> Writer<'a> {
         ensures goes { GoesOn self.old self.new }
     {
         match kind {
-            Some(kind) => {
-                let name = self.take(kind)?;
-                Ok(Operand::Temporary { name, kind })
-            }
+            Some(kind) => self.take(kind),
             None => Ok(Operand::Word(self.none_variable()?)),
         }
     }
