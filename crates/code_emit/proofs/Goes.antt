@@ -33,3 +33,11 @@ advances_further first second third one two = record { strings = omega (arith, o
 
 pub ruleset going = (goes_nowhere, goes_further)
 pub ruleset advancing = (goes_nowhere, goes_further, advances_from, advances_further)
+
+abbrev pub written : ℕ → ℕ → List ℕ → Written
+written strings count ahead = record { strings = strings; count = count; ahead = ahead }
+
+pub goes_strings : (old : Written) (n m count : ℕ) (ahead : List ℕ) → written n count ahead ≡ old → n ≤ m → GoesOn old (written m count ahead)
+goes_strings old n m count ahead is more =
+    let P : Written → Type 0 = λ w. GoesOn w (written m count ahead) in
+    subst P is record { strings = more; count = omega arith; ahead = refl }

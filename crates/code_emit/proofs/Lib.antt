@@ -2,4 +2,5 @@ pub mod Data
 pub mod Goes
 pub mod Landing
 pub mod Later
+pub mod Spares
 pub mod Writings

@@ -80,7 +80,7 @@ pub(crate) fn global_names(
 
 // The operands in the order of their parameters.
 fn placed(alloc: Global, values: &[Operand], places: &[u16]) -> Result<Vec<Datum>, EmitFault>
-    ensures { IfOk result (λ data. (strings : ℕ) → AreThere strings values.now → AllByRecursion (IsShapedDatum strings) data.items) }
+    ensures { IfOk result (λ found. (strings : ℕ) → AreThere strings values.now → AllByRecursion (IsShapedDatum strings) found.items) }
 {
     if places.len() != values.len() {
         return Err(EmitFault::OutOfRange);

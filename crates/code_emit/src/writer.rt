@@ -539,8 +539,8 @@ impl<'a> Writer<'a> {
 
     /// The strings of the file, and its debug entries.
     pub(crate) fn finish(self) -> Result<(Vec<Text>, Vec<PexLines>), EmitFault>
-        ensures strings { IfOk result (λ parts. vec_len parts.0 ≡ self.strings) }
-        ensures entries { IfOk result (λ parts. AllByRecursion (IsShapedLines self.strings) (map plain_lines parts.1.items)) }
+        ensures strings { IfOk result (λ parts. vec_len parts.0 ≡ self.entry.strings) }
+        ensures entries { IfOk result (λ parts. AllByRecursion (IsShapedLines self.entry.strings) (map plain_lines parts.1.items)) }
     {
         let texts = self.strings.texts()?;
         Ok((texts, self.debug))
