@@ -1,5 +1,6 @@
 // Functions, with their debug entries.
-ghost use Rattle.std.specs.Prelude.{◌≡◌, [], IfOk};
+ghost use Rattle.std.specs.Prelude.{◌≡◌, ◌<◌, ◌^◌, [], IfOk};
+ghost use Rattle.std.specs.List.{AllByRecursion};
 ghost use Rattle.pex_values.specs.Plain.{plain_function};
 ghost use Rattle.pex_values.specs.Shape.{IsShapedFunction};
 ghost use Rattle.code_emit.specs.Writing.{Advances};
@@ -37,28 +38,43 @@ pub(crate) fn function(
     ensures function { IfOk result (λ f. IsShapedFunction writer.new.strings (plain_function f)) }
     ensures advances { Advances writer.old writer.new }
 {
-    let result = writer.type_name(function.result)?;
-    let doc = writer.text(&function.doc)?;
+    let (written, lines) = written_function(writer, function)?;
+    if !function.is_native {
+        writer.note_lines(place, lines)?;
+    }
+    Ok(written)
+}
+
+// The function, and the line of each of its instructions.
+fn written_function(
+    writer: &mut Writer<'_>,
+    function: &CoreFunction,
+) -> Result<(PexFunction, Vec<u16>), EmitFault>
+    requires { writer.old.ahead ≡ [] }
+    ensures function { IfOk result (λ parts. IsShapedFunction writer.new.strings (plain_function parts.0)) }
+    ensures lines { IfOk result (λ parts. AllByRecursion (λ line. line < 2 ^ 16) parts.1.items) }
+    ensures advances { Advances writer.old writer.new }
+{
     writer.begin(function)?;
     block(writer, &function.body, MOST_NESTED)?;
+    let kind = writer.type_name(function.result)?;
+    let doc = writer.text(&function.doc)?;
     let Body {
         parameters,
         locals,
         code,
         lines,
     } = writer.end();
-    if !function.is_native {
-        writer.note_lines(place, lines)?;
-    }
-    Ok(PexFunction {
-        result,
+    let written = PexFunction {
+        result: kind,
         doc,
         flags: function.flags,
         bits: function_bits(function.is_global, function.is_native),
         parameters,
         locals,
         code,
-    })
+    };
+    Ok((written, lines))
 }
 
 fn function_bits(is_global: bool, is_native: bool) -> u8 {

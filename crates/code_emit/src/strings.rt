@@ -1,5 +1,5 @@
 // The strings of a file, each once, in order of first use.
-ghost use Rattle.std.specs.Prelude.{◌≡◌, ◌≤◌, [], length, IfOk, OnOk, OnErr};
+ghost use Rattle.std.specs.Prelude.{◌≡◌, ◌≤◌, [], length, IfOk, OnOk};
 ghost use Rattle.pex_values.specs.Shape.{IsReference};
 ghost use Rattle.code_emit.specs.Strings.{with_string};
 
@@ -20,11 +20,13 @@ pub(crate) struct Strings {
 }
 
 impl Model for Strings {
-    ghost use Rattle.std.specs.Prelude.{ℕ, List, map};
+    ghost use Rattle.std.specs.Prelude.{ℕ, ◌≤◌, List, length, map};
 
     ghost Value = { List (List ℕ) };
 
     ghost view = { λ s. map (λ k. k.items) s.numbers.keys };
+
+    ghost invariant = { λ s. length s.numbers.keys ≤ 65535 };
 }
 
 impl Strings {
@@ -41,18 +43,17 @@ impl Strings {
     /// The place of this string, which is added where it isn't there.
     pub(crate) fn place_of(&mut self, string: &[u8]) -> Result<u16, EmitFault>
         ensures added { OnOk result (self.new ≡ with_string self.old string.now) }
-        ensures kept { OnErr result (self.new ≡ self.old) }
         ensures place { IfOk result (IsReference (length self.new)) }
         ensures grows { length self.old ≤ length self.new }
     {
         if let Some(place) = self.numbers.get_index_of(string) {
-            return place_within(place);
+            return Ok(place as u16);
         }
         if self.numbers.len() >= MOST_STRINGS {
             return Err(EmitFault::TooLarge);
         }
         let (place, _) = self.numbers.insert_full(string.to_vec(self.alloc)?)?;
-        place_within(place)
+        Ok(place as u16)
     }
 
     /// The strings as texts, in their order.
@@ -66,14 +67,5 @@ impl Strings {
             }
         }
         Ok(texts)
-    }
-}
-
-fn place_within(place: usize) -> Result<u16, EmitFault>
-    ensures { IfOk result (λ small. small ≡ place) }
-{
-    match u16::try_from(place) {
-        Ok(place) => Ok(place),
-        Err(_) => Err(EmitFault::TooLarge),
     }
 }

@@ -492,7 +492,7 @@ impl<'a> Writer<'a> {
     /// Ends the function. Every jump must have landed.
     pub(crate) fn end(&mut self) -> Body
         requires { self.old.ahead ≡ [] }
-        ensures body { IsBody self.new.strings result }
+        ensures body { IsBody self.old.strings result }
         ensures strings { self.new.strings ≡ self.old.strings }
         ensures ahead { self.new.ahead ≡ [] }
     {
