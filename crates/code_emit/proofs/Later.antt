@@ -24,6 +24,10 @@ pub each_grown : {X Y : Type 0} (P Q : Y → Type 0) (view : X → Y) (later : (
 each_grown P Q view later [] x all here = (here, tt)
 each_grown P Q view later (y ∷ ys) x all here = (later (view y) all.0, each_grown P Q view later ys x all.1 here)
 
+pub list_grown : {X : Type 0} (P Q : X → Type 0) (later : (x : X) → P x → Q x) (xs : List X) (x : X) → AllByRecursion P xs → Q x → AllByRecursion Q (xs ++ x ∷ [])
+list_grown P Q later [] x all here = (here, tt)
+list_grown P Q later (y ∷ ys) x all here = (later y all.0, list_grown P Q later ys x all.1 here)
+
 module _ (n m : ℕ) (more : n ≤ m) where
   pub reference_later : (k : ℕ) → IsReference n k → IsReference m k
   reference_later k is = record { below = omega (arith, is.below); fits = is.fits }

@@ -34,19 +34,16 @@ pub(crate) fn object(writer: &mut Writer<'_>) -> Result<PexObject, EmitFault>
 {
     let script = writer.script();
     let name = writer.string(script.name.as_bytes())?;
-    let parent = parent(writer, script)?;
+    let above = parent(writer, script)?;
     let doc = writer.text(&script.doc)?;
-    let auto_state = match &script.auto_state {
-        Some(state) => writer.string(state.as_bytes())?,
-        None => writer.string(b"")?,
-    };
+    let auto_state = auto_state(writer, script)?;
     let variables = variables(writer, &script.variables)?;
     let properties = properties(writer, &script.properties)?;
     let states = states(writer, &script.states)?;
     Ok(PexObject {
         name,
         size_form: SizeForm::Counted,
-        parent,
+        parent: above,
         doc,
         flags: script.flags,
         auto_state,
@@ -69,6 +66,16 @@ fn parent(writer: &mut Writer<'_>, script: &CoreScript) -> Result<u16, EmitFault
     }
 }
 
+fn auto_state(writer: &mut Writer<'_>, script: &CoreScript) -> Result<u16, EmitFault>
+    ensures place { IfOk result (IsReference writer.new.strings) }
+    ensures goes { GoesOn writer.old writer.new }
+{
+    match &script.auto_state {
+        Some(state) => writer.string(state.as_bytes()),
+        None => writer.string(b""),
+    }
+}
+
 fn variables(
     writer: &mut Writer<'_>,
     variables: &[CoreVariable],
@@ -78,7 +85,8 @@ fn variables(
 {
     let mut found = Vec::with_capacity(writer.alloc(), variables.len())?;
     for variable in variables {
-        found.push(one_variable(writer, variable)?)?;
+        let written = one_variable(writer, variable)?;
+        found.push(written)?;
     }
     Ok(found)
 }
@@ -111,7 +119,8 @@ fn properties(
 {
     let mut found = Vec::with_capacity(writer.alloc(), properties.len())?;
     for property in properties {
-        found.push(one_property(writer, property)?)?;
+        let written = one_property(writer, property)?;
+        found.push(written)?;
     }
     Ok(found)
 }
@@ -208,7 +217,8 @@ fn states(writer: &mut Writer<'_>, states: &[CoreState]) -> Result<Vec<PexState>
 {
     let mut found = Vec::with_capacity(writer.alloc(), states.len())?;
     for state in states {
-        found.push(one_state(writer, state)?)?;
+        let written = one_state(writer, state)?;
+        found.push(written)?;
     }
     Ok(found)
 }
@@ -240,7 +250,8 @@ fn state_functions(
             name: each.name.as_bytes(),
             kind: STATE_FUNCTION,
         };
-        found.push((name, function(writer, each, place)?))?;
+        let written = function(writer, each, place)?;
+        found.push((name, written))?;
     }
     Ok(found)
 }
