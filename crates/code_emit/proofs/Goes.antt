@@ -32,6 +32,7 @@ pub advances_further : (first second third : Written) → Advances first second 
 advances_further first second third one two = record { strings = omega (arith, one.strings, two.strings); ahead = two.ahead ∙ one.ahead }
 
 pub ruleset going = (goes_nowhere, goes_further)
+
 pub ruleset advancing = (goes_nowhere, goes_further, advances_from, advances_further)
 
 abbrev pub written : ℕ → ℕ → List ℕ → Written

@@ -17,10 +17,10 @@ at_seam (x ∷ xs) ys a = at_seam xs ys a
 not_before : (xs ys : List ℕ) (a k : ℕ) → ¬ Contains xs a → k < length xs → eqb (get_or (xs ++ a ∷ ys) k a) a ≡ false
 not_before xs ys a k is_new within =
     ⊎_elim
-        (λ (same : (eqb (get_or (xs ++ a ∷ ys) k a) a ≡ true) × (get_or (xs ++ a ∷ ys) k a ≡ a)).
-        absurd (is_new (k, within, sym (get_or-append xs (a ∷ ys) a k within) ∙ same.1)))
-        (λ (other : (eqb (get_or (xs ++ a ∷ ys) k a) a ≡ false) × (get_or (xs ++ a ∷ ys) k a ≢ a)). other.0)
-        (eqb_tells (get_or (xs ++ a ∷ ys) k a) a)
+    (λ (same : (eqb (get_or (xs ++ a ∷ ys) k a) a ≡ true) × (get_or (xs ++ a ∷ ys) k a ≡ a)).
+    absurd (is_new (k, within, sym (get_or-append xs (a ∷ ys) a k within) ∙ same.1)))
+    (λ (other : (eqb (get_or (xs ++ a ∷ ys) k a) a ≡ false) × (get_or (xs ++ a ∷ ys) k a ≢ a)). other.0)
+    (eqb_tells (get_or (xs ++ a ∷ ys) k a) a)
 
 place_of : (xs ys : List ℕ) (a : ℕ) → ¬ Contains xs a → position (λ other. eqb other a) (xs ++ a ∷ ys) ≡ Some (length xs)
 place_of xs ys a is_new =

@@ -8,8 +8,9 @@ use crate::calls::{argument_values, call, global_names};
 use crate::conditions::either;
 use crate::faults::EmitFault;
 use crate::opcodes::{
-    ARRAY_CREATE, ARRAY_FINDELEMENT, ARRAY_GETELEMENT, ARRAY_LENGTH, ARRAY_RFINDELEMENT, CALL_METHOD,
-    CALL_PARENT, CALL_STATIC, CAST, CMP_EQ, INEG, NOT, PROPGET, STRCAT, arith_opcode, order_opcode,
+    ARRAY_CREATE, ARRAY_FINDELEMENT, ARRAY_GETELEMENT, ARRAY_LENGTH, ARRAY_RFINDELEMENT,
+    CALL_METHOD, CALL_PARENT, CALL_STATIC, CAST, CMP_EQ, INEG, NOT, PROPGET, STRCAT, arith_opcode,
+    order_opcode,
 };
 use crate::operand::Operand;
 use crate::spine::spine;
@@ -85,7 +86,9 @@ fn form_value(
         | Core::CallGlobal { .. }
         | Core::CallNative { .. } => call_value(writer, form, first, depth),
         Core::PropGet {
-            name, result: kind, ..
+            name,
+            result: kind,
+            ..
         } => get_property(writer, first, name, *kind),
         Core::NewArray(kind, count) => new_array(writer, *kind, *count),
         Core::Length(_) => writer.compute(ARRAY_LENGTH, CoreType::Int, &[first]),
@@ -135,7 +138,14 @@ fn call_value(
         } => {
             let name = writer.string(name.as_bytes())?;
             let values = argument_values(writer, arguments, depth)?;
-            call(writer, CALL_PARENT, &[Operand::Word(name)], &values, places, *kind)
+            call(
+                writer,
+                CALL_PARENT,
+                &[Operand::Word(name)],
+                &values,
+                places,
+                *kind,
+            )
         }
         Core::CallGlobal {
             at,
@@ -151,7 +161,14 @@ fn call_value(
         } => {
             let (script, function) = global_names(writer, *at)?;
             let values = argument_values(writer, arguments, depth)?;
-            call(writer, CALL_STATIC, &[script, function], &values, places, *kind)
+            call(
+                writer,
+                CALL_STATIC,
+                &[script, function],
+                &values,
+                places,
+                *kind,
+            )
         }
         _ => Ok(target),
     }

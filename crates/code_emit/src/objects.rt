@@ -11,9 +11,7 @@ use crate::faults::EmitFault;
 use crate::functions::{Place, function};
 use crate::type_names::script_name;
 use crate::writer::Writer;
-use core_tree::{
-    CoreAccess, CoreFunction, CoreProperty, CoreScript, CoreState, CoreVariable,
-};
+use core_tree::{CoreAccess, CoreFunction, CoreProperty, CoreScript, CoreState, CoreVariable};
 use pex_values::{PexFunction, PexObject, PexProperty, PexState, PexVariable, SizeForm};
 
 /// The kinds of debug entries: of a state's function, of a Get and of a Set.
@@ -91,10 +89,7 @@ fn variables(
     Ok(found)
 }
 
-fn one_variable(
-    writer: &mut Writer<'_>,
-    variable: &CoreVariable,
-) -> Result<PexVariable, EmitFault>
+fn one_variable(writer: &mut Writer<'_>, variable: &CoreVariable) -> Result<PexVariable, EmitFault>
     ensures variable { IfOk result (IsShapedVariable writer.new.strings) }
     ensures goes { GoesOn writer.old writer.new }
 {
@@ -125,10 +120,7 @@ fn properties(
     Ok(found)
 }
 
-fn one_property(
-    writer: &mut Writer<'_>,
-    property: &CoreProperty,
-) -> Result<PexProperty, EmitFault>
+fn one_property(writer: &mut Writer<'_>, property: &CoreProperty) -> Result<PexProperty, EmitFault>
     requires { writer.old.ahead ≡ [] }
     ensures property { IfOk result (λ p. IsShapedProperty writer.new.strings (plain_property p)) }
     ensures advances { Advances writer.old writer.new }

@@ -18,15 +18,9 @@ pub(crate) enum Operand {
     /// What stays as it is while a statement runs: a parameter, a local, `self`, or a name that isn't read.
     Word(u16),
     /// What an act may change: a variable of the script, or the name of the state.
-    Variable {
-        name: u16,
-        kind: CoreType,
-    },
+    Variable { name: u16, kind: CoreType },
     /// A temporary, which is given back with the instruction that reads it. Its type is given as its name is.
-    Temporary {
-        name: u16,
-        kind: u16,
-    },
+    Temporary { name: u16, kind: u16 },
 }
 
 impl Operand {

@@ -53,7 +53,5 @@ fn first_of(temporaries: &[(u16, u16)], kind: u16) -> Option<usize>
     ensures value { result ≡ position (λ temporary. temporary.0 == kind) temporaries.now }
     ensures within { IfSome result (λ at. at < length temporaries.now) }
 {
-    temporaries
-        .iter()
-        .position(|temporary| temporary.0 == kind)
+    temporaries.iter().position(|temporary| temporary.0 == kind)
 }

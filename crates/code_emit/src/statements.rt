@@ -58,7 +58,13 @@ fn statement(
         }
         CoreStatement::Plain(of) => plain(writer, of, depth),
         CoreStatement::Return(of) => give(writer, of, depth),
-        CoreStatement::If(tests, otherwise) => branches(writer, tests, otherwise, depth, MOST_BRANCHES),
+        CoreStatement::If(tests, otherwise) => branches(
+            writer,
+            tests,
+            otherwise,
+            depth,
+            MOST_BRANCHES,
+        ),
         CoreStatement::While(test, body, end_line) => {
             repeat(writer, test, body, *end_line, depth)
         }
@@ -115,11 +121,7 @@ fn branches(
 
 // The statements of a branch, and the jump behind them.
 #[cycle(statement)]
-fn body_and_exit(
-    writer: &mut Writer<'_>,
-    body: &[CoreLine],
-    depth: u16,
-) -> Result<Ahead, EmitFault>
+fn body_and_exit(writer: &mut Writer<'_>, body: &[CoreLine], depth: u16) -> Result<Ahead, EmitFault>
     ensures leaps { IfOk result (λ ahead. Leaps writer.old ahead writer.new) }
     ensures err { OnErr result (GoesOn writer.old writer.new) }
 {

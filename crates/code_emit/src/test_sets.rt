@@ -19,11 +19,7 @@ pub(crate) fn int(number: i32) -> Core {
 }
 
 pub(crate) fn sum(alloc: Global, left: Core, right: Core) -> Result<Core, OutOfMemory> {
-    Ok(Core::Arith(
-        Arith::Add,
-        boxed(alloc, left)?,
-        boxed(alloc, right)?,
-    ))
+    Ok(Core::Arith(Arith::Add, boxed(alloc, left)?, boxed(alloc, right)?))
 }
 
 /// A call of the Global function `P0.F`, which gives an Int.

@@ -5,16 +5,15 @@ use Rattle.std.specs.List.{AllByRecursion}
 use Rattle.pex_values.specs.Plain.{plain_property, plain_state}
 use Rattle.code_emit.proofs.objects.object.Goals as goal
 
-
 pub returns-clause-object : goal.returns-clause-object
 returns-clause-object c =
-    let p1 = c.string-name.new.writer.strings in
-    let p2 = c.parent-above.new.writer.strings in
-    let p3 = c.text-doc.new.writer.strings in
-    let p4 = c.auto_state-auto_state.new.writer.strings in
-    let p5 = c.variables-variables.new.writer.strings in
-    let p6 = c.properties-properties.new.writer.strings in
-    let n = c.states-states.new.writer.strings in
+    let p1 = c.string.new.writer.strings in
+    let p2 = c.parent.new.writer.strings in
+    let p3 = c.text.new.writer.strings in
+    let p4 = c.auto_state.new.writer.strings in
+    let p5 = c.variables.new.writer.strings in
+    let p6 = c.properties.new.writer.strings in
+    let n = c.states.new.writer.strings in
     let s2 = c.in_ok-above.ensures.goes.strings in
     let s3 = c.in_ok-doc.ensures.goes.strings in
     let s4 = c.in_ok-auto_state.ensures.goes.strings in
