@@ -76,3 +76,5 @@ first_landed first second third fourth over end leaps next is =
       ahead_are = ap (λ (p : List ℕ). without p over) places ∙ without_one first.ahead (end ∷ []) over leaps.is_new;
       is_new = λ has. next.is_new (subst Q (sym leaps.ahead_are) (Contains-append_left first.ahead (over ∷ []) end has));
     }
+
+pub ruleset landing = (may_land, has_landed, may_land_first, first_landed)

@@ -1,4 +1,6 @@
 // Calls: the arguments in order of writing, each placed at its parameter.
+#![tactic(auto, using(crate::proofs::Goes::going))]
+
 ghost use Rattle.std.specs.Prelude.{◌≡◌, ℕ, ◌≤◌, [], ◌∷◌, suc, Some, true, length, IfOk};
 ghost use Rattle.std.specs.List.{AllByRecursion};
 ghost use Rattle.pex_values.specs.Opcodes.{operands_of};

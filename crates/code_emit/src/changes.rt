@@ -1,4 +1,6 @@
 // Assignments, plain and compound.
+#![tactic(auto, using(crate::proofs::Goes::going))]
+
 ghost use Rattle.std.specs.Prelude.{◌≡◌, ◌≤◌};
 ghost use Rattle.code_emit.specs.Operands.{needs};
 ghost use Rattle.code_emit.specs.Writing.{GoesOn};

@@ -1,4 +1,6 @@
 // And and Or, and the jumps of tests.
+#![tactic(auto, using(crate::proofs::Goes::going))]
+
 ghost use Rattle.std.specs.Prelude.{◌≡◌, ℕ, ◌≤◌, pos, IfOk, OnErr};
 ghost use Rattle.jump_patch.specs.Jumps.{jump};
 ghost use Rattle.pex_values.specs.Shape.{IsShapedDatum, IsShapedInstruction};
@@ -16,6 +18,7 @@ use pex_values::Datum;
 
 /// And, or where `decided` is true Or: the right side is evaluated where the left isn't `decided`.
 #[cycle(expression)]
+#[tactic(auto, using(crate::proofs::Landing::landing, crate::proofs::Goes::going))]
 pub(crate) fn either(
     writer: &mut Writer<'_>,
     decided: bool,

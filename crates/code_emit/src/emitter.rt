@@ -1,4 +1,6 @@
 // The files of a set of scripts.
+#![tactic(auto, using(crate::proofs::Goes::advancing))]
+
 ghost use Rattle.std.specs.Prelude.{◌≡◌, ◌-◌, IfOk, vec_len, map};
 ghost use Rattle.std.specs.List.{AllByRecursion};
 ghost use Rattle.pex_values.specs.Plain.{plain};

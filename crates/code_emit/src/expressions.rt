@@ -1,4 +1,6 @@
 // Expressions: for each form a function that appends its code.
+#![tactic(auto, using(crate::proofs::Goes::going))]
+
 ghost use Rattle.std.specs.Prelude.{◌≡◌, ◌+◌, ◌≤◌, IfOk};
 ghost use Rattle.code_emit.specs.Operands.{needs};
 ghost use Rattle.code_emit.specs.Writing.{GoesOn, Takes};

@@ -1,4 +1,6 @@
 // Functions, with their debug entries.
+#![tactic(auto, using(crate::proofs::Goes::advancing))]
+
 ghost use Rattle.std.specs.Prelude.{◌≡◌, ◌<◌, ◌^◌, [], IfOk};
 ghost use Rattle.std.specs.List.{AllByRecursion};
 ghost use Rattle.pex_values.specs.Plain.{plain_function};

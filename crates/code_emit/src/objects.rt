@@ -1,4 +1,6 @@
 // The object of a script, with its members in order.
+#![tactic(auto, using(crate::proofs::Goes::advancing))]
+
 ghost use Rattle.std.specs.Prelude.{◌≡◌, [], false, IfOk, IfSome, map, option_map};
 ghost use Rattle.std.specs.List.{AllByRecursion};
 ghost use Rattle.pex_values.specs.Bits.{has_variable, has_read, has_write};

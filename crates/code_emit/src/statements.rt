@@ -1,4 +1,6 @@
 // Statements: for each form a function that appends its code.
+#![tactic(auto, using(crate::proofs::Goes::going))]
+
 ghost use Rattle.std.specs.Prelude.{◌≤◌, IfOk, OnErr};
 ghost use Rattle.code_emit.specs.Writing.{GoesOn, Leaps};
 
@@ -91,6 +93,7 @@ fn give(writer: &mut Writer<'_>, of: &Option<Core>, depth: u16) -> Result<(), Em
 
 // The tests of an If and its ElseIfs, at most `left`, and the statements of its Else.
 #[cycle(statement)]
+#[tactic(auto, using(crate::proofs::Landing::landing, crate::proofs::Goes::going))]
 fn branches(
     writer: &mut Writer<'_>,
     tests: &[(u16, Core, Vec<CoreLine>)],
@@ -130,6 +133,7 @@ fn body_and_exit(writer: &mut Writer<'_>, body: &[CoreLine], depth: u16) -> Resu
 }
 
 #[cycle(statement)]
+#[tactic(auto, using(crate::proofs::Landing::landing, crate::proofs::Goes::going))]
 fn repeat(
     writer: &mut Writer<'_>,
     test: &Core,

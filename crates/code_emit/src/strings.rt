@@ -1,5 +1,5 @@
 // The strings of a file, each once, in order of first use.
-ghost use Rattle.std.specs.Prelude.{◌≡◌, ◌≤◌, [], length, IfOk, OnOk};
+ghost use Rattle.std.specs.Prelude.{◌≡◌, ◌≤◌, [], length, map, IfOk, OnOk};
 ghost use Rattle.pex_values.specs.Shape.{IsReference};
 ghost use Rattle.code_emit.specs.Strings.{with_string};
 
@@ -52,20 +52,24 @@ impl Strings {
         if self.numbers.len() >= MOST_STRINGS {
             return Err(EmitFault::TooLarge);
         }
-        let (place, _) = self.numbers.insert_full(string.to_vec(self.alloc)?)?;
-        Ok(place as u16)
+        let inserted = self.numbers.insert_full(string.to_vec(self.alloc)?)?;
+        Ok(inserted.0 as u16)
     }
 
     /// The strings as texts, in their order.
     pub(crate) fn texts(&self) -> Result<Vec<Text>, OutOfMemory>
         ensures { IfOk result (λ texts. texts.items ≡ self.now) }
     {
-        let mut texts = Vec::with_capacity(self.alloc, self.numbers.len())?;
-        for place in 0..self.numbers.len() {
-            if let Some(string) = self.numbers.get_index(place) {
-                texts.push(Text::try_from_bytes(self.alloc, string.as_slice())?)?;
-            }
-        }
-        Ok(texts)
+        texts_of(self.alloc, self.numbers.as_slice())
     }
+}
+
+fn texts_of(alloc: Global, strings: &[Vec<u8>]) -> Result<Vec<Text>, OutOfMemory>
+    ensures { IfOk result (λ texts. texts.items ≡ map (λ string. string.items) strings.now) }
+{
+    let mut texts = Vec::with_capacity(alloc, strings.len())?;
+    for string in strings {
+        texts.push(Text::try_from_bytes(alloc, string.as_slice())?)?;
+    }
+    Ok(texts)
 }

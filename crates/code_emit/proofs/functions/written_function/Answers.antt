@@ -5,12 +5,13 @@ use Rattle.pex_values.specs.declared.values.PexFunction.{PexFunction}
 use Rattle.pex_values.specs.Plain.{plain_function}
 use Rattle.code_emit.proofs.functions.written_function.Goals as goal
 
+
 pub returns-clause-function : goal.returns-clause-function
 returns-clause-function c =
-    let n = c.text.new.writer.strings in
+    let n = c.text.new.self.strings in
     let f : PexFunction = record { result = c.in_ok-kind.kind; doc = c.in_ok-doc.doc; flags = c.args.function.now.flags; bits = c.function_bits.result; parameters = c.end.result.parameters; locals = c.end.result.locals; code = c.end.result.code } in
     let shaped : IsShapedFunction n (plain_function f) = record {
-      result = reference_later c.type_name.new.writer.strings n c.in_ok-doc.ensures.goes.strings c.in_ok-kind.kind c.in_ok-kind.ensures.place;
+      result = reference_later c.type_name.new.self.strings n c.in_ok-doc.ensures.goes.strings c.in_ok-kind.kind c.in_ok-kind.ensures.place;
       doc = c.in_ok-doc.ensures.place;
       flags = search rules;
       bits = search rules;

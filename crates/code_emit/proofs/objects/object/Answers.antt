@@ -5,11 +5,12 @@ use Rattle.std.specs.List.{AllByRecursion}
 use Rattle.pex_values.specs.Plain.{plain_property, plain_state}
 use Rattle.code_emit.proofs.objects.object.Goals as goal
 
+
 pub returns-clause-object : goal.returns-clause-object
 returns-clause-object c =
-    let p1 = c.string.new.writer.strings in
+    let p1 = c.string.new.self.strings in
     let p2 = c.parent.new.writer.strings in
-    let p3 = c.text.new.writer.strings in
+    let p3 = c.text.new.self.strings in
     let p4 = c.auto_state.new.writer.strings in
     let p5 = c.variables.new.writer.strings in
     let p6 = c.properties.new.writer.strings in

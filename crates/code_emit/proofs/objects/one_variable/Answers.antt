@@ -6,13 +6,14 @@ use Rattle.code_emit.specs.Operands.{datum_of, IsWithin}
 use Rattle.code_emit.proofs.Data.{datum_shaped}
 use Rattle.code_emit.proofs.objects.one_variable.Goals as goal
 
+
 pub returns-clause-variable : goal.returns-clause-variable
 returns-clause-variable c =
     let n3 = c.constant.new.writer.strings in
     let P : Datum → Type 0 = λ d. IsShapedDatum n3 d in
     record {
-      name = reference_later c.string.new.writer.strings n3 (omega (arith, c.in_ok-kind.ensures.goes.strings, c.in_ok-value.ensures.goes.strings)) c.in_ok-name.name c.in_ok-name.ensures.place;
-      kind = reference_later c.type_name.new.writer.strings n3 c.in_ok-value.ensures.goes.strings c.in_ok-kind.kind c.in_ok-kind.ensures.place;
+      name = reference_later c.string.new.self.strings n3 (omega (arith, c.in_ok-kind.ensures.goes.strings, c.in_ok-value.ensures.goes.strings)) c.in_ok-name.name c.in_ok-name.ensures.place;
+      kind = reference_later c.type_name.new.self.strings n3 c.in_ok-value.ensures.goes.strings c.in_ok-kind.kind c.in_ok-kind.ensures.place;
       flags = search rules;
       value = subst P (sym c.datum.ensures.value) (datum_shaped n3 c.in_ok-value.value c.in_ok-value.ensures.operand (subst IsWithin c.datum.ensures.value c.datum.ensures.within));
     }

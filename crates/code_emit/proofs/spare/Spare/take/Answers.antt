@@ -3,6 +3,7 @@ use Rattle.code_emit.proofs.Spares.{handed_out}
 use Rattle.code_emit.specs.Spare.{TakenFrom}
 use Rattle.code_emit.proofs.spare.Spare.take.Goals as goal
 
+
 pub returns : goal.returns
 returns c =
     let P : List (ℕ × ℕ) → Type 0 = λ old. TakenFrom c.args.kind old _ _ in
