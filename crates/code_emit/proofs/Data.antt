@@ -1,9 +1,11 @@
 -- Operands as the file has them.
-use Rattle.std.proofs.Common.{◌≡◌, ℕ, suc, ◌<◌, ◌≤◌, ◌^◌, List, [], ◌∷◌, ◌++◌, length, map, refl, sym, ap, subst, ◌∙◌, arith}
+use Rattle.std.proofs.Common.{◌≡◌, ℕ, suc, ◌<◌, ◌≤◌, ◌^◌, List, [], ◌∷◌, ◌++◌, length, map, Bool, false, Option, Some, refl, sym, ap, subst, ◌∙◌, arith}
 use Rattle.std.specs.List.{AllByRecursion}
 use Rattle.pex_values.specs.declared.values.Datum.{Datum}
-use Rattle.pex_values.specs.Shape.{IsShapedDatum}
+use Rattle.pex_values.specs.Opcodes.{operands_of}
+use Rattle.pex_values.specs.Shape.{AgreesWith, IsShapedDatum}
 use Rattle.pex_values.proofs.Parts.{each_added}
+use Rattle.std.proofs.lemmas.List.{length-map}
 use Rattle.code_emit.specs.declared.operand.Operand.{Operand}
 use Rattle.code_emit.specs.declared.operand.Operand.TheVariants as operand
 use Rattle.code_emit.specs.Operands.{datum_of, lasting, needs, IsWithin}
@@ -46,3 +48,15 @@ lasting_needs (operand.Text text) = refl
 lasting_needs (operand.Word name) = refl
 lasting_needs (operand.Variable name kind) = refl
 lasting_needs (operand.Temporary name kind) = refl
+
+pub one_datum : (n : ℕ) (o : Operand) (d : Datum) → d ≡ datum_of o → IsWithin d → needs o ≤ n → IsShapedDatum n d
+one_datum n o d is within there =
+    let Q : Datum → Type 0 = λ e. IsShapedDatum n e in
+    subst Q (sym is) (datum_shaped n o there (subst IsWithin is within))
+
+pub length_of : (os : List Operand) (ds : List Datum) → ds ≡ map datum_of os → length ds ≡ length os
+length_of os ds are = ap (λ (l : List Datum). length l) are ∙ length-map os datum_of
+
+pub agrees_with : (opcode : ℕ) (all fixed : ℕ) → operands_of opcode ≡ Some (all, false) → fixed ≡ all → AgreesWith (operands_of opcode) fixed 0
+agrees_with opcode all fixed takes same = subst (λ (o : Option (ℕ × Bool)). AgreesWith o fixed 0) (sym takes) (same, refl)
+

@@ -43,7 +43,7 @@ module _ (n m : ℕ) (more : n ≤ m) where
   datum_later (Float k) is = is
   datum_later (BoolByte k) is = is
 
-  data_later : (ds : List Datum) → AllByRecursion (IsShapedDatum n) ds → AllByRecursion (IsShapedDatum m) ds
+  pub data_later : (ds : List Datum) → AllByRecursion (IsShapedDatum n) ds → AllByRecursion (IsShapedDatum m) ds
   data_later ds all = all_later (IsShapedDatum n) (IsShapedDatum m) datum_later ds all
 
   pub instruction_later : (i : PlainInstruction) → IsShapedInstruction n i → IsShapedInstruction m i

@@ -45,7 +45,7 @@ removed_each P xs (Some at) each = remove_each P xs at each
 
 -- ---- jumps
 offset_fits : (from to : ℕ) → from < 2 ^ 16 → to ≤ 65535 → FitsSigned w32 (offset from to)
-offset_fits from to low high = (omega (arith, ints), omega (arith, ints))
+offset_fits from to low high = omega (arith, ints)
 
 nop_shaped : (n : ℕ) → IsShapedInstruction n nop
 nop_shaped n = record { opcode = omega arith; operands = (refl, refl); fixed = tt; more = tt }

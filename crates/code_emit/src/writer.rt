@@ -320,7 +320,7 @@ impl<'a> Writer<'a> {
         more: Vec<Datum>,
         read: &[Operand],
     ) -> Result<(), EmitFault>
-        requires agrees { AgreesWith (operands_of opcode) (vec_len fixed) (vec_len more) }
+        requires agrees { AgreesWith (operands_of opcode) (length fixed.items) (length more.items) }
         requires fixed { AllByRecursion (IsShapedDatum self.old.strings) fixed.items }
         requires more { AllByRecursion (IsShapedDatum self.old.strings) more.items }
         requires read { AreThere self.old.strings read.now }
@@ -411,7 +411,7 @@ impl<'a> Writer<'a> {
         kind: Option<CoreType>,
         more: Vec<Datum>,
     ) -> Result<Operand, EmitFault>
-        requires agrees { AgreesWith (operands_of opcode) (suc (length operands.now)) (vec_len more) }
+        requires agrees { AgreesWith (operands_of opcode) (suc (length operands.now)) (length more.items) }
         requires operands { AreThere self.old.strings operands.now }
         requires more { AllByRecursion (IsShapedDatum self.old.strings) more.items }
         ensures operand { IfOk result (λ operand. needs operand ≤ self.new.strings) }
