@@ -1,0 +1,48 @@
+// The keys of JSON objects.
+use crate::fault::{SceneFault, SceneRule};
+use serde_json::{Map, Value};
+
+/// The fault of a form that a scene doesn't have.
+pub(crate) fn shape_fault() -> SceneFault {
+    SceneFault::of(SceneRule::Shape)
+}
+
+/// The object that the value is, where it has no other keys than these.
+pub(crate) fn object_with<'v>(
+    value: &'v Value,
+    keys: &[&str],
+) -> Result<&'v Map<String, Value>, SceneFault> {
+    match value.as_object() {
+        Some(object) if has_only(object, keys) => Ok(object),
+        _ => Err(shape_fault()),
+    }
+}
+
+fn has_only(object: &Map<String, Value>, keys: &[&str]) -> bool {
+    for (key, _) in object {
+        if !is_among(key.as_str(), keys) {
+            return false;
+        }
+    }
+    true
+}
+
+fn is_among(key: &str, keys: &[&str]) -> bool {
+    for known in keys {
+        if key == *known {
+            return true;
+        }
+    }
+    false
+}
+
+/// The value of a key that must be there.
+pub(crate) fn needed<'v>(
+    object: &'v Map<String, Value>,
+    key: &str,
+) -> Result<&'v Value, SceneFault> {
+    match object.get(key) {
+        Some(value) => Ok(value),
+        None => Err(shape_fault()),
+    }
+}

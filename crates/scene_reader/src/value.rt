@@ -1,0 +1,42 @@
+// Texts and values of a scene.
+use crate::fault::SceneFault;
+use crate::keys::{needed, object_with, shape_fault};
+use crate::limits::{Limits, TEXT_LIMIT};
+use crate::list::Item;
+use core_tree::SceneValue;
+use papy_base::Text;
+use serde_json::Value;
+use std::alloc::Global;
+
+/// The text that the value is.
+pub(crate) fn text(alloc: Global, value: &Value, limits: &mut Limits) -> Result<Text, SceneFault> {
+    match value.as_str() {
+        Some(text) => text_of(alloc, text, limits),
+        None => Err(shape_fault()),
+    }
+}
+
+/// A text of these bytes. One that is too long breaks a limit.
+pub(crate) fn text_of(alloc: Global, text: &str, limits: &mut Limits) -> Result<Text, SceneFault> {
+    limits.require(text.len() <= TEXT_LIMIT);
+    Ok(Text::try_from_bytes(alloc, text.as_bytes())?)
+}
+
+impl Item for SceneValue {
+    fn read(alloc: Global, value: &Value, limits: &mut Limits) -> Result<SceneValue, SceneFault> {
+        match value {
+            Value::Null => Ok(SceneValue::NoneValue),
+            Value::Bool(truth) => Ok(SceneValue::Bool(*truth)),
+            Value::Number(_) => Ok(SceneValue::Int(i32::read(alloc, value, limits)?)),
+            Value::String(text) => Ok(SceneValue::Text(text_of(alloc, text.as_str(), limits)?)),
+            Value::Array(_) => Err(shape_fault()),
+            Value::Object(_) => reference(alloc, value, limits),
+        }
+    }
+}
+
+fn reference(alloc: Global, value: &Value, limits: &mut Limits) -> Result<SceneValue, SceneFault> {
+    let object = object_with(value, &["instance"])?;
+    let name = text(alloc, needed(object, "instance")?, limits)?;
+    Ok(SceneValue::Instance(name))
+}
