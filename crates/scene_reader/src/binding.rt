@@ -1,13 +1,18 @@
 // What native functions do.
+ghost use Rattle.std.specs.Prelude.{◌≡◌, IfOk};
+ghost use Rattle.std.specs.List.{All};
+ghost use Rattle.scene_reader.specs.Limits.{Keeps, BindingKeeps, NativeKeeps};
+ghost use Rattle.scene_reader.specs.Timing.{TimingKeeps};
+
 use crate::fault::SceneFault;
-use crate::keys::{needed, object_with, shape_fault};
+use crate::keys::{check_keys, needed, shape_fault};
 use crate::limits::{Limits, TURN_LIMIT};
-use crate::number::{count_to, whole};
+use crate::number::{count_of, index_of};
 use crate::scene::Version;
 use crate::value::text_of;
 use core_tree::Binding;
 use papy_base::Text;
-use serde_json::{Map, Value};
+use serde_json::Value;
 use std::alloc::Global;
 
 /// The bindings of native functions, in the order of the names' bytes.
@@ -16,14 +21,17 @@ pub(crate) fn bindings_of(
     value: &Value,
     version: Version,
     limits: &mut Limits,
-) -> Result<Vec<(Text, Binding)>, SceneFault> {
+) -> Result<Vec<(Text, Binding)>, SceneFault>
+    ensures { IfOk result (λ bindings. Keeps limits.old.broken limits.new.broken (All NativeKeeps bindings.items)) }
+{
     let Some(object) = value.as_object() else {
         return Err(shape_fault());
     };
     let mut bindings = Vec::with_capacity(alloc, object.len())?;
     for (name, value) in object {
         let name = text_of(alloc, name.as_str(), limits)?;
-        bindings.push((name, binding_of(value, version, limits)?))?;
+        let binding = binding_of(value, version, limits)?;
+        bindings.push((name, binding))?;
     }
     Ok(bindings)
 }
@@ -49,32 +57,30 @@ fn binding_of(
     value: &Value,
     version: Version,
     limits: &mut Limits,
-) -> Result<Binding, SceneFault> {
-    let object = object_with(value, &["kind", "device", "latency", "prompt"])?;
-    match kind_of(needed(object, "kind")?)? {
+) -> Result<Binding, SceneFault>
+    ensures { IfOk result (λ binding. Keeps limits.old.broken limits.new.broken (BindingKeeps binding)) }
+{
+    match kind_of(needed(value, "kind")?)? {
         Kind::Sleep => {
-            object_with(value, &["kind"])?;
+            check_keys(value, &["kind"])?;
             Ok(Binding::Sleep)
         }
         Kind::Trace => {
-            object_with(value, &["kind", "latency", "prompt"])?;
-            Ok(match timing_of(object, version, limits)? {
+            check_keys(value, &["kind", "latency", "prompt"])?;
+            Ok(match timing_of(value, version, limits)? {
                 Timing::Prompt => Binding::PromptTrace,
                 Timing::After(latency) => Binding::Trace { latency },
             })
         }
         Kind::Device => {
-            let device = device_of(needed(object, "device")?, limits)?;
-            Ok(match timing_of(object, version, limits)? {
+            check_keys(value, &["kind", "device", "latency", "prompt"])?;
+            let device = index_of(needed(value, "device")?, limits)?;
+            Ok(match timing_of(value, version, limits)? {
                 Timing::Prompt => Binding::PromptDevice { device },
                 Timing::After(latency) => Binding::Device { device, latency },
             })
         }
     }
-}
-
-fn device_of(value: &Value, limits: &mut Limits) -> Result<u16, SceneFault> {
-    Ok(whole(value, 0, i64::from(u16::MAX), limits)? as u16)
 }
 
 /// When a native's effect lets its caller go on: in the same turn, or this many turns later.
@@ -85,14 +91,16 @@ enum Timing {
 }
 
 fn timing_of(
-    object: &Map<String, Value>,
+    value: &Value,
     version: Version,
     limits: &mut Limits,
-) -> Result<Timing, SceneFault> {
-    let is_prompt = is_prompt(object.get("prompt"), version)?;
-    match object.get("latency") {
+) -> Result<Timing, SceneFault>
+    ensures { IfOk result (λ timing. Keeps limits.old.broken limits.new.broken (TimingKeeps timing)) }
+{
+    let is_prompt = is_prompt(value.get("prompt"), version)?;
+    match value.get("latency") {
         Some(_) if is_prompt => Err(shape_fault()),
-        Some(latency) => Ok(Timing::After(count_to(latency, TURN_LIMIT, limits)?)),
+        Some(latency) => Ok(Timing::After(count_of(latency, 0, TURN_LIMIT, limits)?)),
         None if is_prompt => Ok(Timing::Prompt),
         None => Ok(Timing::After(0)),
     }

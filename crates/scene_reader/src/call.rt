@@ -1,21 +1,25 @@
 // Calls of a scene.
+ghost use Rattle.scene_reader.specs.Limits.{CallKeeps};
+
 use crate::fault::SceneFault;
-use crate::keys::{needed, object_with};
+use crate::keys::{check_keys, needed};
 use crate::limits::{Limits, TURN_LIMIT};
 use crate::list::{Item, read_list};
-use crate::number::count_to;
+use crate::number::count_of;
 use crate::value::text;
 use core_tree::{SceneCall, SceneValue};
 use serde_json::Value;
 use std::alloc::Global;
 
 impl Item for SceneCall {
+    ghost keeps = { CallKeeps };
+
     fn read(alloc: Global, value: &Value, limits: &mut Limits) -> Result<SceneCall, SceneFault> {
-        let object = object_with(value, &["turn", "instance", "function", "arguments"])?;
-        let turn = count_to(needed(object, "turn")?, TURN_LIMIT, limits)?;
-        let instance = text(alloc, needed(object, "instance")?, limits)?;
-        let function = text(alloc, needed(object, "function")?, limits)?;
-        let arguments = match object.get("arguments") {
+        check_keys(value, &["turn", "instance", "function", "arguments"])?;
+        let turn = count_of(needed(value, "turn")?, 0, TURN_LIMIT, limits)?;
+        let instance = text(alloc, needed(value, "instance")?, limits)?;
+        let function = text(alloc, needed(value, "function")?, limits)?;
+        let arguments = match value.get("arguments") {
             Some(values) => read_list::<SceneValue>(alloc, values, usize::MAX, limits)?,
             None => Vec::new(alloc),
         };

@@ -1,6 +1,10 @@
 // Instances of a scene.
+ghost use Rattle.std.specs.Prelude.{◌≡◌, ◌↔◌, IsTrue, List, IfOk};
+ghost use Rattle.std.specs.List.{All};
+ghost use Rattle.scene_reader.specs.Limits.{Keeps, IsInstanceName, is_name_byte, EntryKeeps, InstanceKeeps};
+
 use crate::fault::SceneFault;
-use crate::keys::{needed, object_with, shape_fault};
+use crate::keys::{check_keys, needed, shape_fault};
 use crate::limits::{Limits, NAME_LIMIT};
 use crate::list::Item;
 use crate::value::{text, text_of};
@@ -10,15 +14,17 @@ use serde_json::Value;
 use std::alloc::Global;
 
 impl Item for SceneInstance {
+    ghost keeps = { InstanceKeeps };
+
     fn read(
         alloc: Global,
         value: &Value,
         limits: &mut Limits,
     ) -> Result<SceneInstance, SceneFault> {
-        let object = object_with(value, &["name", "script", "set"])?;
-        let name = instance_name(alloc, needed(object, "name")?)?;
-        let script = text(alloc, needed(object, "script")?, limits)?;
-        let set = match object.get("set") {
+        check_keys(value, &["name", "script", "set"])?;
+        let name = instance_name(alloc, needed(value, "name")?)?;
+        let script = text(alloc, needed(value, "script")?, limits)?;
+        let set = match value.get("set") {
             Some(entries) => entries_of(alloc, entries, limits)?,
             None => Vec::new(alloc),
         };
@@ -26,7 +32,9 @@ impl Item for SceneInstance {
     }
 }
 
-fn instance_name(alloc: Global, value: &Value) -> Result<Text, SceneFault> {
+fn instance_name(alloc: Global, value: &Value) -> Result<Text, SceneFault>
+    ensures { IfOk result IsInstanceName }
+{
     match value.as_str() {
         Some(name) if is_instance_name(name) => Ok(Text::try_from_bytes(alloc, name.as_bytes())?),
         _ => Err(shape_fault()),
@@ -34,12 +42,16 @@ fn instance_name(alloc: Global, value: &Value) -> Result<Text, SceneFault> {
 }
 
 // 1 to 64 letters, digits or `_`.
-fn is_instance_name(name: &str) -> bool {
+fn is_instance_name(name: &str) -> bool
+    ensures { IsTrue result ↔ IsInstanceName name.now }
+{
     let bytes = name.as_bytes();
     !bytes.is_empty() && bytes.len() <= NAME_LIMIT && bytes.iter().all(|byte| is_name_byte(*byte))
 }
 
-fn is_name_byte(byte: u8) -> bool {
+fn is_name_byte(byte: u8) -> bool
+    ensures { result ≡ is_name_byte byte }
+{
     byte.is_ascii_alphanumeric() || byte == b'_'
 }
 
@@ -48,14 +60,17 @@ fn entries_of(
     alloc: Global,
     value: &Value,
     limits: &mut Limits,
-) -> Result<Vec<(Text, SceneValue)>, SceneFault> {
+) -> Result<Vec<(Text, SceneValue)>, SceneFault>
+    ensures { IfOk result (λ entries. Keeps limits.old.broken limits.new.broken (All EntryKeeps entries.items)) }
+{
     let Some(object) = value.as_object() else {
         return Err(shape_fault());
     };
     let mut entries = Vec::with_capacity(alloc, object.len())?;
     for (name, value) in object {
         let name = text_of(alloc, name.as_str(), limits)?;
-        entries.push((name, SceneValue::read(alloc, value, limits)?))?;
+        let value = SceneValue::read(alloc, value, limits)?;
+        entries.push((name, value))?;
     }
     Ok(entries)
 }

@@ -7,13 +7,10 @@ pub(crate) fn shape_fault() -> SceneFault {
     SceneFault::of(SceneRule::Shape)
 }
 
-/// The object that the value is, where it has no other keys than these.
-pub(crate) fn object_with<'v>(
-    value: &'v Value,
-    keys: &[&str],
-) -> Result<&'v Map<String, Value>, SceneFault> {
+/// Refuses what is no object, and an object with another key than these.
+pub(crate) fn check_keys(value: &Value, keys: &[&str]) -> Result<(), SceneFault> {
     match value.as_object() {
-        Some(object) if has_only(object, keys) => Ok(object),
+        Some(object) if has_only(object, keys) => Ok(()),
         _ => Err(shape_fault()),
     }
 }
@@ -37,12 +34,9 @@ fn is_among(key: &str, keys: &[&str]) -> bool {
 }
 
 /// The value of a key that must be there.
-pub(crate) fn needed<'v>(
-    object: &'v Map<String, Value>,
-    key: &str,
-) -> Result<&'v Value, SceneFault> {
-    match object.get(key) {
-        Some(value) => Ok(value),
+pub(crate) fn needed<'v>(value: &'v Value, key: &str) -> Result<&'v Value, SceneFault> {
+    match value.get(key) {
+        Some(found) => Ok(found),
         None => Err(shape_fault()),
     }
 }

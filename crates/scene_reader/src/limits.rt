@@ -1,5 +1,7 @@
 // The limits of scenes. A scene that passes one is refused only once its whole shape was read, since a
 // fault of shape anywhere comes first.
+ghost use Rattle.std.specs.Prelude.{◌≡◌, Bool, true, false, IsTrue};
+ghost use Rattle.scene_reader.specs.Limits.{Keeps};
 
 /// The most bytes of a scene file.
 pub const FILE_LIMIT: usize = 16 * 1024 * 1024;
@@ -20,19 +22,25 @@ pub const TURN_LIMIT: u32 = 1_000_000;
 /// The most loop passes of a turn.
 pub const QUANTUM_LIMIT: u32 = 1000;
 
-/// Whether the limits were kept by what was read so far.
+/// Whether what was read so far breaks a limit.
 #[derive(Clone, Copy, Debug, PartialEq, Eq)]
 pub(crate) struct Limits {
     pub(crate) broken: bool,
 }
 
 impl Limits {
-    pub(crate) fn new() -> Limits {
+    pub(crate) fn new() -> Limits
+        ensures { result.broken ≡ false }
+    {
         Limits { broken: false }
     }
 
-    /// Notes a limit that isn't kept.
-    pub(crate) fn require(&mut self, is_kept: bool) {
-        self.broken = self.broken || !is_kept;
+    /// Notes that a limit is broken where it isn't kept.
+    pub(crate) fn require(&mut self, is_kept: bool)
+        ensures { Keeps self.old.broken self.new.broken (IsTrue is_kept) }
+    {
+        if !is_kept {
+            self.broken = true;
+        }
     }
 }

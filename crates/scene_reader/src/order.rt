@@ -1,4 +1,7 @@
 // Which stack gets a turn.
+ghost use Rattle.std.specs.Prelude.{◌≡◌, IfOk};
+ghost use Rattle.scene_reader.specs.Limits.{Keeps, OrderKeeps};
+
 use crate::fault::SceneFault;
 use crate::keys::shape_fault;
 use crate::limits::{Limits, ORDER_LIMIT};
@@ -12,7 +15,9 @@ pub(crate) fn order_of(
     alloc: Global,
     value: &Value,
     limits: &mut Limits,
-) -> Result<TurnOrder, SceneFault> {
+) -> Result<TurnOrder, SceneFault>
+    ensures { IfOk result (λ order. Keeps limits.old.broken limits.new.broken (OrderKeeps order)) }
+{
     match value.as_str() {
         Some("round") => Ok(TurnOrder::Round),
         Some(_) => Err(shape_fault()),

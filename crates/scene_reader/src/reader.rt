@@ -1,4 +1,7 @@
 // From the bytes of a scene file to its scene.
+ghost use Rattle.std.specs.Prelude.{IfOk};
+ghost use Rattle.scene_reader.specs.Limits.{KeepsLimits};
+
 use crate::fault::{SceneFault, SceneRule};
 use crate::limits::FILE_LIMIT;
 use crate::scene::scene_of;
@@ -13,7 +16,9 @@ use std::alloc::Global;
 /// `Limit` (C3) comes where there are over 16 MiB; else `NotJson` (C1) where they are no JSON text; else
 /// `Shape` (C2) where the text has not the form of a scene; else `Limit` where it passes a limit.
 /// `OutOfMemory` comes where there is no room.
-pub fn read_scene(alloc: Global, bytes: &[u8]) -> Result<SceneTree, SceneFault> {
+pub fn read_scene(alloc: Global, bytes: &[u8]) -> Result<SceneTree, SceneFault>
+    ensures { IfOk result KeepsLimits }
+{
     let value = read_value(alloc, bytes)?;
     scene_of(alloc, &value)
 }

@@ -1,14 +1,18 @@
 // The JSON object of a whole scene.
+ghost use Rattle.std.specs.Prelude.{◌≡◌, IfOk};
+ghost use Rattle.std.specs.List.{All};
+ghost use Rattle.scene_reader.specs.Limits.{Keeps, KeepsLimits, IsQuantum, NativeKeeps, TapeKeeps};
+
 use crate::binding::bindings_of;
 use crate::fault::{SceneFault, SceneRule};
-use crate::keys::{needed, object_with, shape_fault};
+use crate::keys::{check_keys, needed, shape_fault};
 use crate::limits::{CALL_LIMIT, INSTANCE_LIMIT, Limits, QUANTUM_LIMIT, TURN_LIMIT};
 use crate::list::read_list;
-use crate::number::{count_to, whole};
+use crate::number::count_of;
 use crate::order::order_of;
 use core_tree::{Binding, SceneCall, SceneInstance, SceneTree};
 use papy_base::Text;
-use serde_json::{Map, Value};
+use serde_json::Value;
 use std::alloc::Global;
 
 /// The versions of the form of scenes. The second has prompt natives and the quantum.
@@ -30,10 +34,12 @@ const KEYS: [&str; 8] = [
 ];
 
 /// The scene that the value is.
-pub(crate) fn scene_of(alloc: Global, value: &Value) -> Result<SceneTree, SceneFault> {
-    let object = object_with(value, &KEYS)?;
+pub(crate) fn scene_of(alloc: Global, value: &Value) -> Result<SceneTree, SceneFault>
+    ensures { IfOk result KeepsLimits }
+{
+    check_keys(value, &KEYS)?;
     let mut limits = Limits::new();
-    let scene = parts_of(alloc, object, &mut limits)?;
+    let scene = parts_of(alloc, value, &mut limits)?;
     if limits.broken {
         return Err(SceneFault::of(SceneRule::Limit));
     }
@@ -42,19 +48,21 @@ pub(crate) fn scene_of(alloc: Global, value: &Value) -> Result<SceneTree, SceneF
 
 fn parts_of(
     alloc: Global,
-    object: &Map<String, Value>,
+    value: &Value,
     limits: &mut Limits,
-) -> Result<SceneTree, SceneFault> {
-    let version = version_of(needed(object, "version")?)?;
-    let quantum = quantum_of(object.get("quantum"), version, limits)?;
-    let turns = count_to(needed(object, "turns")?, TURN_LIMIT, limits)?;
-    let order = order_of(alloc, needed(object, "order")?, limits)?;
-    let instances = needed(object, "instances")?;
+) -> Result<SceneTree, SceneFault>
+    ensures { IfOk result (λ scene. Keeps limits.old.broken limits.new.broken (KeepsLimits scene)) }
+{
+    let version = version_of(needed(value, "version")?)?;
+    let quantum = quantum_of(value.get("quantum"), version, limits)?;
+    let turns = count_of(needed(value, "turns")?, 0, TURN_LIMIT, limits)?;
+    let order = order_of(alloc, needed(value, "order")?, limits)?;
+    let instances = needed(value, "instances")?;
     let instances = read_list::<SceneInstance>(alloc, instances, INSTANCE_LIMIT, limits)?;
-    let calls = needed(object, "calls")?;
+    let calls = needed(value, "calls")?;
     let calls = read_list::<SceneCall>(alloc, calls, CALL_LIMIT, limits)?;
-    let natives = natives_of(alloc, object.get("natives"), version, limits)?;
-    let tapes = tapes_of(alloc, object.get("tapes"), limits)?;
+    let natives = natives_of(alloc, value.get("natives"), version, limits)?;
+    let tapes = tapes_of(alloc, value.get("tapes"), limits)?;
     Ok(SceneTree {
         instances,
         calls,
@@ -79,11 +87,13 @@ fn quantum_of(
     value: Option<&Value>,
     version: Version,
     limits: &mut Limits,
-) -> Result<u32, SceneFault> {
+) -> Result<u32, SceneFault>
+    ensures { IfOk result (λ quantum. Keeps limits.old.broken limits.new.broken (IsQuantum quantum)) }
+{
     match value {
         None => Ok(1),
         Some(_) if version == Version::One => Err(shape_fault()),
-        Some(value) => Ok(whole(value, 1, i64::from(QUANTUM_LIMIT), limits)? as u32),
+        Some(value) => count_of(value, 1, QUANTUM_LIMIT, limits),
     }
 }
 
@@ -92,7 +102,9 @@ fn natives_of(
     value: Option<&Value>,
     version: Version,
     limits: &mut Limits,
-) -> Result<Vec<(Text, Binding)>, SceneFault> {
+) -> Result<Vec<(Text, Binding)>, SceneFault>
+    ensures { IfOk result (λ natives. Keeps limits.old.broken limits.new.broken (All NativeKeeps natives.items)) }
+{
     match value {
         Some(natives) => bindings_of(alloc, natives, version, limits),
         None => Ok(Vec::new(alloc)),
@@ -103,7 +115,9 @@ fn tapes_of(
     alloc: Global,
     value: Option<&Value>,
     limits: &mut Limits,
-) -> Result<Vec<Vec<i32>>, SceneFault> {
+) -> Result<Vec<Vec<i32>>, SceneFault>
+    ensures { IfOk result (λ tapes. Keeps limits.old.broken limits.new.broken (All TapeKeeps tapes.items)) }
+{
     match value {
         Some(tapes) => read_list::<Vec<i32>>(alloc, tapes, usize::MAX, limits),
         None => Ok(Vec::new(alloc)),
