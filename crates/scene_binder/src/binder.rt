@@ -1,4 +1,8 @@
 // A scene bound to an outline, step by step.
+ghost use Rattle.std.specs.Prelude.{◌≡◌, ◌≤◌, length, IfOk};
+ghost use Rattle.scene_binder.specs.Bound.{IsBound, AreBoundNatives};
+ghost use Rattle.scene_binder.specs.Kept.{IsOfTree};
+
 use crate::calls::bind_calls;
 use crate::instances::Instances;
 use crate::natives::Natives;
@@ -24,7 +28,10 @@ pub fn bind(
     tree: SceneTree,
     outline: &Outline,
     devices: u16,
-) -> Result<Scene, SceneFault> {
+) -> Result<Scene, SceneFault>
+    ensures bound { IfOk result (IsBound outline.now.scripts.items) }
+    ensures kept { IfOk result (IsOfTree tree devices) }
+{
     let scripts = Scripts::new(alloc, outline)?;
     let instances = Instances::new(alloc, &scripts, &tree.instances)?;
     let scope = Scope {
@@ -51,7 +58,10 @@ fn bind_natives(
     tree: &SceneTree,
     outline: &Outline,
     devices: u16,
-) -> Result<Vec<BoundNative>, SceneFault> {
+) -> Result<Vec<BoundNative>, SceneFault>
+    ensures natives { IfOk result (λ natives. AreBoundNatives outline.now.scripts.items devices natives.items) }
+    ensures tapes { IfOk result (λ _. length tree.now.tapes.items ≤ devices) }
+{
     let mut natives = Natives::new(alloc, outline, devices)?;
     natives.bind_all(alloc, &tree.natives)?;
     natives.bind_defaults(alloc)?;

@@ -1,4 +1,9 @@
 // The calls of a scene.
+ghost use Rattle.std.specs.Prelude.{◌≡◌, ◌×◌, ℕ, List, length, map, IfOk, slice_get, Some};
+ghost use Rattle.std.specs.List.{All};
+ghost use Rattle.scene_binder.specs.Bound.{IsBoundCall, IsCallableOn, AreOfTypes, call_parts};
+ghost use Rattle.scene_binder.specs.Instances.{tree_call_parts};
+
 use crate::values::{Scope, value_for};
 use core_tree::{BoundCall, CoreType, OutlineFunction, SceneCall, SceneValue, Value};
 use papy_base::Name;
@@ -10,7 +15,10 @@ pub(crate) fn bind_calls(
     alloc: Global,
     scope: Scope<'_>,
     calls: &[SceneCall],
-) -> Result<Vec<BoundCall>, SceneFault> {
+) -> Result<Vec<BoundCall>, SceneFault>
+    ensures bound { IfOk result (λ bound. All (IsBoundCall scope.scripts.now scope.instances.now.scripts.items) bound.items) }
+    ensures parts { IfOk result (λ bound. map call_parts bound.items ≡ map tree_call_parts calls.now) }
+{
     let mut bound = Vec::with_capacity(alloc, calls.len())?;
     for call in calls {
         bound.push(bind_call(alloc, scope, call)?)?;
@@ -18,7 +26,10 @@ pub(crate) fn bind_calls(
     Ok(bound)
 }
 
-fn bind_call(alloc: Global, scope: Scope<'_>, call: &SceneCall) -> Result<BoundCall, SceneFault> {
+fn bind_call(alloc: Global, scope: Scope<'_>, call: &SceneCall) -> Result<BoundCall, SceneFault>
+    ensures bound { IfOk result (IsBoundCall scope.scripts.now scope.instances.now.scripts.items) }
+    ensures parts { IfOk result (λ bound. call_parts bound ≡ tree_call_parts call.now) }
+{
     let Some(instance) = scope.instances.find(alloc, &call.instance)? else {
         return Err(SceneFault::of(SceneRule::NoFunction));
     };
@@ -39,8 +50,10 @@ fn called_function<'s>(
     scope: Scope<'s>,
     instance: u16,
     name: &[u8],
-) -> Result<&'s OutlineFunction, SceneFault> {
-    let Some(script) = scope.instances.script_of(instance) else {
+) -> Result<&'s OutlineFunction, SceneFault>
+    ensures { IfOk result (λ function. IsCallableOn scope.scripts.now scope.instances.now.scripts.items instance name.now function.now) }
+{
+    let Some(script) = scope.instances.script_of(usize::from(instance)) else {
         return Err(SceneFault::of(SceneRule::NoFunction));
     };
     match scope.scripts.find_function(alloc, script, name)? {
@@ -54,13 +67,15 @@ fn bind_arguments(
     scope: Scope<'_>,
     parameters: &[CoreType],
     arguments: &[SceneValue],
-) -> Result<Vec<Value>, SceneFault> {
+) -> Result<Vec<Value>, SceneFault>
+    ensures { IfOk result (λ values. AreOfTypes scope.scripts.now scope.instances.now.scripts.items parameters.now values.items) }
+{
     if arguments.len() != parameters.len() {
         return Err(SceneFault::of(SceneRule::Arguments));
     }
     let mut bound = Vec::with_capacity(alloc, arguments.len())?;
-    for (kind, value) in parameters.iter().zip(arguments) {
-        bound.push(value_for(alloc, scope, *kind, value)?)?;
+    for (place, value) in arguments.iter().enumerate() {
+        bound.push(value_for(alloc, scope, parameters[place], value)?)?;
     }
     Ok(bound)
 }

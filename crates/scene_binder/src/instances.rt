@@ -1,4 +1,8 @@
 // The instances of a scene by name, each with the number of its script.
+ghost use Rattle.std.specs.Prelude.{◌≡◌, ◌<◌, ◌≤◌, ℕ, length, IfOk, IfSome, slice_get};
+ghost use Rattle.std.specs.List.{All};
+ghost use Rattle.scene_binder.specs.Instances.{IsInstantiable};
+
 use crate::name_table::NameTable;
 use crate::scripts::Scripts;
 use core_tree::SceneInstance;
@@ -10,7 +14,7 @@ use std::alloc::Global;
 #[derive(Drop)]
 pub(crate) struct Instances {
     names: NameTable,
-    scripts: Vec<u16>,
+    pub(crate) scripts: Vec<u16>,
 }
 
 impl Instances {
@@ -20,7 +24,10 @@ impl Instances {
         alloc: Global,
         scripts: &Scripts<'_>,
         instances: &[SceneInstance],
-    ) -> Result<Instances, SceneFault> {
+    ) -> Result<Instances, SceneFault>
+        ensures count { IfOk result (λ found. length found.scripts.items ≡ length instances.now) }
+        ensures scripts { IfOk result (λ found. All (IsInstantiable scripts.now) found.scripts.items) }
+    {
         let mut names = NameTable::new(alloc);
         let mut numbers = Vec::with_capacity(alloc, instances.len())?;
         for (number, instance) in instances.iter().enumerate() {
@@ -37,15 +44,17 @@ impl Instances {
 
     /// The number of the instance of this name.
     pub(crate) fn find(&self, alloc: Global, name: &Text) -> Result<Option<u16>, OutOfMemory> {
-        Ok(match self.names.find(alloc, name.as_bytes())? {
-            Some(number) => u16::try_from(number).ok(),
-            None => None,
-        })
+        match self.names.find(alloc, name.as_bytes())? {
+            Some(number) => Ok(u16::try_from(number).ok()),
+            None => Ok(None),
+        }
     }
 
     /// The script of the instance of this number.
-    pub(crate) fn script_of(&self, instance: u16) -> Option<u16> {
-        self.scripts.as_slice().get(usize::from(instance)).copied()
+    pub(crate) fn script_of(&self, instance: usize) -> Option<u16>
+        ensures { result ≡ slice_get self.now.scripts.items instance }
+    {
+        self.scripts.as_slice().get(instance).copied()
     }
 }
 
@@ -53,7 +62,9 @@ fn script_of(
     alloc: Global,
     scripts: &Scripts<'_>,
     instance: &SceneInstance,
-) -> Result<u16, SceneFault> {
+) -> Result<u16, SceneFault>
+    ensures { IfOk result (IsInstantiable scripts.now) }
+{
     match scripts.find_instantiable(alloc, instance.script.as_bytes())? {
         Some(script) => Ok(script),
         None => Err(SceneFault::of(SceneRule::NoScript)),

@@ -5,6 +5,7 @@
 mod binder;
 mod calls;
 mod instances;
+mod members;
 mod name_table;
 mod natives;
 mod scripts;

@@ -1,22 +1,16 @@
 // What the native functions of an outline do.
+ghost use Rattle.std.specs.Prelude.{◌≡◌, ◌↔◌, ◌<◌, ℕ, List, [], ◌∷◌, length, IsTrue, IfOk, OnOk, IfSome};
+ghost use Rattle.std.specs.List.{All};
+ghost use Rattle.core_tree.specs.declared.outline.OutlineScript.{OutlineScript};
+ghost use Rattle.scene_binder.specs.Bound.{AreBoundNatives};
+ghost use Rattle.scene_binder.specs.Natives.{AllowsBinding, BeginsWithText, HasDevice, IsCell, IsReply, native_place_here, native_places_from};
+ghost use Rattle.scene_binder.specs.NativeList.{AreNatives, Adds};
+
 use crate::name_table::NameTable;
 use core_tree::{Binding, BoundNative, CoreType, Outline, OutlineFunction, OutlineScript};
 use papy_base::{OutOfMemory, Text};
 use scene_reader::{SceneFault, SceneRule};
 use std::alloc::Global;
-
-// What natives of the first scripts of a set do without an entry.
-const DEFAULTS: [(&[u8], Binding); 3] = [
-    (b"Debug.Trace", Binding::Trace { latency: 0 }),
-    (b"Scene.Sleep", Binding::Sleep),
-    (
-        b"Utility.RandomInt",
-        Binding::Device {
-            device: 3,
-            latency: 0,
-        },
-    ),
-];
 
 /// A native function, with what it does where that is known.
 #[derive(Drop)]
@@ -41,7 +35,10 @@ impl<'a> Natives<'a> {
         alloc: Global,
         outline: &'a Outline,
         devices: u16,
-    ) -> Result<Natives<'a>, OutOfMemory> {
+    ) -> Result<Natives<'a>, OutOfMemory>
+        ensures natives { IfOk result (AreNatives outline.now.scripts.items) }
+        ensures devices { IfOk result (λ natives. natives.devices ≡ devices) }
+    {
         let mut found = Natives {
             natives: Vec::new(alloc),
             names: NameTable::new(alloc),
@@ -60,7 +57,9 @@ impl<'a> Natives<'a> {
         alloc: Global,
         number: u16,
         script: &'a OutlineScript,
-    ) -> Result<(), OutOfMemory> {
+    ) -> Result<(), OutOfMemory>
+        ensures { OnOk result (Adds self.old self.new number 0 script.now.functions.items (native_places_from number 0 script.now.functions.items)) }
+    {
         for (place, function) in script.functions.iter().enumerate() {
             if let Ok(place) = u16::try_from(place) {
                 self.add(alloc, script, (number, place), function)?;
@@ -76,7 +75,9 @@ impl<'a> Natives<'a> {
         script: &OutlineScript,
         at: (u16, u16),
         function: &'a OutlineFunction,
-    ) -> Result<(), OutOfMemory> {
+    ) -> Result<(), OutOfMemory>
+        ensures { OnOk result (Adds self.old self.new at.0 at.1 (function.now ∷ []) (native_place_here at.0 at.1 function.now)) }
+    {
         if !function.is_native {
             return Ok(());
         }
@@ -97,7 +98,10 @@ impl<'a> Natives<'a> {
         &mut self,
         alloc: Global,
         entries: &[(Text, Binding)],
-    ) -> Result<(), SceneFault> {
+    ) -> Result<(), SceneFault>
+        ensures natives { (scripts : List OutlineScript) → AreNatives scripts self.old → AreNatives scripts self.new }
+        ensures devices { self.new.devices ≡ self.old.devices }
+    {
         for entry in entries {
             self.bind(alloc, entry.0.as_bytes(), entry.1)?;
         }
@@ -105,34 +109,49 @@ impl<'a> Natives<'a> {
     }
 
     // An earlier entry of the same name has bound the same native.
-    fn bind(&mut self, alloc: Global, name: &[u8], binding: Binding) -> Result<(), SceneFault> {
-        let Some(number) = self.names.find(alloc, name)? else {
+    fn bind(&mut self, alloc: Global, name: &[u8], binding: Binding) -> Result<(), SceneFault>
+        ensures natives { (scripts : List OutlineScript) → AreNatives scripts self.old → AreNatives scripts self.new }
+        ensures devices { self.new.devices ≡ self.old.devices }
+    {
+        let Some(number) = self.find(alloc, name)? else {
             return Err(SceneFault::of(SceneRule::NoFunction));
         };
-        let devices = self.devices;
-        let Some(native) = self.natives.get_mut(number) else {
-            return Err(SceneFault::of(SceneRule::NoFunction));
-        };
-        if native.binding.is_some() {
+        if self.natives[number].binding.is_some() {
             return Err(SceneFault::of(SceneRule::DuplicateName));
         }
-        if !has_device(binding, devices) {
+        if !has_device(binding, self.devices) {
             return Err(SceneFault::of(SceneRule::NoDevice));
         }
-        if !types_allow(native.function, binding) {
+        if !types_allow(self.natives[number].function, binding) {
             return Err(SceneFault::of(SceneRule::UnboundNative));
         }
-        native.binding = Some(binding);
+        self.natives[number].binding = Some(binding);
         Ok(())
+    }
+
+    // The number of the native of this name.
+    fn find(&self, alloc: Global, name: &[u8]) -> Result<Option<usize>, OutOfMemory>
+        ensures { IfOk result (λ found. IfSome found (λ number. number < length self.now.natives.items)) }
+    {
+        match self.names.find(alloc, name)? {
+            Some(number) if number < self.natives.len() => Ok(Some(number)),
+            _ => Ok(None),
+        }
     }
 
     /// Gives the natives of the first scripts what they do without an entry. `NoDevice` comes where the
     /// device isn't there.
-    pub(crate) fn bind_defaults(&mut self, alloc: Global) -> Result<(), SceneFault> {
-        for (name, binding) in DEFAULTS {
-            self.bind_default(alloc, name, binding)?;
-        }
-        Ok(())
+    pub(crate) fn bind_defaults(&mut self, alloc: Global) -> Result<(), SceneFault>
+        ensures natives { (scripts : List OutlineScript) → AreNatives scripts self.old → AreNatives scripts self.new }
+        ensures devices { self.new.devices ≡ self.old.devices }
+    {
+        self.bind_default(alloc, b"Debug.Trace", Binding::Trace { latency: 0 })?;
+        self.bind_default(alloc, b"Scene.Sleep", Binding::Sleep)?;
+        let dice = Binding::Device {
+            device: 3,
+            latency: 0,
+        };
+        self.bind_default(alloc, b"Utility.RandomInt", dice)
     }
 
     fn bind_default(
@@ -140,27 +159,29 @@ impl<'a> Natives<'a> {
         alloc: Global,
         name: &[u8],
         binding: Binding,
-    ) -> Result<(), SceneFault> {
-        let Some(number) = self.names.find(alloc, name)? else {
+    ) -> Result<(), SceneFault>
+        ensures natives { (scripts : List OutlineScript) → AreNatives scripts self.old → AreNatives scripts self.new }
+        ensures devices { self.new.devices ≡ self.old.devices }
+    {
+        let Some(number) = self.find(alloc, name)? else {
             return Ok(());
         };
-        let devices = self.devices;
-        match self.natives.get_mut(number) {
-            Some(native) if native.binding.is_none() => {
-                if !has_device(binding, devices) {
-                    return Err(SceneFault::of(SceneRule::NoDevice));
-                }
-                if types_allow(native.function, binding) {
-                    native.binding = Some(binding);
-                }
-                Ok(())
-            }
-            _ => Ok(()),
+        if self.natives[number].binding.is_some() {
+            return Ok(());
         }
+        if !has_device(binding, self.devices) {
+            return Err(SceneFault::of(SceneRule::NoDevice));
+        }
+        if types_allow(self.natives[number].function, binding) {
+            self.natives[number].binding = Some(binding);
+        }
+        Ok(())
     }
 
     /// The natives with their bindings. `UnboundNative` comes where one has none.
-    pub(crate) fn finish(&self, alloc: Global) -> Result<Vec<BoundNative>, SceneFault> {
+    pub(crate) fn finish(&self, alloc: Global) -> Result<Vec<BoundNative>, SceneFault>
+        ensures { (scripts : List OutlineScript) → AreNatives scripts self.now → IfOk result (λ bound. AreBoundNatives scripts self.now.devices bound.items) }
+    {
         let mut bound = Vec::with_capacity(alloc, self.natives.len())?;
         for native in &self.natives {
             let Some(binding) = native.binding else {
@@ -188,7 +209,9 @@ fn full_name(
     Ok(name)
 }
 
-fn has_device(binding: Binding, devices: u16) -> bool {
+fn has_device(binding: Binding, devices: u16) -> bool
+    ensures { IsTrue result ↔ HasDevice devices binding }
+{
     match binding {
         Binding::Device { device, .. } | Binding::PromptDevice { device } => device < devices,
         Binding::Sleep | Binding::Trace { .. } | Binding::PromptTrace => true,
@@ -196,7 +219,9 @@ fn has_device(binding: Binding, devices: u16) -> bool {
 }
 
 // Whether a native of these types may do this.
-fn types_allow(function: &OutlineFunction, binding: Binding) -> bool {
+fn types_allow(function: &OutlineFunction, binding: Binding) -> bool
+    ensures { IsTrue result → AllowsBinding function.now.parameters.items function.now.result binding }
+{
     let parameters = function.parameters.as_slice();
     match binding {
         Binding::Sleep => is_one_int(parameters) && function.result.is_none(),
@@ -204,32 +229,51 @@ fn types_allow(function: &OutlineFunction, binding: Binding) -> bool {
             begins_with_text(parameters) && function.result.is_none()
         }
         Binding::Device { .. } | Binding::PromptDevice { .. } => {
-            parameters.iter().all(|kind| is_cell(*kind)) && is_reply(function.result)
+            are_cells(parameters) && is_reply(function.result)
         }
     }
 }
 
-fn is_one_int(parameters: &[CoreType]) -> bool {
+fn is_one_int(parameters: &[CoreType]) -> bool
+    ensures { IsTrue result → parameters.now ≡ CoreType.Int ∷ [] }
+{
     match parameters {
         [kind] => *kind == CoreType::Int,
         _ => false,
     }
 }
 
-fn begins_with_text(parameters: &[CoreType]) -> bool {
-    match parameters.first() {
-        Some(kind) => *kind == CoreType::Text,
-        None => false,
+fn begins_with_text(parameters: &[CoreType]) -> bool
+    ensures { IsTrue result → BeginsWithText parameters.now }
+{
+    match parameters {
+        [first, ..] => *first == CoreType::Text,
+        [] => false,
     }
 }
 
+fn are_cells(parameters: &[CoreType]) -> bool
+    ensures { IsTrue result → All IsCell parameters.now }
+{
+    for kind in parameters {
+        if !is_cell(*kind) {
+            return false;
+        }
+    }
+    true
+}
+
 // Devices know whole numbers and truth values.
-fn is_cell(kind: CoreType) -> bool {
+fn is_cell(kind: CoreType) -> bool
+    ensures { IsTrue result ↔ IsCell kind }
+{
     kind == CoreType::Int || kind == CoreType::Bool
 }
 
-fn is_reply(result_type: Option<CoreType>) -> bool {
-    match result_type {
+fn is_reply(outcome: Option<CoreType>) -> bool
+    ensures { IsTrue result ↔ IsReply outcome }
+{
+    match outcome {
         Some(kind) => is_cell(kind),
         None => true,
     }

@@ -1,4 +1,8 @@
 // Values of a scene by the types that their places ask for.
+ghost use Rattle.std.specs.Prelude.{◌≡◌, IsTrue, IfOk};
+ghost use Rattle.scene_binder.specs.Bound.{IsOfType, IsInstanceOf};
+ghost use Rattle.core_tree.specs.declared.value.Value.TheVariants.{NoneValue};
+
 use crate::instances::Instances;
 use crate::scripts::Scripts;
 use core_tree::{CoreType, SceneValue, Value};
@@ -23,9 +27,11 @@ pub(crate) fn value_for(
     scope: Scope<'_>,
     kind: CoreType,
     value: &SceneValue,
-) -> Result<Value, SceneFault> {
+) -> Result<Value, SceneFault>
+    ensures { IfOk result (IsOfType scope.scripts.now scope.instances.now.scripts.items kind) }
+{
     match value {
-        SceneValue::NoneValue if may_be_none(kind) => Ok(Value::NoneValue),
+        SceneValue::NoneValue if may_be_none(scope, kind) => Ok(Value::NoneValue),
         SceneValue::Int(number) if kind == CoreType::Int => Ok(Value::Int(*number)),
         SceneValue::Bool(truth) if kind == CoreType::Bool => Ok(Value::Bool(*truth)),
         SceneValue::Text(text) if kind == CoreType::Text => Ok(Value::Text(text.try_clone(alloc)?)),
@@ -34,7 +40,9 @@ pub(crate) fn value_for(
     }
 }
 
-fn may_be_none(kind: CoreType) -> bool {
+fn may_be_none(scope: Scope<'_>, kind: CoreType) -> bool
+    ensures { IsTrue result → IsOfType scope.scripts.now scope.instances.now.scripts.items kind NoneValue }
+{
     !matches!(kind, CoreType::Int | CoreType::Bool | CoreType::Text)
 }
 
@@ -43,7 +51,9 @@ fn instance_for(
     scope: Scope<'_>,
     kind: CoreType,
     name: &Text,
-) -> Result<Value, SceneFault> {
+) -> Result<Value, SceneFault>
+    ensures { IfOk result (IsOfType scope.scripts.now scope.instances.now.scripts.items kind) }
+{
     let CoreType::Script(script) = kind else {
         return Err(type_fault());
     };
@@ -53,8 +63,10 @@ fn instance_for(
     }
 }
 
-fn is_instance_of(scope: Scope<'_>, instance: u16, script: u16) -> bool {
-    match scope.instances.script_of(instance) {
+fn is_instance_of(scope: Scope<'_>, instance: u16, script: u16) -> bool
+    ensures { IsTrue result → IsInstanceOf scope.scripts.now scope.instances.now.scripts.items instance script }
+{
+    match scope.instances.script_of(usize::from(instance)) {
         Some(child) => scope.scripts.is_child(child, script),
         None => false,
     }
