@@ -1,5 +1,5 @@
 -- The native functions of an outline while they are bound.
-use Rattle.std.specs.Prelude.{ℕ, ◌≡◌, ◌+◌, List, [], ◌∷◌, ◌++◌, map, true, Some, IfSome, slice_get}
+use Rattle.std.specs.Prelude.{ℕ, ◌≡◌, List, ◌++◌, map, true, IfSome}
 use Rattle.std.specs.List.{All}
 use Rattle.core_tree.specs.declared.outline.OutlineFunction.{OutlineFunction}
 use Rattle.core_tree.specs.declared.outline.OutlineScript.{OutlineScript}
@@ -26,14 +26,8 @@ pub record AreNatives (scripts : List OutlineScript) (natives : Natives) : Type 
   pub each_once : map native_place natives.natives.items ≡ native_places scripts
   pub hold : All (HoldsNative scripts natives.devices) natives.natives.items
 
--- these functions stand in a script from this place on
-abbrev pub StandFrom : List OutlineScript → ℕ → ℕ → List OutlineFunction → Type 0
-StandFrom scripts script place [] = Unit {0}
-StandFrom scripts script place (function ∷ functions) =
-    IsFunctionAt scripts script place function × StandFrom scripts script (place + 1) functions
-
--- natives of these functions, which stand in a script from this place on, were added, at these places
-pub record Adds (old new : Natives) (script place : ℕ) (functions : List OutlineFunction) (places : List (ℕ × ℕ)) : Type 0 where
+-- natives were added at these places, and hold where the premise does
+pub record Adds (old new : Natives) (places : List (ℕ × ℕ)) (Premise : List OutlineScript → Type 0) : Type 0 where
   pub each_once : map native_place new.natives.items ≡ map native_place old.natives.items ++ places
-  pub hold : (scripts : List OutlineScript) → StandFrom scripts script place functions → All (HoldsNative scripts old.devices) old.natives.items → All (HoldsNative scripts old.devices) new.natives.items
+  pub hold : (scripts : List OutlineScript) → Premise scripts → All (HoldsNative scripts old.devices) old.natives.items → All (HoldsNative scripts old.devices) new.natives.items
   pub devices : new.devices ≡ old.devices

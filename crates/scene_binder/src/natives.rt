@@ -1,9 +1,9 @@
 // What the native functions of an outline do.
-ghost use Rattle.std.specs.Prelude.{◌≡◌, ◌↔◌, ◌<◌, ℕ, List, [], ◌∷◌, length, IsTrue, IfOk, OnOk, IfSome};
+ghost use Rattle.std.specs.Prelude.{◌≡◌, ◌↔◌, ◌<◌, ℕ, List, [], ◌∷◌, length, IsTrue, IfOk, OnOk, IfSome, Some, slice_get};
 ghost use Rattle.std.specs.List.{All};
 ghost use Rattle.core_tree.specs.declared.outline.OutlineScript.{OutlineScript};
 ghost use Rattle.scene_binder.specs.Bound.{AreBoundNatives};
-ghost use Rattle.scene_binder.specs.Natives.{AllowsBinding, BeginsWithText, HasDevice, IsCell, IsReply, native_place_here, native_places_from};
+ghost use Rattle.scene_binder.specs.Natives.{AllowsBinding, BeginsWithText, HasDevice, IsCell, IsFunctionAt, IsReply, native_place_here, native_places_from};
 ghost use Rattle.scene_binder.specs.NativeList.{AreNatives, Adds};
 
 use crate::name_table::NameTable;
@@ -58,7 +58,7 @@ impl<'a> Natives<'a> {
         number: u16,
         script: &'a OutlineScript,
     ) -> Result<(), OutOfMemory>
-        ensures { OnOk result (Adds self.old self.new number 0 script.now.functions.items (native_places_from number 0 script.now.functions.items)) }
+        ensures { OnOk result (Adds self.old self.new (native_places_from number 0 script.now.functions.items) (λ scripts. slice_get scripts number ≡ Some script.now)) }
     {
         for (place, function) in script.functions.iter().enumerate() {
             if let Ok(place) = u16::try_from(place) {
@@ -76,7 +76,7 @@ impl<'a> Natives<'a> {
         at: (u16, u16),
         function: &'a OutlineFunction,
     ) -> Result<(), OutOfMemory>
-        ensures { OnOk result (Adds self.old self.new at.0 at.1 (function.now ∷ []) (native_place_here at.0 at.1 function.now)) }
+        ensures { OnOk result (Adds self.old self.new (native_place_here at.0 at.1 function.now) (λ scripts. IsFunctionAt scripts at.0 at.1 function.now)) }
     {
         if !function.is_native {
             return Ok(());

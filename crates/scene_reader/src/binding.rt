@@ -28,8 +28,8 @@ pub(crate) fn bindings_of(
         return Err(shape_fault());
     };
     let mut bindings = Vec::with_capacity(alloc, object.len())?;
-    for (name, value) in object {
-        let name = text_of(alloc, name.as_str(), limits)?;
+    for (key, value) in object {
+        let name = text_of(alloc, key.as_str(), limits)?;
         let binding = binding_of(value, version, limits)?;
         bindings.push((name, binding))?;
     }

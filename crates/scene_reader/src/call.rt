@@ -6,7 +6,7 @@ use crate::keys::{check_keys, needed};
 use crate::limits::{Limits, TURN_LIMIT};
 use crate::list::{Item, read_list};
 use crate::number::count_of;
-use crate::value::text;
+use crate::value::read_text;
 use core_tree::{SceneCall, SceneValue};
 use serde_json::Value;
 use std::alloc::Global;
@@ -17,8 +17,8 @@ impl Item for SceneCall {
     fn read(alloc: Global, value: &Value, limits: &mut Limits) -> Result<SceneCall, SceneFault> {
         check_keys(value, &["turn", "instance", "function", "arguments"])?;
         let turn = count_of(needed(value, "turn")?, 0, TURN_LIMIT, limits)?;
-        let instance = text(alloc, needed(value, "instance")?, limits)?;
-        let function = text(alloc, needed(value, "function")?, limits)?;
+        let instance = read_text(alloc, needed(value, "instance")?, limits)?;
+        let function = read_text(alloc, needed(value, "function")?, limits)?;
         let arguments = match value.get("arguments") {
             Some(values) => read_list::<SceneValue>(alloc, values, usize::MAX, limits)?,
             None => Vec::new(alloc),

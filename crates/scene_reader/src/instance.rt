@@ -7,7 +7,7 @@ use crate::fault::SceneFault;
 use crate::keys::{check_keys, needed, shape_fault};
 use crate::limits::{Limits, NAME_LIMIT};
 use crate::list::Item;
-use crate::value::{text, text_of};
+use crate::value::{read_text, text_of};
 use core_tree::{SceneInstance, SceneValue};
 use papy_base::Text;
 use serde_json::Value;
@@ -23,7 +23,7 @@ impl Item for SceneInstance {
     ) -> Result<SceneInstance, SceneFault> {
         check_keys(value, &["name", "script", "set"])?;
         let name = instance_name(alloc, needed(value, "name")?)?;
-        let script = text(alloc, needed(value, "script")?, limits)?;
+        let script = read_text(alloc, needed(value, "script")?, limits)?;
         let set = match value.get("set") {
             Some(entries) => entries_of(alloc, entries, limits)?,
             None => Vec::new(alloc),
@@ -67,8 +67,8 @@ fn entries_of(
         return Err(shape_fault());
     };
     let mut entries = Vec::with_capacity(alloc, object.len())?;
-    for (name, value) in object {
-        let name = text_of(alloc, name.as_str(), limits)?;
+    for (key, value) in object {
+        let name = text_of(alloc, key.as_str(), limits)?;
         let value = SceneValue::read(alloc, value, limits)?;
         entries.push((name, value))?;
     }

@@ -4,7 +4,7 @@
 
 mod binding;
 mod call;
-mod default_scene;
+mod defaults;
 mod fault;
 mod instance;
 mod keys;
@@ -16,7 +16,7 @@ mod reader;
 mod scene;
 mod value;
 
-pub use default_scene::default_scene;
+pub use defaults::default_scene;
 pub use fault::{SceneFault, SceneRule};
 pub use reader::{read_scene, upgrade_scene};
 

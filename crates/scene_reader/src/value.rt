@@ -13,7 +13,7 @@ use serde_json::Value;
 use std::alloc::Global;
 
 /// The text that the value is.
-pub(crate) fn text(alloc: Global, value: &Value, limits: &mut Limits) -> Result<Text, SceneFault>
+pub(crate) fn read_text(alloc: Global, value: &Value, limits: &mut Limits) -> Result<Text, SceneFault>
     ensures { IfOk result (λ text. Keeps limits.old.broken limits.new.broken (IsShort text)) }
 {
     match value.as_str() {
@@ -49,6 +49,6 @@ fn reference(alloc: Global, value: &Value, limits: &mut Limits) -> Result<SceneV
     ensures { IfOk result (λ value. Keeps limits.old.broken limits.new.broken (ValueKeeps value)) }
 {
     check_keys(value, &["instance"])?;
-    let name = text(alloc, needed(value, "instance")?, limits)?;
+    let name = read_text(alloc, needed(value, "instance")?, limits)?;
     Ok(SceneValue::Instance(name))
 }
