@@ -20,10 +20,7 @@ pub(crate) struct Members<'a> {
 
 impl<'a> Members<'a> {
     /// The members of this script.
-    pub(crate) fn new(
-        alloc: Global,
-        script: &'a OutlineScript,
-    ) -> Result<Members<'a>, OutOfMemory>
+    pub(crate) fn new(alloc: Global, script: &'a OutlineScript) -> Result<Members<'a>, OutOfMemory>
         ensures { IfOk result (λ members. members.script.now ≡ script.now) }
     {
         let properties = property_table(alloc, &script.properties)?;
@@ -53,10 +50,7 @@ impl<'a> Members<'a> {
     }
 }
 
-fn property_table(
-    alloc: Global,
-    properties: &[OutlineProperty],
-) -> Result<NameTable, OutOfMemory> {
+fn property_table(alloc: Global, properties: &[OutlineProperty]) -> Result<NameTable, OutOfMemory> {
     let mut table = NameTable::new(alloc);
     for (place, property) in properties.iter().enumerate() {
         table.note(alloc, property.name.as_bytes(), place)?;

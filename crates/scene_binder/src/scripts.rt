@@ -86,9 +86,7 @@ impl<'a> Scripts<'a> {
     fn own_property(&self, script: u16, folded: &[u8]) -> Option<&'a OutlineProperty>
         ensures { IfSome result (λ property. HasProperty self.now script property.now) }
     {
-        self.scripts
-            .get(usize::from(script))?
-            .find_property(folded)
+        self.scripts.get(usize::from(script))?.find_property(folded)
     }
 
     /// The nearest function of this name in the empty states from a script upward.
@@ -118,9 +116,7 @@ impl<'a> Scripts<'a> {
         ensures there { IfSome result (λ function. HasFunction self.now script function.now) }
         ensures named { IfSome result (λ function. function_key function.now ≡ folded.now) }
     {
-        self.scripts
-            .get(usize::from(script))?
-            .find_function(folded)
+        self.scripts.get(usize::from(script))?.find_function(folded)
     }
 
     /// Whether the second script is the first one or stands above it.

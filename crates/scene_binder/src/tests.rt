@@ -67,13 +67,16 @@ fn outline(alloc: Global) -> Result<Outline, Fail> {
         script(alloc, "Quest", Some(3), none())?,
         script(alloc, "ObjectReference", Some(3), none())?,
         gate,
-        script(alloc, "Door", Some(6), none())?
+        script(alloc, "Door", Some(6), none())?,
     ]?;
     Ok(Outline { scripts })
 }
 
 // The scene of these parts, bound for four devices.
-fn bound(alloc: Global, parts: (&str, &str, &str, &str)) -> Result<Result<Scene, SceneFault>, Fail> {
+fn bound(
+    alloc: Global,
+    parts: (&str, &str, &str, &str),
+) -> Result<Result<Scene, SceneFault>, Fail> {
     let (instances, calls, natives, tapes) = parts;
     let text = format!(in alloc;
         "{{\"version\":1,\"instances\":[{instances}],\"calls\":[{calls}],\"natives\":{{{natives}}},\"tapes\":[{tapes}],\"order\":\"round\",\"turns\":9}}"
@@ -83,12 +86,15 @@ fn bound(alloc: Global, parts: (&str, &str, &str, &str)) -> Result<Result<Scene,
 }
 
 const READ: &str = "\"gate.READ\":{\"kind\":\"device\",\"device\":1,\"latency\":2}";
-const DOOR: &str = "{\"name\":\"d\",\"script\":\"door\",\"set\":{\"next\":{\"instance\":\"D\"},\"uses\":5}}";
+
+const DOOR: &str =
+    "{\"name\":\"d\",\"script\":\"door\",\"set\":{\"next\":{\"instance\":\"D\"},\"uses\":5}}";
 
 #[test]
 fn names_become_numbers(rt: HostRuntime) -> Result<(), Fail> {
     let alloc = rt.alloc();
-    let calls = "{\"turn\":2,\"instance\":\"D\",\"function\":\"OPEN\",\"arguments\":[1,{\"instance\":\"d\"}]}";
+    let calls =
+        "{\"turn\":2,\"instance\":\"D\",\"function\":\"OPEN\",\"arguments\":[1,{\"instance\":\"d\"}]}";
     let scene = bound(alloc, (DOOR, calls, READ, "[3]"))??;
     let instance = &scene.instances[0];
     assert_eq!(rt; (instance.script, instance.set.len()), (7, 2));
@@ -98,12 +104,30 @@ fn names_become_numbers(rt: HostRuntime) -> Result<(), Fail> {
     let call = &scene.calls[0];
     assert_eq!(rt; (call.turn, call.instance, call.arguments.len()), (2, 0, 2));
     assert_eq!(rt; call.function.as_bytes(), b"OPEN".as_slice());
-    assert_eq!(rt; (scene.natives.len(), scene.devices, scene.tapes.len()), (4, 4, 1));
+    assert_eq!(rt;
+        (scene.natives.len(), scene.devices, scene.tapes.len()),
+        (4, 4, 1)
+    );
     assert_eq!(rt; scene.natives[0].binding, Binding::Trace { latency: 0 });
-    assert_eq!(rt; scene.natives[1].binding, Binding::Device { device: 3, latency: 0 });
+    assert_eq!(rt;
+        scene.natives[1].binding,
+        Binding::Device {
+            device: 3,
+            latency: 0
+        }
+    );
     assert_eq!(rt; scene.natives[2].binding, Binding::Sleep);
-    assert_eq!(rt; scene.natives[3].binding, Binding::Device { device: 1, latency: 2 });
-    assert_eq!(rt; (scene.natives[3].script, scene.natives[3].function), (6, 1));
+    assert_eq!(rt;
+        scene.natives[3].binding,
+        Binding::Device {
+            device: 1,
+            latency: 2
+        }
+    );
+    assert_eq!(rt;
+        (scene.natives[3].script, scene.natives[3].function),
+        (6, 1)
+    );
     Ok(())
 }
 
@@ -113,19 +137,79 @@ fn refuses_by_each_rule(rt: HostRuntime) -> Result<(), Fail> {
     let gate = "{\"name\":\"g\",\"script\":\"Gate\"}";
     let twice = "{\"name\":\"g\",\"script\":\"Gate\"},{\"name\":\"G\",\"script\":\"No\"}";
     for (instances, calls, natives, tapes, rule) in [
-        ("{\"name\":\"g\",\"script\":\"Scene\"}", "", READ, "", SceneRule::NoScript),
+        (
+            "{\"name\":\"g\",\"script\":\"Scene\"}",
+            "",
+            READ,
+            "",
+            SceneRule::NoScript,
+        ),
         (twice, "", READ, "", SceneRule::DuplicateName),
-        ("{\"name\":\"g\",\"script\":\"Gate\",\"set\":{\"Open\":1}}", "", READ, "", SceneRule::NoProperty),
-        ("{\"name\":\"g\",\"script\":\"Gate\",\"set\":{\"Uses\":1,\"uses\":1}}", "", READ, "", SceneRule::DuplicateName),
-        ("{\"name\":\"g\",\"script\":\"Gate\",\"set\":{\"Next\":{\"instance\":\"g\"}}}", "", READ, "", SceneRule::Arguments),
+        (
+            "{\"name\":\"g\",\"script\":\"Gate\",\"set\":{\"Open\":1}}",
+            "",
+            READ,
+            "",
+            SceneRule::NoProperty,
+        ),
+        (
+            "{\"name\":\"g\",\"script\":\"Gate\",\"set\":{\"Uses\":1,\"uses\":1}}",
+            "",
+            READ,
+            "",
+            SceneRule::DuplicateName,
+        ),
+        (
+            "{\"name\":\"g\",\"script\":\"Gate\",\"set\":{\"Next\":{\"instance\":\"g\"}}}",
+            "",
+            READ,
+            "",
+            SceneRule::Arguments,
+        ),
         (gate, "", "", "", SceneRule::UnboundNative),
-        (gate, "", "\"Gate.Read\":{\"kind\":\"sleep\"}", "", SceneRule::UnboundNative),
-        (gate, "", "\"Gate.Read\":{\"kind\":\"device\",\"device\":4}", "", SceneRule::NoDevice),
-        (gate, "", "\"Door.Read\":{\"kind\":\"device\",\"device\":1}", "", SceneRule::NoFunction),
+        (
+            gate,
+            "",
+            "\"Gate.Read\":{\"kind\":\"sleep\"}",
+            "",
+            SceneRule::UnboundNative,
+        ),
+        (
+            gate,
+            "",
+            "\"Gate.Read\":{\"kind\":\"device\",\"device\":4}",
+            "",
+            SceneRule::NoDevice,
+        ),
+        (
+            gate,
+            "",
+            "\"Door.Read\":{\"kind\":\"device\",\"device\":1}",
+            "",
+            SceneRule::NoFunction,
+        ),
         (gate, "", READ, "[],[],[],[],[]", SceneRule::NoDevice),
-        (gate, "{\"turn\":0,\"instance\":\"h\",\"function\":\"Open\"}", READ, "", SceneRule::NoFunction),
-        (gate, "{\"turn\":0,\"instance\":\"g\",\"function\":\"Read\"}", READ, "", SceneRule::NoFunction),
-        (gate, "{\"turn\":0,\"instance\":\"g\",\"function\":\"Open\"}", READ, "", SceneRule::Arguments),
+        (
+            gate,
+            "{\"turn\":0,\"instance\":\"h\",\"function\":\"Open\"}",
+            READ,
+            "",
+            SceneRule::NoFunction,
+        ),
+        (
+            gate,
+            "{\"turn\":0,\"instance\":\"g\",\"function\":\"Read\"}",
+            READ,
+            "",
+            SceneRule::NoFunction,
+        ),
+        (
+            gate,
+            "{\"turn\":0,\"instance\":\"g\",\"function\":\"Open\"}",
+            READ,
+            "",
+            SceneRule::Arguments,
+        ),
     ] {
         let answer = bound(alloc, (instances, calls, natives, tapes))?;
         assert_eq!(rt; answer.err(), Some(SceneFault::of(rule)));
@@ -141,7 +225,10 @@ fn binds_the_default_scene_of_a_script_with_its_event(rt: HostRuntime) -> Result
     outline.scripts[3].functions.push(event)?;
     let tree = default_scene(alloc, &Name::from_bytes(alloc, b"Quest")?)?;
     let answer = bind(alloc, tree, &outline, 4);
-    assert_eq!(rt; answer.err(), Some(SceneFault::of(SceneRule::UnboundNative)));
+    assert_eq!(rt;
+        answer.err(),
+        Some(SceneFault::of(SceneRule::UnboundNative))
+    );
     outline.scripts[6].functions.pop();
     let tree = default_scene(alloc, &Name::from_bytes(alloc, b"Quest")?)?;
     let scene = bind(alloc, tree, &outline, 4)?;

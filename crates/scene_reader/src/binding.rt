@@ -53,11 +53,7 @@ fn kind_of(value: &Value) -> Result<Kind, SceneFault> {
     }
 }
 
-fn binding_of(
-    value: &Value,
-    version: Version,
-    limits: &mut Limits,
-) -> Result<Binding, SceneFault>
+fn binding_of(value: &Value, version: Version, limits: &mut Limits) -> Result<Binding, SceneFault>
     ensures { IfOk result (λ binding. Keeps limits.old.broken limits.new.broken (BindingKeeps binding)) }
 {
     match kind_of(needed(value, "kind")?)? {
@@ -90,11 +86,7 @@ enum Timing {
     After(u32),
 }
 
-fn timing_of(
-    value: &Value,
-    version: Version,
-    limits: &mut Limits,
-) -> Result<Timing, SceneFault>
+fn timing_of(value: &Value, version: Version, limits: &mut Limits) -> Result<Timing, SceneFault>
     ensures { IfOk result (λ timing. Keeps limits.old.broken limits.new.broken (TimingKeeps timing)) }
 {
     let is_prompt = is_prompt(value.get("prompt"), version)?;

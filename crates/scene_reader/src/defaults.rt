@@ -4,6 +4,7 @@ use std::alloc::Global;
 
 // The name of the one instance.
 const INSTANCE: &[u8] = b"it";
+
 const TURNS: u32 = 10_000;
 
 /// The scene of one instance `it` of the script, with one call of `OnInit` at turn 0 without arguments,

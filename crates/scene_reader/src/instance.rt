@@ -24,10 +24,7 @@ impl Item for SceneInstance {
         check_keys(value, &["name", "script", "set"])?;
         let name = instance_name(alloc, needed(value, "name")?)?;
         let script = read_text(alloc, needed(value, "script")?, limits)?;
-        let set = match value.get("set") {
-            Some(entries) => entries_of(alloc, entries, limits)?,
-            None => Vec::new(alloc),
-        };
+        let set = set_of(alloc, value.get("set"), limits)?;
         Ok(SceneInstance { name, script, set })
     }
 }
@@ -53,6 +50,19 @@ fn is_name_byte(byte: u8) -> bool
     ensures { result ≡ is_name_byte byte }
 {
     byte.is_ascii_alphanumeric() || byte == b'_'
+}
+
+fn set_of(
+    alloc: Global,
+    value: Option<&Value>,
+    limits: &mut Limits,
+) -> Result<Vec<(Text, SceneValue)>, SceneFault>
+    ensures { IfOk result (λ entries. Keeps limits.old.broken limits.new.broken (All EntryKeeps entries.items)) }
+{
+    match value {
+        Some(entries) => entries_of(alloc, entries, limits),
+        None => Ok(Vec::new(alloc)),
+    }
 }
 
 /// The values of properties, in the order of the names' bytes.

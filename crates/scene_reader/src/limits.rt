@@ -1,6 +1,6 @@
 // The limits of scenes. A scene that passes one is refused only once its whole shape was read, since a
 // fault of shape anywhere comes first.
-ghost use Rattle.std.specs.Prelude.{◌≡◌, Bool, true, false, IsTrue};
+ghost use Rattle.std.specs.Prelude.{◌≡◌, ◌≤◌, false, IsTrue};
 ghost use Rattle.scene_reader.specs.Limits.{Keeps};
 
 /// The most bytes of a scene file.
@@ -40,6 +40,15 @@ impl Limits {
         ensures { Keeps self.old.broken self.new.broken (IsTrue is_kept) }
     {
         if !is_kept {
+            self.broken = true;
+        }
+    }
+
+    /// Notes that a limit is broken where there are more than it allows.
+    pub(crate) fn require_at_most(&mut self, count: usize, most: usize)
+        ensures { Keeps self.old.broken self.new.broken (count ≤ most) }
+    {
+        if count > most {
             self.broken = true;
         }
     }

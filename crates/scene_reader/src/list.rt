@@ -31,7 +31,8 @@ pub(crate) fn read_list<T: Item>(
     let Some(values) = value.as_array() else {
         return Err(shape_fault());
     };
-    limits.require(values.len() <= most);
+    let values = values.as_slice();
+    limits.require_at_most(values.len(), most);
     read_items(alloc, values, limits)
 }
 

@@ -21,11 +21,6 @@ pub(crate) fn order_of(
     match value.as_str() {
         Some("round") => Ok(TurnOrder::Round),
         Some(_) => Err(shape_fault()),
-        None => Ok(TurnOrder::List(read_list::<u16>(
-            alloc,
-            value,
-            ORDER_LIMIT,
-            limits,
-        )?)),
+        None => Ok(TurnOrder::List(read_list::<u16>(alloc, value, ORDER_LIMIT, limits)?)),
     }
 }

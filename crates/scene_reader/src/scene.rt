@@ -46,21 +46,17 @@ pub(crate) fn scene_of(alloc: Global, value: &Value) -> Result<SceneTree, SceneF
     Ok(scene)
 }
 
-fn parts_of(
-    alloc: Global,
-    value: &Value,
-    limits: &mut Limits,
-) -> Result<SceneTree, SceneFault>
+fn parts_of(alloc: Global, value: &Value, limits: &mut Limits) -> Result<SceneTree, SceneFault>
     ensures { IfOk result (λ scene. Keeps limits.old.broken limits.new.broken (KeepsLimits scene)) }
 {
     let version = version_of(needed(value, "version")?)?;
     let quantum = quantum_of(value.get("quantum"), version, limits)?;
     let turns = count_of(needed(value, "turns")?, 0, TURN_LIMIT, limits)?;
     let order = order_of(alloc, needed(value, "order")?, limits)?;
-    let instances = needed(value, "instances")?;
-    let instances = read_list::<SceneInstance>(alloc, instances, INSTANCE_LIMIT, limits)?;
-    let calls = needed(value, "calls")?;
-    let calls = read_list::<SceneCall>(alloc, calls, CALL_LIMIT, limits)?;
+    let listed = needed(value, "instances")?;
+    let instances = read_list::<SceneInstance>(alloc, listed, INSTANCE_LIMIT, limits)?;
+    let listed = needed(value, "calls")?;
+    let calls = read_list::<SceneCall>(alloc, listed, CALL_LIMIT, limits)?;
     let natives = natives_of(alloc, value.get("natives"), version, limits)?;
     let tapes = tapes_of(alloc, value.get("tapes"), limits)?;
     Ok(SceneTree {

@@ -13,7 +13,11 @@ use serde_json::Value;
 use std::alloc::Global;
 
 /// The text that the value is.
-pub(crate) fn read_text(alloc: Global, value: &Value, limits: &mut Limits) -> Result<Text, SceneFault>
+pub(crate) fn read_text(
+    alloc: Global,
+    value: &Value,
+    limits: &mut Limits,
+) -> Result<Text, SceneFault>
     ensures { IfOk result (λ text. Keeps limits.old.broken limits.new.broken (IsShort text)) }
 {
     match value.as_str() {
@@ -26,7 +30,7 @@ pub(crate) fn read_text(alloc: Global, value: &Value, limits: &mut Limits) -> Re
 pub(crate) fn text_of(alloc: Global, text: &str, limits: &mut Limits) -> Result<Text, SceneFault>
     ensures { IfOk result (λ text. Keeps limits.old.broken limits.new.broken (IsShort text)) }
 {
-    limits.require(text.len() <= TEXT_LIMIT);
+    limits.require_at_most(text.len(), TEXT_LIMIT);
     Ok(Text::try_from_bytes(alloc, text.as_bytes())?)
 }
 
