@@ -3,7 +3,7 @@ ghost use Rattle.std.specs.Prelude.{◌≡◌, ◌↔◌, ◌<◌, ℕ, List, []
 ghost use Rattle.std.specs.List.{All};
 ghost use Rattle.core_tree.specs.declared.outline.OutlineScript.{OutlineScript};
 ghost use Rattle.scene_binder.specs.Bound.{AreBoundNatives};
-ghost use Rattle.scene_binder.specs.Natives.{AllowsBinding, BeginsWithText, HasDevice, IsCell, IsFunctionAt, IsReply, native_place_here, native_places_from};
+ghost use Rattle.scene_binder.specs.Natives.{AllowsBinding, BeginsWithText, HasDevice, IsCell, IsFunctionAt, IsReply, native_place_here, native_places_from, native_places_in};
 ghost use Rattle.scene_binder.specs.NativeList.{AreNatives, Adds};
 
 use crate::name_table::NameTable;
@@ -45,14 +45,27 @@ impl<'a> Natives<'a> {
             devices,
         };
         for (number, script) in outline.scripts.iter().enumerate() {
-            if let Ok(number) = u16::try_from(number) {
-                found.add_script(alloc, number, script)?;
-            }
+            found.add_script(alloc, number, script)?;
         }
         Ok(found)
     }
 
+    // Numbers of scripts and places of functions have 16 bits.
     fn add_script(
+        &mut self,
+        alloc: Global,
+        number: usize,
+        script: &'a OutlineScript,
+    ) -> Result<(), OutOfMemory>
+        ensures { OnOk result (Adds self.old self.new (native_places_in number script.now) (λ scripts. slice_get scripts number ≡ Some script.now)) }
+    {
+        match u16::try_from(number) {
+            Ok(number) => self.add_functions(alloc, number, script),
+            Err(_) => Ok(()),
+        }
+    }
+
+    fn add_functions(
         &mut self,
         alloc: Global,
         number: u16,
@@ -60,10 +73,9 @@ impl<'a> Natives<'a> {
     ) -> Result<(), OutOfMemory>
         ensures { OnOk result (Adds self.old self.new (native_places_from number 0 script.now.functions.items) (λ scripts. slice_get scripts number ≡ Some script.now)) }
     {
-        for (place, function) in script.functions.iter().enumerate() {
-            if let Ok(place) = u16::try_from(place) {
-                self.add(alloc, script, (number, place), function)?;
-            }
+        let functions = script.functions.as_slice();
+        for (place, function) in functions.iter().enumerate() {
+            self.add(alloc, script, number, place, function)?;
         }
         Ok(())
     }
@@ -73,19 +85,23 @@ impl<'a> Natives<'a> {
         &mut self,
         alloc: Global,
         script: &OutlineScript,
-        at: (u16, u16),
+        number: u16,
+        place: usize,
         function: &'a OutlineFunction,
     ) -> Result<(), OutOfMemory>
-        ensures { OnOk result (Adds self.old self.new (native_place_here at.0 at.1 function.now) (λ scripts. IsFunctionAt scripts at.0 at.1 function.now)) }
+        ensures { OnOk result (Adds self.old self.new (native_place_here number place function.now) (λ scripts. IsFunctionAt scripts number place function.now)) }
     {
+        let Ok(at) = u16::try_from(place) else {
+            return Ok(());
+        };
         if !function.is_native {
             return Ok(());
         }
         let name = full_name(alloc, script, function)?;
         self.names.note(alloc, &name, self.natives.len())?;
         self.natives.push(Native {
-            script: at.0,
-            place: at.1,
+            script: number,
+            place: at,
             function,
             binding: None,
         })?;

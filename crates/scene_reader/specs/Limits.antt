@@ -1,5 +1,6 @@
 -- The limits that a scene keeps once it was read.
-use Rattle.std.specs.Prelude.{ℕ, ◌≡◌, ◌<◌, ◌≤◌, Bool, true, false, ◌||◌, ◌&&◌, ◌==◌, nat_le, IsTrue, List, length}
+use Rattle.std.specs.Prelude.{ℕ, ℤ, ◌≡◌, ◌<◌, ◌≤◌, Bool, false, ◌||◌, ◌==◌, IsTrue, List, length}
+use Rattle.std.specs.Char.{is_ascii_alphanumeric}
 use Rattle.std.specs.List.{All}
 use Rattle.std.specs.declared.alloc.Global.{Global}
 use Rattle.std.specs.declared.vec.Vec.{Vec}
@@ -12,17 +13,18 @@ use Rattle.core_tree.specs.declared.scene_tree.SceneValue.{SceneValue}
 use Rattle.core_tree.specs.declared.scene_tree.SceneValue.TheVariants as values
 use Rattle.core_tree.specs.declared.scene_tree.TurnOrder.{TurnOrder}
 use Rattle.core_tree.specs.declared.scene_tree.TurnOrder.TheVariants as orders
-use Rattle.std.specs.Prelude.{ℤ}
 
 -- a letter, a digit or `_`
 abbrev pub is_name_byte : ℕ → Bool
-is_name_byte byte =
-    (nat_le 48 byte && nat_le byte 57) || (nat_le 65 byte && nat_le byte 90) || (nat_le 97 byte && nat_le byte 122) || (byte == 95)
+is_name_byte byte = is_ascii_alphanumeric byte || (byte == 95)
+
+abbrev pub IsNameByte : ℕ → Type 0
+IsNameByte byte = IsTrue (is_name_byte byte)
 
 pub record IsInstanceName (name : List ℕ) : Type 0 where
   pub some : 0 < length name
   pub few : length name ≤ 64
-  pub bytes : All (λ byte. IsTrue (is_name_byte byte)) name
+  pub bytes : All IsNameByte name
 
 abbrev pub IsShort : List ℕ → Type 0
 IsShort text = length text ≤ 1024

@@ -1,3 +1,6 @@
+ghost use Rattle.std.specs.Prelude.{IfOk};
+ghost use Rattle.scene_reader.specs.Default.{IsDefaultScene};
+
 use core_tree::{SceneCall, SceneInstance, SceneTree, TurnOrder};
 use papy_base::{Name, OutOfMemory, Text};
 use std::alloc::Global;
@@ -13,7 +16,9 @@ const TURNS: u32 = 10_000;
 /// # Errors
 ///
 /// `OutOfMemory` comes where there is no room.
-pub fn default_scene(alloc: Global, script: &Name) -> Result<SceneTree, OutOfMemory> {
+pub fn default_scene(alloc: Global, script: &Name) -> Result<SceneTree, OutOfMemory>
+    ensures { IfOk result (IsDefaultScene script.now) }
+{
     let mut instances = Vec::new(alloc);
     instances.push(SceneInstance {
         name: Text::try_from_bytes(alloc, INSTANCE)?,

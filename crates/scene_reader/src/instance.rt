@@ -1,7 +1,7 @@
 // Instances of a scene.
-ghost use Rattle.std.specs.Prelude.{◌≡◌, ◌↔◌, IsTrue, List, IfOk};
+ghost use Rattle.std.specs.Prelude.{◌≡◌, IsTrue, IfOk};
 ghost use Rattle.std.specs.List.{All};
-ghost use Rattle.scene_reader.specs.Limits.{Keeps, IsInstanceName, is_name_byte, EntryKeeps, InstanceKeeps};
+ghost use Rattle.scene_reader.specs.Limits.{Keeps, IsInstanceName, IsNameByte, is_name_byte, EntryKeeps, InstanceKeeps};
 
 use crate::fault::SceneFault;
 use crate::keys::{check_keys, needed, shape_fault};
@@ -33,17 +33,36 @@ fn instance_name(alloc: Global, value: &Value) -> Result<Text, SceneFault>
     ensures { IfOk result IsInstanceName }
 {
     match value.as_str() {
-        Some(name) if is_instance_name(name) => Ok(Text::try_from_bytes(alloc, name.as_bytes())?),
-        _ => Err(shape_fault()),
+        Some(name) => checked_name(alloc, name.as_bytes()),
+        None => Err(shape_fault()),
     }
 }
 
-// 1 to 64 letters, digits or `_`.
-fn is_instance_name(name: &str) -> bool
-    ensures { IsTrue result ↔ IsInstanceName name.now }
+fn checked_name(alloc: Global, name: &[u8]) -> Result<Text, SceneFault>
+    ensures { IfOk result IsInstanceName }
 {
-    let bytes = name.as_bytes();
-    !bytes.is_empty() && bytes.len() <= NAME_LIMIT && bytes.iter().all(|byte| is_name_byte(*byte))
+    if !is_instance_name(name) {
+        return Err(shape_fault());
+    }
+    Ok(Text::try_from_bytes(alloc, name)?)
+}
+
+// 1 to 64 letters, digits or `_`.
+fn is_instance_name(name: &[u8]) -> bool
+    ensures { IsTrue result → IsInstanceName name.now }
+{
+    !name.is_empty() && name.len() <= NAME_LIMIT && are_name_bytes(name)
+}
+
+fn are_name_bytes(bytes: &[u8]) -> bool
+    ensures { IsTrue result → All IsNameByte bytes.now }
+{
+    for byte in bytes {
+        if !is_name_byte(*byte) {
+            return false;
+        }
+    }
+    true
 }
 
 fn is_name_byte(byte: u8) -> bool

@@ -4,7 +4,7 @@ use Rattle.std.specs.List.{All}
 use Rattle.core_tree.specs.declared.outline.OutlineScript.{OutlineScript}
 use Rattle.scene_binder.specs.NativeList.{HoldsNative, native_place}
 use Rattle.scene_binder.specs.Natives.{native_places_from}
-use Rattle.scene_binder.proofs.natives.Natives.add_script.Given as goal
+use Rattle.scene_binder.proofs.natives.Natives.add_functions.Given as goal
 
 abbrev pub invariant-loop-place : goal.invariant-loop-place
 invariant-loop-place l = record {
