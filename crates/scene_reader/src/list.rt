@@ -43,7 +43,7 @@ fn read_items<T: Item>(
 ) -> Result<Vec<T>, SceneFault>
     ensures { IfOk result (λ items. Keeps limits.old.broken limits.new.broken ((length items.items ≡ length values.now) × All T.keeps items.items)) }
 {
-    let mut items = Vec::with_capacity(alloc, values.len())?;
+    let mut items = Vec::new(alloc);
     for value in values {
         let item = T::read(alloc, value, limits)?;
         items.push(item)?;
