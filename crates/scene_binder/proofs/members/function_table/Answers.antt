@@ -17,7 +17,7 @@ loop-place-preserved c =
     let names = map function_key (take place functions) in
     let grown = take_more functions place function c.loop-place-test.true ∙ ap (λ f. take place functions ++ f ∷ []) (sym c.index-functions-place.is) in
     let keys : map function_key (take (place + 1) functions) ≡ names ++ function_key function ∷ [] =
-        ap (map function_key) grown ∙ map-append function_key (take place functions) (function ∷ []) in
+    ap (map function_key) grown ∙ map-append function_key (take place functions) (function ∷ []) in
     let count : length names ≡ place = simp (length-map, length-take) (omega arith) in
     let noted = subst (λ n. Notes old new (function_key function) n is_new) (sym count) (subst (λ bytes. Notes old new (folded bytes) place is_new) c.as_bytes.ensures c.in_ok-note.ensures) in
     subst (λ ns. IsTableOf ns new) (sym keys) (IsTableOf-notes names (function_key function) old new is_new c.loop-place.invariant noted)
