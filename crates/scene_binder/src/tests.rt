@@ -132,9 +132,8 @@ fn names_become_numbers(rt: HostRuntime) -> Result<(), Fail> {
 }
 
 #[test]
-fn refuses_by_each_rule(rt: HostRuntime) -> Result<(), Fail> {
+fn refuses_instances_and_what_they_set(rt: HostRuntime) -> Result<(), Fail> {
     let alloc = rt.alloc();
-    let gate = "{\"name\":\"g\",\"script\":\"Gate\"}";
     let twice = "{\"name\":\"g\",\"script\":\"Gate\"},{\"name\":\"G\",\"script\":\"No\"}";
     for (instances, calls, natives, tapes, rule) in [
         (
@@ -166,6 +165,18 @@ fn refuses_by_each_rule(rt: HostRuntime) -> Result<(), Fail> {
             "",
             SceneRule::Arguments,
         ),
+    ] {
+        let answer = bound(alloc, (instances, calls, natives, tapes))?;
+        assert_eq!(rt; answer.err(), Some(SceneFault::of(rule)));
+    }
+    Ok(())
+}
+
+#[test]
+fn refuses_natives_and_calls(rt: HostRuntime) -> Result<(), Fail> {
+    let alloc = rt.alloc();
+    let gate = "{\"name\":\"g\",\"script\":\"Gate\"}";
+    for (instances, calls, natives, tapes, rule) in [
         (gate, "", "", "", SceneRule::UnboundNative),
         (
             gate,
