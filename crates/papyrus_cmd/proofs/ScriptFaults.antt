@@ -11,16 +11,21 @@ use Rattle.script_linker.specs.Link.{IsFaultOf}
 use Rattle.script_linker.specs.declared.fault.LinkFault.{LinkFault}
 use Rattle.script_linker.specs.declared.fault.LinkFault.TheVariants as link
 use Rattle.script_linker.specs.declared.set.SourceFile.{SourceFile}
+use Rattle.type_rules.specs.Faults.{IsFaultBelow}
+use Rattle.type_rules.specs.declared.fault.TypeFault.{TypeFault}
+use Rattle.type_rules.specs.declared.fault.TypeFault.TheVariants as typing
+use Rattle.papyrus_cmd.specs.declared.ending.Ending.{Ending}
+use Rattle.papyrus_cmd.specs.declared.ending.Ending.TheVariants as ending
 use Rattle.papyrus_cmd.specs.declared.file_fault.FileFault.{FileFault}
 use Rattle.papyrus_cmd.specs.declared.file_fault.FileFault.TheVariants.{ReadFault, OutOfMemory, Refused}
 use Rattle.papyrus_cmd.specs.declared.refusal.Place.{Place}
 use Rattle.papyrus_cmd.specs.declared.refusal.Place.TheVariants.{Line}
 use Rattle.papyrus_cmd.specs.declared.refusal.Rule.{Rule}
 use Rattle.papyrus_cmd.specs.declared.refusal.Rule.TheVariants.{Lexical}
-use Rattle.papyrus_cmd.specs.Ending.{IsWordBelow, MissesScript, word_at}
+use Rattle.papyrus_cmd.specs.Ending.{CountsReads, IsWordBelow, MissesScript, word_at}
 use Rattle.papyrus_cmd.specs.FileFault.{MissesFile, ending_at}
 use Rattle.papyrus_cmd.specs.Held.{AreHeld, IsHeld}
-use Rattle.papyrus_cmd.specs.Scripts.{EndsOnScripts, HoldsRefused, ParsesScript, ReadsScript, RefusesScript, link_ending}
+use Rattle.papyrus_cmd.specs.Scripts.{AcceptsAlone, EndsOnScripts, EndsOnSet, HoldsRefused, ParsesScript, ReadsScript, RefusesScript, RefusesSet, link_ending, type_ending}
 use Rattle.papyrus_cmd.specs.TextFile.{ReadsText}
 
 -- ---- lines
@@ -107,13 +112,64 @@ script_word count place (Refused p rule) within = omega arith
 
 -- ---- a set
 
-pub set_refused : (holds : Option Files) (names : List (List ℕ)) (files : List SourceFile) (fault : LinkFault) → IfSome holds (AreHeld names) → length files ≡ length names → IsFaultOf files fault →
-    EndsOnScripts names holds (link_ending fault)
-set_refused holds names files link.OutOfMemory held is of = tt
-set_refused None names files (link.Broken file line rule) held is of = tt
-set_refused (Some all) names files (link.Broken file line rule) held is (within, on) =
-    inr (held, record { line = line; broken = rule; place_is = refl; rule_is = refl; within = omega arith })
+-- a set of scripts that is refused
+pub set_refused : (holds : Option Files) (names : List (List ℕ)) (count : ℕ) (found : Ending) → IfSome holds (AreHeld names) → count ≡ length names → EndsOnSet count found →
+    EndsOnScripts names holds found
+set_refused None names count (ending.Refused word place rule) held is ends = tt
+set_refused (Some files) names count (ending.Refused word place rule) held is ends =
+    inr (held, subst (λ n. RefusesSet n word place rule) is ends)
+set_refused holds names count ending.OutOfMemory held is ends = tt
+set_refused holds names count (ending.ReadFault word) held is ends = absurd ends
+set_refused holds names count ending.Done held is ends = absurd ends
+set_refused holds names count ending.Usage held is ends = absurd ends
+set_refused holds names count ending.WriteFault held is ends = absurd ends
+set_refused holds names count ending.NotBuilt held is ends = absurd ends
 
-pub set_word : (files : List SourceFile) (fault : LinkFault) → IsFaultOf files fault → IsWordBelow (length files + 1) (link_ending fault)
-set_word files link.OutOfMemory of = tt
-set_word files (link.Broken file line rule) (within, on) = omega arith
+pub set_word : (count : ℕ) (found : Ending) → EndsOnSet count found → IsWordBelow (count + 1) found
+set_word count (ending.Refused word place rule) ends = ends.within
+set_word count ending.OutOfMemory ends = tt
+set_word count (ending.ReadFault word) ends = absurd ends
+set_word count ending.Done ends = tt
+set_word count ending.Usage ends = tt
+set_word count ending.WriteFault ends = tt
+set_word count ending.NotBuilt ends = tt
+
+pub set_counts : (count : ℕ) (found : Ending) (before now : ℕ) → EndsOnSet count found → now ≡ before → CountsReads found before now
+set_counts count (ending.Refused word place rule) before now ends same = same
+set_counts count ending.OutOfMemory before now ends same = same
+set_counts count (ending.ReadFault word) before now ends same = absurd ends
+set_counts count ending.Done before now ends same = same
+set_counts count ending.Usage before now ends same = same
+set_counts count ending.WriteFault before now ends same = same
+set_counts count ending.NotBuilt before now ends same = same
+
+pub set_missed : (names : List (List ℕ)) (count : ℕ) (found : Ending) (missed : Option (List ℕ)) → EndsOnSet count found → MissesScript names found missed
+set_missed names count (ending.Refused word place rule) missed ends = tt
+set_missed names count ending.OutOfMemory missed ends = tt
+set_missed names count (ending.ReadFault word) missed ends = absurd ends
+set_missed names count ending.Done missed ends = tt
+set_missed names count ending.Usage missed ends = tt
+set_missed names count ending.WriteFault missed ends = tt
+set_missed names count ending.NotBuilt missed ends = tt
+
+pub set_alone : (T : Type 0) (text : List ℕ) (found : Ending) → EndsOnSet 1 found → AcceptsAlone {T = T} text (Err found)
+set_alone T text (ending.Refused word place rule) ends =
+    (omega (arith, ends.above, ends.within), inr ends)
+set_alone T text ending.OutOfMemory ends = tt
+set_alone T text (ending.ReadFault word) ends = absurd ends
+set_alone T text ending.Done ends = absurd ends
+set_alone T text ending.Usage ends = absurd ends
+set_alone T text ending.WriteFault ends = absurd ends
+set_alone T text ending.NotBuilt ends = absurd ends
+
+-- ---- the answers of the two judges of a set
+
+pub link_ends : (files : List SourceFile) (fault : LinkFault) → IsFaultOf files fault → EndsOnSet (length files) (link_ending fault)
+link_ends files link.OutOfMemory of = tt
+link_ends files (link.Broken file line rule) (within, on) =
+    record { line = line; place_is = refl; rule_is = tt; above = omega arith; within = omega arith }
+
+pub type_ends : (count : ℕ) (fault : TypeFault) → IsFaultBelow (count + 6) fault → EndsOnSet count (type_ending fault)
+type_ends count typing.OutOfMemory below = tt
+type_ends count (typing.Broken file line rule) below =
+    record { line = line; place_is = refl; rule_is = tt; above = omega arith; within = omega arith }

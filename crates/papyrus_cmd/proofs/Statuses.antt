@@ -11,7 +11,7 @@ use Rattle.papyrus_cmd.specs.declared.command.Command.TheVariants.{Help, Version
 use Rattle.papyrus_cmd.specs.declared.ending.Ending.{Ending}
 use Rattle.papyrus_cmd.specs.declared.ending.Ending.TheVariants.{Done, OutOfMemory, Usage, ReadFault, WriteFault, Refused, NotBuilt}
 use Rattle.papyrus_cmd.specs.declared.refusal.Rule.{Rule}
-use Rattle.papyrus_cmd.specs.declared.refusal.Rule.TheVariants.{Pex, Listing, Lexical, Grammar, Link}
+use Rattle.papyrus_cmd.specs.declared.refusal.Rule.TheVariants.{Pex, Listing, Lexical, Grammar, Link, Typing}
 use Rattle.papyrus_cmd.specs.Answers.{Answers, Outputs}
 use Rattle.papyrus_cmd.specs.Asm.{AsmLeaves, MayWrite}
 use Rattle.papyrus_cmd.specs.Command.{command_of}
@@ -53,6 +53,7 @@ not-three (Listing rule) = λ is. absurd (omega arith)
 not-three (Lexical rule) = λ is. absurd (omega arith)
 not-three (Grammar rule) = λ is. absurd (omega arith)
 not-three (Link rule) = λ is. absurd (omega arith)
+not-three (Typing rule) = λ is. absurd (omega arith)
 
 -- a status that tells of a line
 told-wanted : (line : List ℕ) (wanted status : ℕ) (before now : Option (List ℕ)) (f f' : ℕ) → Noted line wanted status before now f f' → status ≡ 3 → (wanted ≡ 3) × Appended line before now
@@ -139,6 +140,7 @@ not-four (Listing rule) = λ is. absurd (omega arith)
 not-four (Lexical rule) = λ is. absurd (omega arith)
 not-four (Grammar rule) = λ is. absurd (omega arith)
 not-four (Link rule) = λ is. absurd (omega arith)
+not-four (Typing rule) = λ is. absurd (omega arith)
 
 abbrev Risen : ℕ → ℕ → ℕ → ℕ → ℕ → ℕ → Type 0
 Risen s s' f f' d d' = HasRisen s s' ⊎ HasRisen f f' ⊎ HasRisen d d'

@@ -9,12 +9,14 @@ use Rattle.line_parser.specs.declared.fault.LineRule.{LineRule}
 use Rattle.line_parser.specs.declared.fault.LineRule.TheVariants as grammar
 use Rattle.script_linker.specs.declared.fault.LinkRule.{LinkRule}
 use Rattle.script_linker.specs.declared.fault.LinkRule.TheVariants as link
+use Rattle.expression_rules.specs.declared.rule.TypeRule.{TypeRule}
+use Rattle.expression_rules.specs.declared.rule.TypeRule.TheVariants as typing
 use Rattle.pex_listing.specs.declared.faults.ListingRule.{ListingRule}
 use Rattle.pex_listing.specs.declared.faults.ListingRule.TheVariants as listing
 use Rattle.papyrus_cmd.specs.declared.refusal.Place.{Place}
 use Rattle.papyrus_cmd.specs.declared.refusal.Place.TheVariants.{Offset, Line}
 use Rattle.papyrus_cmd.specs.declared.refusal.Rule.{Rule}
-use Rattle.papyrus_cmd.specs.declared.refusal.Rule.TheVariants.{Pex, Listing, Lexical, Grammar, Link}
+use Rattle.papyrus_cmd.specs.declared.refusal.Rule.TheVariants.{Pex, Listing, Lexical, Grammar, Link, Typing}
 
 -- the code and the name of each rule
 abbrev pub pex_rule_text : PexRule → List ℕ
@@ -61,6 +63,24 @@ link_rule_text link.PropertyInParent = codes "N10 PropertyInParent"
 link_rule_text link.DefaultOrder = codes "N11 DefaultOrder"
 link_rule_text link.Limit = codes "N12 Limit"
 
+abbrev pub type_rule_text : TypeRule → List ℕ
+type_rule_text typing.UnknownName = codes "K1 UnknownName"
+type_rule_text typing.UnknownType = codes "K2 UnknownType"
+type_rule_text typing.NoFunction = codes "K3 NoFunction"
+type_rule_text typing.NoProperty = codes "K4 NoProperty"
+type_rule_text typing.Arguments = codes "K5 Arguments"
+type_rule_text typing.NoConversion = codes "K6 NoConversion"
+type_rule_text typing.Operand = codes "K7 Operand"
+type_rule_text typing.NotAssignable = codes "K8 NotAssignable"
+type_rule_text typing.InstanceInGlobal = codes "K9 InstanceInGlobal"
+type_rule_text typing.ReturnValue = codes "K10 ReturnValue"
+type_rule_text typing.PropertyDirection = codes "K11 PropertyDirection"
+type_rule_text typing.ArraySize = codes "K12 ArraySize"
+type_rule_text typing.NoParent = codes "K13 NoParent"
+type_rule_text typing.DuplicateLocal = codes "K14 DuplicateLocal"
+type_rule_text typing.FunctionTooLarge = codes "K15 FunctionTooLarge"
+type_rule_text typing.NoValue = codes "K16 NoValue"
+
 abbrev pub listing_rule_text : ListingRule → List ℕ
 listing_rule_text listing.BadLine = codes "G1 BadLine"
 listing_rule_text listing.NotCanonical = codes "G2 NotCanonical"
@@ -73,6 +93,7 @@ rule_text (Listing rule) = listing_rule_text rule
 rule_text (Lexical rule) = lex_rule_text rule
 rule_text (Grammar rule) = line_rule_text rule
 rule_text (Link rule) = link_rule_text rule
+rule_text (Typing rule) = type_rule_text rule
 
 -- the status of a command that refuses a file by the rule
 abbrev pub rule_status : Rule → ℕ
@@ -81,6 +102,7 @@ rule_status (Listing rule) = 8
 rule_status (Lexical rule) = 5
 rule_status (Grammar rule) = 5
 rule_status (Link rule) = 5
+rule_status (Typing rule) = 5
 
 abbrev pub place_text : Place → List ℕ
 place_text (Offset offset) = codes "@" ++ decimal offset

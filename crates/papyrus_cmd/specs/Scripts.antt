@@ -1,4 +1,4 @@
--- What reading, parsing and linking scripts gives.
+-- What reading, parsing, linking and elaborating scripts gives.
 use Rattle.std.specs.Prelude.{◌≡◌, ◌⊎◌, ℕ, suc, ◌+◌, ◌<◌, List, [], take, length, Option, None, Some, Result, Ok, Err, IfSome}
 use Rattle.papy_io.specs.Files.{Files, told_bytes}
 use Rattle.script_lexer.specs.declared.fault.LexRule.{LexRule}
@@ -6,8 +6,9 @@ use Rattle.script_lexer.specs.declared.line.Lines.{Lines}
 use Rattle.script_lexer.specs.Lines.{LexBreak, Lexes, logical_lines}
 use Rattle.script_linker.specs.declared.fault.LinkFault.{LinkFault}
 use Rattle.script_linker.specs.declared.fault.LinkFault.TheVariants as link
-use Rattle.script_linker.specs.declared.fault.LinkRule.{LinkRule}
 use Rattle.script_parser.specs.Faults.{IsLineOf}
+use Rattle.type_rules.specs.declared.fault.TypeFault.{TypeFault}
+use Rattle.type_rules.specs.declared.fault.TypeFault.TheVariants as typing
 use Rattle.papyrus_cmd.specs.declared.ending.Ending.{Ending}
 use Rattle.papyrus_cmd.specs.declared.ending.Ending.TheVariants as ending
 use Rattle.papyrus_cmd.specs.declared.file_fault.FileFault.{FileFault}
@@ -15,7 +16,7 @@ use Rattle.papyrus_cmd.specs.declared.file_fault.FileFault.TheVariants.{ReadFaul
 use Rattle.papyrus_cmd.specs.declared.refusal.Place.{Place}
 use Rattle.papyrus_cmd.specs.declared.refusal.Place.TheVariants.{Line}
 use Rattle.papyrus_cmd.specs.declared.refusal.Rule.{Rule}
-use Rattle.papyrus_cmd.specs.declared.refusal.Rule.TheVariants.{Pex, Listing, Lexical, Grammar, Link}
+use Rattle.papyrus_cmd.specs.declared.refusal.Rule.TheVariants.{Pex, Listing, Lexical, Grammar, Link, Typing}
 use Rattle.papyrus_cmd.specs.Ending.{CountsReads, word_at}
 use Rattle.papyrus_cmd.specs.Held.{AreHeld, IsHeld}
 
@@ -38,6 +39,7 @@ abbrev pub RefusesScript : List ℕ → Place → Rule → Type 0
 RefusesScript text place (Lexical rule) = BreaksForm text place rule
 RefusesScript text place (Grammar rule) = StandsOnLine text place
 RefusesScript text place (Link rule) = ⊥
+RefusesScript text place (Typing rule) = ⊥
 RefusesScript text place (Pex rule) = ⊥
 RefusesScript text place (Listing rule) = ⊥
 
@@ -74,12 +76,21 @@ pub record RefusesFile (names : List (List ℕ)) (files : Files) (word : ℕ) (p
   pub earlier : AreHeld (take at names) files
   pub refused : HoldsRefused (word_at names at) files place rule
 
+-- a rule of sets of scripts, or of the types and names in them
+abbrev pub IsRuleOfSets : Rule → Type 0
+IsRuleOfSets (Link rule) = Unit {0}
+IsRuleOfSets (Typing rule) = Unit {0}
+IsRuleOfSets (Lexical rule) = ⊥
+IsRuleOfSets (Grammar rule) = ⊥
+IsRuleOfSets (Pex rule) = ⊥
+IsRuleOfSets (Listing rule) = ⊥
+
 -- a rule of sets of so many scripts is broken in one of them
 pub record RefusesSet (count word : ℕ) (place : Place) (rule : Rule) : Type 0 where
   pub line : ℕ
-  pub broken : LinkRule
   pub place_is : place ≡ Line line
-  pub rule_is : rule ≡ Link broken
+  pub rule_is : IsRuleOfSets rule
+  pub above : 0 < word
   pub within : word < count + 1
 
 -- the scripts of these names are refused so
@@ -91,6 +102,21 @@ RefusesScripts names files word place rule =
 abbrev pub link_ending : LinkFault → Ending
 link_ending (link.Broken file line rule) = ending.Refused (file + 1) (Line line) (Link rule)
 link_ending link.OutOfMemory = ending.OutOfMemory
+
+-- the same where the types and names in the set are refused
+abbrev pub type_ending : TypeFault → Ending
+type_ending (typing.Broken file line rule) = ending.Refused (file + 1) (Line line) (Typing rule)
+type_ending typing.OutOfMemory = ending.OutOfMemory
+
+-- how a command ends whose set of so many scripts isn't accepted
+abbrev pub EndsOnSet : ℕ → Ending → Type 0
+EndsOnSet count (ending.Refused word place rule) = RefusesSet count word place rule
+EndsOnSet count ending.OutOfMemory = Unit {0}
+EndsOnSet count (ending.ReadFault word) = ⊥
+EndsOnSet count ending.Done = ⊥
+EndsOnSet count ending.Usage = ⊥
+EndsOnSet count ending.WriteFault = ⊥
+EndsOnSet count ending.NotBuilt = ⊥
 
 -- how a command ends whose scripts aren't accepted
 abbrev pub EndsOnScripts : List (List ℕ) → Option Files → Ending → Type 0

@@ -1,7 +1,7 @@
 //! Which rule a file breaks, and the line that tells it.
 ghost use Rattle.std.specs.Prelude.{◌≡◌, IfOk};
 ghost use Rattle.std.specs.String.{string_bytes};
-ghost use Rattle.papyrus_cmd.specs.Refusal.{lex_rule_text, line_rule_text, listing_rule_text, link_rule_text, pex_rule_text, place_text, refusal_line, rule_status, rule_text};
+ghost use Rattle.papyrus_cmd.specs.Refusal.{lex_rule_text, line_rule_text, listing_rule_text, link_rule_text, pex_rule_text, place_text, refusal_line, rule_status, rule_text, type_rule_text};
 
 use line_parser::LineRule;
 use papy_base::OutOfMemory;
@@ -10,6 +10,7 @@ use pex_listing::ListingRule;
 use script_lexer::LexRule;
 use script_linker::LinkRule;
 use std::alloc::Global;
+use type_rules::TypeRule;
 
 /// Where in a file a rule is broken.
 #[derive(Clone, Copy, Debug, PartialEq, Eq)]
@@ -33,6 +34,8 @@ pub enum Rule {
     Grammar(LineRule),
     /// One of the rules of a set of scripts.
     Link(LinkRule),
+    /// One of the rules of types and names.
+    Typing(TypeRule),
 }
 
 impl Rule {
@@ -43,7 +46,7 @@ impl Rule {
         match self {
             Rule::Pex(_) => 6,
             Rule::Listing(_) => 8,
-            Rule::Lexical(_) | Rule::Grammar(_) | Rule::Link(_) => 5,
+            Rule::Lexical(_) | Rule::Grammar(_) | Rule::Link(_) | Rule::Typing(_) => 5,
         }
     }
 
@@ -57,6 +60,7 @@ impl Rule {
             Rule::Lexical(rule) => lex_rule_text(rule),
             Rule::Grammar(rule) => line_rule_text(rule),
             Rule::Link(rule) => link_rule_text(rule),
+            Rule::Typing(rule) => type_rule_text(rule),
         }
     }
 }
@@ -122,6 +126,29 @@ fn link_rule_text(rule: LinkRule) -> &'static [u8]
         LinkRule::PropertyInParent => b"N10 PropertyInParent",
         LinkRule::DefaultOrder => b"N11 DefaultOrder",
         LinkRule::Limit => b"N12 Limit",
+    }
+}
+
+fn type_rule_text(rule: TypeRule) -> &'static [u8]
+    ensures { result.now ≡ type_rule_text rule }
+{
+    match rule {
+        TypeRule::UnknownName => b"K1 UnknownName",
+        TypeRule::UnknownType => b"K2 UnknownType",
+        TypeRule::NoFunction => b"K3 NoFunction",
+        TypeRule::NoProperty => b"K4 NoProperty",
+        TypeRule::Arguments => b"K5 Arguments",
+        TypeRule::NoConversion => b"K6 NoConversion",
+        TypeRule::Operand => b"K7 Operand",
+        TypeRule::NotAssignable => b"K8 NotAssignable",
+        TypeRule::InstanceInGlobal => b"K9 InstanceInGlobal",
+        TypeRule::ReturnValue => b"K10 ReturnValue",
+        TypeRule::PropertyDirection => b"K11 PropertyDirection",
+        TypeRule::ArraySize => b"K12 ArraySize",
+        TypeRule::NoParent => b"K13 NoParent",
+        TypeRule::DuplicateLocal => b"K14 DuplicateLocal",
+        TypeRule::FunctionTooLarge => b"K15 FunctionTooLarge",
+        TypeRule::NoValue => b"K16 NoValue",
     }
 }
 

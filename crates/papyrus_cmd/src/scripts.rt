@@ -1,10 +1,10 @@
-//! The scripts that a command names: read, cut into lines, parsed, and linked into a set.
+//! The scripts that a command names: read, cut into lines, parsed, linked into a set, and elaborated.
 ghost use Rattle.std.specs.Prelude.{◌≡◌, ◌≢◌, ◌+◌, ◌^◌, ◌<◌, ◌≤◌, length, map, vec_len, IfErr, IfOk, OnErr};
 ghost use Rattle.std.specs.String.{string_bytes};
 ghost use Rattle.papy_io.specs.Activity.{Idle};
 ghost use Rattle.papyrus_cmd.specs.Ending.{IsWordBelow, MissesScript};
 ghost use Rattle.papyrus_cmd.specs.FileFault.{CountsFile, MissesFile};
-ghost use Rattle.papyrus_cmd.specs.Scripts.{Accepts, AcceptsAlone, CountsScripts, CutsLines, ParsesScript, ReadsScript, link_ending};
+ghost use Rattle.papyrus_cmd.specs.Scripts.{Accepts, AcceptsAlone, CountsScripts, CutsLines, EndsOnSet, ParsesScript, ReadsScript, link_ending, type_ending};
 ghost use Rattle.papyrus_cmd.specs.TextFile.{ReadsText};
 ghost use Rattle.script_lexer.specs.declared.fault.LexRule.TheVariants as LexRule;
 ghost use Rattle.papyrus_cmd.specs.declared.refusal.Rule.TheVariants as Rule;
@@ -13,12 +13,14 @@ use crate::ending::Ending;
 use crate::file_fault::FileFault;
 use crate::refusal::{Place, Rule};
 use crate::text_file::read_text;
+use core_tree::CoreSet;
 use papy_base::Text;
 use papy_io::Desk;
 use script_lexer::{LexFault, LexRule, Lines, lex};
-use script_linker::{LinkFault, ScriptSet, SourceFile, link};
+use script_linker::{LinkFault, SourceFile, link};
 use script_parser::{ParseFault, Script, parse_script};
 use std::alloc::Global;
+use type_rules::{TypeFault, elaborate};
 
 /// The most bytes of a script.
 const SCRIPT_LIMIT: u32 = 1 << 20;
@@ -135,25 +137,57 @@ fn read_sources<D: Desk>(
     Ok(files)
 }
 
+/// How a command ends where the file of this number breaks a rule.
+fn refused_in(file: u16, line: u32, rule: Rule) -> Ending
+    ensures { result ≡ Ending.Refused (file + 1) (Place.Line line) rule }
+{
+    Ending::Refused {
+        word: usize::from(file) + 1,
+        place: Place::Line(line),
+        rule,
+    }
+}
+
 /// How a command ends whose scripts' set is refused.
 fn link_ending(fault: LinkFault) -> Ending
     ensures { result ≡ link_ending fault }
 {
     match fault {
-        LinkFault::Broken { file, line, rule } => Ending::Refused {
-            word: file as usize + 1,
-            place: Place::Line(line),
-            rule: Rule::Link(rule),
-        },
+        LinkFault::Broken { file, line, rule } => refused_in(file, line, Rule::Link(rule)),
         LinkFault::OutOfMemory => Ending::OutOfMemory,
     }
 }
 
-/// Reads the scripts and gives their set, or how the command ends that names them.
+/// How a command ends whose scripts break a rule of types and names.
+fn type_ending(fault: TypeFault) -> Ending
+    ensures { result ≡ type_ending fault }
+{
+    match fault {
+        TypeFault::Broken { file, line, rule } => refused_in(file, line, Rule::Typing(rule)),
+        TypeFault::OutOfMemory => Ending::OutOfMemory,
+    }
+}
+
+/// Links the files and elaborates their set. The rules of sets stand before those of types and names.
+fn core_set(alloc: Global, files: Vec<SourceFile>) -> Result<CoreSet, Ending>
+    requires { vec_len files < 65530 }
+    ensures { IfErr result (EndsOnSet (vec_len files)) }
+{
+    let set = match link(alloc, files) {
+        Ok(set) => set,
+        Err(fault) => return Err(link_ending(fault)),
+    };
+    match elaborate(alloc, &set) {
+        Ok(core) => Ok(core),
+        Err(fault) => Err(type_ending(fault)),
+    }
+}
+
+/// Reads the scripts and gives their core set, or how the command ends that names them.
 ///
 /// Each file is read and then judged by its lexical form and its lines, in the order of the words;
-/// then the set is judged.
-pub fn accept<D: Desk>(alloc: Global, scripts: &[String], desk: &mut D) -> Result<ScriptSet, Ending>
+/// then the set is judged, and at last its types and names.
+pub fn accept<D: Desk>(alloc: Global, scripts: &[String], desk: &mut D) -> Result<CoreSet, Ending>
     requires idle { D.busy desk.old ≡ Idle }
     requires few { length scripts.now ≤ 256 }
     ensures busy { D.busy desk.new ≡ Idle }
@@ -169,14 +203,14 @@ pub fn accept<D: Desk>(alloc: Global, scripts: &[String], desk: &mut D) -> Resul
         Ok(files) => files,
         Err(ending) => return Err(ending),
     };
-    match link(alloc, files) {
-        Ok(set) => Ok(set),
-        Err(fault) => Err(link_ending(fault)),
+    match core_set(alloc, files) {
+        Ok(core) => Ok(core),
+        Err(ending) => Err(ending),
     }
 }
 
-/// The set of the one script of this text, or how the command ends that names it alone.
-pub fn accept_alone(alloc: Global, name: &[u8], text: &[u8]) -> Result<ScriptSet, Ending>
+/// The core set of the one script of this text, or how the command ends that names it alone.
+pub fn accept_alone(alloc: Global, name: &[u8], text: &[u8]) -> Result<CoreSet, Ending>
     ensures { AcceptsAlone text.now result }
 {
     let file = match source_of(alloc, name, text) {
@@ -188,14 +222,14 @@ pub fn accept_alone(alloc: Global, name: &[u8], text: &[u8]) -> Result<ScriptSet
         Ok(()) => {}
         Err(_) => return Err(Ending::OutOfMemory),
     }
-    match link(alloc, files) {
-        Ok(set) => Ok(set),
-        Err(fault) => Err(link_ending(fault)),
+    match core_set(alloc, files) {
+        Ok(core) => Ok(core),
+        Err(ending) => Err(ending),
     }
 }
 
 /// How a command ends whose scripts are accepted, where what follows isn't built yet.
-pub fn not_built(_set: ScriptSet) -> Ending
+pub fn not_built(_set: CoreSet) -> Ending
     ensures { result ≡ Ending.NotBuilt }
 {
     Ending::NotBuilt

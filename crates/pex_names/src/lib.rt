@@ -3,13 +3,17 @@
 #![tactic(auto)]
 
 mod circles;
+mod descent;
 mod file_names;
+mod inherited;
 mod name_table;
 mod objects;
 mod prelude;
 
 pub use circles::on_circles;
+pub use descent::{Descent, Span};
 pub use file_names::{FileNames, text_at};
+pub use inherited::{Inherited, MemberNames, MemberPlace, OwnMembers};
 pub use name_table::{EMPTY_NAME, NameTable, folded};
 pub use objects::{Head, Objects};
 pub use prelude::{LIBRARY_COUNT, PRELUDE_COUNT, Prelude};

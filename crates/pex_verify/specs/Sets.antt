@@ -1,9 +1,10 @@
 -- What a set that was loaded holds.
-use Rattle.std.specs.Prelude.{◌≡◌, ℕ, ◌<◌, ◌≤◌, List, length, vec_len, slice_index_or}
+use Rattle.std.specs.Prelude.{◌≡◌, ℕ, ◌<◌, ◌≤◌, List, length, vec_len, slice_index_or, All}
 use Rattle.core_tree.specs.declared.outline.OutlineScript.{OutlineScript}
 use Rattle.pex_values.specs.declared.values.Pex.{Pex}
 use Rattle.pex_verify.specs.declared.loaded.LoadedScript.{LoadedScript}
-use Rattle.pex_verify.specs.Soundness.{IsSoundScript, IsSoundOutline}
+use Rattle.pex_verify.specs.Files.{IsFile}
+use Rattle.pex_verify.specs.Soundness.{bounds_with, IsSoundScript, IsSoundOutline}
 
 -- what a caller sees of a set
 pub record LoadedSet : Type 0 where
@@ -13,7 +14,7 @@ pub record LoadedSet : Type 0 where
 
 -- a script and its outline, in a set of so many scripts
 pub record IsSoundPair (count : ℕ) (o : OutlineScript) (s : LoadedScript) : Type 0 where
-  pub script : IsSoundScript (vec_len o.variables) s
+  pub script : IsSoundScript (bounds_with count (vec_len o.variables)) s
   pub outline : IsSoundOutline count o
 
 -- the scripts that were loaded so far, in a set of so many, with their outlines: at most the prelude's 6 and 4,096 others
@@ -22,6 +23,7 @@ pub record AreSoundScripts (count : ℕ) (outlines : List OutlineScript) (script
   pub numbered : length scripts ≤ 4102
   pub each : (n : ℕ) (o : OutlineScript) (s : LoadedScript) → n < length scripts → IsSoundPair count (slice_index_or outlines n o) (slice_index_or scripts n s)
 
--- all scripts of a set
-abbrev pub IsSoundSet : LoadedSet → Type 0
-IsSoundSet set = AreSoundScripts (length set.scripts) set.outline set.scripts
+-- a set of files that can be written, and all scripts of them and of the prelude
+pub record IsSoundSet (set : LoadedSet) : Type 0 where
+  pub files : All IsFile set.files
+  pub scripts : AreSoundScripts (length set.scripts) set.outline set.scripts

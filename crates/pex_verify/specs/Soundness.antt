@@ -1,9 +1,9 @@
 -- What holds of the functions and scripts of accepted files.
-use Rattle.std.specs.Prelude.{◌≡◌, ℕ, ◌+◌, ◌<◌, ◌≤◌, ℤ, pos, ◌+ℤ◌, List, length, vec_len, All, Bool, true, false, IsTrue, Option, Some, None, IfSome, slice_get, slice_index_or}
-use Rattle.core_tree.specs.declared.core_type.CoreType.{CoreType}
-use Rattle.core_tree.specs.declared.core_type.CoreType.TheVariants as kind
+use Rattle.std.specs.Prelude.{◌≡◌, ℕ, ◌+◌, ◌<◌, ◌≤◌, pos, ◌+ℤ◌, List, length, vec_len, All, Bool, true, false, IsTrue, Option, Some, None, IfSome, slice_get, slice_index_or}
+use Rattle.core_tree.specs.declared.outline.OutlineFunction.{OutlineFunction}
 use Rattle.core_tree.specs.declared.outline.OutlineProperty.{OutlineProperty}
 use Rattle.core_tree.specs.declared.outline.OutlineScript.{OutlineScript}
+use Rattle.core_tree.specs.declared.outline.OutlineVariable.{OutlineVariable}
 use Rattle.pex_verify.specs.declared.action.Action.{Action}
 use Rattle.pex_verify.specs.declared.action.Action.TheVariants as action
 use Rattle.pex_verify.specs.declared.action.Use.{Use}
@@ -14,7 +14,16 @@ use Rattle.pex_verify.specs.declared.loaded.LoadedInstruction.{LoadedInstruction
 use Rattle.pex_verify.specs.declared.loaded.LoadedFunction.{LoadedFunction}
 use Rattle.pex_verify.specs.declared.loaded.LoadedProperty.{LoadedProperty}
 use Rattle.pex_verify.specs.declared.loaded.LoadedScript.{LoadedScript}
+use Rattle.pex_verify.specs.Types.{IsTypeAmong}
 use Rattle.pex_verify.specs.Uses.{action_of, uses_by, use_at}
+
+-- how many scripts a set has, and how many variables one of them has
+pub record Bounds : Type 0 where
+  pub scripts : ℕ
+  pub variables : ℕ
+
+abbrev pub bounds_with : ℕ → ℕ → Bounds
+bounds_with scripts variables = record { scripts = scripts; variables = variables }
 
 -- a parameter or local is one of so many, and a variable one of so many
 abbrev pub IsWithin : ℕ → ℕ → Operand → Type 0
@@ -59,47 +68,63 @@ Leads (Some action.Jump) place count fixed landing = LeadsBy place count (slice_
 Leads (Some action.JumpIf) place count fixed landing = LeadsBy place count (slice_get fixed 1) landing
 Leads _ place count fixed landing = landing ≡ None
 
--- the instruction at a place of so many, in a function with so many parameters and locals of a script with so many variables
-pub record IsSoundInstruction (slots variables count place : ℕ) (i : LoadedInstruction) : Type 0 where
-  pub fixed : AreResolved slots variables (uses_by (action_of i.opcode)) i.fixed.items
-  pub more : All (IsResolved slots variables purpose.Read) i.more.items
+-- the instruction at a place of so many, in a function with so many parameters and locals of a script with these bounds
+pub record IsSoundInstruction (bounds : Bounds) (slots count place : ℕ) (i : LoadedInstruction) : Type 0 where
+  pub fixed : AreResolved slots bounds.variables (uses_by (action_of i.opcode)) i.fixed.items
+  pub more : All (IsResolved slots bounds.variables purpose.Read) i.more.items
   pub jump : Leads (action_of i.opcode) place count i.fixed.items i.jump
+  pub function : IfSome i.function (λ f. f.script < bounds.scripts)
 
 -- each of these first instructions of a function with so many in all
-abbrev pub AreSoundInstructions : ℕ → ℕ → ℕ → List LoadedInstruction → Type 0
-AreSoundInstructions slots variables count code =
-    (k : ℕ) (d : LoadedInstruction) → k < length code → IsSoundInstruction slots variables count k (slice_index_or code k d)
+abbrev pub AreSoundInstructions : Bounds → ℕ → ℕ → List LoadedInstruction → Type 0
+AreSoundInstructions bounds slots count code =
+    (k : ℕ) (d : LoadedInstruction) → k < length code → IsSoundInstruction bounds slots count k (slice_index_or code k d)
 
 abbrev pub slot_count : LoadedFunction → ℕ
 slot_count f = vec_len f.parameters + vec_len f.locals
 
-pub record IsSoundFunction (variables : ℕ) (f : LoadedFunction) : Type 0 where
+-- a function of a script with these bounds
+pub record IsSoundFunction (bounds : Bounds) (f : LoadedFunction) : Type 0 where
+  pub answer : IfSome f.result (IsTypeAmong bounds.scripts)
+  pub parameters : All (λ p. IsTypeAmong bounds.scripts p.1) f.parameters.items
+  pub locals : All (λ l. IfSome l.1 (IsTypeAmong bounds.scripts)) f.locals.items
   pub lines : vec_len f.lines ≡ vec_len f.code
-  pub code : AreSoundInstructions (slot_count f) variables (vec_len f.code) f.code.items
+  pub code : AreSoundInstructions bounds (slot_count f) (vec_len f.code) f.code.items
 
-pub record IsSoundProperty (variables : ℕ) (p : LoadedProperty) : Type 0 where
-  pub variable : IfSome p.variable (λ n. n < variables)
-  pub read : IfSome p.read (IsSoundFunction variables)
-  pub write : IfSome p.write (IsSoundFunction variables)
+pub record IsSoundProperty (bounds : Bounds) (p : LoadedProperty) : Type 0 where
+  pub kind : IsTypeAmong bounds.scripts p.kind
+  pub variable : IfSome p.variable (λ n. n < bounds.variables)
+  pub read : IfSome p.read (IsSoundFunction bounds)
+  pub write : IfSome p.write (IsSoundFunction bounds)
 
-abbrev pub AreSoundFunctions : ℕ → List LoadedFunction → Type 0
-AreSoundFunctions variables functions = All (IsSoundFunction variables) functions
+abbrev pub AreSoundFunctions : Bounds → List LoadedFunction → Type 0
+AreSoundFunctions bounds functions = All (IsSoundFunction bounds) functions
 
 -- the functions of a state
-pub record IsSoundState (variables : ℕ) (functions : List LoadedFunction) : Type 0 where
-  pub each : AreSoundFunctions variables functions
+pub record IsSoundState (bounds : Bounds) (functions : List LoadedFunction) : Type 0 where
+  pub each : AreSoundFunctions bounds functions
 
-pub record IsSoundScript (variables : ℕ) (s : LoadedScript) : Type 0 where
-  pub properties : All (IsSoundProperty variables) s.properties.items
-  pub states : All (λ state. IsSoundState variables state.1.items) s.states.items
+pub record IsSoundScript (bounds : Bounds) (s : LoadedScript) : Type 0 where
+  pub properties : All (IsSoundProperty bounds) s.properties.items
+  pub states : All (λ state. IsSoundState bounds state.1.items) s.states.items
 
--- the script of a type is one of so many
-abbrev pub IsTypeAmong : ℕ → CoreType → Type 0
-IsTypeAmong count (kind.Script n) = n < count
-IsTypeAmong count (kind.ScriptArray n) = n < count
-IsTypeAmong count _ = Unit {0}
+-- ---- outlines
+
+-- the types of variables in a set of so many scripts
+abbrev pub AreTyped : ℕ → List OutlineVariable → Type 0
+AreTyped count variables = All (λ (v : OutlineVariable). IsTypeAmong count v.kind) variables
+
+pub record IsOutlineProperty (bounds : Bounds) (p : OutlineProperty) : Type 0 where
+  pub kind : IsTypeAmong bounds.scripts p.kind
+  pub variable : p.variable < bounds.variables
+
+pub record IsOutlineFunction (count : ℕ) (f : OutlineFunction) : Type 0 where
+  pub parameters : All (IsTypeAmong count) f.parameters.items
+  pub answer : IfSome f.result (IsTypeAmong count)
 
 -- the numbers of a script's outline in a set of so many scripts
 pub record IsSoundOutline (count : ℕ) (o : OutlineScript) : Type 0 where
   pub parent : IfSome o.parent (λ n. n < count)
-  pub properties : All (λ (p : OutlineProperty). p.variable < vec_len o.variables) o.properties.items
+  pub variables : AreTyped count o.variables.items
+  pub properties : All (IsOutlineProperty (bounds_with count (vec_len o.variables))) o.properties.items
+  pub functions : All (IsOutlineFunction count) o.functions.items

@@ -1,6 +1,8 @@
 // One property, with the functions that read and write it.
 ghost use Rattle.std.specs.Prelude.{◌<◌, vec_len, IfOk, IfSome};
+ghost use Rattle.pex_verify.specs.Places.{bounds_of};
 ghost use Rattle.pex_verify.specs.Soundness.{IsSoundFunction, IsSoundProperty};
+ghost use Rattle.pex_verify.specs.Types.{IsTypeAmong};
 
 use crate::fault::{Refusal, VerifyFault, VerifyRule};
 use crate::function::{has_too_many_slots, known_kind, load_function};
@@ -38,7 +40,7 @@ pub(crate) fn load_property(
     place: usize,
     property: &PexProperty,
 ) -> Result<LoadedProperty, Refusal>
-    ensures { IfOk result (IsSoundProperty (vec_len site.now.home.now.variables.now.list)) }
+    ensures { IfOk result (IsSoundProperty (bounds_of site.now.home.now)) }
 {
     let kind = judged_type(site, place, property)?;
     let variable = judged_variable(site, property)?;
@@ -60,7 +62,9 @@ fn judged_type(
     site: &PropertySite<'_>,
     place: usize,
     property: &PexProperty,
-) -> Result<CoreType, Refusal> {
+) -> Result<CoreType, Refusal>
+    ensures { IfOk result (IsTypeAmong (vec_len site.now.home.now.set.now.heads)) }
+{
     let kind = site
         .home
         .set
@@ -120,7 +124,7 @@ fn load_read(
     site: &PropertySite<'_>,
     property: &PexProperty,
 ) -> Result<Option<LoadedFunction>, Refusal>
-    ensures { IfOk result (λ function. IfSome function (IsSoundFunction (vec_len site.now.home.now.variables.now.list))) }
+    ensures { IfOk result (λ function. IfSome function (IsSoundFunction (bounds_of site.now.home.now))) }
 {
     let Some(function) = &property.read else {
         return Ok(None);
@@ -133,7 +137,7 @@ fn load_write(
     site: &PropertySite<'_>,
     property: &PexProperty,
 ) -> Result<Option<LoadedFunction>, Refusal>
-    ensures { IfOk result (λ function. IfSome function (IsSoundFunction (vec_len site.now.home.now.variables.now.list))) }
+    ensures { IfOk result (λ function. IfSome function (IsSoundFunction (bounds_of site.now.home.now))) }
 {
     let Some(function) = &property.write else {
         return Ok(None);
@@ -177,7 +181,7 @@ fn load_accessor(
     function: &PexFunction,
     purpose: u8,
 ) -> Result<LoadedFunction, Refusal>
-    ensures { IfOk result (IsSoundFunction (vec_len site.now.home.now.variables.now.list)) }
+    ensures { IfOk result (IsSoundFunction (bounds_of site.now.home.now)) }
 {
     let names = site.source.names;
     let object = names.number(site.object.name);

@@ -1,4 +1,7 @@
 // What calls and uses of properties mean, and their operands.
+ghost use Rattle.std.specs.Prelude.{vec_len};
+ghost use Rattle.pex_verify.specs.Places.{IsTargetAmong};
+
 use crate::action::Action;
 use crate::fault::{Refusal, VerifyRule};
 use crate::loaded::Operand;
@@ -38,7 +41,9 @@ pub(crate) fn find_target<'a>(
     action: Action,
     data: &[Datum],
     fixed: &[Operand],
-) -> Target<'a> {
+) -> Target<'a>
+    ensures { IsTargetAmong (vec_len scope.now.home.now.set.now.heads) result }
+{
     match action {
         Action::CallMethod => {
             function_target(scope, object_script(scope, fixed), name_at(scope, data, 0))
@@ -73,11 +78,9 @@ fn named_script(scope: &Scope<'_>, name: Option<usize>) -> Option<usize> {
     }
 }
 
-fn function_target<'a>(
-    scope: &Scope<'a>,
-    script: Option<usize>,
-    name: Option<usize>,
-) -> Target<'a> {
+fn function_target<'a>(scope: &Scope<'a>, script: Option<usize>, name: Option<usize>) -> Target<'a>
+    ensures { IsTargetAmong (vec_len scope.now.home.now.set.now.heads) result }
+{
     let (Some(script), Some(name)) = (script, name) else {
         return Target::Missing;
     };
@@ -87,11 +90,9 @@ fn function_target<'a>(
     }
 }
 
-fn property_target<'a>(
-    scope: &Scope<'a>,
-    script: Option<usize>,
-    name: Option<usize>,
-) -> Target<'a> {
+fn property_target<'a>(scope: &Scope<'a>, script: Option<usize>, name: Option<usize>) -> Target<'a>
+    ensures { IsTargetAmong (vec_len scope.now.home.now.set.now.heads) result }
+{
     let (Some(script), Some(name)) = (script, name) else {
         return Target::Missing;
     };

@@ -1,5 +1,7 @@
 // One function.
-ghost use Rattle.std.specs.Prelude.{◌≡◌, ◌+◌, length, vec_len, IfOk, OnOk};
+ghost use Rattle.std.specs.Prelude.{◌≡◌, ◌+◌, ℕ, length, vec_len, All, IfOk, OnOk, IfSome};
+ghost use Rattle.pex_verify.specs.Places.{bounds_of};
+ghost use Rattle.pex_verify.specs.Types.{IsTypeAmong, IsKindAmong};
 ghost use Rattle.pex_verify.specs.Soundness.{IsSoundFunction, IsSoundInstruction, AreSoundInstructions};
 
 use crate::fault::{Refusal, VerifyRule};
@@ -32,7 +34,7 @@ pub(crate) fn load_function(
     function: &PexFunction,
     lines: &[u16],
 ) -> Result<LoadedFunction, Refusal>
-    ensures { IfOk result (IsSoundFunction (vec_len home.now.variables.now.list)) }
+    ensures { IfOk result (IsSoundFunction (bounds_of home.now)) }
 {
     let alloc = home.alloc;
     let answer = home.set.kind(source.names.number(function.result));
@@ -63,7 +65,9 @@ pub(crate) fn load_function(
 }
 
 /// The type of a type name that must mean one, none for `None`.
-pub(crate) fn known_kind(kind: Kind) -> Result<Option<CoreType>, Refusal> {
+pub(crate) fn known_kind(kind: Kind) -> Result<Option<CoreType>, Refusal>
+    ensures { (count : ℕ) → IsKindAmong count kind → IfOk result (λ found. IfSome found (IsTypeAmong count)) }
+{
     match kind {
         Kind::Nothing => Ok(None),
         Kind::Float => Err(Refusal::of(VerifyRule::FloatValue)),
@@ -78,7 +82,8 @@ fn load_parameters(
     slots: &mut Slots,
     pairs: &[(u16, u16)],
 ) -> Result<Vec<(Name, CoreType)>, Refusal>
-    ensures { IfOk result (λ parameters. vec_len slots.new.kinds ≡ vec_len slots.old.kinds + vec_len parameters) }
+    ensures count { IfOk result (λ parameters. vec_len slots.new.kinds ≡ vec_len slots.old.kinds + vec_len parameters) }
+    ensures typed { IfOk result (λ parameters. All (λ p. IsTypeAmong (vec_len home.now.set.now.heads) p.1) parameters.items) }
 {
     let mut parameters = Vec::with_capacity(home.alloc, pairs.len())?;
     for pair in pairs {
@@ -100,7 +105,8 @@ fn load_locals(
     slots: &mut Slots,
     pairs: &[(u16, u16)],
 ) -> Result<Vec<(Name, Option<CoreType>)>, Refusal>
-    ensures { IfOk result (λ locals. vec_len slots.new.kinds ≡ vec_len slots.old.kinds + vec_len locals) }
+    ensures count { IfOk result (λ locals. vec_len slots.new.kinds ≡ vec_len slots.old.kinds + vec_len locals) }
+    ensures typed { IfOk result (λ locals. All (λ l. IfSome l.1 (IsTypeAmong (vec_len home.now.set.now.heads))) locals.items) }
 {
     let mut locals = Vec::with_capacity(home.alloc, pairs.len())?;
     for pair in pairs {
@@ -118,7 +124,8 @@ fn judged_slot(
     pair: (u16, u16),
     kind: Kind,
 ) -> Result<Option<CoreType>, Refusal>
-    ensures { OnOk result (vec_len slots.new.kinds ≡ vec_len slots.old.kinds + 1) }
+    ensures count { OnOk result (vec_len slots.new.kinds ≡ vec_len slots.old.kinds + 1) }
+    ensures typed { (count : ℕ) → IsKindAmong count kind → IfOk result (λ found. IfSome found (IsTypeAmong count)) }
 {
     let name = source.names.number(pair.0);
     if kind != Kind::Float && slots.has(name) {
@@ -131,7 +138,7 @@ fn judged_slot(
 
 fn load_code(scope: &Scope<'_>, code: &[Instruction]) -> Result<Vec<LoadedInstruction>, Refusal>
     ensures count { IfOk result (λ loaded. vec_len loaded ≡ length code.now) }
-    ensures sound { IfOk result (λ loaded. AreSoundInstructions (vec_len scope.now.slots.now.kinds) (vec_len scope.now.home.now.variables.now.list) (length code.now) loaded.items) }
+    ensures sound { IfOk result (λ loaded. AreSoundInstructions (bounds_of scope.now.home.now) (vec_len scope.now.slots.now.kinds) (length code.now) loaded.items) }
 {
     let mut loaded = Vec::with_capacity(scope.home.alloc, code.len())?;
     for (place, instruction) in code.iter().enumerate() {
@@ -147,7 +154,7 @@ fn load_at(
     count: usize,
     instruction: &Instruction,
 ) -> Result<LoadedInstruction, Refusal>
-    ensures { IfOk result (IsSoundInstruction (vec_len scope.now.slots.now.kinds) (vec_len scope.now.home.now.variables.now.list) count place) }
+    ensures { IfOk result (IsSoundInstruction (bounds_of scope.now.home.now) (vec_len scope.now.slots.now.kinds) count place) }
 {
     match load_instruction(scope, place, count, instruction) {
         Ok(loaded) => Ok(loaded),

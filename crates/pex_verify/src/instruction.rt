@@ -1,5 +1,6 @@
 // One instruction.
-ghost use Rattle.std.specs.Prelude.{◌≡◌, ◌≤◌, ◌+ℤ◌, pos, vec_len, IfOk, IfSome, Some, option_copied};
+ghost use Rattle.std.specs.Prelude.{◌≡◌, ◌<◌, ◌≤◌, ◌+ℤ◌, ℕ, pos, vec_len, IfOk, IfSome, Some, option_copied};
+ghost use Rattle.pex_verify.specs.Places.{bounds_of, IsTargetAmong};
 ghost use Rattle.pex_verify.specs.Uses.{action_of as action_by};
 ghost use Rattle.pex_verify.specs.Soundness.{IsSoundInstruction, Leads, LeadsBy};
 
@@ -11,14 +12,14 @@ use crate::calls::{
 };
 use crate::fault::{Refusal, VerifyRule};
 use crate::kind::{BOOL, INT, TEXT};
-use crate::loaded::{LoadedInstruction, Operand};
+use crate::loaded::{LoadedInstruction, MethodPlace, Operand};
 use crate::operands::{has_float, has_long_text, resolve_fixed, resolve_more};
 use crate::scope::Scope;
+use crate::scripts::Callee;
 use crate::values::{
     fits_assign, fits_cast, fits_equal, fits_invert, fits_jump, fits_jump_if, fits_negate,
     fits_return, fits_two,
 };
-use core_tree::FunctionPlace;
 use pex_values::{Datum, Instruction};
 
 /// The instruction at this place of so many, with its operands resolved, or the lowest rule that it breaks.
@@ -28,7 +29,7 @@ pub(crate) fn load_instruction(
     count: usize,
     instruction: &Instruction,
 ) -> Result<LoadedInstruction, Refusal>
-    ensures { IfOk result (IsSoundInstruction (vec_len scope.now.slots.now.kinds) (vec_len scope.now.home.now.variables.now.list) count place) }
+    ensures { IfOk result (IsSoundInstruction (bounds_of scope.now.home.now) (vec_len scope.now.slots.now.kinds) count place) }
 {
     let action = judged_action(instruction)?;
     let data = instruction.fixed.as_slice();
@@ -156,9 +157,21 @@ fn looked_up_name(scope: &Scope<'_>, action: Action, data: &[Datum]) -> Option<u
     }
 }
 
-fn static_function(action: Action, target: Target<'_>) -> Option<FunctionPlace> {
+fn static_function(action: Action, target: Target<'_>) -> Option<MethodPlace>
+    ensures { (count : ℕ) → IsTargetAmong count target.entry → IfSome result (λ f. f.script < count) }
+{
     match target {
-        Target::Function(callee) if action == Action::CallStatic => Some(callee.place),
+        Target::Function(callee) if action == Action::CallStatic => function_place(callee),
         _ => None,
     }
+}
+
+fn function_place(callee: Callee<'_>) -> Option<MethodPlace>
+    ensures { IfSome result (λ f. f.script ≡ callee.entry.script) }
+{
+    Some(MethodPlace {
+        script: u16::try_from(callee.script).ok()?,
+        state: callee.state,
+        place: callee.place,
+    })
 }

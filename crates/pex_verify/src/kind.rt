@@ -1,4 +1,7 @@
 // The types that values, variables and results have while code is judged.
+ghost use Rattle.std.specs.Prelude.{ℕ, IfSome};
+ghost use Rattle.pex_verify.specs.Types.{IsKindAmong};
+
 use core_tree::CoreType;
 
 /// What a value, a variable, a result or a type name means.
@@ -21,7 +24,9 @@ pub(crate) const TEXT: Kind = Kind::Of(CoreType::Text);
 
 impl Kind {
     /// The same where None is no type.
-    pub(crate) fn without_none(self) -> Kind {
+    pub(crate) fn without_none(self) -> Kind
+        ensures { (count : ℕ) → IsKindAmong count self → IsKindAmong count result }
+    {
         match self {
             Kind::Nothing => Kind::Unknown,
             kind => kind,
@@ -59,7 +64,9 @@ impl Kind {
 }
 
 /// The type of arrays of this element type, where there are such.
-pub(crate) fn array_of(element: Kind) -> Option<Kind> {
+pub(crate) fn array_of(element: Kind) -> Option<Kind>
+    ensures { (count : ℕ) → IsKindAmong count element → IfSome result (IsKindAmong count) }
+{
     match element {
         Kind::Of(CoreType::Int) => Some(Kind::Of(CoreType::IntArray)),
         Kind::Of(CoreType::Bool) => Some(Kind::Of(CoreType::BoolArray)),

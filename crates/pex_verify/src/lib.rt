@@ -35,8 +35,3 @@ pub use loaded::{
     PropertyPlace,
 };
 pub use verifier::verify;
-
-#[cfg(test)]
-mod test_sets;
-#[cfg(test)]
-mod tests;

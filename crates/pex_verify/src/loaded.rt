@@ -1,8 +1,9 @@
 // Sets of files that keep the rules.
-ghost use Rattle.std.specs.Prelude.{◌≡◌, ◌<◌, length, vec_len, slice_index_or};
+ghost use Rattle.std.specs.Prelude.{◌≡◌, ◌<◌, length, vec_len, slice_index_or, All};
+ghost use Rattle.pex_verify.specs.Files.{IsFile};
 
 use crate::members::MemberTable;
-use core_tree::{CoreType, FunctionPlace, Outline};
+use core_tree::{CoreType, Outline};
 use papy_base::{Name, OutOfMemory, Text};
 use pex_names::{EMPTY_NAME, NameTable};
 use pex_values::Pex;
@@ -41,7 +42,7 @@ pub struct LoadedInstruction {
     /// The number of the name of the method or property that is meant.
     pub name: Option<usize>,
     /// The global function that a callstatic calls.
-    pub function: Option<FunctionPlace>,
+    pub function: Option<MethodPlace>,
 }
 
 /// A function of a state, or one that reads or writes a property and has the property's name.
@@ -85,15 +86,15 @@ pub struct LoadedScript {
 #[derive(Clone, Copy, Debug, PartialEq, Eq)]
 pub struct MethodPlace {
     pub script: u16,
-    pub state: u16,
-    pub place: u16,
+    pub state: usize,
+    pub place: usize,
 }
 
 /// A property: its script's number, and its place among the script's properties.
 #[derive(Clone, Copy, Debug, PartialEq, Eq)]
 pub struct PropertyPlace {
     pub script: u16,
-    pub place: u16,
+    pub place: usize,
 }
 
 /// Files that break no rule. Scripts are numbered in order of file and object behind those of the prelude,
@@ -120,7 +121,7 @@ impl Model for Loaded {
 impl Loaded {
     ghost use Rattle.core_tree.specs.declared.outline.OutlineScript.{OutlineScript};
     ghost use Rattle.pex_verify.specs.Sets.{IsSoundSet};
-    ghost use Rattle.pex_verify.specs.Soundness.{IsSoundScript};
+    ghost use Rattle.pex_verify.specs.Soundness.{bounds_with, IsSoundScript};
 
     /// The members of the scripts without their code.
     pub fn outline(&self) -> &Outline
@@ -132,7 +133,8 @@ impl Loaded {
 
     /// The files as they were handed in.
     pub fn files(&self) -> &Vec<Pex>
-        ensures { result.now.items ≡ self.now.files }
+        ensures files { result.now.items ≡ self.now.files }
+        ensures sound { All IsFile result.now.items }
     {
         &self.files
     }
@@ -141,7 +143,7 @@ impl Loaded {
     pub fn script(&self, n: u16) -> &LoadedScript
         requires { n < length self.now.scripts }
         ensures script { result.now ≡ slice_index_or self.now.scripts n result.now }
-        ensures sound { (o : OutlineScript) → IsSoundScript (vec_len (slice_index_or self.now.outline n o).variables) result.now }
+        ensures sound { (o : OutlineScript) → IsSoundScript (bounds_with (length self.now.scripts) (vec_len (slice_index_or self.now.outline n o).variables)) result.now }
     {
         &self.scripts[usize::from(n)]
     }

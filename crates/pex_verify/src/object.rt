@@ -2,6 +2,7 @@
 ghost use Rattle.std.specs.Prelude.{vec_len, All, IfOk, OnOk};
 ghost use Rattle.pex_verify.specs.Soundness.{IsSoundFunction, AreSoundFunctions, IsSoundState, IsSoundProperty};
 ghost use Rattle.pex_verify.specs.Objects.{IsSoundObject};
+ghost use Rattle.pex_verify.specs.Places.{bounds_of};
 
 use crate::accessors::{PropertySite, load_property};
 use crate::fault::{Refusal, VerifyFault, VerifyRule};
@@ -88,7 +89,7 @@ fn judge_names(alloc: Global, source: &Source<'_>, object: &PexObject) -> Result
 }
 
 fn load_properties(site: &PropertySite<'_>) -> Result<Vec<LoadedProperty>, VerifyFault>
-    ensures { IfOk result (λ properties. All (IsSoundProperty (vec_len site.now.home.now.variables.now.list)) properties.items) }
+    ensures { IfOk result (λ properties. All (IsSoundProperty (bounds_of site.now.home.now)) properties.items) }
 {
     let alloc = site.home.alloc;
     let mut properties = Vec::with_capacity(alloc, site.object.properties.len())?;
@@ -107,7 +108,7 @@ fn load_states(
     loader: &Loader<'_>,
     site: &PropertySite<'_>,
 ) -> Result<Vec<(Name, Vec<LoadedFunction>)>, VerifyFault>
-    ensures { IfOk result (λ states. All (λ state. IsSoundState (vec_len site.now.home.now.variables.now.list) state.1.items) states.items) }
+    ensures { IfOk result (λ states. All (λ state. IsSoundState (bounds_of site.now.home.now) state.1.items) states.items) }
 {
     let alloc = site.home.alloc;
     let mut seen = HashMap::new(alloc);
@@ -133,8 +134,8 @@ fn with_members(
     site: &PropertySite<'_>,
     mut states: Vec<(Name, Vec<LoadedFunction>)>,
 ) -> Result<Vec<(Name, Vec<LoadedFunction>)>, VerifyFault>
-    requires { All (λ state. IsSoundState (vec_len site.now.home.now.variables.now.list) state.1.items) states.items }
-    ensures { IfOk result (λ states. All (λ state. IsSoundState (vec_len site.now.home.now.variables.now.list) state.1.items) states.items) }
+    requires { All (λ state. IsSoundState (bounds_of site.now.home.now) state.1.items) states.items }
+    ensures { IfOk result (λ states. All (λ state. IsSoundState (bounds_of site.now.home.now) state.1.items) states.items) }
 {
     let alloc = site.home.alloc;
     let added = lacking_members(loader, site)?;
@@ -149,7 +150,7 @@ fn lacking_members(
     loader: &Loader<'_>,
     site: &PropertySite<'_>,
 ) -> Result<Vec<LoadedFunction>, VerifyFault>
-    ensures { IfOk result (λ added. IsSoundState (vec_len site.now.home.now.variables.now.list) added.items) }
+    ensures { IfOk result (λ added. IsSoundState (bounds_of site.now.home.now) added.items) }
 {
     let mut added = Vec::new(loader.alloc);
     add_members(loader, site, &mut added)?;
@@ -166,7 +167,7 @@ fn load_state(
     site: &PropertySite<'_>,
     state: &PexState,
 ) -> Result<Vec<LoadedFunction>, VerifyFault>
-    ensures { IfOk result (λ functions. IsSoundState (vec_len site.now.home.now.variables.now.list) functions.items) }
+    ensures { IfOk result (λ functions. IsSoundState (bounds_of site.now.home.now) functions.items) }
 {
     let mut functions = load_functions(site, state)?;
     if site.source.names.number(state.name) == EMPTY_NAME {
@@ -179,7 +180,7 @@ fn load_functions(
     site: &PropertySite<'_>,
     state: &PexState,
 ) -> Result<Vec<LoadedFunction>, VerifyFault>
-    ensures { IfOk result (λ functions. AreSoundFunctions (vec_len site.now.home.now.variables.now.list) functions.items) }
+    ensures { IfOk result (λ functions. AreSoundFunctions (bounds_of site.now.home.now) functions.items) }
 {
     let alloc = site.home.alloc;
     let mut seen = HashMap::new(alloc);
@@ -204,7 +205,7 @@ fn load_state_function(
     function: &PexFunction,
     is_new: bool,
 ) -> Result<LoadedFunction, Refusal>
-    ensures { IfOk result (IsSoundFunction (vec_len site.now.home.now.variables.now.list)) }
+    ensures { IfOk result (IsSoundFunction (bounds_of site.now.home.now)) }
 {
     if !is_new {
         return Err(Refusal::of(VerifyRule::DuplicateName));
@@ -271,8 +272,8 @@ fn add_members(
     site: &PropertySite<'_>,
     functions: &mut Vec<LoadedFunction>,
 ) -> Result<(), VerifyFault>
-    ensures { AreSoundFunctions (vec_len site.now.home.now.variables.now.list) functions.old.items
-        → OnOk result (AreSoundFunctions (vec_len site.now.home.now.variables.now.list) functions.new.items) }
+    ensures { AreSoundFunctions (bounds_of site.now.home.now) functions.old.items
+        → OnOk result (AreSoundFunctions (bounds_of site.now.home.now) functions.new.items) }
 {
     for place in loader.set.lacking(usize::from(site.home.here)) {
         add_member(loader, site, *place, functions)?;
@@ -287,8 +288,8 @@ fn add_member(
     place: usize,
     functions: &mut Vec<LoadedFunction>,
 ) -> Result<(), VerifyFault>
-    ensures { AreSoundFunctions (vec_len site.now.home.now.variables.now.list) functions.old.items
-        → OnOk result (AreSoundFunctions (vec_len site.now.home.now.variables.now.list) functions.new.items) }
+    ensures { AreSoundFunctions (bounds_of site.now.home.now) functions.old.items
+        → OnOk result (AreSoundFunctions (bounds_of site.now.home.now) functions.new.items) }
 {
     let Some(member) = loader.members.list.get(place) else {
         return Ok(());
@@ -302,7 +303,7 @@ fn load_member(
     site: &PropertySite<'_>,
     member: &(u16, PexFunction),
 ) -> Result<LoadedFunction, VerifyFault>
-    ensures { IfOk result (IsSoundFunction (vec_len site.now.home.now.variables.now.list)) }
+    ensures { IfOk result (IsSoundFunction (bounds_of site.now.home.now)) }
 {
     match load_function(site.home, loader.prelude, member.0, &member.1, &[]) {
         Ok(loaded) => Ok(loaded),

@@ -1,11 +1,12 @@
 // The outline of a script.
-ghost use Rattle.std.specs.Prelude.{◌≡◌, ◌<◌, length, vec_len, All, IfOk};
-ghost use Rattle.core_tree.specs.declared.outline.OutlineProperty.{OutlineProperty};
-ghost use Rattle.pex_verify.specs.Soundness.{IsSoundProperty, IsSoundScript, IsSoundOutline};
+ghost use Rattle.std.specs.Prelude.{◌≡◌, vec_len, All, IfOk};
+ghost use Rattle.pex_verify.specs.Places.{bounds_of};
+ghost use Rattle.pex_verify.specs.Types.{IsTypeAmong};
+ghost use Rattle.pex_verify.specs.Soundness.{IsSoundFunction, AreSoundFunctions, IsSoundProperty, IsSoundScript, AreTyped, IsOutlineProperty, IsOutlineFunction, IsSoundOutline};
 
 use crate::accessors::PropertySite;
 use crate::loaded::{LoadedFunction, LoadedProperty, LoadedScript};
-use core_tree::{OutlineFunction, OutlineProperty, OutlineScript, OutlineVariable};
+use core_tree::{CoreType, OutlineFunction, OutlineProperty, OutlineScript, OutlineVariable};
 use papy_base::{Name, OutOfMemory};
 use std::alloc::Global;
 
@@ -15,7 +16,8 @@ pub(crate) fn outline_script(
     site: &PropertySite<'_>,
     script: &LoadedScript,
 ) -> Result<OutlineScript, OutOfMemory>
-    requires { IsSoundScript (vec_len site.now.home.now.variables.now.list) script.now }
+    requires sound { IsSoundScript (bounds_of site.now.home.now) script.now }
+    requires typed { AreTyped (vec_len site.now.home.now.set.now.heads) site.now.home.now.variables.now.list.items }
     ensures count { IfOk result (λ outline. vec_len outline.variables ≡ vec_len site.now.home.now.variables.now.list) }
     ensures sound { IfOk result (IsSoundOutline (vec_len site.now.home.now.set.now.heads)) }
 {
@@ -24,9 +26,9 @@ pub(crate) fn outline_script(
         name: Name::from_bytes(alloc, source.text(site.object.name))?,
         parent: site.home.set.parent_number(usize::from(site.home.here)),
         auto_state: name_unless_empty(alloc, source.text(site.object.auto_state))?,
-        variables: outline_variables(alloc, site.home.variables.list.as_slice())?,
+        variables: outline_variables(site)?,
         properties: outline_properties(site, script.properties.as_slice())?,
-        functions: outline_functions(alloc, empty_state(script))?,
+        functions: outline_functions(site, empty_state(site, script))?,
     })
 }
 
@@ -37,12 +39,13 @@ fn name_unless_empty(alloc: Global, name: &[u8]) -> Result<Option<Name>, OutOfMe
     Ok(Some(Name::from_bytes(alloc, name)?))
 }
 
-fn outline_variables(
-    alloc: Global,
-    variables: &[OutlineVariable],
-) -> Result<Vec<OutlineVariable>, OutOfMemory>
-    ensures { IfOk result (λ found. vec_len found ≡ length variables.now) }
+fn outline_variables(site: &PropertySite<'_>) -> Result<Vec<OutlineVariable>, OutOfMemory>
+    requires { AreTyped (vec_len site.now.home.now.set.now.heads) site.now.home.now.variables.now.list.items }
+    ensures count { IfOk result (λ found. vec_len found ≡ vec_len site.now.home.now.variables.now.list) }
+    ensures typed { IfOk result (λ found. AreTyped (vec_len site.now.home.now.set.now.heads) found.items) }
 {
+    let alloc = site.home.alloc;
+    let variables = &site.home.variables.list;
     let mut found = Vec::with_capacity(alloc, variables.len())?;
     for variable in variables {
         found.push(OutlineVariable {
@@ -58,8 +61,8 @@ fn outline_properties(
     site: &PropertySite<'_>,
     properties: &[LoadedProperty],
 ) -> Result<Vec<OutlineProperty>, OutOfMemory>
-    requires { All (IsSoundProperty (vec_len site.now.home.now.variables.now.list)) properties.now }
-    ensures { IfOk result (λ found. All (λ (p : OutlineProperty). p.variable < vec_len site.now.home.now.variables.now.list) found.items) }
+    requires { All (IsSoundProperty (bounds_of site.now.home.now)) properties.now }
+    ensures { IfOk result (λ found. All (IsOutlineProperty (bounds_of site.now.home.now)) found.items) }
 {
     let alloc = site.home.alloc;
     let mut found = Vec::new(alloc);
@@ -76,41 +79,58 @@ fn outline_properties(
 }
 
 // The functions of the state without name.
-fn empty_state(script: &LoadedScript) -> &[LoadedFunction] {
-    match script
-        .states
-        .iter()
-        .find(|state| state.0.as_bytes().is_empty())
-    {
-        Some(state) => state.1.as_slice(),
-        None => &[],
+fn empty_state<'a>(site: &PropertySite<'_>, script: &'a LoadedScript) -> &'a [LoadedFunction]
+    requires { IsSoundScript (bounds_of site.now.home.now) script.now }
+    ensures { AreSoundFunctions (bounds_of site.now.home.now) result.now }
+{
+    for state in &script.states {
+        if state.0.as_bytes().is_empty() {
+            return state.1.as_slice();
+        }
     }
+    &[]
 }
 
 fn outline_functions(
-    alloc: Global,
+    site: &PropertySite<'_>,
     functions: &[LoadedFunction],
-) -> Result<Vec<OutlineFunction>, OutOfMemory> {
-    let mut found = Vec::with_capacity(alloc, functions.len())?;
+) -> Result<Vec<OutlineFunction>, OutOfMemory>
+    requires { AreSoundFunctions (bounds_of site.now.home.now) functions.now }
+    ensures { IfOk result (λ found. All (IsOutlineFunction (vec_len site.now.home.now.set.now.heads)) found.items) }
+{
+    let mut found = Vec::with_capacity(site.home.alloc, functions.len())?;
     for function in functions {
-        found.push(outline_function(alloc, function)?)?;
+        found.push(outline_function(site, function)?)?;
     }
     Ok(found)
 }
 
 fn outline_function(
-    alloc: Global,
+    site: &PropertySite<'_>,
     function: &LoadedFunction,
-) -> Result<OutlineFunction, OutOfMemory> {
-    let mut parameters = Vec::with_capacity(alloc, function.parameters.len())?;
-    for parameter in &function.parameters {
-        parameters.push(parameter.1)?;
-    }
+) -> Result<OutlineFunction, OutOfMemory>
+    requires { IsSoundFunction (bounds_of site.now.home.now) function.now }
+    ensures { IfOk result (IsOutlineFunction (vec_len site.now.home.now.set.now.heads)) }
+{
     Ok(OutlineFunction {
-        name: function.name.try_clone(alloc)?,
-        parameters,
+        name: function.name.try_clone(site.home.alloc)?,
+        parameters: outline_parameters(site, function)?,
         result: function.result,
         is_global: function.is_global,
         is_native: function.is_native,
     })
+}
+
+fn outline_parameters(
+    site: &PropertySite<'_>,
+    function: &LoadedFunction,
+) -> Result<Vec<CoreType>, OutOfMemory>
+    requires { IsSoundFunction (bounds_of site.now.home.now) function.now }
+    ensures { IfOk result (λ parameters. All (IsTypeAmong (vec_len site.now.home.now.set.now.heads)) parameters.items) }
+{
+    let mut parameters = Vec::with_capacity(site.home.alloc, function.parameters.len())?;
+    for parameter in &function.parameters {
+        parameters.push(parameter.1)?;
+    }
+    Ok(parameters)
 }

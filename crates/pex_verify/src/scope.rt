@@ -1,5 +1,5 @@
 // What is seen where code stands.
-ghost use Rattle.std.specs.Prelude.{◌≡◌, ◌+◌, vec_len, OnOk, IfSome};
+ghost use Rattle.std.specs.Prelude.{◌≡◌, ◌+◌, [], ◌∷◌, ◌++◌, vec_len, OnOk, IfSome};
 ghost use Rattle.pex_verify.specs.Soundness.{IsIdentifier};
 
 use crate::kind::{BOOL, INT, Kind, TEXT};
@@ -37,7 +37,7 @@ pub(crate) struct Variables {
 
 impl Variables {
     pub(crate) fn new(alloc: Global) -> Variables
-        ensures { vec_len result.list ≡ 0 }
+        ensures { result.list.items ≡ [] }
     {
         Variables {
             list: Vec::new(alloc),
@@ -50,11 +50,9 @@ impl Variables {
     }
 
     /// Adds a variable of this name behind the others. Only the first 65,536 can be named.
-    pub(crate) fn add(
-        &mut self,
-        name: usize,
-        variable: OutlineVariable,
-    ) -> Result<(), OutOfMemory> {
+    pub(crate) fn add(&mut self, name: usize, variable: OutlineVariable) -> Result<(), OutOfMemory>
+        ensures { OnOk result (self.new.list.items ≡ self.old.list.items ++ variable ∷ []) }
+    {
         if let Ok(place) = u16::try_from(self.list.len()) {
             self.places.insert(name, place)?;
         }

@@ -1,17 +1,18 @@
 // The scripts of a set, as other scripts see them.
-ghost use Rattle.std.specs.Prelude.{◌≡◌, ◌+◌, ◌<◌, vec_len, IfOk, IfSome, OnOk};
+ghost use Rattle.std.specs.Prelude.{◌≡◌, ◌+◌, ◌<◌, length, vec_len, IfOk, IfSome, OnOk};
+ghost use Rattle.pex_verify.specs.Types.{IsKindAmong};
 ghost use Rattle.pex_verify.specs.Sources.{object_count};
 
 use crate::kind::{BOOL, INT, Kind, TEXT};
+use crate::members::{MemberLists, MemberTable};
 use crate::signature::Signature;
 use crate::sources::{Members, Source};
-use crate::type_names::kinds_of_names;
-use core_tree::{CoreType, FunctionPlace};
+use crate::type_names::TypeNames;
+use core_tree::CoreType;
 use papy_base::OutOfMemory;
 use pex_names::{EMPTY_NAME, FileNames, LIBRARY_COUNT, NameTable, Objects};
 use pex_values::{PexFunction, PexObject, PexProperty};
 use std::alloc::Global;
-use std::collections::HashMap;
 
 /// A property as other scripts see it. Bits 1 and 2 say whether it can be read and written.
 #[derive(Clone, Copy, Debug, PartialEq, Eq)]
@@ -21,10 +22,12 @@ pub(crate) struct PropertyHead {
     pub(crate) bits: u8,
 }
 
-/// A function of an empty state, with its place.
+/// A function of an empty state: its script's number, the place of the state there, and its own in the state.
 #[derive(Clone, Copy, Debug)]
 pub(crate) struct Callee<'a> {
-    pub(crate) place: FunctionPlace,
+    pub(crate) script: usize,
+    pub(crate) state: usize,
+    pub(crate) place: usize,
     pub(crate) signature: &'a Signature,
 }
 
@@ -32,24 +35,27 @@ pub(crate) struct Callee<'a> {
 #[derive(Drop)]
 pub(crate) struct ScriptHead {
     pub(crate) parent: Option<usize>,
-    properties: Vec<PropertyHead>,
-    property_places: HashMap<usize, usize>,
+    pub(crate) properties: Vec<PropertyHead>,
+    /// The place of the first empty state, and how many states there are where there is none.
+    pub(crate) empty_state: usize,
     /// The functions of the first empty state, and the members that the script lacks behind them.
-    functions: Vec<Signature>,
-    function_places: HashMap<usize, usize>,
+    pub(crate) functions: Vec<Signature>,
     /// The places of the members that the script lacks.
     pub(crate) lacking: Vec<usize>,
 }
 
-/// The scripts of a set. The walks upward end after as many steps as there are scripts.
+/// The scripts of a set.
 #[derive(Drop)]
 pub(crate) struct Scripts {
     pub(crate) heads: Vec<ScriptHead>,
     /// The four members of every script without parent.
     pub(crate) members: Vec<Signature>,
     /// What each name means as the name of a type.
-    pub(crate) kinds: Vec<Kind>,
+    pub(crate) types: TypeNames,
     pub(crate) objects: Objects,
+    /// What each script has from itself upward.
+    pub(crate) table: MemberTable,
+    ghost one_each: { types ≡ vec_len heads },
 }
 
 impl ScriptHead {
@@ -60,16 +66,16 @@ impl ScriptHead {
         object: &PexObject,
         parent: Option<usize>,
     ) -> Result<ScriptHead, OutOfMemory> {
-        let properties = property_heads(alloc, names, object.properties.as_slice())?;
-        let property_places = places_of_properties(alloc, properties.as_slice())?;
-        let functions = empty_state_signatures(alloc, names, object)?;
-        let function_places = places_of_functions(alloc, functions.as_slice())?;
+        let empty_state = empty_state_place(names, object);
+        let functions = match object.states.get(empty_state) {
+            Some(state) => signatures(alloc, names, state.functions.as_slice())?,
+            None => Vec::new(alloc),
+        };
         Ok(ScriptHead {
             parent,
-            properties,
-            property_places,
+            properties: property_heads(alloc, names, object.properties.as_slice())?,
+            empty_state,
             functions,
-            function_places,
             lacking: Vec::new(alloc),
         })
     }
@@ -78,9 +84,8 @@ impl ScriptHead {
     fn complete(&mut self, alloc: Global, members: &Members<'_>) -> Result<(), OutOfMemory> {
         for (place, member) in members.list.iter().enumerate() {
             let name = members.names.number(member.0);
-            if self.function_places.get(&name).is_none() {
+            if !self.has_function(name) {
                 let signature = Signature::of(alloc, members.names, member.0, &member.1)?;
-                self.function_places.insert(name, self.functions.len())?;
                 self.functions.push(signature)?;
                 self.lacking.push(place)?;
             }
@@ -88,16 +93,19 @@ impl ScriptHead {
         Ok(())
     }
 
-    fn function(&self, name: usize) -> Option<(usize, &Signature)> {
-        let place = *self.function_places.get(&name)?;
-        let signature = self.functions.get(place)?;
-        Some((place, signature))
+    fn has_function(&self, name: usize) -> bool {
+        self.functions.iter().any(|function| function.name == name)
     }
+}
 
-    pub(crate) fn property(&self, name: usize) -> Option<PropertyHead> {
-        let place = *self.property_places.get(&name)?;
-        self.properties.get(place).copied()
+// The place of the first state without name.
+fn empty_state_place(names: &FileNames, object: &PexObject) -> usize {
+    for (place, state) in object.states.iter().enumerate() {
+        if names.number(state.name) == EMPTY_NAME {
+            return place;
+        }
     }
+    object.states.len()
 }
 
 fn property_heads(
@@ -116,33 +124,6 @@ fn property_heads(
     Ok(heads)
 }
 
-fn places_of_properties(
-    alloc: Global,
-    properties: &[PropertyHead],
-) -> Result<HashMap<usize, usize>, OutOfMemory> {
-    let mut places = HashMap::new(alloc);
-    for (place, property) in properties.iter().enumerate() {
-        if places.get(&property.name).is_none() {
-            places.insert(property.name, place)?;
-        }
-    }
-    Ok(places)
-}
-
-// The functions of the first state without name.
-fn empty_state_signatures(
-    alloc: Global,
-    names: &FileNames,
-    object: &PexObject,
-) -> Result<Vec<Signature>, OutOfMemory> {
-    for state in &object.states {
-        if names.number(state.name) == EMPTY_NAME {
-            return signatures(alloc, names, state.functions.as_slice());
-        }
-    }
-    Ok(Vec::new(alloc))
-}
-
 /// The signatures of these functions.
 pub(crate) fn signatures(
     alloc: Global,
@@ -156,23 +137,11 @@ pub(crate) fn signatures(
     Ok(found)
 }
 
-fn places_of_functions(
-    alloc: Global,
-    functions: &[Signature],
-) -> Result<HashMap<usize, usize>, OutOfMemory> {
-    let mut places = HashMap::new(alloc);
-    for (place, function) in functions.iter().enumerate() {
-        if places.get(&function.name).is_none() {
-            places.insert(function.name, place)?;
-        }
-    }
-    Ok(places)
-}
-
 // Adds what the objects of the next file offer.
 fn add_heads(
     alloc: Global,
     heads: &mut Vec<ScriptHead>,
+    lists: &mut MemberLists,
     parents: &[Option<usize>],
     members: &Members<'_>,
     source: &Source<'_>,
@@ -186,6 +155,7 @@ fn add_heads(
         if has_members(number, source.names, object) {
             head.complete(alloc, members)?;
         }
+        lists.add(number, source.names, object, &head, members)?;
         heads.push(head)?;
     }
     Ok(())
@@ -213,50 +183,57 @@ impl Scripts {
         objects: Objects,
         parents: &[Option<usize>],
     ) -> Result<Scripts, OutOfMemory>
+        requires { length objects ≡ object_count sources.now }
         ensures { IfOk result (λ scripts. vec_len scripts.heads ≡ object_count sources.now) }
     {
-        let kinds = kinds_of_names(alloc, table, &objects)?;
+        let types = TypeNames::of(alloc, table, &objects)?;
+        let mut lists = MemberLists::new(alloc, parents)?;
         let mut heads = Vec::with_capacity(alloc, objects.count())?;
         for source in sources {
-            add_heads(alloc, &mut heads, parents, members, source)?;
+            add_heads(alloc, &mut heads, &mut lists, parents, members, source)?;
         }
         Ok(Scripts {
             heads,
             members: signatures(alloc, members.names, members.list)?,
-            kinds,
+            types,
             objects,
+            table: lists.inherited()?,
         })
     }
 
     /// The nearest function of this name in the empty states, from the script upward.
-    pub(crate) fn find_function(&self, script: usize, name: usize) -> Option<Callee<'_>> {
-        let mut here = script;
-        for _ in 0..self.heads.len() {
-            let head = self.heads.get(here)?;
-            if let Some((place, signature)) = head.function(name) {
-                return callee_at(here, place, signature);
-            }
-            here = head.parent?;
-        }
-        None
+    pub(crate) fn find_function(&self, script: usize, name: usize) -> Option<Callee<'_>>
+        ensures { IfSome result (λ callee. callee.script < vec_len self.now.heads) }
+    {
+        let found = self.table.in_state(script, EMPTY_NAME, name)?;
+        let head = self.heads.get(found.object)?;
+        let signature = head.functions.get(found.place)?;
+        Some(Callee {
+            script: found.object,
+            state: found.state,
+            place: found.place,
+            signature,
+        })
     }
 
     /// The nearest property of this name, from the script upward.
     pub(crate) fn find_property(&self, script: usize, name: usize) -> Option<PropertyHead> {
-        let mut here = script;
-        for _ in 0..self.heads.len() {
-            let head = self.heads.get(here)?;
-            if let Some(property) = head.property(name) {
-                return Some(property);
-            }
-            here = head.parent?;
-        }
-        None
+        let found = self.table.property(script, name)?;
+        self.heads
+            .get(found.object)?
+            .properties
+            .get(found.place)
+            .copied()
     }
 
     /// The place of the script's own first property of this name.
     pub(crate) fn first_property(&self, script: usize, name: usize) -> Option<usize> {
-        self.heads.get(script)?.property_places.get(&name).copied()
+        let found = self.table.property(script, name)?;
+        if found.object == script {
+            Some(found.place)
+        } else {
+            None
+        }
     }
 
     /// The places of the members that the script lacks.
@@ -294,31 +271,22 @@ impl Scripts {
     }
 
     /// What this name means as the name of the type of a result or a local.
-    pub(crate) fn kind(&self, name: usize) -> Kind {
-        match self.kinds.get(name) {
-            Some(kind) => *kind,
-            None => Kind::Unknown,
-        }
+    pub(crate) fn kind(&self, name: usize) -> Kind
+        ensures { IsKindAmong (vec_len self.now.heads) result }
+    {
+        self.types.kind(name)
     }
 
     /// What this name means as the name of any other type, where None is none.
-    pub(crate) fn value_kind(&self, name: usize) -> Kind {
+    pub(crate) fn value_kind(&self, name: usize) -> Kind
+        ensures { IsKindAmong (vec_len self.now.heads) result }
+    {
         self.kind(name).without_none()
     }
 
-    // Whether the parent is the script itself or stands above it.
-    fn is_child(&self, script: u16, parent: u16) -> bool {
-        let mut here = usize::from(script);
-        for _ in 0..self.heads.len() {
-            if here == usize::from(parent) {
-                return true;
-            }
-            match self.parent(here) {
-                Some(above) => here = above,
-                None => return false,
-            }
-        }
-        false
+    /// What each script has from itself upward.
+    pub(crate) fn into_table(self) -> MemberTable {
+        self.table
     }
 
     /// Whether a value of one type fits the other: it has the type, or is of a script below it, or is None
@@ -333,7 +301,7 @@ impl Scripts {
         match (kind, to) {
             (Kind::Nothing, to) => to.holds_none(),
             (Kind::Of(CoreType::Script(script)), Kind::Of(CoreType::Script(parent))) => {
-                self.is_child(script, parent)
+                self.table.is_child(script, parent)
             }
             _ => false,
         }
@@ -354,16 +322,8 @@ impl Scripts {
             return kind == BOOL || kind == TEXT;
         }
         match (kind.script(), to.script()) {
-            (Some(parent), Some(script)) => self.is_child(script, parent),
+            (Some(parent), Some(script)) => self.table.is_child(script, parent),
             _ => false,
         }
     }
-}
-
-fn callee_at(script: usize, place: usize, signature: &Signature) -> Option<Callee<'_>> {
-    let place = FunctionPlace {
-        script: u16::try_from(script).ok()?,
-        place: u16::try_from(place).ok()?,
-    };
-    Some(Callee { place, signature })
 }

@@ -1,4 +1,7 @@
 // The values of a set, with the numbers of their names.
+ghost use Rattle.std.specs.Prelude.{◌≡◌, length, IfOk};
+ghost use Rattle.pex_verify.specs.Sources.{object_count};
+
 use crate::fault::Site;
 use papy_base::{OutOfMemory, Text};
 use pex_names::{FileNames, NameTable, Objects, Prelude, text_at};
@@ -78,7 +81,9 @@ pub(crate) fn all_sources<'a>(
 }
 
 /// The objects of these files.
-pub(crate) fn objects_of(alloc: Global, sources: &[Source<'_>]) -> Result<Objects, OutOfMemory> {
+pub(crate) fn objects_of(alloc: Global, sources: &[Source<'_>]) -> Result<Objects, OutOfMemory>
+    ensures { IfOk result (λ objects. length objects ≡ object_count sources.now) }
+{
     let mut objects = Objects::new(alloc);
     for source in sources {
         objects.add_file(source.names, source.pex)?;

@@ -1,16 +1,66 @@
 // What each name means as the name of a type.
+ghost use Rattle.std.specs.Prelude.{◌≡◌, ℕ, length, All, IfOk, IfSome};
+ghost use Rattle.pex_verify.specs.Types.{IsKindAmong};
+
 use crate::kind::{BOOL, INT, Kind, TEXT, array_of};
 use core_tree::CoreType;
 use papy_base::OutOfMemory;
 use pex_names::{LIBRARY_COUNT, NameTable, Objects};
 use std::alloc::Global;
+use std::marker::Model;
 
-/// What the name of each number means as the name of a type.
-pub(crate) fn kinds_of_names(
+/// What names mean as names of types, in a set of so many scripts.
+#[derive(Drop)]
+pub(crate) struct TypeNames {
+    scripts: usize,
+    // By the numbers of the names.
+    kinds: Vec<Kind>,
+}
+
+impl Model for TypeNames {
+    ghost use Rattle.std.specs.Prelude.{ℕ, All};
+    ghost use Rattle.pex_verify.specs.Types.{IsKindAmong};
+
+    ghost Value = { ℕ };
+
+    ghost view = { λ types. types.scripts };
+
+    ghost invariant = { λ types. All (IsKindAmong types.scripts) types.kinds.items };
+}
+
+impl TypeNames {
+    /// What the names of the table mean, where the scripts are these objects.
+    pub(crate) fn of(
+        alloc: Global,
+        table: &NameTable,
+        objects: &Objects,
+    ) -> Result<TypeNames, OutOfMemory>
+        ensures { IfOk result (λ types. types ≡ length objects.now) }
+    {
+        Ok(TypeNames {
+            scripts: objects.count(),
+            kinds: kinds_of_names(alloc, table, objects)?,
+        })
+    }
+
+    /// What the name of this number means.
+    pub(crate) fn kind(&self, name: usize) -> Kind
+        ensures { IsKindAmong self.now result }
+    {
+        match self.kinds.get(name) {
+            Some(kind) => *kind,
+            None => Kind::Unknown,
+        }
+    }
+}
+
+fn kinds_of_names(
     alloc: Global,
     table: &NameTable,
     objects: &Objects,
-) -> Result<Vec<Kind>, OutOfMemory> {
+) -> Result<Vec<Kind>, OutOfMemory>
+    ensures { IfOk result (λ kinds. All (IsKindAmong (length objects.now)) kinds.items) }
+{
     let mut kinds = Vec::with_capacity(alloc, table.count())?;
     for number in 0..table.count() {
         let name = table.name(number);
@@ -24,7 +74,9 @@ fn kind_of_name(
     table: &NameTable,
     objects: &Objects,
     name: &[u8],
-) -> Result<Kind, OutOfMemory> {
+) -> Result<Kind, OutOfMemory>
+    ensures { IfOk result (IsKindAmong (length objects.now)) }
+{
     if name == b"none".as_slice() {
         return Ok(Kind::Nothing);
     }
@@ -40,7 +92,9 @@ fn array_kind(
     table: &NameTable,
     objects: &Objects,
     name: &[u8],
-) -> Result<Option<Kind>, OutOfMemory> {
+) -> Result<Option<Kind>, OutOfMemory>
+    ensures { IfOk result (λ kind. IfSome kind (IsKindAmong (length objects.now))) }
+{
     let Some(element) = name.strip_suffix(b"[]") else {
         return Ok(None);
     };
@@ -54,7 +108,9 @@ fn plain_kind(
     table: &NameTable,
     objects: &Objects,
     name: &[u8],
-) -> Result<Kind, OutOfMemory> {
+) -> Result<Kind, OutOfMemory>
+    ensures { IfOk result (IsKindAmong (length objects.now)) }
+{
     if let Some(kind) = word_kind(name) {
         return Ok(kind);
     }
@@ -69,7 +125,9 @@ fn plain_kind(
 }
 
 // The meaning of the words of the language. They win over scripts of such a name.
-fn word_kind(name: &[u8]) -> Option<Kind> {
+fn word_kind(name: &[u8]) -> Option<Kind>
+    ensures { (count : ℕ) → IfSome result (IsKindAmong count) }
+{
     if name == b"int".as_slice() {
         Some(INT)
     } else if name == b"bool".as_slice() {
@@ -86,7 +144,9 @@ fn word_kind(name: &[u8]) -> Option<Kind> {
 }
 
 // The type of the instances of a script among so many. A library has none.
-fn script_kind(script: usize, count: usize) -> Kind {
+fn script_kind(script: usize, count: usize) -> Kind
+    ensures { IsKindAmong count result }
+{
     if script < LIBRARY_COUNT || script >= count {
         return Kind::Unknown;
     }

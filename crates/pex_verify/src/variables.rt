@@ -1,4 +1,7 @@
 // The variables of an object.
+ghost use Rattle.std.specs.Prelude.{vec_len, IfOk, OnOk};
+ghost use Rattle.pex_verify.specs.Soundness.{AreTyped};
+
 use crate::fault::{Refusal, VerifyFault, VerifyRule};
 use crate::function::known_kind;
 use crate::kind::Kind;
@@ -16,7 +19,9 @@ pub(crate) fn load_variables(
     set: &Scripts,
     source: &Source<'_>,
     object: &PexObject,
-) -> Result<Variables, VerifyFault> {
+) -> Result<Variables, VerifyFault>
+    ensures { IfOk result (λ variables. AreTyped (vec_len set.now.heads) variables.list.items) }
+{
     let mut variables = Variables::new(alloc);
     for variable in &object.variables {
         if let Err(refusal) = load_variable(alloc, set, source, &mut variables, variable) {
@@ -34,7 +39,9 @@ fn load_variable(
     source: &Source<'_>,
     variables: &mut Variables,
     variable: &PexVariable,
-) -> Result<(), Refusal> {
+) -> Result<(), Refusal>
+    ensures { AreTyped (vec_len set.now.heads) variables.old.list.items → OnOk result (AreTyped (vec_len set.now.heads) variables.new.list.items) }
+{
     let name = source.names.number(variable.name);
     let kind = set.value_kind(source.names.number(variable.kind));
     if kind == Kind::Float || matches!(variable.value, Datum::Float(_)) {

@@ -1,5 +1,6 @@
 // Sets of files, in the order in which their rules are judged.
-ghost use Rattle.std.specs.Prelude.{◌≡◌, ◌+◌, ◌<◌, vec_len, IfOk, OnOk};
+ghost use Rattle.std.specs.Prelude.{◌≡◌, ◌+◌, ◌<◌, vec_len, All, IfOk, OnOk};
+ghost use Rattle.pex_verify.specs.Files.{IsFile};
 ghost use Rattle.pex_verify.specs.Sources.{object_count};
 ghost use Rattle.pex_verify.specs.Sets.{AreSoundScripts};
 
@@ -17,33 +18,29 @@ use pex_names::{FileNames, NameTable, Prelude};
 use pex_values::{Pex, PexObject};
 use std::alloc::Global;
 
-/// The set of these files, of which there are at most 65,535, with the scripts of the prelude before them.
+/// The set of these files, of which there are at most 65,535, with the scripts of the prelude before them. Each has the shape
+/// and the size of a file, as what a decoder or `assemble` gives.
 ///
 /// `Broken` comes where a rule is broken, with the first place and the lowest rule there. First come the
 /// names, parents and numbers of all objects. Then, by file and object: the object, its variables, its
 /// properties, each before the functions that read and write it, and its states, each before its functions;
 /// and in a function the function itself, its result, its parameters, its locals and its instructions.
 pub fn verify(alloc: Global, files: Vec<Pex>) -> Result<Loaded, VerifyFault>
-    requires { vec_len files < 65536 }
+    requires few { vec_len files < 65536 }
+    requires valid { All IsFile files.items }
     ensures { IfOk result (λ loaded. loaded.files ≡ files.items) }
 {
     let mut table = NameTable::new(alloc)?;
     let words = Words::of(alloc, &mut table)?;
-    let parts = load_parts(alloc, &mut table, words, files.as_slice())?;
-    let members = MemberTable::of(
-        alloc,
-        &table,
-        parts.outlines.as_slice(),
-        parts.scripts.as_slice(),
-    )?;
+    let tables = load_tables(alloc, &mut table, words, files.as_slice())?;
     Ok(Loaded {
         outline: Outline {
-            scripts: parts.outlines,
+            scripts: tables.parts.outlines,
         },
         files,
-        scripts: parts.scripts,
+        scripts: tables.parts.scripts,
         table,
-        members,
+        members: tables.members,
     })
 }
 
@@ -54,14 +51,21 @@ pub(crate) struct Parts {
     scripts: Vec<LoadedScript>,
 }
 
+// The parts of a set, with what each script has from itself upward.
+#[derive(Drop)]
+struct Tables {
+    parts: Parts,
+    members: MemberTable,
+}
+
 // All scripts of these files, behind those of the prelude.
-fn load_parts(
+fn load_tables(
     alloc: Global,
     table: &mut NameTable,
     words: Words,
     files: &[Pex],
-) -> Result<Parts, VerifyFault>
-    ensures { IfOk result (λ parts. AreSoundScripts (vec_len parts.scripts) parts.outlines.items parts.scripts.items) }
+) -> Result<Tables, VerifyFault>
+    ensures { IfOk result (λ tables. AreSoundScripts (vec_len tables.parts.scripts) tables.parts.outlines.items tables.parts.scripts.items) }
 {
     let prelude = Prelude::new(alloc)?;
     let prelude_names = FileNames::of_strings(alloc, table, prelude.file.strings.as_slice())?;
@@ -80,7 +84,11 @@ fn load_parts(
         prelude: &first,
         members: &members,
     };
-    load_files(&loader, sources.as_slice())
+    let parts = load_files(&loader, sources.as_slice())?;
+    Ok(Tables {
+        parts,
+        members: scripts.into_table(),
+    })
 }
 
 // What the scripts offer, once their names, parents and numbers were judged.

@@ -1,6 +1,6 @@
 use Rattle.std.specs.String.{string_bytes}
 use Rattle.papyrus_cmd.proofs.ScriptsAnswered.{alone_unread, alone_refused, alone_runs}
-use Rattle.script_linker.specs.contracts.set.ScriptSet as script_set
+use Rattle.core_tree.specs.contracts.script.CoreSet as core_set
 use Rattle.papyrus_cmd.proofs.once.run_alone.Goals as goal
 
 pub returns-in-Err-clause-output : goal.returns-in-Err-clause-output
@@ -17,4 +17,4 @@ returns-in-Ok-accept_alone-clause-output g c =
 pub returns-clause-output : goal.returns-clause-output
 returns-clause-output g c =
     let read = rw c.as_bytes.ensures.value at c.in-Ok.ensures.read in
-    alone_refused script_set.the_row.Denot (g.D.Desk.holds c.args.desk.now) (string_bytes c.args.script.now) c.in-Ok.text c.in-Err-accept_alone.ending _ read _ c.deref.ensures.value c.in-Err-accept_alone.ensures
+    alone_refused core_set.the_row.Denot (g.D.Desk.holds c.args.desk.now) (string_bytes c.args.script.now) c.in-Ok.text c.in-Err-accept_alone.ending _ read _ c.deref.ensures.value c.in-Err-accept_alone.ensures

@@ -1,5 +1,7 @@
-use Rattle.std.proofs.Common.{◌≡◌, ◌+◌, vec_len}
+use Rattle.std.proofs.Common.{◌≡◌, ◌+◌, All, vec_len}
+use Rattle.pex_verify.specs.Types.{IsTypeAmong}
 use Rattle.pex_verify.proofs.function.load_parameters.Given as goal
 
 abbrev pub invariant-loop-pair : goal.invariant-loop-pair
-invariant-loop-pair l = vec_len l.slots.kinds ≡ vec_len l.fn.slots.kinds + vec_len l.parameters
+invariant-loop-pair l =
+    (vec_len l.slots.kinds ≡ vec_len l.fn.slots.kinds + vec_len l.parameters) × All (λ p. IsTypeAmong (vec_len l.home.set.now.heads) p.1) l.parameters.items

@@ -1,8 +1,8 @@
-use Rattle.std.proofs.Common.{vec_len}
+use Rattle.pex_verify.specs.Places.{bounds_of}
 use Rattle.pex_verify.specs.Soundness.{IsSoundFunction}
 use Rattle.pex_verify.proofs.Lists.{all_grown}
 use Rattle.pex_verify.proofs.object.add_member.Goals as goal
 
 pub returns : goal.returns
 returns c = λ old.
-    all_grown (IsSoundFunction (vec_len c.args.site.now.home.now.variables.now.list)) c.args.functions.now.items c.push.new.self.items c.in_ok-load_member.field-0 c.in_ok-push.ensures.items old c.in_ok-load_member.ensures
+    all_grown (IsSoundFunction (bounds_of c.args.site.now.home.now)) c.args.functions.now.items c.push.new.self.items c.in_ok-load_member.field-0 c.in_ok-push.ensures.items old c.in_ok-load_member.ensures

@@ -1,6 +1,6 @@
-use Rattle.std.proofs.Common.{vec_len}
+use Rattle.pex_verify.specs.Places.{bounds_of}
 use Rattle.pex_verify.specs.Soundness.{AreSoundFunctions}
 use Rattle.pex_verify.proofs.object.load_functions.Given as goal
 
 abbrev pub invariant-loop-name : goal.invariant-loop-name
-invariant-loop-name l = AreSoundFunctions (vec_len l.site.home.now.variables.now.list) l.functions.items
+invariant-loop-name l = AreSoundFunctions (bounds_of l.site.home.now) l.functions.items

@@ -1,6 +1,7 @@
-use Rattle.std.proofs.Common.{All, vec_len}
+use Rattle.std.proofs.Common.{All}
+use Rattle.pex_verify.specs.Places.{bounds_of}
 use Rattle.pex_verify.specs.Soundness.{IsSoundState}
 use Rattle.pex_verify.proofs.object.load_states.Given as goal
 
 abbrev pub invariant-loop-state : goal.invariant-loop-state
-invariant-loop-state l = All (λ state. IsSoundState (vec_len l.site.home.now.variables.now.list) state.1.items) l.states.items
+invariant-loop-state l = All (λ state. IsSoundState (bounds_of l.site.home.now) state.1.items) l.states.items

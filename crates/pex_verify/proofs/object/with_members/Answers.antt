@@ -1,12 +1,13 @@
-use Rattle.std.proofs.Common.{Global, Vec, vec_len}
+use Rattle.std.proofs.Common.{Global, Vec}
 use Rattle.papy_base.specs.declared.name.Name.{Name}
 use Rattle.pex_verify.specs.declared.loaded.LoadedFunction.{LoadedFunction}
+use Rattle.pex_verify.specs.Places.{bounds_of}
 use Rattle.pex_verify.specs.Soundness.{IsSoundState}
 use Rattle.pex_verify.proofs.Lists.{all_grown}
 use Rattle.pex_verify.proofs.object.with_members.Goals as goal
 
 pub returns : goal.returns
 returns c =
-    let variables = vec_len c.args.site.now.home.now.variables.now.list in
-    let IsSound : Name × Vec LoadedFunction Global → Type 0 = λ state. IsSoundState variables state.1.items in
+    let bounds = bounds_of c.args.site.now.home.now in
+    let IsSound : Name × Vec LoadedFunction Global → Type 0 = λ state. IsSoundState bounds state.1.items in
     all_grown IsSound c.args.states.items c.push.new.self.items (c.in_ok-from_bytes.field-0, c.in_ok-added.added) c.in_ok-push.ensures.items c.requires c.in_ok-added.ensures

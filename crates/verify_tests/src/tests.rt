@@ -1,7 +1,7 @@
-use super::*;
 use crate::test_sets::files_of;
-use VerifyRule::*;
 use papy_base::{OutOfMemory, Text};
+use pex_verify::VerifyRule::*;
+use pex_verify::{Loaded, MethodPlace, VerifyFault, VerifyRule, verify};
 use std::alloc::Global;
 use std::test::Fail;
 
@@ -97,9 +97,12 @@ fn line_gives(alloc: Global, line: &[u8], rule: Option<VerifyRule>) -> Result<bo
 
 #[test]
 fn one_instruction(rt: HostRuntime) -> Result<(), Fail> {
-    let lines: [(&[u8], Option<VerifyRule>); 14] = [
+    let lines: [(&[u8], Option<VerifyRule>); 17] = [
         (b"fneg x x", Some(FloatOpcode)),
+        (b"ineg x 1", None),
         (b"return float", Some(FloatValue)),
+        (b"return none", None),
+        (b"assign x 1", None),
         (b"assign OnInit 1", Some(UnknownVariable)),
         (b"return 1", Some(OperandType)),
         (b"jmp 2", Some(JumpRange)),
@@ -450,9 +453,9 @@ fn order_of_places(rt: HostRuntime) -> Result<(), Fail> {
             ..place
         },
         Case {
-            set: b"object A - -/property P Int 7 w/variable v Float none",
-            member: b"P",
-            rule: BadPropertyBits,
+            set: b"object A - -/variable v Float none/property P Int 7 w",
+            member: b"v",
+            rule: FloatValue,
             ..place
         },
         Case {
@@ -485,23 +488,32 @@ fn order_of_places(rt: HostRuntime) -> Result<(), Fail> {
             rule: FloatValue,
             ..place
         },
-        // In one place the lowest rule counts.
+    ];
+    assert!(rt; all_break(rt.alloc(), &cases)?);
+    Ok(())
+}
+
+#[test]
+fn lowest_rule_of_a_place(rt: HostRuntime) -> Result<(), Fail> {
+    let place = Case {
+        set: &[],
+        object: b"A",
+        member: b"F",
+        at: None,
+        rule: FloatValue,
+    };
+    let cases = [
         Case {
             set: b"object A - -/state -/function F None 0/local x Int/local x Float",
-            member: b"F",
-            rule: FloatValue,
             ..place
         },
         Case {
             set: b"object A - -/state -/function F None 0/assign y float",
-            member: b"F",
             at: Some(0),
-            rule: FloatValue,
             ..place
         },
         Case {
             set: b"object A - -/state -/function F None 0/nop/callmethod Q y z + 1",
-            member: b"F",
             at: Some(1),
             rule: UnknownVariable,
             ..place
@@ -584,6 +596,53 @@ fn many_objects(rt: HostRuntime) -> Result<(), Fail> {
     };
     assert!(rt; all_break(alloc, &[place])?);
     Ok(())
+}
+
+#[test]
+fn members_from_above(rt: HostRuntime) -> Result<(), Fail> {
+    let place = Case {
+        set: &[],
+        object: b"C",
+        member: b"M",
+        at: Some(0),
+        rule: UnknownFunction,
+    };
+    // A has F and G, and the child B has another G, which hides it from C, a child of B.
+    let set: &[u8] =
+        b"object C B -/state -/function M None 0/local x None/LINE/object B A -/state -/function G None 0/object A - -/property P Int 1/read Int 0/return 1/state -/function F Int 0/function G None 0/object D A -/state -/function H None 0";
+    let lines: [(&[u8], Option<VerifyRule>); 8] = [
+        (b"callmethod F self x", None),
+        (b"callmethod G self x", None),
+        (b"callparent F x", None),
+        (b"callmethod H self x", Some(UnknownFunction)),
+        (b"propget P self x", None),
+        (b"propset P self 1", Some(UnknownFunction)),
+        (b"callmethod M self x", None),
+        (b"callparent M x", Some(UnknownFunction)),
+    ];
+    for (line, rule) in lines {
+        let set = with_line(rt.alloc(), set, line)?;
+        let answer = judged(rt.alloc(), set.as_slice())?;
+        match rule {
+            Some(_) => assert!(rt; is_fault(&answer, &place)),
+            None => assert!(rt; answer.is_ok()),
+        }
+    }
+    Ok(())
+}
+
+// The set with this line in place of `LINE`.
+fn with_line(alloc: Global, set: &[u8], line: &[u8]) -> Result<Vec<u8>, OutOfMemory> {
+    let mut text = Vec::new(alloc);
+    for part in set.split(|byte| *byte == b'/') {
+        text.extend_from_slice(if part == b"LINE".as_slice() {
+            line
+        } else {
+            part
+        })?;
+        text.push(b'/')?;
+    }
+    Ok(text)
 }
 
 #[test]

@@ -1,0 +1,5 @@
+ScriptName B
+
+Function G(Int n)
+m = n
+EndFunction

@@ -1,0 +1,3 @@
+ScriptName B
+Int N
+Int n

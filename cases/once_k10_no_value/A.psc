@@ -1,0 +1,4 @@
+ScriptName A
+Int Function F()
+Return
+EndFunction

@@ -1,0 +1,4 @@
+ScriptName A
+Event OnInit()
+Return 1
+EndEvent

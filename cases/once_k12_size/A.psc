@@ -1,0 +1,5 @@
+ScriptName A
+Event OnInit()
+Int[] a = new Int[128]
+a = new Int[129]
+EndEvent

@@ -1,0 +1,4 @@
+ScriptName A
+Event OnInit()
+Int n = Parent.Door().Uses + 1
+EndEvent

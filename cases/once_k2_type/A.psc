@@ -1,0 +1,2 @@
+ScriptName A
+Gate Property Door Auto

@@ -1,0 +1,5 @@
+ScriptName A
+Event OnInit()
+Debug.Trace("a")
+Trace("b")
+EndEvent

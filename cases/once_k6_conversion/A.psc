@@ -1,0 +1,5 @@
+ScriptName A
+Event OnInit()
+Int[] a
+Debug.Trace(a)
+EndEvent

@@ -1,0 +1,3 @@
+ScriptName A
+Function F(String s = 1, Int n = True)
+EndFunction

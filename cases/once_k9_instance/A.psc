@@ -1,0 +1,4 @@
+ScriptName A
+Function F() Global
+Debug.Trace(Self)
+EndFunction

@@ -1,0 +1,5 @@
+use Rattle.core_tree.proofs.StatementViews.{statement_views}
+use Rattle.expression_rules.proofs.forms.set_field.Goals as goal
+
+pub returns : goal.returns
+returns c = λ b below value. simp statement_views (below, (value, tt))

@@ -1,0 +1,8 @@
+use Rattle.core_tree.proofs.Views.{expression_views}
+use Rattle.expression_rules.proofs.CallLemmas.{operands-passed}
+use Rattle.expression_rules.proofs.trees.method_called.Goals as goal
+
+pub returns : goal.returns
+returns c = λ b of passed.
+    let p = operands-passed b c.args.passed passed in
+    simp expression_views (p.0, (rw c.in_ok-of.ensures.ok of, p.1))

@@ -1,0 +1,7 @@
+pub mod Constants
+pub mod Conversions
+pub mod Operations
+pub mod Ranges
+pub mod Rules
+pub mod Scopes
+pub mod Spine

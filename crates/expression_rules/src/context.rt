@@ -1,0 +1,79 @@
+// What is seen where an expression stands.
+ghost use Rattle.std.specs.Prelude.{IfOk};
+ghost use Rattle.core_tree.specs.InRange.{ResultInRange};
+ghost use Rattle.type_scope.specs.Scope.{function_counts, KindInRange};
+ghost use Rattle.expression_rules.specs.Ranges.{TypedInRange, bounds_of};
+
+use crate::notes::Notes;
+use crate::rule::TypeRule;
+use crate::trees::nothing;
+use crate::typed::Typed;
+use core_tree::CoreType;
+use line_parser::TypeName;
+use papy_base::OutOfMemory;
+use type_scope::{Catalog, Kind, Layout, Locals};
+
+/// What is seen where an expression stands.
+#[derive(Clone, Copy)]
+pub(crate) struct Context<'s> {
+    pub(crate) catalog: &'s Catalog<'s>,
+    /// The variables of the function's script.
+    pub(crate) layout: &'s Layout<'s>,
+    /// The number of the function's script.
+    pub(crate) script: u16,
+    pub(crate) is_global: bool,
+    pub(crate) line: u16,
+    /// The function's parameters and locals.
+    pub(crate) locals: &'s Locals,
+}
+
+impl Context<'_> {
+    /// What stands where something is unknown since a rule is broken.
+    pub(crate) fn unknown(&self) -> Typed
+        ensures { TypedInRange (bounds_of self.now) result }
+    {
+        Typed::unknown()
+    }
+
+    /// The same where this rule is broken.
+    pub(crate) fn broken(&self, notes: &mut Notes, rule: TypeRule) -> Typed
+        ensures { TypedInRange (bounds_of self.now) result }
+    {
+        self.fault(notes, rule);
+        Typed::unknown()
+    }
+
+    /// What stands for a value of which only the type is known, since a rule is broken.
+    pub(crate) fn without_tree(&self, kind: Kind) -> Typed
+        ensures { KindInRange (bounds_of self.now).functions kind → TypedInRange (bounds_of self.now) result }
+    {
+        Typed::known(nothing(), kind)
+    }
+
+    /// Notes that a rule is broken.
+    pub(crate) fn fault(&self, notes: &mut Notes, rule: TypeRule) {
+        notes.note(self.line, rule);
+    }
+
+    /// Notes that something needs an instance, which a Global function has not.
+    pub(crate) fn needs_instance(&self, notes: &mut Notes) {
+        if self.is_global {
+            self.fault(notes, TypeRule::InstanceInGlobal);
+        }
+    }
+
+    /// The type of this name. `UnknownType` is broken where there is none.
+    pub(crate) fn kind_named(
+        &self,
+        notes: &mut Notes,
+        name: &TypeName,
+    ) -> Result<Option<CoreType>, OutOfMemory>
+        ensures { IfOk result (ResultInRange (function_counts self.now.catalog.now.set.now)) }
+    {
+        let found = self.catalog.type_of(name)?;
+        if found.is_none() {
+            self.fault(notes, TypeRule::UnknownType);
+        }
+        Ok(found)
+    }
+}

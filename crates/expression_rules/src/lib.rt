@@ -1,0 +1,31 @@
+//! The expressions and assignments of a function: each word resolved, each conversion written out, and the
+//! first broken rule noted.
+#![tactic(auto)]
+
+mod arguments;
+mod assignment;
+mod calls;
+mod constants;
+mod context;
+mod conversions;
+mod expression;
+mod forms;
+mod members;
+mod notes;
+mod operators;
+mod parameters;
+mod rule;
+mod scope;
+mod spine;
+mod trees;
+mod typed;
+mod words;
+
+pub use constants::{default_fits, default_of, kind_of, literal_of, value_of};
+pub use notes::Notes;
+pub use rule::TypeRule;
+pub use scope::Scope;
+pub use typed::Typed;
+
+#[cfg(test)]
+mod tests;

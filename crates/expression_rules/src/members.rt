@@ -1,0 +1,240 @@
+// Properties, and the lengths, elements and sizes of arrays.
+ghost use Rattle.std.specs.Prelude.{◌≡◌, ◌<◌, ◌≤◌, pos, IfOk, IfSome, IfNone, List, ℕ};
+ghost use Rattle.core_tree.specs.InRange.{Bounds, TypeInRange, ResultInRange};
+ghost use Rattle.type_scope.specs.Scope.{KindInRange, function_counts};
+ghost use Rattle.expression_rules.specs.Ranges.{CoreInRange, TypedInRange, bounds_of};
+
+use crate::context::Context;
+use crate::conversions::convert;
+use crate::notes::Notes;
+use crate::rule::TypeRule;
+use crate::trees::{element_at, field, length_of, new_array_of, property_read};
+use crate::typed::Typed;
+use core_tree::{Core, CoreType};
+use papy_base::{Name, OutOfMemory};
+use script_linker::PropertyRef;
+use script_parser::{Function, Property, PropertyForm};
+use type_scope::{Kind, array_of, element_of};
+
+/// What is done with a property.
+#[derive(Clone, Copy, Debug, PartialEq, Eq)]
+pub(crate) enum Access {
+    Read,
+    Write,
+    /// Read and then written.
+    Change,
+}
+
+/// `of.name`, read.
+pub(crate) fn member(
+    context: &Context<'_>,
+    notes: &mut Notes,
+    of: Typed,
+    name: &Name,
+) -> Result<Typed, OutOfMemory>
+    ensures { TypedInRange (bounds_of context.now) of → IfOk result (TypedInRange (bounds_of context.now)) }
+{
+    match property_of(context, notes, of.kind, name) {
+        Some(at) => read_property(context, notes, of.core, at, name),
+        None => Ok(context.unknown()),
+    }
+}
+
+/// The property of this name that values of the type have.
+pub(crate) fn property_of(
+    context: &Context<'_>,
+    notes: &mut Notes,
+    kind: Kind,
+    name: &Name,
+) -> Option<PropertyRef> {
+    let found = match kind {
+        Kind::Unknown => return None,
+        Kind::Of(CoreType::Script(script)) => context.catalog.find_property(script, name),
+        _ => None,
+    };
+    if found.is_none() {
+        context.fault(notes, TypeRule::NoProperty);
+    }
+    found
+}
+
+/// The value of a property: a variable, where it is an own Auto property of the frame's instance.
+pub(crate) fn read_property(
+    context: &Context<'_>,
+    notes: &mut Notes,
+    of: Core,
+    at: PropertyRef,
+    name: &Name,
+) -> Result<Typed, OutOfMemory>
+    ensures { CoreInRange (bounds_of context.now) of → IfOk result (TypedInRange (bounds_of context.now)) }
+{
+    match property_type(context, notes, at, Access::Read)? {
+        Some(kind) => property_value(context, of, at, name, kind),
+        None => Ok(context.unknown()),
+    }
+}
+
+fn property_value(
+    context: &Context<'_>,
+    of: Core,
+    at: PropertyRef,
+    name: &Name,
+    kind: CoreType,
+) -> Result<Typed, OutOfMemory>
+    ensures { TypeInRange (bounds_of context.now).functions kind → CoreInRange (bounds_of context.now) of → IfOk result (TypedInRange (bounds_of context.now)) }
+{
+    match own_variable(context, &of, at) {
+        Some(number) => Ok(Typed::of(field(number), kind)),
+        None => {
+            let core = property_read(context.catalog.alloc, of, name, kind)?;
+            Ok(Typed::of(core, kind))
+        }
+    }
+}
+
+/// A property's type. `PropertyDirection` is broken where it can't be used so.
+pub(crate) fn property_type(
+    context: &Context<'_>,
+    notes: &mut Notes,
+    at: PropertyRef,
+    access: Access,
+) -> Result<Option<CoreType>, OutOfMemory>
+    ensures { IfOk result (ResultInRange (function_counts context.now.catalog.now.set.now)) }
+{
+    let Some(property) = context.catalog.property(at) else {
+        return Ok(None);
+    };
+    if !allows(property, access) {
+        context.fault(notes, TypeRule::PropertyDirection);
+    }
+    context.catalog.type_of(&property.kind)
+}
+
+fn allows(property: &Property, access: Access) -> bool {
+    match &property.form {
+        PropertyForm::Auto(_) => true,
+        PropertyForm::ReadOnly(_) => access == Access::Read,
+        PropertyForm::Full(functions) => has_accessors(functions.as_slice(), access),
+    }
+}
+
+fn has_accessors(functions: &[Function], access: Access) -> bool {
+    match access {
+        Access::Read => has(functions, b"get"),
+        Access::Write => has(functions, b"set"),
+        Access::Change => has(functions, b"get") && has(functions, b"set"),
+    }
+}
+
+fn has(functions: &[Function], name: &[u8]) -> bool {
+    for function in functions {
+        if function.heading.name.as_bytes().eq_ignore_ascii_case(name) {
+            return true;
+        }
+    }
+    false
+}
+
+/// The number of the variable that keeps a property, where it is an Auto property of the frame's own script
+/// on the frame's own instance.
+pub(crate) fn own_variable(context: &Context<'_>, of: &Core, at: PropertyRef) -> Option<u16>
+    ensures { IfSome result (λ number. number < (bounds_of context.now).variables) }
+{
+    if at.script == context.script && matches!(of, Core::SelfValue) {
+        context.layout.auto_variable(at.place)
+    } else {
+        None
+    }
+}
+
+/// `of.Length`
+pub(crate) fn length(
+    context: &Context<'_>,
+    notes: &mut Notes,
+    of: Typed,
+) -> Result<Typed, OutOfMemory>
+    ensures { TypedInRange (bounds_of context.now) of → IfOk result (TypedInRange (bounds_of context.now)) }
+{
+    if !of.is_unknown() && element_kind(of.kind).is_none() {
+        return Ok(context.broken(notes, TypeRule::NoProperty));
+    }
+    let core = length_of(context.catalog.alloc, of.core)?;
+    Ok(Typed::of(core, CoreType::Int))
+}
+
+/// `of[at]`, read.
+pub(crate) fn element(
+    context: &Context<'_>,
+    notes: &mut Notes,
+    of: Typed,
+    at: Typed,
+) -> Result<Typed, OutOfMemory>
+    ensures { TypedInRange (bounds_of context.now) of → TypedInRange (bounds_of context.now) at → IfOk result (TypedInRange (bounds_of context.now)) }
+{
+    let at = convert(context, notes, at, Some(CoreType::Int))?;
+    match indexed(context, notes, of.kind) {
+        Some(element) => {
+            let core = element_at(context.catalog.alloc, of.core, at, element)?;
+            Ok(Typed::of(core, element))
+        }
+        None => Ok(context.unknown()),
+    }
+}
+
+/// The type of the elements of what `[ ]` stands on.
+pub(crate) fn indexed(context: &Context<'_>, notes: &mut Notes, kind: Kind) -> Option<CoreType>
+    ensures { (functions : List ℕ) → KindInRange functions kind → ResultInRange functions result }
+{
+    let element = element_kind(kind);
+    if element.is_none() && kind != Kind::Unknown {
+        context.fault(notes, TypeRule::Operand);
+    }
+    element
+}
+
+/// The type of the elements, where this is the type of an array.
+pub(crate) fn element_kind(kind: Kind) -> Option<CoreType>
+    ensures { (functions : List ℕ) → KindInRange functions kind → ResultInRange functions result }
+{
+    match kind {
+        Kind::Of(array) => element_of(array),
+        _ => None,
+    }
+}
+
+/// `New word[count]`
+pub(crate) fn new_array(
+    context: &Context<'_>,
+    notes: &mut Notes,
+    word: &Name,
+    count: i32,
+) -> Result<Typed, OutOfMemory>
+    ensures { IfOk result (TypedInRange (bounds_of context.now)) }
+{
+    let size = array_size(count);
+    if size.is_none() {
+        context.fault(notes, TypeRule::ArraySize);
+    }
+    match context.catalog.element_type(word)? {
+        Some(element) => Ok(array_made(element, size)),
+        None => Ok(context.broken(notes, TypeRule::UnknownType)),
+    }
+}
+
+fn array_made(element: CoreType, size: Option<u8>) -> Typed
+    ensures { (b : Bounds) → TypeInRange b.functions element → TypedInRange b result }
+{
+    let core = new_array_of(element, size.unwrap_or(1));
+    Typed::of(core, array_of(element))
+}
+
+// The size of an array, where it is one.
+fn array_size(count: i32) -> Option<u8>
+    ensures some { IfSome result (λ size. (pos size ≡ count) × (1 ≤ size) × (size ≤ 128)) }
+    ensures none { IfNone result ((size : ℕ) → 1 ≤ size → size ≤ 128 → ¬ (pos size ≡ count)) }
+{
+    match u8::try_from(count) {
+        Ok(size) if size >= 1 && size <= 128 => Some(size),
+        _ => None,
+    }
+}

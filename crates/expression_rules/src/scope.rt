@@ -1,0 +1,171 @@
+// One function while its lines are judged.
+ghost use Rattle.std.specs.Prelude.{◌≡◌, ◌<◌, ◌++◌, ◌∷◌, [], IfOk, OnOk, min, vec_len};
+ghost use Rattle.core_tree.specs.InRange.{ResultInRange};
+ghost use Rattle.type_scope.specs.Scope.{function_counts};
+ghost use Rattle.expression_rules.specs.Ranges.{CoreInRange, FormInRange, TypedInRange};
+ghost use Rattle.expression_rules.specs.Scopes.{Keeps, ScopeInRange, scope_bounds};
+
+use crate::assignment::assign;
+use crate::context::Context;
+use crate::conversions::convert;
+use crate::expression::{any, truth, value};
+use crate::notes::Notes;
+use crate::rule::TypeRule;
+use crate::typed::Typed;
+use core_tree::{Core, CoreStatement, CoreType};
+use line_parser::{Expr, TypeName};
+use papy_base::{Name, OutOfMemory};
+use script_lexer::Sign;
+use type_scope::{Catalog, Layout, Locals};
+
+// What is seen in a scope.
+macro_rules! context_of {
+    ($scope:expr) => {
+        Context {
+            catalog: $scope.catalog,
+            layout: $scope.layout,
+            script: $scope.script,
+            is_global: $scope.is_global,
+            line: $scope.line,
+            locals: &$scope.locals,
+        }
+    };
+}
+
+/// One function while its lines are judged.
+#[derive(Drop)]
+pub struct Scope<'a> {
+    pub catalog: &'a Catalog<'a>,
+    /// The variables of the function's script.
+    pub layout: &'a Layout<'a>,
+    /// The number of the function's script.
+    pub script: u16,
+    pub is_global: bool,
+    /// The line at which broken rules are noted.
+    pub line: u16,
+    /// The function's parameters and locals.
+    pub locals: Locals,
+    pub notes: Notes,
+}
+
+impl<'a> Scope<'a> {
+    /// A function of this script, of which nothing is judged yet.
+    pub fn new(
+        catalog: &'a Catalog<'a>,
+        layout: &'a Layout<'a>,
+        script: u16,
+        is_global: bool,
+        line: u16,
+        notes: Notes,
+    ) -> Scope<'a>
+        ensures catalog { result.catalog ≡ catalog.entry }
+        ensures layout { result.layout ≡ layout.entry }
+        ensures script { result.script ≡ script }
+        ensures locals { result.locals.kinds.items ≡ [] }
+        ensures notes { result.notes ≡ notes }
+    {
+        Scope {
+            catalog,
+            layout,
+            script,
+            is_global,
+            line,
+            locals: Locals::new(catalog.alloc),
+            notes,
+        }
+    }
+
+    /// What was noted.
+    pub fn into_notes(self) -> Notes
+        ensures { result ≡ self.entry.notes }
+    {
+        self.notes
+    }
+
+    /// Notes that a rule is broken at the present line.
+    pub fn fault(&mut self, rule: TypeRule)
+        ensures kept { Keeps self.old self.new }
+    {
+        self.notes.note(self.line, rule);
+    }
+
+    /// The type of this name. `UnknownType` is broken where there is none.
+    pub fn kind_named(&mut self, name: &TypeName) -> Result<Option<CoreType>, OutOfMemory>
+        ensures in_range { IfOk result (ResultInRange (function_counts self.old.catalog.now.set.now)) }
+        ensures kept { Keeps self.old self.new }
+    {
+        let context = context_of!(self);
+        context.kind_named(&mut self.notes, name)
+    }
+
+    /// Adds a parameter or a local, and gives its number. `DuplicateLocal` is broken where one of the name
+    /// is seen. All that come after the 65,535th have its number.
+    pub fn new_local(&mut self, name: &Name, kind: Option<CoreType>) -> Result<u16, OutOfMemory>
+        ensures number { IfOk result (λ number. number ≡ min (vec_len self.old.locals.kinds) 65535) }
+        ensures added { OnOk result (self.new.locals.kinds.items ≡ self.old.locals.kinds.items ++ kind ∷ []) }
+        ensures catalog { self.new.catalog ≡ self.old.catalog }
+        ensures layout { self.new.layout ≡ self.old.layout }
+        ensures script { self.new.script ≡ self.old.script }
+        ensures is_global { self.new.is_global ≡ self.old.is_global }
+        ensures line { self.new.line ≡ self.old.line }
+    {
+        if self.locals.find(name)?.is_some() {
+            self.fault(TypeRule::DuplicateLocal);
+        }
+        let number = self.locals.add(name, kind)?;
+        Ok(u16::try_from(number).unwrap_or(u16::MAX))
+    }
+
+    /// An expression. Its kind is `Nothing` where it calls a function without result.
+    ///
+    /// `OutOfMemory` is also the answer where the tree is deeper than any line's, here and below.
+    pub fn any(&mut self, tree: &Expr) -> Result<Typed, OutOfMemory>
+        ensures in_range { ScopeInRange self.old → IfOk result (TypedInRange (scope_bounds self.old)) }
+        ensures kept { Keeps self.old self.new }
+    {
+        let context = context_of!(self);
+        any(&context, &mut self.notes, tree)
+    }
+
+    /// An expression whose value is needed. `NoValue` is broken where it has none.
+    pub fn value(&mut self, tree: &Expr) -> Result<Typed, OutOfMemory>
+        ensures in_range { ScopeInRange self.old → IfOk result (TypedInRange (scope_bounds self.old)) }
+        ensures kept { Keeps self.old self.new }
+    {
+        let context = context_of!(self);
+        value(&context, &mut self.notes, tree)
+    }
+
+    /// The tree of a value that is needed as this type. `NoConversion` is broken where it doesn't convert to
+    /// it by itself.
+    pub fn convert(&mut self, typed: Typed, to: Option<CoreType>) -> Result<Core, OutOfMemory>
+        ensures in_range { ResultInRange (scope_bounds self.old).functions to → TypedInRange (scope_bounds self.old) typed → IfOk result (CoreInRange (scope_bounds self.old)) }
+        ensures kept { Keeps self.old self.new }
+    {
+        let context = context_of!(self);
+        convert(&context, &mut self.notes, typed, to)
+    }
+
+    /// The tree of a value that is needed as a Bool.
+    pub fn truth(&mut self, tree: &Expr) -> Result<Core, OutOfMemory>
+        ensures in_range { ScopeInRange self.old → IfOk result (CoreInRange (scope_bounds self.old)) }
+        ensures kept { Keeps self.old self.new }
+    {
+        let context = context_of!(self);
+        truth(&context, &mut self.notes, tree)
+    }
+
+    /// An assignment, also one such as `+=`.
+    pub fn assign(
+        &mut self,
+        target: &Expr,
+        sign: Sign,
+        value: &Expr,
+    ) -> Result<CoreStatement, OutOfMemory>
+        ensures in_range { ScopeInRange self.old → IfOk result (FormInRange (scope_bounds self.old)) }
+        ensures kept { Keeps self.old self.new }
+    {
+        let context = context_of!(self);
+        assign(&context, &mut self.notes, target, sign, value)
+    }
+}

@@ -1,0 +1,115 @@
+// What a word names.
+ghost use Rattle.std.specs.Prelude.{IfOk, IfSome};
+ghost use Rattle.expression_rules.specs.Ranges.{TypedInRange, MeaningInRange, ContextInRange, bounds_of};
+
+use crate::context::Context;
+use crate::members::read_property;
+use crate::notes::Notes;
+use crate::rule::TypeRule;
+use crate::trees::{field, local, own_instance, state_text};
+use crate::typed::Typed;
+use core_tree::CoreType;
+use papy_base::{Name, OutOfMemory};
+use script_linker::PropertyRef;
+
+// A word of no script: generated functions read and write the state by it.
+const STATE_WORD: &[u8] = b"::State";
+
+/// What a word names.
+#[derive(Clone, Copy)]
+pub(crate) enum Meaning {
+    Local(u16, Option<CoreType>),
+    Field(u16, Option<CoreType>),
+    Property(PropertyRef),
+    State,
+}
+
+/// What a word names: a local or a parameter, a variable of the script, or a property of it or of a parent.
+pub(crate) fn meaning_of(context: &Context<'_>, name: &Name) -> Result<Option<Meaning>, OutOfMemory>
+    ensures { ContextInRange context.now → IfOk result (λ found. IfSome found (MeaningInRange (bounds_of context.now))) }
+{
+    if name.as_bytes() == STATE_WORD {
+        return Ok(Some(Meaning::State));
+    }
+    match local_named(context, name)? {
+        Some(local) => Ok(Some(local)),
+        None => member_named(context, name),
+    }
+}
+
+fn local_named(context: &Context<'_>, name: &Name) -> Result<Option<Meaning>, OutOfMemory>
+    ensures { ContextInRange context.now → IfOk result (λ found. IfSome found (MeaningInRange (bounds_of context.now))) }
+{
+    match context.locals.find(name)? {
+        Some(local) => {
+            let number = u16::try_from(local.number).unwrap_or(u16::MAX);
+            Ok(Some(Meaning::Local(number, local.kind)))
+        }
+        None => Ok(None),
+    }
+}
+
+fn member_named(context: &Context<'_>, name: &Name) -> Result<Option<Meaning>, OutOfMemory>
+    ensures { IfOk result (λ found. IfSome found (MeaningInRange (bounds_of context.now))) }
+{
+    if let Some((number, kind)) = context.layout.find(context.catalog.alloc, name)? {
+        let kind = context.catalog.type_of(kind)?;
+        return Ok(Some(Meaning::Field(number, kind)));
+    }
+    match context.catalog.find_property(context.script, name) {
+        Some(at) => Ok(Some(Meaning::Property(at))),
+        None => Ok(None),
+    }
+}
+
+/// The value of a word with this meaning.
+pub(crate) fn read_word(
+    context: &Context<'_>,
+    notes: &mut Notes,
+    meaning: Meaning,
+    name: &Name,
+) -> Result<Typed, OutOfMemory>
+    ensures { MeaningInRange (bounds_of context.now) meaning → IfOk result (TypedInRange (bounds_of context.now)) }
+{
+    match meaning {
+        Meaning::Local(number, kind) => Ok(Typed::found(local(number), kind)),
+        Meaning::State => Ok(Typed::of(state_text(), CoreType::Text)),
+        Meaning::Field(number, kind) => {
+            context.needs_instance(notes);
+            Ok(Typed::found(field(number), kind))
+        }
+        Meaning::Property(at) => {
+            context.needs_instance(notes);
+            read_property(context, notes, own_instance(), at, name)
+        }
+    }
+}
+
+/// `Self`
+pub(crate) fn instance(context: &Context<'_>, notes: &mut Notes) -> Typed
+    ensures { ContextInRange context.now → TypedInRange (bounds_of context.now) result }
+{
+    context.needs_instance(notes);
+    Typed::of(own_instance(), CoreType::Script(context.script))
+}
+
+/// A word that names no value, where a value must stand.
+pub(crate) fn unknown_word(context: &Context<'_>, notes: &mut Notes) -> Typed
+    ensures { TypedInRange (bounds_of context.now) result }
+{
+    context.broken(notes, TypeRule::UnknownName)
+}
+
+/// A member of a word that names no value. It may name a script, which has no members.
+pub(crate) fn member_of_word(
+    context: &Context<'_>,
+    notes: &mut Notes,
+    word: &Name,
+) -> Result<Typed, OutOfMemory>
+    ensures { IfOk result (TypedInRange (bounds_of context.now)) }
+{
+    match context.catalog.find_script(word)? {
+        Some(_) => Ok(context.broken(notes, TypeRule::NoProperty)),
+        None => Ok(context.broken(notes, TypeRule::UnknownName)),
+    }
+}

@@ -1,0 +1,18 @@
+-- Ranks of objects, by which an object is followed at once by all that stand below it.
+use Rattle.std.specs.Prelude.{ℕ, ◌==◌, Bool, ◌&&◌, ◌||◌, List, nat_le, nat_lt, slice_index_or}
+use Rattle.pex_names.specs.declared.descent.Span.{Span}
+
+abbrev pub no_ranks : Span
+no_ranks = record { start = 0; end = 0 }
+
+-- whether the rank is one of the span
+abbrev pub has : Span → ℕ → Bool
+has span rank = nat_le span.start rank && nat_lt rank span.end
+
+-- the ranks of an object and of all below it
+abbrev pub span_at : List Span → ℕ → Span
+span_at spans object = slice_index_or spans object no_ranks
+
+-- whether an object is the other one or stands below it
+abbrev pub is_below : List Span → ℕ → ℕ → Bool
+is_below spans object above = object == above || has (span_at spans above) (span_at spans object).start

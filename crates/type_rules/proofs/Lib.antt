@@ -1,0 +1,5 @@
+pub mod Heads
+pub mod MemberRanges
+pub mod Scopes
+pub mod Trees
+pub mod Types

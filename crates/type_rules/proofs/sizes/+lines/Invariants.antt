@@ -1,0 +1,15 @@
+-- A call goes on to the statements of a block inside.
+use Rattle.std.proofs.Common.{◌+◌, ◌*◌}
+use Rattle.type_rules.proofs.sizes.+lines.Given as goal
+
+abbrev pub decreases-block_size : goal.decreases-block_size
+decreases-block_size l = 4 * l.depth + 3
+
+abbrev pub decreases-statement_size : goal.decreases-statement_size
+decreases-statement_size l = 4 * l.depth + 2
+
+abbrev pub decreases-branches_size : goal.decreases-branches_size
+decreases-branches_size l = 4 * l.depth + 1
+
+abbrev pub decreases-inner_size : goal.decreases-inner_size
+decreases-inner_size l = 4 * l.depth + 0

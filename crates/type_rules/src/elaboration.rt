@@ -1,0 +1,35 @@
+ghost use Rattle.std.specs.Prelude.{◌≡◌, length, map, IfErr, IfOk};
+ghost use Rattle.core_tree.specs.InRange.{InRange};
+ghost use Rattle.type_rules.specs.Faults.{IsFaultBelow};
+ghost use Rattle.type_rules.specs.Heads.{core_script_head, script_head};
+
+use crate::fault::TypeFault;
+use crate::first_faults::FirstFaults;
+use crate::scripts::judge_script;
+use core_tree::CoreSet;
+use script_linker::ScriptSet;
+use std::alloc::Global;
+use type_scope::Catalog;
+
+/// The set with every word resolved, and every conversion and default argument written out.
+///
+/// `Broken` comes where a rule is broken, with the first one in the order of files, lines and the
+/// rules' numbers; K15 only where no other rule is broken in the set.
+pub fn elaborate(alloc: Global, set: &ScriptSet) -> Result<CoreSet, TypeFault>
+    ensures in_range { IfOk result InRange }
+    ensures heads { IfOk result (λ made. map core_script_head made.scripts.items ≡ map script_head set.now) }
+    ensures broken { IfErr result (IsFaultBelow (length set.now)) }
+{
+    let catalog = Catalog::new(alloc, set)?;
+    let mut scripts = Vec::with_capacity(alloc, usize::from(set.count()))?;
+    let mut faults = FirstFaults::none();
+    for number in 0..set.count() {
+        let judged = judge_script(&catalog, number)?;
+        faults.note(number, judged.faults);
+        scripts.push(judged.script)?;
+    }
+    match faults.first() {
+        Some(fault) => Err(fault),
+        None => Ok(CoreSet { scripts }),
+    }
+}

@@ -1,0 +1,155 @@
+// Functions, with their parameters and statements judged.
+ghost use Rattle.std.specs.Prelude.{◌≡◌, All, map, IfOk, OnOk};
+ghost use Rattle.core_tree.specs.InRange.{BlockInRange, FunctionInRange};
+ghost use Rattle.core_tree.specs.Set.{function_of};
+ghost use Rattle.core_tree.specs.Tree.{block_of};
+ghost use Rattle.expression_rules.specs.Scopes.{Keeps, ScopeInRange, scope_bounds};
+ghost use Rattle.type_rules.specs.Ranges.{CoreFunctionInRange, Grows, KeepsScript, PromiseInRange, WorkInRange, known, promised};
+ghost use Rattle.type_rules.specs.Heads.{core_function_head, function_head};
+
+use crate::sizes::function_size;
+use crate::statements::{BLOCK_LIMIT, Promise, core_block};
+use crate::variables::known;
+use crate::work::Work;
+use core_tree::{CoreFunction, CoreLine, CoreType};
+use expression_rules::{Scope, TypeRule, default_fits};
+use line_parser::{Parameter, TypeName};
+use papy_base::{OutOfMemory, Text};
+use script_parser::{Body, Function};
+use std::alloc::Global;
+
+/// The functions of a state, in their order.
+pub(crate) fn core_functions(
+    work: &mut Work<'_>,
+    functions: &[Function],
+) -> Result<Vec<CoreFunction>, OutOfMemory>
+    ensures heads { IfOk result (λ found. map core_function_head found.items ≡ map function_head functions.now) }
+    ensures kept { OnOk result (KeepsScript work.old work.new) }
+    ensures in_range { WorkInRange work.old → IfOk result (λ found. All (CoreFunctionInRange work.old) found.items) }
+{
+    let mut found = Vec::with_capacity(work.alloc(), functions.len())?;
+    for function in functions {
+        found.push(core_function(work, function)?)?;
+    }
+    Ok(found)
+}
+
+/// A function. What its heading breaks is noted at its line, what its statements break at theirs.
+pub(crate) fn core_function(
+    work: &mut Work<'_>,
+    function: &Function,
+) -> Result<CoreFunction, OutOfMemory>
+    ensures head { IfOk result (λ made. core_function_head made ≡ function_head function.now) }
+    ensures kept { OnOk result (KeepsScript work.old work.new) }
+    ensures in_range { WorkInRange work.old → IfOk result (CoreFunctionInRange work.old) }
+{
+    let heading = &function.heading;
+    let mut scope = work.open_scope(heading.is_global, function.line);
+    let promise = promise_of(&mut scope, &heading.result)?;
+    add_parameters(&mut scope, heading.parameters.as_slice())?;
+    let body = core_body(&mut scope, &function.body, promise)?;
+    let made = assemble(scope.catalog.alloc, function, &scope, promise, body)?;
+    let size = function_size(&made);
+    work.close_scope(scope.into_notes(), function.line, size);
+    Ok(made)
+}
+
+fn promise_of(scope: &mut Scope<'_>, result_type: &Option<TypeName>) -> Result<Promise, OutOfMemory>
+    ensures kept { Keeps scope.old scope.new }
+    ensures in_range { IfOk result (PromiseInRange (scope_bounds scope.old).functions) }
+{
+    match result_type {
+        Some(name) => Ok(Promise::Value(scope.kind_named(name)?)),
+        None => Ok(Promise::Nothing),
+    }
+}
+
+// A default that doesn't convert to its parameter's type by itself breaks K6.
+fn add_parameters(scope: &mut Scope<'_>, parameters: &[Parameter]) -> Result<(), OutOfMemory>
+    ensures { OnOk result (Grows scope.old scope.new) }
+{
+    for parameter in parameters {
+        let kind = scope.kind_named(&parameter.kind)?;
+        let _number = scope.new_local(&parameter.name, kind)?;
+        if let Some(default) = &parameter.default {
+            if !default_fits(scope.catalog, default, kind) {
+                scope.fault(TypeRule::NoConversion);
+            }
+        }
+    }
+    Ok(())
+}
+
+fn core_body(
+    scope: &mut Scope<'_>,
+    body: &Body,
+    promise: Promise,
+) -> Result<Vec<CoreLine>, OutOfMemory>
+    ensures grows { OnOk result (Grows scope.old scope.new) }
+    ensures in_range { ScopeInRange scope.old → PromiseInRange (scope_bounds scope.old).functions promise →
+        IfOk result (λ lines. BlockInRange (scope_bounds scope.new) (block_of lines.items)) }
+{
+    match body {
+        Body::Native => Ok(Vec::new(scope.catalog.alloc)),
+        Body::Lines(statements) => {
+            core_block(scope, statements.as_slice(), promise, BLOCK_LIMIT)
+        }
+    }
+}
+
+fn assemble(
+    alloc: Global,
+    function: &Function,
+    scope: &Scope<'_>,
+    promise: Promise,
+    body: Vec<CoreLine>,
+) -> Result<CoreFunction, OutOfMemory>
+    ensures in_range { ScopeInRange scope.now → PromiseInRange (scope_bounds scope.now).functions promise → BlockInRange (scope_bounds scope.now) (block_of body.items) →
+        IfOk result (λ made. FunctionInRange (scope_bounds scope.now).functions (scope_bounds scope.now).variables (function_of made)) }
+    ensures head { IfOk result (λ made. core_function_head made ≡ function_head function.now) }
+{
+    let heading = &function.heading;
+    let kinds = scope.locals.kinds.as_slice();
+    let (parameters, locals) = kinds.split_at(heading.parameters.len().min(kinds.len()));
+    Ok(CoreFunction {
+        name: heading.name.try_clone(alloc)?,
+        parameters: known_types(alloc, parameters)?,
+        locals: known_types(alloc, locals)?,
+        result: result_of(promise),
+        is_global: heading.is_global,
+        is_native: heading.is_native,
+        doc: clone_text(alloc, &function.doc)?,
+        flags: heading.flags,
+        body,
+        end_line: function.end_line,
+    })
+}
+
+fn known_types(alloc: Global, kinds: &[Option<CoreType>]) -> Result<Vec<CoreType>, OutOfMemory>
+    ensures { IfOk result (λ found. found.items ≡ map known kinds.now) }
+{
+    let mut found = Vec::with_capacity(alloc, kinds.len())?;
+    for kind in kinds {
+        found.push(known(*kind))?;
+    }
+    Ok(found)
+}
+
+fn result_of(promise: Promise) -> Option<CoreType>
+    ensures { result ≡ promised promise }
+{
+    match promise {
+        Promise::Nothing => None,
+        Promise::Value(kind) => Some(known(kind)),
+    }
+}
+
+/// An equal text, where there is one.
+pub(crate) fn clone_text(alloc: Global, text: &Option<Text>) -> Result<Option<Text>, OutOfMemory>
+    ensures { IfOk result (λ found. found ≡ text.now) }
+{
+    match text {
+        Some(text) => Ok(Some(text.try_clone(alloc)?)),
+        None => Ok(None),
+    }
+}

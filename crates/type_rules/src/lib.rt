@@ -1,0 +1,21 @@
+//! The rules of types and names, and scripts with each word resolved and each conversion written out,
+//! by the Papyrus language reference (Creation Kit wiki) with the choices of this project.
+#![tactic(auto)]
+
+mod elaboration;
+mod fault;
+mod first_faults;
+mod functions;
+mod members;
+mod scripts;
+mod sizes;
+mod statements;
+mod variables;
+mod work;
+
+pub use elaboration::elaborate;
+pub use expression_rules::TypeRule;
+pub use fault::TypeFault;
+
+#[cfg(test)]
+mod tests;

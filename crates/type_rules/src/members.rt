@@ -1,0 +1,173 @@
+// The properties and the states of a script.
+ghost use Rattle.std.specs.Prelude.{◌≡◌, ◌<◌, All, map, IfOk, OnOk, vec_len};
+ghost use Rattle.core_tree.specs.InRange.{AccessInRange, ResultInRange};
+ghost use Rattle.core_tree.specs.Set.{access_of};
+ghost use Rattle.type_rules.specs.Ranges.{CoreFunctionInRange, CorePropertyInRange, CoreStateInRange, KeepsScript, WorkInRange, functions_of, variables_of};
+ghost use Rattle.type_rules.specs.Heads.{auto_state_of, core_property_head, core_state_head, function_head, property_head, state_heads};
+
+use crate::functions::{clone_text, core_function, core_functions};
+use crate::variables::{constant_value, known};
+use crate::work::Work;
+use core_tree::{
+    Core, CoreAccess, CoreFunction, CoreLine, CoreProperty, CoreState, CoreStatement, CoreType,
+    Value,
+};
+use line_parser::Constant;
+use papy_base::{Name, OutOfMemory};
+use script_parser::{Function, Property, PropertyForm, Script, State};
+use std::alloc::Global;
+use type_scope::Layout;
+
+// The nodes of a Get that returns a constant: the Return and the literal.
+const CONSTANT_GET_SIZE: u32 = 2;
+
+/// The properties of the script, in their order.
+pub(crate) fn core_properties(
+    work: &mut Work<'_>,
+    properties: &[Property],
+) -> Result<Vec<CoreProperty>, OutOfMemory>
+    ensures heads { IfOk result (λ found. map core_property_head found.items ≡ map property_head properties.now) }
+    ensures kept { OnOk result (KeepsScript work.old work.new) }
+    ensures in_range { WorkInRange work.old → IfOk result (λ found. All (CorePropertyInRange work.old) found.items) }
+{
+    let mut found = Vec::with_capacity(work.alloc(), properties.len())?;
+    for (place, property) in properties.iter().enumerate() {
+        found.push(core_property(work, place, property)?)?;
+    }
+    Ok(found)
+}
+
+fn core_property(
+    work: &mut Work<'_>,
+    place: usize,
+    property: &Property,
+) -> Result<CoreProperty, OutOfMemory>
+    ensures head { IfOk result (λ made. core_property_head made ≡ property_head property.now) }
+    ensures kept { OnOk result (KeepsScript work.old work.new) }
+    ensures in_range { WorkInRange work.old → IfOk result (CorePropertyInRange work.old) }
+{
+    let kind = work.kind_at(property.line, &property.kind)?;
+    let access = match &property.form {
+        PropertyForm::Auto(_) => CoreAccess::Auto(auto_variable(work.layout, place)?),
+        PropertyForm::ReadOnly(constant) => {
+            let get = constant_get(work, property.line, constant, kind)?;
+            CoreAccess::Full(Some(get), None)
+        }
+        PropertyForm::Full(functions) => full_access(work, functions.as_slice())?,
+    };
+    Ok(CoreProperty {
+        name: property.name.try_clone(work.alloc())?,
+        kind: known(kind),
+        access,
+        doc: clone_text(work.alloc(), &property.doc)?,
+        flags: property.flags,
+    })
+}
+
+// The variable of the Auto property at this place. Its layout has one for each such property.
+fn auto_variable(layout: &Layout<'_>, place: usize) -> Result<u16, OutOfMemory>
+    ensures { IfOk result (λ number. number < vec_len layout.now.sources) }
+{
+    let Ok(place) = u16::try_from(place) else {
+        return Err(OutOfMemory);
+    };
+    match layout.auto_variable(place) {
+        Some(variable) => Ok(variable),
+        None => Err(OutOfMemory),
+    }
+}
+
+// The Get of an AutoReadOnly property, which stands on the property's line.
+fn constant_get(
+    work: &mut Work<'_>,
+    line: u16,
+    constant: &Constant,
+    kind: Option<CoreType>,
+) -> Result<CoreFunction, OutOfMemory>
+    ensures kept { OnOk result (KeepsScript work.old work.new) }
+    ensures in_range { ResultInRange (functions_of work.old) kind → IfOk result (CoreFunctionInRange work.old) }
+{
+    let alloc = work.alloc();
+    let value = constant_value(work, line, constant, kind)?;
+    let mut body = Vec::with_capacity(alloc, 1)?;
+    body.push(CoreLine {
+        line,
+        form: CoreStatement::Return(Some(Core::Lit(value))),
+    })?;
+    work.note_size(line, CONSTANT_GET_SIZE);
+    Ok(CoreFunction {
+        name: Name::from_bytes(alloc, b"Get")?,
+        parameters: Vec::new(alloc),
+        locals: Vec::new(alloc),
+        result: Some(known(kind)),
+        is_global: false,
+        is_native: false,
+        doc: None,
+        flags: 0,
+        body,
+        end_line: line,
+    })
+}
+
+// The functions of a full property are at most one Get and one Set.
+fn full_access(work: &mut Work<'_>, functions: &[Function]) -> Result<CoreAccess, OutOfMemory>
+    ensures kept { OnOk result (KeepsScript work.old work.new) }
+    ensures in_range { WorkInRange work.old → IfOk result (λ access. AccessInRange (functions_of work.old) (variables_of work.old) (access_of access)) }
+{
+    let mut read = None;
+    let mut write = None;
+    for function in functions {
+        let made = core_function(work, function)?;
+        if made.name.as_bytes().eq_ignore_ascii_case(b"Get") {
+            read = Some(made);
+        } else {
+            write = Some(made);
+        }
+    }
+    Ok(CoreAccess::Full(read, write))
+}
+
+/// The states of the script, the empty state first.
+pub(crate) fn core_states(
+    work: &mut Work<'_>,
+    script: &Script,
+) -> Result<Vec<CoreState>, OutOfMemory>
+    ensures heads { IfOk result (λ found. map core_state_head found.items ≡ state_heads script.now) }
+    ensures kept { OnOk result (KeepsScript work.old work.new) }
+    ensures in_range { WorkInRange work.old → IfOk result (λ found. All (CoreStateInRange work.old) found.items) }
+{
+    let alloc = work.alloc();
+    let mut found = Vec::with_capacity(alloc, script.states.len())?;
+    let empty = Name::from_bytes(alloc, b"")?;
+    found.push(core_state(work, empty, script.functions.as_slice())?)?;
+    for state in &script.states {
+        let name = state.name.try_clone(alloc)?;
+        found.push(core_state(work, name, state.functions.as_slice())?)?;
+    }
+    Ok(found)
+}
+
+fn core_state(
+    work: &mut Work<'_>,
+    name: Name,
+    functions: &[Function],
+) -> Result<CoreState, OutOfMemory>
+    ensures head { IfOk result (λ made. core_state_head made ≡ record { name = name; functions = map function_head functions.now }) }
+    ensures kept { OnOk result (KeepsScript work.old work.new) }
+    ensures in_range { WorkInRange work.old → IfOk result (CoreStateInRange work.old) }
+{
+    let functions = core_functions(work, functions)?;
+    Ok(CoreState { name, functions })
+}
+
+/// The name of the first Auto state.
+pub(crate) fn auto_state(alloc: Global, states: &[State]) -> Result<Option<Name>, OutOfMemory>
+    ensures { IfOk result (λ found. found ≡ auto_state_of states.now) }
+{
+    for state in states {
+        if state.is_auto {
+            return Ok(Some(state.name.try_clone(alloc)?));
+        }
+    }
+    Ok(None)
+}

@@ -1,0 +1,128 @@
+// A script while it is judged.
+ghost use Rattle.std.specs.Prelude.{◌≡◌, [], IfOk};
+ghost use Rattle.core_tree.specs.InRange.{ResultInRange};
+ghost use Rattle.type_rules.specs.Ranges.{KeepsScript, functions_of};
+
+use crate::first_faults::ScriptFaults;
+use crate::sizes::Sizes;
+use core_tree::CoreType;
+use expression_rules::{Notes, Scope, TypeRule};
+use line_parser::TypeName;
+use papy_base::OutOfMemory;
+use std::alloc::Global;
+use std::mem;
+use type_scope::{Catalog, Layout};
+
+/// The most different texts that a script's calls write out.
+const TEXT_LIMIT: usize = 8_192;
+
+/// The most bytes of them together.
+const TEXT_BYTES_LIMIT: usize = 524_288;
+
+/// The most default arguments, each of which is a node. Behind one more none are written out.
+const DEFAULT_LIMIT: u32 = 200_000;
+
+/// A script while it is judged: what its names mean, and what was found so far.
+#[derive(Drop)]
+pub(crate) struct Work<'a> {
+    pub(crate) catalog: &'a Catalog<'a>,
+    pub(crate) layout: &'a Layout<'a>,
+    /// The script's number in the set.
+    pub(crate) number: u16,
+    notes: Notes,
+    sizes: Sizes,
+}
+
+impl<'a> Work<'a> {
+    pub(crate) fn new(catalog: &'a Catalog<'a>, layout: &'a Layout<'a>, number: u16) -> Work<'a>
+        ensures catalog { result.catalog ≡ catalog.entry }
+        ensures layout { result.layout ≡ layout.entry }
+        ensures number { result.number ≡ number }
+    {
+        Work {
+            catalog,
+            layout,
+            number,
+            notes: Notes::new(catalog.alloc),
+            sizes: Sizes::none(),
+        }
+    }
+
+    pub(crate) fn alloc(&self) -> Global {
+        self.catalog.alloc
+    }
+
+    /// Notes that a rule is broken at this line.
+    pub(crate) fn fault(&mut self, line: u16, rule: TypeRule)
+        ensures { KeepsScript self.old self.new }
+    {
+        self.notes.note(line, rule);
+    }
+
+    /// The type that is written so at this line. A name of no type breaks K2.
+    pub(crate) fn kind_at(
+        &mut self,
+        line: u16,
+        name: &TypeName,
+    ) -> Result<Option<CoreType>, OutOfMemory>
+        ensures kept { KeepsScript self.old self.new }
+        ensures in_range { IfOk result (ResultInRange (functions_of self.old)) }
+    {
+        let kind = self.catalog.type_of(name)?;
+        if kind.is_none() {
+            self.fault(line, TypeRule::UnknownType);
+        }
+        Ok(kind)
+    }
+
+    /// The scope of a function of this line. It holds what was noted so far until it is closed.
+    pub(crate) fn open_scope(&mut self, is_global: bool, line: u16) -> Scope<'a>
+        ensures kept { KeepsScript self.old self.new }
+        ensures catalog { result.catalog ≡ self.old.catalog }
+        ensures layout { result.layout ≡ self.old.layout }
+        ensures script { result.script ≡ self.old.number }
+        ensures locals { result.locals.kinds.items ≡ [] }
+    {
+        let notes = mem::replace(&mut self.notes, Notes::new(self.catalog.alloc));
+        Scope::new(
+            self.catalog,
+            self.layout,
+            self.number,
+            is_global,
+            line,
+            notes,
+        )
+    }
+
+    /// Takes back what was noted, with a function's line and size.
+    pub(crate) fn close_scope(&mut self, notes: Notes, line: u16, size: u32)
+        ensures { KeepsScript self.old self.new }
+    {
+        self.notes = notes;
+        self.note_size(line, size);
+    }
+
+    /// Notes a function's line and size.
+    pub(crate) fn note_size(&mut self, line: u16, size: u32)
+        ensures { KeepsScript self.old self.new }
+    {
+        self.sizes.note(line, size);
+    }
+
+    /// What was found of the script, which begins at this line.
+    pub(crate) fn faults(&self, script_line: u16) -> ScriptFaults {
+        ScriptFaults {
+            broken: self.notes.first(),
+            too_large: self
+                .sizes
+                .too_large(script_line, writes_too_much(&self.notes)),
+        }
+    }
+}
+
+// Whether the calls of a script write out too many texts, bytes of texts, or default arguments.
+fn writes_too_much(notes: &Notes) -> bool {
+    notes.texts() > TEXT_LIMIT
+        || notes.text_bytes() > TEXT_BYTES_LIMIT
+        || notes.defaults() > DEFAULT_LIMIT
+}

@@ -1,0 +1,8 @@
+//! Tests of the rules of PEX files that run together, on sets that are written as lines. They stand above both the
+//! rules and the listing, so that neither crate rests on the other.
+#![tactic(auto)]
+
+#[cfg(test)]
+mod test_sets;
+#[cfg(test)]
+mod tests;
