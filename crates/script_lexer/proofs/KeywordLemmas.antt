@@ -1,51 +1,51 @@
 -- Keywords.
-use Rattle.std.proofs.Common.{◌≡◌, ℕ, ◌<◌, Bool, true, false, List, [], ◌∷◌, get_or, Option, Some, refl, sym, ap, ◌∙◌, lit<}
+use Rattle.std.proofs.Common.{◌≡◌, ℕ, ◌<◌, Bool, true, false, List, [], ◌∷◌, get_or, length, Option, Some, refl, sym, ap, ◌∙◌, lit<}
 use Rattle.std.specs.Prelude.{◌==◌, ◌&&◌}
 use Rattle.std.specs.List.{find}
 use Rattle.papy_base.specs.Case.{folded}
 use Rattle.script_lexer.specs.declared.keyword.Keyword.{Keyword}
 use Rattle.script_lexer.specs.declared.keyword.Keyword.TheVariants as keyword
-use Rattle.script_lexer.specs.Words.{keyword_spelling}
+use Rattle.script_lexer.specs.Words.{keyword_spelling, keywords_of_length}
 
 abbrev pub keywords : List Keyword
 keywords = keyword.As ∷ keyword.Auto ∷ keyword.AutoReadOnly ∷ keyword.Bool ∷ keyword.Else ∷ keyword.ElseIf ∷ keyword.EndEvent ∷ keyword.EndFunction ∷ keyword.EndIf ∷ keyword.EndProperty ∷ keyword.EndState ∷ keyword.EndWhile ∷ keyword.Event ∷ keyword.Extends ∷ keyword.False ∷ keyword.Float ∷ keyword.Function ∷ keyword.Global ∷ keyword.If ∷ keyword.Import ∷ keyword.Int ∷ keyword.Length ∷ keyword.Native ∷ keyword.New ∷ keyword.None ∷ keyword.Parent ∷ keyword.Property ∷ keyword.Return ∷ keyword.ScriptName ∷ keyword.SelfWord ∷ keyword.State ∷ keyword.String ∷ keyword.True ∷ keyword.While ∷ []
 
--- where a keyword stands in the list
-pub place_of : (k : Keyword) → (i : ℕ) × (i < 34) × ((d : Keyword) → get_or keywords i d ≡ k)
+-- where a keyword stands among those of its length
+pub place_of : (k : Keyword) → (i : ℕ) × (i < length (keywords_of_length (length (keyword_spelling k)))) × ((d : Keyword) → get_or (keywords_of_length (length (keyword_spelling k))) i d ≡ k)
 place_of keyword.As = (0, lit< tt, λ d. refl)
-place_of keyword.Auto = (1, lit< tt, λ d. refl)
-place_of keyword.AutoReadOnly = (2, lit< tt, λ d. refl)
-place_of keyword.Bool = (3, lit< tt, λ d. refl)
-place_of keyword.Else = (4, lit< tt, λ d. refl)
-place_of keyword.ElseIf = (5, lit< tt, λ d. refl)
-place_of keyword.EndEvent = (6, lit< tt, λ d. refl)
-place_of keyword.EndFunction = (7, lit< tt, λ d. refl)
-place_of keyword.EndIf = (8, lit< tt, λ d. refl)
-place_of keyword.EndProperty = (9, lit< tt, λ d. refl)
-place_of keyword.EndState = (10, lit< tt, λ d. refl)
-place_of keyword.EndWhile = (11, lit< tt, λ d. refl)
-place_of keyword.Event = (12, lit< tt, λ d. refl)
-place_of keyword.Extends = (13, lit< tt, λ d. refl)
-place_of keyword.False = (14, lit< tt, λ d. refl)
-place_of keyword.Float = (15, lit< tt, λ d. refl)
-place_of keyword.Function = (16, lit< tt, λ d. refl)
-place_of keyword.Global = (17, lit< tt, λ d. refl)
-place_of keyword.If = (18, lit< tt, λ d. refl)
-place_of keyword.Import = (19, lit< tt, λ d. refl)
-place_of keyword.Int = (20, lit< tt, λ d. refl)
-place_of keyword.Length = (21, lit< tt, λ d. refl)
-place_of keyword.Native = (22, lit< tt, λ d. refl)
-place_of keyword.New = (23, lit< tt, λ d. refl)
-place_of keyword.None = (24, lit< tt, λ d. refl)
-place_of keyword.Parent = (25, lit< tt, λ d. refl)
-place_of keyword.Property = (26, lit< tt, λ d. refl)
-place_of keyword.Return = (27, lit< tt, λ d. refl)
-place_of keyword.ScriptName = (28, lit< tt, λ d. refl)
-place_of keyword.SelfWord = (29, lit< tt, λ d. refl)
-place_of keyword.State = (30, lit< tt, λ d. refl)
-place_of keyword.String = (31, lit< tt, λ d. refl)
-place_of keyword.True = (32, lit< tt, λ d. refl)
-place_of keyword.While = (33, lit< tt, λ d. refl)
+place_of keyword.Auto = (0, lit< tt, λ d. refl)
+place_of keyword.AutoReadOnly = (0, lit< tt, λ d. refl)
+place_of keyword.Bool = (1, lit< tt, λ d. refl)
+place_of keyword.Else = (2, lit< tt, λ d. refl)
+place_of keyword.ElseIf = (0, lit< tt, λ d. refl)
+place_of keyword.EndEvent = (0, lit< tt, λ d. refl)
+place_of keyword.EndFunction = (0, lit< tt, λ d. refl)
+place_of keyword.EndIf = (0, lit< tt, λ d. refl)
+place_of keyword.EndProperty = (1, lit< tt, λ d. refl)
+place_of keyword.EndState = (1, lit< tt, λ d. refl)
+place_of keyword.EndWhile = (2, lit< tt, λ d. refl)
+place_of keyword.Event = (1, lit< tt, λ d. refl)
+place_of keyword.Extends = (0, lit< tt, λ d. refl)
+place_of keyword.False = (2, lit< tt, λ d. refl)
+place_of keyword.Float = (3, lit< tt, λ d. refl)
+place_of keyword.Function = (3, lit< tt, λ d. refl)
+place_of keyword.Global = (1, lit< tt, λ d. refl)
+place_of keyword.If = (1, lit< tt, λ d. refl)
+place_of keyword.Import = (2, lit< tt, λ d. refl)
+place_of keyword.Int = (0, lit< tt, λ d. refl)
+place_of keyword.Length = (3, lit< tt, λ d. refl)
+place_of keyword.Native = (4, lit< tt, λ d. refl)
+place_of keyword.New = (1, lit< tt, λ d. refl)
+place_of keyword.None = (3, lit< tt, λ d. refl)
+place_of keyword.Parent = (5, lit< tt, λ d. refl)
+place_of keyword.Property = (4, lit< tt, λ d. refl)
+place_of keyword.Return = (6, lit< tt, λ d. refl)
+place_of keyword.ScriptName = (0, lit< tt, λ d. refl)
+place_of keyword.SelfWord = (4, lit< tt, λ d. refl)
+place_of keyword.State = (4, lit< tt, λ d. refl)
+place_of keyword.String = (7, lit< tt, λ d. refl)
+place_of keyword.True = (5, lit< tt, λ d. refl)
+place_of keyword.While = (5, lit< tt, λ d. refl)
 
 -- a spelling is in small letters
 pub folded_spelling : (k : Keyword) → folded (keyword_spelling k) ≡ keyword_spelling k

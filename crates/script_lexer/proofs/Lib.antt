@@ -1,3 +1,4 @@
+pub mod BlankLemmas
 pub mod Runs
 pub mod Standing
 pub mod KeywordLemmas

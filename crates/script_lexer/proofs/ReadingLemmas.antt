@@ -71,7 +71,7 @@ not_inside text (p ∷ ps) (q ∷ qs) rest bytes after y piece h split longest g
 line_ends-append : (xs ys : List ℕ) → line_ends (xs ++ ys) ≡ line_ends xs + line_ends ys
 line_ends-append xs ys = sum_by-append (λ x. cond (is_line_end x) 1 0) xs ys
 
-line_ends-cons : (x : ℕ) (xs : List ℕ) → line_ends (x ∷ xs) ≡ cond (is_line_end x) 1 0 + line_ends xs
+pub line_ends-cons : (x : ℕ) (xs : List ℕ) → line_ends (x ∷ xs) ≡ cond (is_line_end x) 1 0 + line_ends xs
 line_ends-cons x xs = sum_by-cons (λ x. cond (is_line_end x) 1 0) x xs
 
 line_ends-le : (xs : List ℕ) → line_ends xs ≤ length xs

@@ -42,6 +42,21 @@ keyword_spelling keyword.String = 115 ∷ 116 ∷ 114 ∷ 105 ∷ 110 ∷ 103 �
 keyword_spelling keyword.True = 116 ∷ 114 ∷ 117 ∷ 101 ∷ []
 keyword_spelling keyword.While = 119 ∷ 104 ∷ 105 ∷ 108 ∷ 101 ∷ []
 
+-- the keywords of this many letters
+abbrev pub keywords_of_length : ℕ → List Keyword
+keywords_of_length n =
+    if n == 2 then keyword.As ∷ keyword.If ∷ []
+    else (if n == 3 then keyword.Int ∷ keyword.New ∷ []
+    else (if n == 4 then keyword.Auto ∷ keyword.Bool ∷ keyword.Else ∷ keyword.None ∷ keyword.SelfWord ∷ keyword.True ∷ []
+    else (if n == 5 then keyword.EndIf ∷ keyword.Event ∷ keyword.False ∷ keyword.Float ∷ keyword.State ∷ keyword.While ∷ []
+    else (if n == 6 then keyword.ElseIf ∷ keyword.Global ∷ keyword.Import ∷ keyword.Length ∷ keyword.Native ∷ keyword.Parent ∷ keyword.Return ∷ keyword.String ∷ []
+    else (if n == 7 then keyword.Extends ∷ []
+    else (if n == 8 then keyword.EndEvent ∷ keyword.EndState ∷ keyword.EndWhile ∷ keyword.Function ∷ keyword.Property ∷ []
+    else (if n == 10 then keyword.ScriptName ∷ []
+    else (if n == 11 then keyword.EndFunction ∷ keyword.EndProperty ∷ []
+    else (if n == 12 then keyword.AutoReadOnly ∷ []
+    else [])))))))))
+
 abbrev pub sign_spelling : Sign → List ℕ
 sign_spelling sign.OpenParen = 40 ∷ []
 sign_spelling sign.CloseParen = 41 ∷ []

@@ -1,7 +1,7 @@
 ghost use Rattle.std.specs.Prelude.{◌≡◌, ◌≢◌, MatchOption};
 ghost use Rattle.papy_base.specs.Case.{folded};
 ghost use Rattle.script_lexer.specs.declared.keyword.Keyword.{Keyword};
-ghost use Rattle.script_lexer.specs.Words.{keyword_spelling};
+ghost use Rattle.script_lexer.specs.Words.{keyword_spelling, keywords_of_length};
 
 /// A word that Papyrus keeps for itself, in any case of its letters.
 #[derive(Clone, Copy, Debug, PartialEq, Eq)]
@@ -42,43 +42,6 @@ pub enum Keyword {
     True,
     While,
 }
-
-static KEYWORDS: [Keyword; 34] = [
-    Keyword::As,
-    Keyword::Auto,
-    Keyword::AutoReadOnly,
-    Keyword::Bool,
-    Keyword::Else,
-    Keyword::ElseIf,
-    Keyword::EndEvent,
-    Keyword::EndFunction,
-    Keyword::EndIf,
-    Keyword::EndProperty,
-    Keyword::EndState,
-    Keyword::EndWhile,
-    Keyword::Event,
-    Keyword::Extends,
-    Keyword::False,
-    Keyword::Float,
-    Keyword::Function,
-    Keyword::Global,
-    Keyword::If,
-    Keyword::Import,
-    Keyword::Int,
-    Keyword::Length,
-    Keyword::Native,
-    Keyword::New,
-    Keyword::None,
-    Keyword::Parent,
-    Keyword::Property,
-    Keyword::Return,
-    Keyword::ScriptName,
-    Keyword::SelfWord,
-    Keyword::State,
-    Keyword::String,
-    Keyword::True,
-    Keyword::While,
-];
 
 impl Keyword {
     /// The keyword's letters, all small.
@@ -123,11 +86,61 @@ impl Keyword {
         }
     }
 
+    // The keywords of this many letters.
+    #[tactic(auto, unfolding(crate::specs::Words::keywords_of_length))]
+    fn of_length(len: usize) -> &'static [Keyword]
+        ensures { result.now ≡ keywords_of_length len }
+    {
+        match len {
+            2 => &[Keyword::As, Keyword::If],
+            3 => &[Keyword::Int, Keyword::New],
+            4 => &[
+                Keyword::Auto,
+                Keyword::Bool,
+                Keyword::Else,
+                Keyword::None,
+                Keyword::SelfWord,
+                Keyword::True,
+            ],
+            5 => &[
+                Keyword::EndIf,
+                Keyword::Event,
+                Keyword::False,
+                Keyword::Float,
+                Keyword::State,
+                Keyword::While,
+            ],
+            6 => &[
+                Keyword::ElseIf,
+                Keyword::Global,
+                Keyword::Import,
+                Keyword::Length,
+                Keyword::Native,
+                Keyword::Parent,
+                Keyword::Return,
+                Keyword::String,
+            ],
+            7 => &[Keyword::Extends],
+            8 => &[
+                Keyword::EndEvent,
+                Keyword::EndState,
+                Keyword::EndWhile,
+                Keyword::Function,
+                Keyword::Property,
+            ],
+            10 => &[Keyword::ScriptName],
+            11 => &[Keyword::EndFunction, Keyword::EndProperty],
+            12 => &[Keyword::AutoReadOnly],
+            _ => &[],
+        }
+    }
+
     /// The keyword that the word is in small letters.
     pub(crate) fn of(word: &[u8]) -> Option<Keyword>
         ensures { MatchOption result ((k : Keyword) → folded word.now ≢ keyword_spelling k) (λ k. folded word.now ≡ keyword_spelling k) }
     {
-        for keyword in &KEYWORDS {
+        let candidates = Keyword::of_length(word.len());
+        for keyword in candidates {
             if word.eq_ignore_ascii_case(keyword.spelling()) {
                 return Some(*keyword);
             }

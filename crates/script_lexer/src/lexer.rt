@@ -3,11 +3,14 @@ ghost use Rattle.script_lexer.specs.Bytes.{line_ends};
 ghost use Rattle.script_lexer.specs.Lines.{mark_len, physical_lines, logical_lines, text_of, IsUnbroken, Lexes};
 ghost use Rattle.script_lexer.specs.Progress.{IsReady};
 ghost use Rattle.script_lexer.specs.Spans.{LinesStand};
-ghost use Rattle.script_lexer.specs.Steps.{StepAnswer, TextAnswer, FileFault};
+ghost use Rattle.script_lexer.specs.declared.opening.Opening.TheVariants as opening;
+ghost use Rattle.script_lexer.specs.Answers.{Opens};
+ghost use Rattle.script_lexer.specs.Steps.{Steps, StepAnswer, TextAnswer, FileFault};
 
 use crate::fault::{LexFault, LexRule};
 use crate::line::Lines;
-use crate::next_piece::next_piece;
+use crate::next_piece::{blank_stands, next_piece};
+use crate::opening::Opening;
 use crate::piece::Found;
 use crate::progress::Progress;
 use std::alloc::Global;
@@ -26,6 +29,21 @@ fn count_line_ends(bytes: &[u8]) -> usize
     bytes.iter().filter(|byte| **byte == b'\n').count()
 }
 
+// A blank, which makes no token: most pieces of a script are blanks.
+fn blank<'a>(progress: &mut Progress, rest: &'a [u8]) -> &'a [u8]
+    requires nonempty { 0 < length rest.now }
+    requires opens { Opens opening.Blank rest.now }
+    requires ready { IsReady progress.old }
+    requires room { progress.old.at + length rest.now < 2 ^ 31 }
+    requires within { progress.old.line ≤ 65535 }
+    ensures { Steps progress.old progress.new rest.now result.now }
+{
+    blank_stands(rest);
+    let (_, after) = rest.split_at(1);
+    progress.pass_blank();
+    after
+}
+
 // One piece more. Gives what is left behind it.
 fn step<'a>(alloc: Global, progress: &mut Progress, rest: &'a [u8]) -> Result<&'a [u8], LexFault>
     requires nonempty { 0 < length rest.now }
@@ -35,6 +53,9 @@ fn step<'a>(alloc: Global, progress: &mut Progress, rest: &'a [u8]) -> Result<&'
     ensures { StepAnswer progress.old progress.new rest.now result }
 {
     let line = progress.line;
+    if Opening::of(rest[0]) == Opening::Blank && line as usize <= LINE_LIMIT {
+        return Ok(blank(progress, rest));
+    }
     let Found { piece, len } = match next_piece(alloc, rest) {
         Ok(found) => found,
         Err(fault) => return Err(fault.at_line(line)),

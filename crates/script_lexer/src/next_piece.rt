@@ -1,5 +1,7 @@
 ghost use Rattle.std.specs.Prelude.{◌<◌, length};
-ghost use Rattle.script_lexer.specs.Answers.{Answers};
+ghost use Rattle.script_lexer.specs.Answers.{Opens, Stands, Answers};
+ghost use Rattle.script_lexer.specs.declared.opening.Opening.TheVariants as opening;
+ghost use Rattle.script_lexer.specs.declared.piece.Piece.TheVariants as piece;
 
 use crate::fault::LexRule;
 use crate::number::number;
@@ -10,6 +12,15 @@ use crate::quoted::text;
 use crate::trivia::{comment, documentation, join};
 use crate::word::word;
 use std::alloc::Global;
+
+/// A blank is a piece where it stands.
+pub fn blank_stands(rest: &[u8])
+    requires nonempty { 0 < length rest.now }
+    requires opens { Opens opening.Blank rest.now }
+    ensures { Stands rest.now piece.Blank 1 }
+{
+    let _first = rest[0];
+}
 
 /// The longest piece that stands here, or the lowest rule that is broken here.
 pub fn next_piece(alloc: Global, rest: &[u8]) -> Result<Found, PieceFault>

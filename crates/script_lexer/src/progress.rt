@@ -41,9 +41,10 @@ fn end_line(lines: &mut Vec<Line>, mut tokens: Vec<Spanned>, begun: u32) -> Resu
 }
 
 impl Progress {
-    ghost use Rattle.std.specs.Prelude.{◌≡◌, ◌+◌, ◌<◌, ◌≤◌, ◌^◌, [], ◌++◌, length, IfOk, OnOk};
+    ghost use Rattle.std.specs.Prelude.{◌≡◌, ◌+◌, ◌<◌, ◌≤◌, ◌^◌, [], ◌++◌, List, ℕ, length, IfOk, OnOk};
     ghost use Rattle.script_lexer.specs.Bytes.{line_ends};
     ghost use Rattle.script_lexer.specs.Progress.{IsStart, IsReady, Takes, closed};
+    ghost use Rattle.script_lexer.specs.declared.piece.Piece.TheVariants as piece;
 
     /// Nothing was read, and the text begins at this place.
     pub fn new(alloc: Global, at: u32) -> Progress
@@ -90,6 +91,15 @@ impl Progress {
         self.at = until;
         self.line = line;
         Ok(())
+    }
+
+    /// One blank more.
+    pub fn pass_blank(&mut self)
+        requires ready { IsReady self.old }
+        requires room { self.old.at + 1 < 2 ^ 31 }
+        ensures { (bytes : List ℕ) → length bytes ≡ 1 → line_ends bytes ≡ 0 → Takes self.old self.new piece.Blank bytes }
+    {
+        self.at += 1;
     }
 
     /// The logical lines, with the last one.

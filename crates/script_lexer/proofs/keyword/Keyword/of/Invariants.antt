@@ -7,4 +7,4 @@ use Rattle.script_lexer.proofs.keyword.Keyword.of.Given as goal
 
 -- none of the keywords so far is the word
 abbrev pub invariant-loop-keyword : goal.invariant-loop-keyword
-invariant-loop-keyword l = (k : ℕ) (d : Keyword) → k < l.keyword-index → folded l.word ≢ keyword_spelling (get_or l.keyword-items k d)
+invariant-loop-keyword l = (k : ℕ) (d : Keyword) → k < l.keyword-index → folded l.word ≢ keyword_spelling (get_or l.candidates k d)
