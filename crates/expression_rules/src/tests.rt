@@ -44,8 +44,12 @@ fn source_file(alloc: Global, rt: &impl Abort, text: &str) -> Result<SourceFile,
 
 fn linked(alloc: Global, rt: &impl Abort, heading: &str, line: &str) -> Result<ScriptSet, Fail> {
     let here = format!(in alloc; "{HERE}\n{heading}\n{line}\nEndFunction")?;
+    linked_with(alloc, rt, here.as_str())
+}
+
+fn linked_with(alloc: Global, rt: &impl Abort, here: &str) -> Result<ScriptSet, Fail> {
     let mut files = Vec::new(alloc);
-    for text in [UP, LONE, here.as_str()] {
+    for text in [UP, LONE, here] {
         files.push(source_file(alloc, rt, text)?)?;
     }
     assert!(rt; files.len() < 65_530);
@@ -79,7 +83,7 @@ fn in_catalog(
     let script = catalog
         .script(HERE_NUMBER)
         .expect(rt, "the script is there");
-    let function = script.functions.last().expect(rt, "the function is there");
+    let function = script.functions.first().expect(rt, "the function is there");
     let layout = Layout::new(catalog.alloc, script)?;
     in_layout(catalog, &layout, function)
 }
@@ -291,6 +295,43 @@ fn a_global_function_has_no_instance(rt: HostRuntime) -> Result<(), Fail> {
         ("n = Far()", "l0 = (global 7 0)"),
     ];
     try_cases(rt.alloc(), &rt, GLOBAL, &cases)
+}
+
+// The rule that a line breaks in a function of a script with this first line.
+fn rule_in(
+    alloc: Global,
+    rt: &impl Abort,
+    script: &str,
+    heading: &str,
+    line: &str,
+) -> Result<Option<TypeRule>, Fail> {
+    let here = format!(in alloc; "{script}\n{heading}\n{line}\nEndFunction")?;
+    let set = linked_with(alloc, rt, here.as_str())?;
+    let (_, rule) = in_set(alloc, rt, &set)?;
+    Ok(rule)
+}
+
+#[test]
+fn parent_needs_a_parent(rt: HostRuntime) -> Result<(), Fail> {
+    let alloc = rt.alloc();
+    let cases = [
+        ("ScriptName Here extends Up", METHOD, None),
+        ("ScriptName Here", METHOD, Some(TypeRule::NoParent)),
+        ("ScriptName Here", GLOBAL, Some(TypeRule::InstanceInGlobal)),
+    ];
+    for (script, heading, wanted) in cases {
+        let rule = rule_in(alloc, &rt, script, heading, "Parent.Say()")?;
+        assert_eq!(rt; rule, wanted, "{script} {heading}");
+    }
+    let second = rule_in(
+        alloc,
+        &rt,
+        "ScriptName Here",
+        METHOD,
+        "n = Parent.F().Count + b",
+    )?;
+    assert_eq!(rt; second, Some(TypeRule::NoParent));
+    Ok(())
 }
 
 #[test]
