@@ -1,5 +1,5 @@
 -- Arguments that are in range, as operands of a call.
-use Rattle.std.proofs.Common.{◌≡◌, ℕ, suc, List, [], ◌∷◌, length, map, refl, ap, arith}
+use Rattle.std.proofs.Common.{◌≡◌, suc, List, [], ◌∷◌, length, map, refl, ap, arith}
 use Rattle.std.specs.List.{All}
 use Rattle.core_tree.specs.declared.expression.Core.{Core}
 use Rattle.core_tree.specs.InRange.{Bounds, PlacesInRange, ResultInRange, ExpressionsInRange, count_of}

@@ -1,6 +1,5 @@
 -- Which values convert to which types.
 use Rattle.std.specs.Prelude.{Bool, true, false}
-use Rattle.core_tree.specs.declared.core_type.CoreType.{CoreType}
 use Rattle.core_tree.specs.declared.core_type.CoreType.TheVariants as types
 use Rattle.type_scope.specs.declared.kind.Kind.{Kind}
 use Rattle.type_scope.specs.declared.kind.Kind.TheVariants as kinds

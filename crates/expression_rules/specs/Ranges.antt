@@ -1,5 +1,5 @@
 -- That each number in judged trees names what is there.
-use Rattle.std.specs.Prelude.{◌≡◌, ◌<◌, ℕ, List, length, All, IfSome, vec_len}
+use Rattle.std.specs.Prelude.{◌≡◌, ◌<◌, List, length, All, IfSome, vec_len}
 use Rattle.core_tree.specs.declared.expression.Core.{Core}
 use Rattle.core_tree.specs.declared.statement.CoreStatement.{CoreStatement}
 use Rattle.core_tree.specs.InRange.{Bounds, ResultInRange, TypeInRange, PlacesInRange, ExpressionInRange, StatementInRange}
