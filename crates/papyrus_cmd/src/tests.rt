@@ -69,7 +69,8 @@ fn call(alloc: Global, asked: &Asked) -> Result<Answer, Fail> {
 fn each_answer_has_its_status_and_its_line(rt: HostRuntime) -> Result<(), Fail> {
     let other: &[u8] = b"ScriptName A\nInt N\n";
     let report: &[u8] = b"#0 a\nturns 2\nit : A @\nstack 0 done\n";
-    let cases: [(&[&str], &[u8], u8, &[u8], &[u8]); 9] = [
+    let faulty: &[u8] = b"ScriptName A\nFunction F()\nn = 1\nEndFunction\n";
+    let cases: [(&[&str], &[u8], u8, &[u8], &[u8]); 11] = [
         (&["once", "A.psc"], SCRIPT, 0, report, b""),
         (&["--version"], SCRIPT, 0, b"papyrus 0.1.0\n", b""),
         (&["once", "A.psc"], other, 10, b"", b"papyrus: not built\n"),
@@ -79,6 +80,20 @@ fn each_answer_has_its_status_and_its_line(rt: HostRuntime) -> Result<(), Fail> 
             5,
             b"",
             b"A.psc:1: N1 DuplicateScript\n",
+        ),
+        (
+            &["once", "A.psc"],
+            faulty,
+            5,
+            b"",
+            b"A.psc:3: K1 UnknownName\n",
+        ),
+        (
+            &["compile", "A.psc"],
+            faulty,
+            5,
+            b"",
+            b"A.psc:3: K1 UnknownName\n",
         ),
         (
             &["once", "A.psc", "B.psc"],
