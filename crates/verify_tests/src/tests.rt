@@ -5,10 +5,11 @@ use pex_verify::{Loaded, MethodPlace, VerifyFault, VerifyRule, verify};
 use std::alloc::Global;
 use std::test::Fail;
 
-/// A set, and where it breaks a rule: the object, the member and the instruction.
+/// A set, and where it breaks a rule: the file, the object, the member and the instruction.
 #[derive(Clone, Copy)]
 struct Case<'a> {
     set: &'a [u8],
+    file: u16,
     object: &'a [u8],
     member: &'a [u8],
     at: Option<u16>,
@@ -23,7 +24,7 @@ fn judged(alloc: Global, set: &[u8]) -> Result<Result<Loaded, VerifyFault>, OutO
     Ok(verify(alloc, files))
 }
 
-// Whether the answer is this fault in the first file. A member `-` is none.
+// Whether the answer is this fault. A member `-` is none.
 fn is_fault(answer: &Result<Loaded, VerifyFault>, case: &Case<'_>) -> bool {
     match answer {
         Err(
@@ -35,7 +36,7 @@ fn is_fault(answer: &Result<Loaded, VerifyFault>, case: &Case<'_>) -> bool {
                 rule,
             },
         ) => {
-            *file == 0
+            *file == case.file
                 && object.as_bytes() == case.object
                 && is_text(member, case.member)
                 && *at == case.at
@@ -85,6 +86,7 @@ fn line_gives(alloc: Global, line: &[u8], rule: Option<VerifyRule>) -> Result<bo
             &answer,
             &Case {
                 set: &[],
+                file: 0,
                 object: b"J",
                 member: b"OnInit",
                 at: Some(0),
@@ -152,6 +154,7 @@ fn operand_types(rt: HostRuntime) -> Result<(), Fail> {
 fn objects_and_parents(rt: HostRuntime) -> Result<(), Fail> {
     let place = Case {
         set: &[],
+        file: 0,
         object: b"A",
         member: b"-",
         at: None,
@@ -203,6 +206,7 @@ fn objects_and_parents(rt: HostRuntime) -> Result<(), Fail> {
 fn names_in_an_object(rt: HostRuntime) -> Result<(), Fail> {
     let place = Case {
         set: &[],
+        file: 0,
         object: b"A",
         member: b"v",
         at: None,
@@ -257,6 +261,7 @@ fn names_in_an_object(rt: HostRuntime) -> Result<(), Fail> {
 fn variables(rt: HostRuntime) -> Result<(), Fail> {
     let place = Case {
         set: &[],
+        file: 0,
         object: b"A",
         member: b"v",
         at: None,
@@ -310,6 +315,7 @@ fn variables(rt: HostRuntime) -> Result<(), Fail> {
 fn properties(rt: HostRuntime) -> Result<(), Fail> {
     let place = Case {
         set: &[],
+        file: 0,
         object: b"A",
         member: b"P",
         at: None,
@@ -368,6 +374,7 @@ fn properties(rt: HostRuntime) -> Result<(), Fail> {
 fn signatures(rt: HostRuntime) -> Result<(), Fail> {
     let place = Case {
         set: &[],
+        file: 0,
         object: b"A",
         member: b"F",
         at: None,
@@ -405,6 +412,7 @@ fn signatures(rt: HostRuntime) -> Result<(), Fail> {
 fn global_functions(rt: HostRuntime) -> Result<(), Fail> {
     let place = Case {
         set: &[],
+        file: 0,
         object: b"A",
         member: b"F",
         at: Some(0),
@@ -438,9 +446,10 @@ fn global_functions(rt: HostRuntime) -> Result<(), Fail> {
 }
 
 #[test]
-fn order_of_places(rt: HostRuntime) -> Result<(), Fail> {
+fn order_of_files(rt: HostRuntime) -> Result<(), Fail> {
     let place = Case {
         set: &[],
+        file: 0,
         object: b"A",
         member: b"-",
         at: None,
@@ -452,6 +461,39 @@ fn order_of_places(rt: HostRuntime) -> Result<(), Fail> {
             set: b"object B - -/variable v Float none/object A Zed -",
             ..place
         },
+        Case {
+            set: b"object B - -/variable v Float none|object A Zed -",
+            file: 1,
+            ..place
+        },
+        // The first object that breaks a rule counts, and else the first member, by file and object.
+        Case {
+            set: b"object A Zed -|object B - -/object b - -",
+            ..place
+        },
+        Case {
+            set: b"object B - -|object A - -/state -/function F Zed 0|object C - -/variable v Float none",
+            file: 1,
+            member: b"F",
+            rule: OperandType,
+            ..place
+        },
+    ];
+    assert!(rt; all_break(rt.alloc(), &cases)?);
+    Ok(())
+}
+
+#[test]
+fn order_of_members(rt: HostRuntime) -> Result<(), Fail> {
+    let place = Case {
+        set: &[],
+        file: 0,
+        object: b"A",
+        member: b"-",
+        at: None,
+        rule: UnknownParent,
+    };
+    let cases = [
         Case {
             set: b"object A - -/variable v Float none/property P Int 7 w",
             member: b"v",
@@ -497,6 +539,7 @@ fn order_of_places(rt: HostRuntime) -> Result<(), Fail> {
 fn lowest_rule_of_a_place(rt: HostRuntime) -> Result<(), Fail> {
     let place = Case {
         set: &[],
+        file: 0,
         object: b"A",
         member: b"F",
         at: None,
@@ -544,6 +587,7 @@ fn long_texts(rt: HostRuntime) -> Result<(), Fail> {
     let set = repeated(alloc, b"object A - ", 256)?;
     let place = Case {
         set: set.as_slice(),
+        file: 0,
         object: b"A",
         member: b"-",
         at: None,
@@ -572,6 +616,7 @@ fn many_locals(rt: HostRuntime) -> Result<(), Fail> {
     let set = numbered(alloc, head, "local", 8192)?;
     let place = Case {
         set: set.as_slice(),
+        file: 0,
         object: b"A",
         member: b"F",
         at: None,
@@ -584,11 +629,13 @@ fn many_locals(rt: HostRuntime) -> Result<(), Fail> {
 #[test]
 fn many_objects(rt: HostRuntime) -> Result<(), Fail> {
     let alloc = rt.alloc();
-    let mut set = numbered(alloc, b"object A - -", "object", 4095)?;
-    // The 4,097th object is the parent of the others, so that they break no rule.
-    set.extend_from_slice(b"/object Int - -")?;
+    // The last object is the parent of the others, so that they break no rule.
+    let set = with_last_object(alloc, 4094)?;
+    assert!(rt; judged(alloc, set.as_slice())?.is_ok());
+    let set = with_last_object(alloc, 4095)?;
     let place = Case {
         set: set.as_slice(),
+        file: 0,
         object: b"Int",
         member: b"-",
         at: None,
@@ -598,10 +645,18 @@ fn many_objects(rt: HostRuntime) -> Result<(), Fail> {
     Ok(())
 }
 
+// An object, so many others below the object `Int`, and that one behind them.
+fn with_last_object(alloc: Global, count: usize) -> Result<Vec<u8>, OutOfMemory> {
+    let mut set = numbered(alloc, b"object A - -", "object", count)?;
+    set.extend_from_slice(b"/object Int - -")?;
+    Ok(set)
+}
+
 #[test]
 fn members_from_above(rt: HostRuntime) -> Result<(), Fail> {
     let place = Case {
         set: &[],
+        file: 0,
         object: b"C",
         member: b"M",
         at: Some(0),
