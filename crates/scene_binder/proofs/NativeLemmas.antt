@@ -1,0 +1,70 @@
+-- The list of natives after one was bound.
+use Rattle.std.proofs.Common.{ℕ, ◌≡◌, ◌<◌, ◌+◌, List, [], ◌∷◌, ◌++◌, map, drop, length, get_or, Some, IfSome, refl, ap, sym, subst, ◌∙◌, append_assoc}
+use Rattle.std.specs.List.{All}
+use Rattle.std.proofs.Math.ListN.{set}
+use Rattle.std.proofs.lemmas.List.{append-nil, drop_more, map-append, map-set, set-get_or, get_or-map}
+use Rattle.std.proofs.lemmas.List.Elements.{All-get_or, All-push, All-set}
+use Rattle.core_tree.specs.declared.outline.OutlineFunction.{OutlineFunction}
+use Rattle.core_tree.specs.declared.outline.OutlineScript.{OutlineScript}
+use Rattle.core_tree.specs.declared.scene_tree.Binding.{Binding}
+use Rattle.scene_binder.specs.declared.natives.Native.{Native}
+use Rattle.scene_binder.specs.declared.natives.Natives.{Natives}
+use Rattle.scene_binder.specs.Bound.{IsBoundNative}
+use Rattle.scene_binder.specs.NativeList.{Adds, AreNatives, HoldsNative, MayDo, native_place}
+use Rattle.scene_binder.specs.Natives.{native_place_here, native_places_from, native_places_in, native_places_of}
+
+-- after one native got a binding that its types allow
+pub AreNatives-bind : (scripts : List OutlineScript) (old new : Natives) (n : ℕ) (native : Native) (b : Binding) → n < length old.natives.items → native ≡ get_or old.natives.items n native
+    → new.natives.items ≡ set old.natives.items n (record native { binding = Some b }) → new.devices ≡ old.devices → MayDo old.devices native.function.now b → AreNatives scripts old → AreNatives scripts new
+AreNatives-bind scripts old new n native b lt is now same may h =
+    let items = old.natives.items in
+    let holds = HoldsNative scripts old.devices in
+    let bound = record native { binding = Some b } in
+    let own : HoldsNative scripts old.devices native = subst holds (sym is) (All-get_or holds items n native lt h.hold) in
+    let put : HoldsNative scripts old.devices bound = record { there = own.there; is_native = own.is_native; binding = may } in
+    let place : native_place bound ≡ get_or (map native_place items) n (native_place native) =
+    ap native_place is ∙ sym (get_or-map native_place items n native (native_place native) lt) in
+    record {
+      each_once = ap (map native_place) now ∙ (map-set native_place items n bound ∙ (ap (λ p. set (map native_place items) n p) place ∙ (set-get_or (map native_place items) n (native_place native) ∙ h.each_once)));
+      hold = subst (λ d. All (HoldsNative scripts d) new.natives.items) (sym same) (subst (All holds) (sym now) (All-set holds items n bound put h.hold));
+    }
+
+-- a native that has a binding is a bound one
+pub IsBoundNative-from : (scripts : List OutlineScript) (devices : ℕ) (native : Native) (b : Binding) → native.binding ≡ Some b → HoldsNative scripts devices native
+    → IsBoundNative scripts devices (record { script = native.script; function = native.place; binding = b })
+IsBoundNative-from scripts devices native b is h =
+    let may : MayDo devices native.function.now b = subst (λ o. IfSome o (MayDo devices native.function.now)) is h.binding in
+    record { function = native.function.now; there = h.there; is_native = h.is_native; types = may.types; device = may.device }
+
+-- nothing was added
+pub Adds-none : (natives : Natives) (places : List (ℕ × ℕ)) (Premise : List OutlineScript → Type 0) → places ≡ [] → Adds natives natives places Premise
+Adds-none natives places Premise none = record {
+  each_once = sym (ap (λ ps. map native_place natives.natives.items ++ ps) none ∙ append-nil (map native_place natives.natives.items));
+  hold = λ scripts p h. h;
+  devices = refl;
+}
+
+-- one native was added
+pub Adds-one : (old new : Natives) (native : Native) (places : List (ℕ × ℕ)) (Premise : List OutlineScript → Type 0) → new.natives.items ≡ old.natives.items ++ native ∷ [] → places ≡ native_place native ∷ [] → new.devices ≡ old.devices
+    → ((scripts : List OutlineScript) → Premise scripts → HoldsNative scripts old.devices native) → Adds old new places Premise
+Adds-one old new native places Premise now at same holds = record {
+  each_once = ap (map native_place) now ∙ (map-append native_place old.natives.items (native ∷ []) ∙ ap (λ ps. map native_place old.natives.items ++ ps) (sym at));
+  hold = λ scripts p h. subst (All (HoldsNative scripts old.devices)) (sym now) (All-push (HoldsNative scripts old.devices) old.natives.items native h (holds scripts p));
+  devices = same;
+}
+
+-- the places of one function more, and of those after it
+pub places-step : (xs ys : List (ℕ × ℕ)) (number place : ℕ) (functions : List OutlineFunction) (f : OutlineFunction) → place < length functions → f ≡ get_or functions place f → ys ≡ xs ++ native_place_here number place f
+    → ys ++ native_places_from number (place + 1) (drop (place + 1) functions) ≡ xs ++ native_places_from number place (drop place functions)
+places-step xs ys number place functions f lt is now =
+    let rest = native_places_from number (place + 1) (drop (place + 1) functions) in
+    let at : drop place functions ≡ f ∷ drop (place + 1) functions = drop_more functions place f lt ∙ ap (λ g. g ∷ drop (place + 1) functions) (sym is) in
+    ap (λ zs. zs ++ rest) now ∙ (append_assoc xs (native_place_here number place f) rest ∙ ap (λ fs. xs ++ native_places_from number place fs) (sym at))
+
+-- the same of scripts
+pub scripts-step : (xs ys : List (ℕ × ℕ)) (number : ℕ) (scripts : List OutlineScript) (s : OutlineScript) → number < length scripts → s ≡ get_or scripts number s → ys ≡ xs ++ native_places_in number s
+    → ys ++ native_places_of (number + 1) (drop (number + 1) scripts) ≡ xs ++ native_places_of number (drop number scripts)
+scripts-step xs ys number scripts s lt is now =
+    let rest = native_places_of (number + 1) (drop (number + 1) scripts) in
+    let at : drop number scripts ≡ s ∷ drop (number + 1) scripts = drop_more scripts number s lt ∙ ap (λ g. g ∷ drop (number + 1) scripts) (sym is) in
+    ap (λ zs. zs ++ rest) now ∙ (append_assoc xs (native_places_in number s) rest ∙ ap (λ ss. xs ++ native_places_of number ss) (sym at))

@@ -1,0 +1,6 @@
+use Rattle.std.specs.List.{All}
+use Rattle.scene_binder.specs.Bound.{IsBoundEntry}
+use Rattle.scene_binder.proofs.sets.bind_entries.Given as goal
+
+abbrev pub invariant-loop-place : goal.invariant-loop-place
+invariant-loop-place l = All (IsBoundEntry l.scope.scripts.now l.scope.instances.now.scripts.items l.script) l.bound.items
