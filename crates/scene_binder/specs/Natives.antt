@@ -23,13 +23,23 @@ abbrev pub BeginsWithText : List CoreType → Type 0
 BeginsWithText (kinds.Text ∷ rest) = Unit {0}
 BeginsWithText _ = ⊥
 
+-- types that let a native put its stack to sleep, trace a text and call a device
+abbrev pub MaySleep : List CoreType → Option CoreType → Type 0
+MaySleep parameters outcome = (parameters ≡ kinds.Int ∷ []) × (outcome ≡ None)
+
+abbrev pub MayTrace : List CoreType → Option CoreType → Type 0
+MayTrace parameters outcome = BeginsWithText parameters × (outcome ≡ None)
+
+abbrev pub MayCall : List CoreType → Option CoreType → Type 0
+MayCall parameters outcome = All IsCell parameters × IsReply outcome
+
 -- types that let a native do this
 abbrev pub AllowsBinding : List CoreType → Option CoreType → Binding → Type 0
-AllowsBinding parameters outcome bindings.Sleep = (parameters ≡ kinds.Int ∷ []) × (outcome ≡ None)
-AllowsBinding parameters outcome (bindings.Trace latency) = BeginsWithText parameters × (outcome ≡ None)
-AllowsBinding parameters outcome bindings.PromptTrace = BeginsWithText parameters × (outcome ≡ None)
-AllowsBinding parameters outcome (bindings.Device device latency) = All IsCell parameters × IsReply outcome
-AllowsBinding parameters outcome (bindings.PromptDevice device) = All IsCell parameters × IsReply outcome
+AllowsBinding parameters outcome bindings.Sleep = MaySleep parameters outcome
+AllowsBinding parameters outcome (bindings.Trace latency) = MayTrace parameters outcome
+AllowsBinding parameters outcome bindings.PromptTrace = MayTrace parameters outcome
+AllowsBinding parameters outcome (bindings.Device device latency) = MayCall parameters outcome
+AllowsBinding parameters outcome (bindings.PromptDevice device) = MayCall parameters outcome
 
 -- the device that is called is one of so many
 abbrev pub HasDevice : ℕ → Binding → Type 0

@@ -3,7 +3,7 @@ ghost use Rattle.std.specs.Prelude.{◌≡◌, ◌↔◌, ◌<◌, ℕ, List, []
 ghost use Rattle.std.specs.List.{All};
 ghost use Rattle.core_tree.specs.declared.outline.OutlineScript.{OutlineScript};
 ghost use Rattle.scene_binder.specs.Bound.{AreBoundNatives};
-ghost use Rattle.scene_binder.specs.Natives.{AllowsBinding, BeginsWithText, HasDevice, IsCell, IsFunctionAt, IsReply, native_place_here, native_places_from, native_places_in};
+ghost use Rattle.scene_binder.specs.Natives.{AllowsBinding, BeginsWithText, HasDevice, IsCell, IsFunctionAt, IsReply, MayCall, MaySleep, MayTrace, native_place_here, native_places_from, native_places_in};
 ghost use Rattle.scene_binder.specs.NativeList.{AreNatives, Adds};
 
 use crate::name_table::NameTable;
@@ -239,33 +239,61 @@ fn types_allow(function: &OutlineFunction, binding: Binding) -> bool
     ensures { IsTrue result → AllowsBinding function.now.parameters.items function.now.result binding }
 {
     let parameters = function.parameters.as_slice();
+    let outcome = function.result;
     match binding {
-        Binding::Sleep => is_one_int(parameters) && function.result.is_none(),
-        Binding::Trace { .. } | Binding::PromptTrace => {
-            begins_with_text(parameters) && function.result.is_none()
-        }
-        Binding::Device { .. } | Binding::PromptDevice { .. } => {
-            are_cells(parameters) && is_reply(function.result)
-        }
+        Binding::Sleep => may_sleep(parameters, outcome),
+        Binding::Trace { .. } | Binding::PromptTrace => may_trace(parameters, outcome),
+        Binding::Device { .. } | Binding::PromptDevice { .. } => may_call(parameters, outcome),
     }
+}
+
+fn may_sleep(parameters: &[CoreType], outcome: Option<CoreType>) -> bool
+    ensures { IsTrue result → MaySleep parameters.now outcome }
+{
+    is_one_int(parameters) && outcome.is_none()
 }
 
 fn is_one_int(parameters: &[CoreType]) -> bool
     ensures { IsTrue result → parameters.now ≡ CoreType.Int ∷ [] }
 {
     match parameters {
-        [kind] => *kind == CoreType::Int,
+        [kind] => is_int(*kind),
         _ => false,
     }
+}
+
+fn is_int(kind: CoreType) -> bool
+    ensures { IsTrue result → kind ≡ CoreType.Int }
+{
+    matches!(kind, CoreType::Int)
+}
+
+fn may_trace(parameters: &[CoreType], outcome: Option<CoreType>) -> bool
+    ensures { IsTrue result → MayTrace parameters.now outcome }
+{
+    begins_with_text(parameters) && outcome.is_none()
 }
 
 fn begins_with_text(parameters: &[CoreType]) -> bool
     ensures { IsTrue result → BeginsWithText parameters.now }
 {
     match parameters {
-        [first, ..] => *first == CoreType::Text,
+        [first, ..] => is_text(*first),
         [] => false,
     }
+}
+
+fn is_text(kind: CoreType) -> bool
+    ensures { IsTrue result → kind ≡ CoreType.Text }
+{
+    matches!(kind, CoreType::Text)
+}
+
+// Whether a device may be called with these.
+fn may_call(parameters: &[CoreType], outcome: Option<CoreType>) -> bool
+    ensures { IsTrue result → MayCall parameters.now outcome }
+{
+    are_cells(parameters) && is_reply(outcome)
 }
 
 fn are_cells(parameters: &[CoreType]) -> bool
@@ -283,7 +311,7 @@ fn are_cells(parameters: &[CoreType]) -> bool
 fn is_cell(kind: CoreType) -> bool
     ensures { IsTrue result ↔ IsCell kind }
 {
-    kind == CoreType::Int || kind == CoreType::Bool
+    matches!(kind, CoreType::Int | CoreType::Bool)
 }
 
 fn is_reply(outcome: Option<CoreType>) -> bool

@@ -1,7 +1,6 @@
 // Values of a scene by the types that their places ask for.
-ghost use Rattle.std.specs.Prelude.{◌≡◌, IsTrue, IfOk};
-ghost use Rattle.scene_binder.specs.Bound.{IsOfType, IsInstanceOf};
-ghost use Rattle.core_tree.specs.declared.value.Value.TheVariants.{NoneValue};
+ghost use Rattle.std.specs.Prelude.{◌≡◌, ◌↔◌, IsTrue, IfOk};
+ghost use Rattle.scene_binder.specs.Bound.{IsOfType, IsInstanceOf, MayBeNone};
 
 use crate::instances::Instances;
 use crate::scripts::Scripts;
@@ -30,33 +29,40 @@ pub(crate) fn value_for(
 ) -> Result<Value, SceneFault>
     ensures { IfOk result (IsOfType scope.scripts.now scope.instances.now.scripts.items kind) }
 {
-    match value {
-        SceneValue::NoneValue if may_be_none(scope, kind) => Ok(Value::NoneValue),
-        SceneValue::Int(number) if kind == CoreType::Int => Ok(Value::Int(*number)),
-        SceneValue::Bool(truth) if kind == CoreType::Bool => Ok(Value::Bool(*truth)),
-        SceneValue::Text(text) if kind == CoreType::Text => Ok(Value::Text(text.try_clone(alloc)?)),
-        SceneValue::Instance(name) => instance_for(alloc, scope, kind, name),
+    match (kind, value) {
+        (CoreType::Int, SceneValue::Int(number)) => Ok(Value::Int(*number)),
+        (CoreType::Bool, SceneValue::Bool(truth)) => Ok(Value::Bool(*truth)),
+        (CoreType::Text, SceneValue::Text(text)) => Ok(Value::Text(text.try_clone(alloc)?)),
+        (CoreType::Script(script), SceneValue::Instance(name)) => {
+            instance_for(alloc, scope, script, name)
+        }
+        (_, SceneValue::NoneValue) if may_be_none(kind) => Ok(Value::NoneValue),
         _ => Err(type_fault()),
     }
 }
 
-fn may_be_none(scope: Scope<'_>, kind: CoreType) -> bool
-    ensures { IsTrue result → IsOfType scope.scripts.now scope.instances.now.scripts.items kind NoneValue }
+fn may_be_none(kind: CoreType) -> bool
+    ensures { IsTrue result ↔ MayBeNone kind }
 {
-    !matches!(kind, CoreType::Int | CoreType::Bool | CoreType::Text)
+    match kind {
+        CoreType::Int | CoreType::Bool | CoreType::Text => false,
+        CoreType::Script(_)
+        | CoreType::IntArray
+        | CoreType::BoolArray
+        | CoreType::TextArray
+        | CoreType::ScriptArray(_) => true,
+    }
 }
 
+/// The instance of this name, where it is one of the script or of one below it.
 fn instance_for(
     alloc: Global,
     scope: Scope<'_>,
-    kind: CoreType,
+    script: u16,
     name: &Text,
 ) -> Result<Value, SceneFault>
-    ensures { IfOk result (IsOfType scope.scripts.now scope.instances.now.scripts.items kind) }
+    ensures { IfOk result (IsOfType scope.scripts.now scope.instances.now.scripts.items (CoreType.Script script)) }
 {
-    let CoreType::Script(script) = kind else {
-        return Err(type_fault());
-    };
     match scope.instances.find(alloc, name)? {
         Some(instance) if is_instance_of(scope, instance, script) => Ok(Value::Instance(instance)),
         _ => Err(type_fault()),

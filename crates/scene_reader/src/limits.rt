@@ -1,6 +1,6 @@
 // The limits of scenes. A scene that passes one is refused only once its whole shape was read, since a
 // fault of shape anywhere comes first.
-ghost use Rattle.std.specs.Prelude.{◌≡◌, ◌≤◌, false, IsTrue};
+ghost use Rattle.std.specs.Prelude.{◌≡◌, ◌≤◌, true, false};
 ghost use Rattle.scene_reader.specs.Limits.{Keeps};
 
 /// The most bytes of a scene file.
@@ -35,21 +35,20 @@ impl Limits {
         Limits { broken: false }
     }
 
-    /// Notes that a limit is broken where it isn't kept.
-    pub(crate) fn require(&mut self, is_kept: bool)
-        ensures { Keeps self.old.broken self.new.broken (IsTrue is_kept) }
+    /// Notes that a limit is broken.
+    pub(crate) fn note_broken(&mut self)
+        ensures { self.new.broken ≡ true }
     {
-        if !is_kept {
-            self.broken = true;
-        }
+        self.broken = true;
     }
 
     /// Notes that a limit is broken where there are more than it allows.
     pub(crate) fn require_at_most(&mut self, count: usize, most: usize)
         ensures { Keeps self.old.broken self.new.broken (count ≤ most) }
     {
-        if count > most {
-            self.broken = true;
+        if count <= most {
+            return;
         }
+        self.broken = true;
     }
 }

@@ -26,14 +26,15 @@ pub(crate) fn read_list<T: Item>(
     most: usize,
     limits: &mut Limits,
 ) -> Result<Vec<T>, SceneFault>
-    ensures { IfOk result (λ items. Keeps limits.old.broken limits.new.broken ((length items.items ≤ most) × All T.keeps items.items)) }
+    ensures count { IfOk result (λ items. Keeps limits.old.broken limits.new.broken (length items.items ≤ most)) }
+    ensures items { IfOk result (λ items. Keeps limits.old.broken limits.new.broken (All T.keeps items.items)) }
 {
     let Some(values) = value.as_array() else {
         return Err(shape_fault());
     };
-    let values = values.as_slice();
-    limits.require_at_most(values.len(), most);
-    read_items(alloc, values, limits)
+    let items = read_items(alloc, values.as_slice(), limits)?;
+    limits.require_at_most(items.len(), most);
+    Ok(items)
 }
 
 fn read_items<T: Item>(
@@ -41,7 +42,7 @@ fn read_items<T: Item>(
     values: &[Value],
     limits: &mut Limits,
 ) -> Result<Vec<T>, SceneFault>
-    ensures { IfOk result (λ items. Keeps limits.old.broken limits.new.broken ((length items.items ≡ length values.now) × All T.keeps items.items)) }
+    ensures { IfOk result (λ items. Keeps limits.old.broken limits.new.broken (All T.keeps items.items)) }
 {
     let mut items = Vec::new(alloc);
     for value in values {

@@ -19,24 +19,34 @@ fn whole(value: &Value) -> Result<Option<i64>, SceneFault> {
 pub(crate) fn int_of(value: &Value, limits: &mut Limits) -> Result<i32, SceneFault>
     ensures { IfOk result (λ _. Keeps limits.old.broken limits.new.broken (Unit {0})) }
 {
-    let number = match whole(value)? {
-        Some(number) => i32::try_from(number).ok(),
-        None => None,
-    };
-    limits.require(number.is_some());
-    Ok(number.unwrap_or(0))
+    match int_within(whole(value)?) {
+        Some(number) => Ok(number),
+        None => {
+            limits.note_broken();
+            Ok(0)
+        }
+    }
+}
+
+fn int_within(number: Option<i64>) -> Option<i32> {
+    i32::try_from(number?).ok()
 }
 
 /// The number of a device or of a stack.
 pub(crate) fn index_of(value: &Value, limits: &mut Limits) -> Result<u16, SceneFault>
     ensures { IfOk result (λ _. Keeps limits.old.broken limits.new.broken (Unit {0})) }
 {
-    let number = match whole(value)? {
-        Some(number) => u16::try_from(number).ok(),
-        None => None,
-    };
-    limits.require(number.is_some());
-    Ok(number.unwrap_or(0))
+    match index_within(whole(value)?) {
+        Some(number) => Ok(number),
+        None => {
+            limits.note_broken();
+            Ok(0)
+        }
+    }
+}
+
+fn index_within(number: Option<i64>) -> Option<u16> {
+    u16::try_from(number?).ok()
 }
 
 /// A number between these two.
@@ -48,9 +58,13 @@ pub(crate) fn count_of(
 ) -> Result<u32, SceneFault>
     ensures { IfOk result (λ n. Keeps limits.old.broken limits.new.broken ((least ≤ n) × (n ≤ most))) }
 {
-    let number = count_within(whole(value)?, least, most);
-    limits.require(number.is_some());
-    Ok(number.unwrap_or(least))
+    match count_within(whole(value)?, least, most) {
+        Some(number) => Ok(number),
+        None => {
+            limits.note_broken();
+            Ok(least)
+        }
+    }
 }
 
 fn count_within(number: Option<i64>, least: u32, most: u32) -> Option<u32>
