@@ -1,5 +1,5 @@
 // The calls of a scene.
-ghost use Rattle.std.specs.Prelude.{◌≡◌, ◌×◌, ℕ, List, length, map, IfOk, slice_get, Some};
+ghost use Rattle.std.specs.Prelude.{◌≡◌, ℕ, List, length, map, IfOk, slice_get, Some};
 ghost use Rattle.std.specs.List.{All};
 ghost use Rattle.scene_binder.specs.Bound.{IsBoundCall, IsCallableOn, AreOfTypes, call_parts};
 ghost use Rattle.scene_binder.specs.Instances.{tree_call_parts};
