@@ -41,3 +41,9 @@ upward-step scripts first here (Some p) e h = λ a up. h a (further here p a (sy
 pub upward-here : (scripts : List OutlineScript) (first here : ℕ) (next : Option ℕ) → next ≡ Some here → IfSome next (λ n. (a : ℕ) → StandsAbove scripts n a → StandsAbove scripts first a) → StandsAbove scripts first here
 upward-here scripts first here next e h =
     subst (λ o. IfSome o (λ n. (a : ℕ) → StandsAbove scripts n a → StandsAbove scripts first a)) e h here (itself here)
+
+-- a step of a walk upward from the script to which it has come
+pub upward-next : (scripts : List OutlineScript) (first here : ℕ) (now next : Option ℕ) → now ≡ Some here → next ≡ parent_in (slice_get scripts here) → IfSome now (λ n. (a : ℕ) → StandsAbove scripts n a → StandsAbove scripts first a)
+    → IfSome next (λ n. (a : ℕ) → StandsAbove scripts n a → StandsAbove scripts first a)
+upward-next scripts first here now next is e h =
+    upward-step scripts first here next e (subst (λ o. IfSome o (λ n. (a : ℕ) → StandsAbove scripts n a → StandsAbove scripts first a)) is h)

@@ -1,3 +1,4 @@
 pub mod BoundLemmas
+pub mod ListLemmas
 pub mod NameLemmas
 pub mod NativeLemmas

@@ -1,7 +1,8 @@
 -- The list of natives after one was bound.
-use Rattle.std.proofs.Common.{ℕ, ◌≡◌, ◌<◌, ◌+◌, List, [], ◌∷◌, ◌++◌, map, drop, length, get_or, Some, IfSome, refl, ap, sym, subst, ◌∙◌, append_assoc}
-use Rattle.std.specs.List.{All}
+use Rattle.std.proofs.Common.{ℕ, ◌≡◌, ◌<◌, ◌+◌, List, [], ◌∷◌, ◌++◌, map, drop, length, get_or, nat_lt, Some, IfSome, refl, ap, sym, subst, ◌∙◌, append_assoc}
+use Rattle.std.specs.List.{All, slice_get}
 use Rattle.std.proofs.Math.ListN.{set}
+use Rattle.std.proofs.lemmas.Bool.{cond-true, lt-ltb}
 use Rattle.std.proofs.lemmas.List.{append-nil, drop_more, map-append, map-set, set-get_or, get_or-map}
 use Rattle.std.proofs.lemmas.List.Elements.{All-get_or, All-push, All-set}
 use Rattle.core_tree.specs.declared.outline.OutlineFunction.{OutlineFunction}
@@ -68,3 +69,23 @@ scripts-step xs ys number scripts s lt is now =
     let rest = native_places_of (number + 1) (drop (number + 1) scripts) in
     let at : drop number scripts ≡ s ∷ drop (number + 1) scripts = drop_more scripts number s lt ∙ ap (λ g. g ∷ drop (number + 1) scripts) (sym is) in
     ap (λ zs. zs ++ rest) now ∙ (append_assoc xs (native_places_in number s) rest ∙ ap (λ ss. xs ++ native_places_of number ss) (sym at))
+
+-- what holds after one more was added, at the number of devices at the start
+pub hold-step : (scripts : List OutlineScript) (old mid new : Natives) → mid.devices ≡ old.devices → (All (HoldsNative scripts mid.devices) mid.natives.items → All (HoldsNative scripts mid.devices) new.natives.items)
+    → All (HoldsNative scripts old.devices) mid.natives.items → All (HoldsNative scripts old.devices) new.natives.items
+hold-step scripts old mid new same step h =
+    subst (λ d. All (HoldsNative scripts d) new.natives.items) same (step (subst (λ d. All (HoldsNative scripts d) mid.natives.items) (sym same) h))
+
+-- the number of a script that fits, as a number of 16 bits
+pub native_places_in-fits : (number fitting : ℕ) (script : OutlineScript) → fitting ≡ number → number < 65536 → native_places_in number script ≡ native_places_from fitting 0 script.functions.items
+native_places_in-fits number fitting script same fits =
+    cond-true (nat_lt number 65536) _ _ (lt-ltb number 65536 fits) ∙ ap (λ n. native_places_from n 0 script.functions.items) (sym same)
+
+-- the same additions, told by a number of another width
+pub Adds-same : (old new : Natives) (script : OutlineScript) (fitting number : ℕ) → fitting ≡ number → native_places_in number script ≡ native_places_from fitting 0 script.functions.items
+    → Adds old new (native_places_from fitting 0 script.functions.items) (λ scripts. slice_get scripts fitting ≡ Some script) → Adds old new (native_places_in number script) (λ scripts. slice_get scripts number ≡ Some script)
+Adds-same old new script fitting number same places h = record {
+  each_once = h.each_once ∙ ap (λ ps. map native_place old.natives.items ++ ps) (sym places);
+  hold = λ scripts there. h.hold scripts (ap (slice_get scripts) same ∙ there);
+  devices = h.devices;
+}

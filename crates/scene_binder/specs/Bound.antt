@@ -70,7 +70,7 @@ pub record IsCallable (scripts : List OutlineScript) (script : ℕ) (name : List
 -- the same of the script of the instance of this number
 pub record IsCallableOn (scripts : List OutlineScript) (instances : List ℕ) (instance : ℕ) (name : List ℕ) (function : OutlineFunction) : Type 0 where
   pub script : ℕ
-  pub instance : slice_get instances instance ≡ Some script
+  pub there : slice_get instances instance ≡ Some script
   pub callable : IsCallable scripts script name function
 
 pub record IsBoundCall (scripts : List OutlineScript) (instances : List ℕ) (call : BoundCall) : Type 0 where

@@ -13,10 +13,10 @@ use std::alloc::Global;
 /// The calls. `NoFunction` and `Arguments` come by the first call that breaks one of them.
 pub(crate) fn bind_calls(
     alloc: Global,
-    scope: Scope<'_>,
+    scope: Scope<'_, '_>,
     calls: &[SceneCall],
 ) -> Result<Vec<BoundCall>, SceneFault>
-    ensures bound { IfOk result (λ bound. All (IsBoundCall scope.scripts.now scope.instances.now.scripts.items) bound.items) }
+    ensures bound { IfOk result (λ bound. All (IsBoundCall scope.entry.scripts.now scope.entry.instances.now.scripts.items) bound.items) }
     ensures parts { IfOk result (λ bound. map call_parts bound.items ≡ map tree_call_parts calls.now) }
 {
     let mut bound = Vec::with_capacity(alloc, calls.len())?;
@@ -26,8 +26,8 @@ pub(crate) fn bind_calls(
     Ok(bound)
 }
 
-fn bind_call(alloc: Global, scope: Scope<'_>, call: &SceneCall) -> Result<BoundCall, SceneFault>
-    ensures bound { IfOk result (IsBoundCall scope.scripts.now scope.instances.now.scripts.items) }
+fn bind_call(alloc: Global, scope: Scope<'_, '_>, call: &SceneCall) -> Result<BoundCall, SceneFault>
+    ensures bound { IfOk result (IsBoundCall scope.entry.scripts.now scope.entry.instances.now.scripts.items) }
     ensures parts { IfOk result (λ bound. call_parts bound ≡ tree_call_parts call.now) }
 {
     let Some(instance) = scope.instances.find(alloc, &call.instance)? else {
@@ -45,13 +45,13 @@ fn bind_call(alloc: Global, scope: Scope<'_>, call: &SceneCall) -> Result<BoundC
 }
 
 /// The function that a call of this name on the instance means.
-fn called_function<'s>(
+fn called_function<'a>(
     alloc: Global,
-    scope: Scope<'s>,
+    scope: Scope<'_, 'a>,
     instance: u16,
     name: &[u8],
-) -> Result<&'s OutlineFunction, SceneFault>
-    ensures { IfOk result (λ function. IsCallableOn scope.scripts.now scope.instances.now.scripts.items instance name.now function.now) }
+) -> Result<&'a OutlineFunction, SceneFault>
+    ensures { IfOk result (λ function. IsCallableOn scope.entry.scripts.now scope.entry.instances.now.scripts.items instance name.now function.now) }
 {
     let Some(script) = scope.instances.script_of(usize::from(instance)) else {
         return Err(SceneFault::of(SceneRule::NoFunction));
@@ -64,11 +64,11 @@ fn called_function<'s>(
 
 fn bind_arguments(
     alloc: Global,
-    scope: Scope<'_>,
+    scope: Scope<'_, '_>,
     parameters: &[CoreType],
     arguments: &[SceneValue],
 ) -> Result<Vec<Value>, SceneFault>
-    ensures { IfOk result (λ values. AreOfTypes scope.scripts.now scope.instances.now.scripts.items parameters.now values.items) }
+    ensures { IfOk result (λ values. AreOfTypes scope.entry.scripts.now scope.entry.instances.now.scripts.items parameters.now values.items) }
 {
     if arguments.len() != parameters.len() {
         return Err(SceneFault::of(SceneRule::Arguments));

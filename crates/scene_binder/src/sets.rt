@@ -15,13 +15,13 @@ use std::alloc::Global;
 /// the first entry that breaks one of them.
 pub(crate) fn bind_instances(
     alloc: Global,
-    scope: Scope<'_>,
+    scope: Scope<'_, '_>,
     instances: &[SceneInstance],
 ) -> Result<Vec<BoundInstance>, SceneFault>
     requires count { length scope.instances.now.scripts.items ≡ length instances.now }
     requires scripts { All (IsInstantiable scope.scripts.now) scope.instances.now.scripts.items }
-    ensures bound { IfOk result (λ bound. All (IsBoundInstance scope.scripts.now scope.instances.now.scripts.items) bound.items) }
-    ensures scripts { IfOk result (λ bound. map script_of bound.items ≡ scope.instances.now.scripts.items) }
+    ensures bound { IfOk result (λ bound. All (IsBoundInstance scope.entry.scripts.now scope.entry.instances.now.scripts.items) bound.items) }
+    ensures scripts { IfOk result (λ bound. map script_of bound.items ≡ scope.entry.instances.now.scripts.items) }
     ensures names { IfOk result (λ bound. map instance_name bound.items ≡ map tree_name instances.now) }
 {
     let mut bound = Vec::with_capacity(alloc, instances.len())?;
@@ -34,12 +34,12 @@ pub(crate) fn bind_instances(
 
 fn bind_instance(
     alloc: Global,
-    scope: Scope<'_>,
+    scope: Scope<'_, '_>,
     script: u16,
     instance: &SceneInstance,
 ) -> Result<BoundInstance, SceneFault>
     requires { IsInstantiable scope.scripts.now script }
-    ensures bound { IfOk result (IsBoundInstance scope.scripts.now scope.instances.now.scripts.items) }
+    ensures bound { IfOk result (IsBoundInstance scope.entry.scripts.now scope.entry.instances.now.scripts.items) }
     ensures script { IfOk result (λ bound. script_of bound ≡ script) }
     ensures name { IfOk result (λ bound. instance_name bound ≡ tree_name instance.now) }
 {
@@ -52,11 +52,11 @@ fn bind_instance(
 
 fn bind_entries(
     alloc: Global,
-    scope: Scope<'_>,
+    scope: Scope<'_, '_>,
     script: u16,
     entries: &[(Text, SceneValue)],
 ) -> Result<Vec<(u16, u16, Value)>, SceneFault>
-    ensures { IfOk result (λ bound. All (IsBoundEntry scope.scripts.now scope.instances.now.scripts.items script) bound.items) }
+    ensures { IfOk result (λ bound. All (IsBoundEntry scope.entry.scripts.now scope.entry.instances.now.scripts.items script) bound.items) }
 {
     let mut names = NameTable::new(alloc);
     let mut bound = Vec::with_capacity(alloc, entries.len())?;
@@ -71,12 +71,12 @@ fn bind_entries(
 
 fn bind_entry(
     alloc: Global,
-    scope: Scope<'_>,
+    scope: Scope<'_, '_>,
     script: u16,
     name: &Text,
     value: &SceneValue,
 ) -> Result<(u16, u16, Value), SceneFault>
-    ensures { IfOk result (IsBoundEntry scope.scripts.now scope.instances.now.scripts.items script) }
+    ensures { IfOk result (IsBoundEntry scope.entry.scripts.now scope.entry.instances.now.scripts.items script) }
 {
     let found = scope.scripts.find_property(alloc, script, name.as_bytes())?;
     let Some((owner, property)) = found else {

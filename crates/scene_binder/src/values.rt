@@ -11,8 +11,8 @@ use std::alloc::Global;
 
 /// What values may name.
 #[derive(Clone, Copy)]
-pub(crate) struct Scope<'s> {
-    pub(crate) scripts: &'s Scripts<'s>,
+pub(crate) struct Scope<'s, 'a> {
+    pub(crate) scripts: &'s Scripts<'a>,
     pub(crate) instances: &'s Instances,
 }
 
@@ -23,11 +23,11 @@ fn type_fault() -> SceneFault {
 /// The value where a type is asked for. `Arguments` comes where it isn't of the type.
 pub(crate) fn value_for(
     alloc: Global,
-    scope: Scope<'_>,
+    scope: Scope<'_, '_>,
     kind: CoreType,
     value: &SceneValue,
 ) -> Result<Value, SceneFault>
-    ensures { IfOk result (IsOfType scope.scripts.now scope.instances.now.scripts.items kind) }
+    ensures { IfOk result (IsOfType scope.entry.scripts.now scope.entry.instances.now.scripts.items kind) }
 {
     match (kind, value) {
         (CoreType::Int, SceneValue::Int(number)) => Ok(Value::Int(*number)),
@@ -57,11 +57,11 @@ fn may_be_none(kind: CoreType) -> bool
 /// The instance of this name, where it is one of the script or of one below it.
 fn instance_for(
     alloc: Global,
-    scope: Scope<'_>,
+    scope: Scope<'_, '_>,
     script: u16,
     name: &Text,
 ) -> Result<Value, SceneFault>
-    ensures { IfOk result (IsOfType scope.scripts.now scope.instances.now.scripts.items (CoreType.Script script)) }
+    ensures { IfOk result (IsOfType scope.entry.scripts.now scope.entry.instances.now.scripts.items (CoreType.Script script)) }
 {
     match scope.instances.find(alloc, name)? {
         Some(instance) if is_instance_of(scope, instance, script) => Ok(Value::Instance(instance)),
@@ -69,8 +69,8 @@ fn instance_for(
     }
 }
 
-fn is_instance_of(scope: Scope<'_>, instance: u16, script: u16) -> bool
-    ensures { IsTrue result → IsInstanceOf scope.scripts.now scope.instances.now.scripts.items instance script }
+fn is_instance_of(scope: Scope<'_, '_>, instance: u16, script: u16) -> bool
+    ensures { IsTrue result → IsInstanceOf scope.entry.scripts.now scope.entry.instances.now.scripts.items instance script }
 {
     match scope.instances.script_of(usize::from(instance)) {
         Some(child) => scope.scripts.is_child(child, script),

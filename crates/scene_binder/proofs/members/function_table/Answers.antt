@@ -1,5 +1,5 @@
-use Rattle.std.proofs.Common.{◌≡◌, ◌+◌, ◌∷◌, ◌++◌, [], map, take, length, subst, sym, ap, ◌∙◌, arith, length-take, length-map}
-use Rattle.std.proofs.lemmas.List.{map-append, take_more}
+use Rattle.std.proofs.Common.{◌≡◌, ◌+◌, ◌∷◌, ◌++◌, [], map, take, length, subst, sym, ap, ◌∙◌, arith, length-take}
+use Rattle.std.proofs.lemmas.List.{length-map, map-append, take_more}
 use Rattle.scene_binder.specs.Keys.{function_key}
 use Rattle.scene_binder.specs.Names.{IsTableOf, Notes}
 use Rattle.papy_base.specs.Case.{folded}

@@ -1,0 +1,14 @@
+use Rattle.std.proofs.Common.{sym, subst}
+use Rattle.scene_binder.specs.Bound.{AreOfTypes, IsCallableOn}
+use Rattle.scene_binder.proofs.calls.bind_call.Goals as goal
+
+pub returns-clause-bound : goal.returns-clause-bound
+returns-clause-bound c =
+    let scripts = c.args.scope.scripts.now in
+    let instances = c.args.scope.instances.now.scripts.items in
+    let function = c.in_ok-function.function.now in
+    record {
+      function = function;
+      callable = subst (λ name. IsCallableOn scripts instances c.in-Some.instance name function) (sym c.in_ok-from_bytes.ensures) c.in_ok-function.ensures;
+      arguments = subst (λ kinds. AreOfTypes scripts instances kinds c.in_ok-arguments.arguments.items) c.deref.ensures.value c.in_ok-arguments.ensures;
+    }
