@@ -1,15 +1,16 @@
 -- Values of types one by one, and the members of scripts.
-use Rattle.std.proofs.Common.{ℕ, ◌≡◌, List, [], ◌∷◌, ◌++◌, map, Option, Some, None, IfSome, ap, sym, subst, ◌∙◌}
-use Rattle.std.specs.List.{Contains, slice_get}
+use Rattle.std.proofs.Common.{ℕ, ◌≡◌, ◌≤◌, length, List, [], ◌∷◌, ◌++◌, map, Option, Some, None, IfSome, ap, sym, subst, ◌∙◌}
+use Rattle.std.specs.List.{All, Contains, slice_get}
 use Rattle.std.specs.Option.{option_map}
 use Rattle.std.proofs.lemmas.Option.{slice_get-map}
 use Rattle.core_tree.specs.declared.core_type.CoreType.{CoreType}
 use Rattle.core_tree.specs.declared.outline.OutlineFunction.{OutlineFunction}
 use Rattle.core_tree.specs.declared.outline.OutlineProperty.{OutlineProperty}
 use Rattle.core_tree.specs.declared.outline.OutlineScript.{OutlineScript}
+use Rattle.core_tree.specs.declared.scene.Scene.{Scene}
 use Rattle.core_tree.specs.declared.value.Value.{Value}
 use Rattle.scene_binder.specs.declared.members.Members.{Members}
-use Rattle.scene_binder.specs.Bound.{AreOfTypes, IsOfType}
+use Rattle.scene_binder.specs.Bound.{AreBoundNatives, AreOfTypes, IsBound, IsBoundCall, IsBoundInstance, IsOfType, script_of}
 use Rattle.scene_binder.specs.Members.{HasFunction, HasProperty, StandsAbove, further, functions_in, itself, parent_in, properties_in}
 
 -- one more type with a value of it
@@ -47,3 +48,13 @@ pub upward-next : (scripts : List OutlineScript) (first here : ℕ) (now next : 
     → IfSome next (λ n. (a : ℕ) → StandsAbove scripts n a → StandsAbove scripts first a)
 upward-next scripts first here now next is e h =
     upward-step scripts first here next e (subst (λ o. IfSome o (λ n. (a : ℕ) → StandsAbove scripts n a → StandsAbove scripts first a)) is h)
+
+-- a scene is bound whose parts are, with the scripts of its instances in order
+pub IsBound-from : (scripts : List OutlineScript) (instances : List ℕ) (scene : Scene) → map script_of scene.instances.items ≡ instances → All (IsBoundInstance scripts instances) scene.instances.items → AreBoundNatives scripts scene.devices scene.natives.items
+    → length scene.tapes.items ≤ scene.devices → All (IsBoundCall scripts instances) scene.calls.items → IsBound scripts scene
+IsBound-from scripts instances scene same bound natives tapes calls = record {
+  instances = subst (λ ns. All (IsBoundInstance scripts ns) scene.instances.items) (sym same) bound;
+  natives = natives;
+  tapes = tapes;
+  calls = subst (λ ns. All (IsBoundCall scripts ns) scene.calls.items) (sym same) calls;
+}
