@@ -23,3 +23,8 @@ pub map-push : {X Y Z : Type 0} (f : X → Z) (g : Y → Z) (xs : List X) (ys : 
 map-push f g xs ys i x y h lt is same =
     let grown : take (i + 1) ys ≡ take i ys ++ y ∷ [] = take_more ys i y lt ∙ ap (λ z. take i ys ++ z ∷ []) (sym is) in
     map-append f xs (x ∷ []) ∙ (ap (λ zs. zs ++ f x ∷ []) h ∙ (ap (λ z. map g (take i ys) ++ z ∷ []) same ∙ sym (ap (map g) grown ∙ map-append g (take i ys) (y ∷ []))))
+
+-- the same where the other side is the list itself
+pub take-push : {X Y : Type 0} (f : X → Y) (xs : List X) (ys : List Y) (i : ℕ) (x : X) → map f xs ≡ take i ys → i < length ys → f x ≡ get_or ys i (f x) → map f (xs ++ x ∷ []) ≡ take (i + 1) ys
+take-push f xs ys i x h lt is =
+    map-append f xs (x ∷ []) ∙ (ap (λ zs. zs ++ f x ∷ []) h ∙ (ap (λ z. take i ys ++ z ∷ []) is ∙ sym (take_more ys i (f x) lt)))

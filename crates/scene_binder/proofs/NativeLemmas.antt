@@ -37,23 +37,6 @@ IsBoundNative-from scripts devices native b is h =
     let may : MayDo devices native.function.now b = subst (λ o. IfSome o (MayDo devices native.function.now)) is h.binding in
     record { function = native.function.now; there = h.there; is_native = h.is_native; types = may.types; device = may.device }
 
--- nothing was added
-pub Adds-none : (natives : Natives) (places : List (ℕ × ℕ)) (Premise : List OutlineScript → Type 0) → places ≡ [] → Adds natives natives places Premise
-Adds-none natives places Premise none = record {
-  each_once = sym (ap (λ ps. map native_place natives.natives.items ++ ps) none ∙ append-nil (map native_place natives.natives.items));
-  hold = λ scripts p h. h;
-  devices = refl;
-}
-
--- one native was added
-pub Adds-one : (old new : Natives) (native : Native) (places : List (ℕ × ℕ)) (Premise : List OutlineScript → Type 0) → new.natives.items ≡ old.natives.items ++ native ∷ [] → places ≡ native_place native ∷ [] → new.devices ≡ old.devices
-    → ((scripts : List OutlineScript) → Premise scripts → HoldsNative scripts old.devices native) → Adds old new places Premise
-Adds-one old new native places Premise now at same holds = record {
-  each_once = ap (map native_place) now ∙ (map-append native_place old.natives.items (native ∷ []) ∙ ap (λ ps. map native_place old.natives.items ++ ps) (sym at));
-  hold = λ scripts p h. subst (All (HoldsNative scripts old.devices)) (sym now) (All-push (HoldsNative scripts old.devices) old.natives.items native h (holds scripts p));
-  devices = same;
-}
-
 -- the places of one function more, and of those after it
 pub places-step : (xs ys : List (ℕ × ℕ)) (number place : ℕ) (functions : List OutlineFunction) (f : OutlineFunction) → place < length functions → f ≡ get_or functions place f → ys ≡ xs ++ native_place_here number place f
     → ys ++ native_places_from number (place + 1) (drop (place + 1) functions) ≡ xs ++ native_places_from number place (drop place functions)
@@ -88,4 +71,5 @@ Adds-same old new script fitting number same places h = record {
   each_once = h.each_once ∙ ap (λ ps. map native_place old.natives.items ++ ps) (sym places);
   hold = λ scripts there. h.hold scripts (ap (slice_get scripts) same ∙ there);
   devices = h.devices;
+  limits = h.limits;
 }

@@ -6,6 +6,7 @@ use Rattle.core_tree.specs.declared.outline.OutlineScript.{OutlineScript}
 use Rattle.core_tree.specs.declared.scene_tree.Binding.{Binding}
 use Rattle.scene_binder.specs.declared.natives.Native.{Native}
 use Rattle.scene_binder.specs.declared.natives.Natives.{Natives}
+use Rattle.scene_binder.specs.Limits.{NativesKeepLimits}
 use Rattle.scene_binder.specs.Natives.{AllowsBinding, HasDevice, IsFunctionAt, native_places}
 
 abbrev pub native_place : Native → ℕ × ℕ
@@ -31,3 +32,4 @@ pub record Adds (old new : Natives) (places : List (ℕ × ℕ)) (Premise : List
   pub each_once : map native_place new.natives.items ≡ map native_place old.natives.items ++ places
   pub hold : (scripts : List OutlineScript) → Premise scripts → All (HoldsNative scripts old.devices) old.natives.items → All (HoldsNative scripts old.devices) new.natives.items
   pub devices : new.devices ≡ old.devices
+  pub limits : NativesKeepLimits old → NativesKeepLimits new

@@ -1,7 +1,10 @@
 // A scene bound to an outline, step by step.
 ghost use Rattle.std.specs.Prelude.{◌≡◌, ◌≤◌, length, IfOk};
+ghost use Rattle.std.specs.List.{All};
+ghost use Rattle.scene_reader.specs.Limits.{KeepsLimits, NativeKeeps};
 ghost use Rattle.scene_binder.specs.Bound.{IsBound, AreBoundNatives};
 ghost use Rattle.scene_binder.specs.Kept.{IsOfTree};
+ghost use Rattle.scene_binder.specs.Limits.{NativeKeepsLimits, SceneKeepsLimits};
 
 use crate::calls::bind_calls;
 use crate::instances::Instances;
@@ -31,6 +34,7 @@ pub fn bind(
 ) -> Result<Scene, SceneFault>
     ensures bound { IfOk result (IsBound outline.now.scripts.items) }
     ensures kept { IfOk result (IsOfTree tree devices) }
+    ensures limits { IfOk result (λ scene. KeepsLimits tree → SceneKeepsLimits scene) }
 {
     let scripts = Scripts::new(alloc, outline)?;
     let instances = Instances::new(alloc, &scripts, &tree.instances)?;
@@ -61,6 +65,7 @@ fn bind_natives(
 ) -> Result<Vec<BoundNative>, SceneFault>
     ensures natives { IfOk result (λ natives. AreBoundNatives outline.now.scripts.items devices natives.items) }
     ensures tapes { IfOk result (λ _. length tree.now.tapes.items ≤ devices) }
+    ensures limits { IfOk result (λ natives. All NativeKeeps tree.now.natives.items → All NativeKeepsLimits natives.items) }
 {
     let mut natives = Natives::new(alloc, outline, devices)?;
     natives.bind_all(alloc, &tree.natives)?;

@@ -1,8 +1,10 @@
 // The calls of a scene.
 ghost use Rattle.std.specs.Prelude.{◌≡◌, ℕ, List, length, map, IfOk, slice_get, Some};
 ghost use Rattle.std.specs.List.{All};
+ghost use Rattle.scene_reader.specs.Limits.{CallKeeps, ValueKeeps};
 ghost use Rattle.scene_binder.specs.Bound.{IsBoundCall, IsCallableOn, AreOfTypes, call_parts};
 ghost use Rattle.scene_binder.specs.Instances.{tree_call_parts};
+ghost use Rattle.scene_binder.specs.Limits.{CallKeepsLimits, IsShortValue};
 
 use crate::values::{Scope, value_for};
 use core_tree::{BoundCall, CoreType, OutlineFunction, SceneCall, SceneValue, Value};
@@ -18,6 +20,7 @@ pub(crate) fn bind_calls(
 ) -> Result<Vec<BoundCall>, SceneFault>
     ensures bound { IfOk result (λ bound. All (IsBoundCall scope.entry.scripts.now scope.entry.instances.now.scripts.items) bound.items) }
     ensures parts { IfOk result (λ bound. map call_parts bound.items ≡ map tree_call_parts calls.now) }
+    ensures limits { IfOk result (λ bound. All CallKeeps calls.now → All CallKeepsLimits bound.items) }
 {
     let mut bound = Vec::with_capacity(alloc, calls.len())?;
     for call in calls {
@@ -29,6 +32,7 @@ pub(crate) fn bind_calls(
 fn bind_call(alloc: Global, scope: Scope<'_, '_>, call: &SceneCall) -> Result<BoundCall, SceneFault>
     ensures bound { IfOk result (IsBoundCall scope.entry.scripts.now scope.entry.instances.now.scripts.items) }
     ensures parts { IfOk result (λ bound. call_parts bound ≡ tree_call_parts call.now) }
+    ensures limits { IfOk result (λ bound. CallKeeps call.now → CallKeepsLimits bound) }
 {
     let Some(instance) = scope.instances.find(alloc, &call.instance)? else {
         return Err(SceneFault::of(SceneRule::NoFunction));
@@ -68,7 +72,8 @@ fn bind_arguments(
     parameters: &[CoreType],
     arguments: &[SceneValue],
 ) -> Result<Vec<Value>, SceneFault>
-    ensures { IfOk result (λ values. AreOfTypes scope.entry.scripts.now scope.entry.instances.now.scripts.items parameters.now values.items) }
+    ensures typed { IfOk result (λ values. AreOfTypes scope.entry.scripts.now scope.entry.instances.now.scripts.items parameters.now values.items) }
+    ensures short { IfOk result (λ values. All ValueKeeps arguments.now → All IsShortValue values.items) }
 {
     if arguments.len() != parameters.len() {
         return Err(SceneFault::of(SceneRule::Arguments));

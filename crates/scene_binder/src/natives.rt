@@ -2,7 +2,9 @@
 ghost use Rattle.std.specs.Prelude.{◌≡◌, ◌↔◌, ◌<◌, ℕ, List, [], ◌∷◌, length, IsTrue, IfOk, OnOk, IfSome, Some, slice_get};
 ghost use Rattle.std.specs.List.{All};
 ghost use Rattle.core_tree.specs.declared.outline.OutlineScript.{OutlineScript};
+ghost use Rattle.scene_reader.specs.Limits.{BindingKeeps, NativeKeeps};
 ghost use Rattle.scene_binder.specs.Bound.{AreBoundNatives};
+ghost use Rattle.scene_binder.specs.Limits.{NativeKeepsLimits, NativesKeepLimits};
 ghost use Rattle.scene_binder.specs.Natives.{AllowsBinding, BeginsWithText, HasDevice, IsCell, IsFunctionAt, IsReply, MayCall, MaySleep, MayTrace, native_place_here, native_places_from, native_places_in};
 ghost use Rattle.scene_binder.specs.NativeList.{AreNatives, Adds};
 
@@ -38,6 +40,7 @@ impl<'a> Natives<'a> {
     ) -> Result<Natives<'a>, OutOfMemory>
         ensures natives { IfOk result (AreNatives outline.now.scripts.items) }
         ensures devices { IfOk result (λ natives. natives.devices ≡ devices) }
+        ensures limits { IfOk result NativesKeepLimits }
     {
         let mut found = Natives {
             natives: Vec::new(alloc),
@@ -117,6 +120,7 @@ impl<'a> Natives<'a> {
     ) -> Result<(), SceneFault>
         ensures natives { (scripts : List OutlineScript) → AreNatives scripts self.old → AreNatives scripts self.new }
         ensures devices { self.new.devices ≡ self.old.devices }
+        ensures limits { All NativeKeeps entries.now → NativesKeepLimits self.old → NativesKeepLimits self.new }
     {
         for entry in entries {
             self.bind(alloc, entry.0.as_bytes(), entry.1)?;
@@ -128,6 +132,7 @@ impl<'a> Natives<'a> {
     fn bind(&mut self, alloc: Global, name: &[u8], binding: Binding) -> Result<(), SceneFault>
         ensures natives { (scripts : List OutlineScript) → AreNatives scripts self.old → AreNatives scripts self.new }
         ensures devices { self.new.devices ≡ self.old.devices }
+        ensures limits { BindingKeeps binding → NativesKeepLimits self.old → NativesKeepLimits self.new }
     {
         let Some(number) = self.find(alloc, name)? else {
             return Err(SceneFault::of(SceneRule::NoFunction));
@@ -160,6 +165,7 @@ impl<'a> Natives<'a> {
     pub(crate) fn bind_defaults(&mut self, alloc: Global) -> Result<(), SceneFault>
         ensures natives { (scripts : List OutlineScript) → AreNatives scripts self.old → AreNatives scripts self.new }
         ensures devices { self.new.devices ≡ self.old.devices }
+        ensures limits { NativesKeepLimits self.old → NativesKeepLimits self.new }
     {
         self.bind_default(alloc, b"Debug.Trace", Binding::Trace { latency: 0 })?;
         self.bind_default(alloc, b"Scene.Sleep", Binding::Sleep)?;
@@ -178,6 +184,7 @@ impl<'a> Natives<'a> {
     ) -> Result<(), SceneFault>
         ensures natives { (scripts : List OutlineScript) → AreNatives scripts self.old → AreNatives scripts self.new }
         ensures devices { self.new.devices ≡ self.old.devices }
+        ensures limits { BindingKeeps binding → NativesKeepLimits self.old → NativesKeepLimits self.new }
     {
         let Some(number) = self.find(alloc, name)? else {
             return Ok(());
@@ -196,7 +203,8 @@ impl<'a> Natives<'a> {
 
     /// The natives with their bindings. `UnboundNative` comes where one has none.
     pub(crate) fn finish(&self, alloc: Global) -> Result<Vec<BoundNative>, SceneFault>
-        ensures { (scripts : List OutlineScript) → AreNatives scripts self.now → IfOk result (λ bound. AreBoundNatives scripts self.now.devices bound.items) }
+        ensures natives { (scripts : List OutlineScript) → AreNatives scripts self.now → IfOk result (λ bound. AreBoundNatives scripts self.now.devices bound.items) }
+        ensures limits { IfOk result (λ bound. NativesKeepLimits self.now → All NativeKeepsLimits bound.items) }
     {
         let mut bound = Vec::with_capacity(alloc, self.natives.len())?;
         for native in &self.natives {

@@ -1,8 +1,10 @@
 // What the instances of a scene set.
 ghost use Rattle.std.specs.Prelude.{◌≡◌, ℕ, List, length, map, IfOk};
 ghost use Rattle.std.specs.List.{All};
+ghost use Rattle.scene_reader.specs.Limits.{EntryKeeps, InstanceKeeps, ValueKeeps};
 ghost use Rattle.scene_binder.specs.Bound.{IsBoundEntry, IsBoundInstance, script_of, instance_name};
 ghost use Rattle.scene_binder.specs.Instances.{IsInstantiable, tree_name};
+ghost use Rattle.scene_binder.specs.Limits.{InstanceKeepsLimits, IsShortEntry};
 
 use crate::name_table::NameTable;
 use crate::values::{Scope, value_for};
@@ -23,6 +25,7 @@ pub(crate) fn bind_instances(
     ensures bound { IfOk result (λ bound. All (IsBoundInstance scope.entry.scripts.now scope.entry.instances.now.scripts.items) bound.items) }
     ensures scripts { IfOk result (λ bound. map script_of bound.items ≡ scope.entry.instances.now.scripts.items) }
     ensures names { IfOk result (λ bound. map instance_name bound.items ≡ map tree_name instances.now) }
+    ensures limits { IfOk result (λ bound. All InstanceKeeps instances.now → All InstanceKeepsLimits bound.items) }
 {
     let mut bound = Vec::with_capacity(alloc, instances.len())?;
     for (number, instance) in instances.iter().enumerate() {
@@ -42,6 +45,7 @@ fn bind_instance(
     ensures bound { IfOk result (IsBoundInstance scope.entry.scripts.now scope.entry.instances.now.scripts.items) }
     ensures script { IfOk result (λ bound. script_of bound ≡ script) }
     ensures name { IfOk result (λ bound. instance_name bound ≡ tree_name instance.now) }
+    ensures limits { IfOk result (λ bound. InstanceKeeps instance.now → InstanceKeepsLimits bound) }
 {
     Ok(BoundInstance {
         name: instance.name.try_clone(alloc)?,
@@ -56,7 +60,8 @@ fn bind_entries(
     script: u16,
     entries: &[(Text, SceneValue)],
 ) -> Result<Vec<(u16, u16, Value)>, SceneFault>
-    ensures { IfOk result (λ bound. All (IsBoundEntry scope.entry.scripts.now scope.entry.instances.now.scripts.items script) bound.items) }
+    ensures bound { IfOk result (λ bound. All (IsBoundEntry scope.entry.scripts.now scope.entry.instances.now.scripts.items script) bound.items) }
+    ensures short { IfOk result (λ bound. All EntryKeeps entries.now → All IsShortEntry bound.items) }
 {
     let mut names = NameTable::new(alloc);
     let mut bound = Vec::with_capacity(alloc, entries.len())?;
@@ -76,7 +81,8 @@ fn bind_entry(
     name: &Text,
     value: &SceneValue,
 ) -> Result<(u16, u16, Value), SceneFault>
-    ensures { IfOk result (IsBoundEntry scope.entry.scripts.now scope.entry.instances.now.scripts.items script) }
+    ensures bound { IfOk result (IsBoundEntry scope.entry.scripts.now scope.entry.instances.now.scripts.items script) }
+    ensures short { IfOk result (λ bound. ValueKeeps value.now → IsShortEntry bound) }
 {
     let found = scope.scripts.find_property(alloc, script, name.as_bytes())?;
     let Some((owner, property)) = found else {

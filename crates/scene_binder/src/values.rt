@@ -1,6 +1,8 @@
 // Values of a scene by the types that their places ask for.
 ghost use Rattle.std.specs.Prelude.{◌≡◌, ◌↔◌, IsTrue, IfOk};
+ghost use Rattle.scene_reader.specs.Limits.{ValueKeeps};
 ghost use Rattle.scene_binder.specs.Bound.{IsOfType, IsInstanceOf, MayBeNone};
+ghost use Rattle.scene_binder.specs.Limits.{IsShortValue};
 
 use crate::instances::Instances;
 use crate::scripts::Scripts;
@@ -27,7 +29,8 @@ pub(crate) fn value_for(
     kind: CoreType,
     value: &SceneValue,
 ) -> Result<Value, SceneFault>
-    ensures { IfOk result (IsOfType scope.entry.scripts.now scope.entry.instances.now.scripts.items kind) }
+    ensures typed { IfOk result (IsOfType scope.entry.scripts.now scope.entry.instances.now.scripts.items kind) }
+    ensures short { IfOk result (λ bound. ValueKeeps value.now → IsShortValue bound) }
 {
     match (kind, value) {
         (CoreType::Int, SceneValue::Int(number)) => Ok(Value::Int(*number)),
@@ -61,7 +64,8 @@ fn instance_for(
     script: u16,
     name: &Text,
 ) -> Result<Value, SceneFault>
-    ensures { IfOk result (IsOfType scope.entry.scripts.now scope.entry.instances.now.scripts.items (CoreType.Script script)) }
+    ensures typed { IfOk result (IsOfType scope.entry.scripts.now scope.entry.instances.now.scripts.items (CoreType.Script script)) }
+    ensures short { IfOk result IsShortValue }
 {
     match scope.instances.find(alloc, name)? {
         Some(instance) if is_instance_of(scope, instance, script) => Ok(Value::Instance(instance)),

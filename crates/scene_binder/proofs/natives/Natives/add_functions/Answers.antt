@@ -21,4 +21,5 @@ loop-place-preserved c =
           let at = ap (λ o. slice_get (functions_in o) place) there ∙ slice_get_read functions (length functions) place function refl lt is in
           hold-step scripts c.args.self.now c.loop-place.self c.add.new.self before.devices (added.hold scripts at) (before.hold scripts there h);
       devices = added.devices ∙ before.devices;
+      limits = λ h. added.limits (before.limits h);
     }
