@@ -1,5 +1,4 @@
 -- When a native's caller goes on.
-use Rattle.std.specs.Prelude.{ℕ}
 use Rattle.scene_reader.specs.declared.binding.Timing.{Timing}
 use Rattle.scene_reader.specs.declared.binding.Timing.TheVariants.{Prompt, After}
 use Rattle.scene_reader.specs.Limits.{IsTurns}
