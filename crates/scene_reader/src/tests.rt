@@ -134,6 +134,12 @@ fn refuses_other_forms(rt: HostRuntime) -> Result<(), Fail> {
             Some(SceneRule::Shape)
         );
     }
+    Ok(())
+}
+
+#[test]
+fn refuses_other_texts(rt: HostRuntime) -> Result<(), Fail> {
+    let alloc = rt.alloc();
     for text in ["{}", "[]", "{\"version\":3}", "1"] {
         assert_eq!(rt;
             fault_of(read_scene(alloc, text.as_bytes())),
