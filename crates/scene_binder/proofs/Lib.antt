@@ -1,0 +1,4 @@
+pub mod BoundLemmas
+pub mod ListLemmas
+pub mod NameLemmas
+pub mod NativeLemmas

@@ -1,0 +1,30 @@
+-- Lists that grow beside the one that they are made from, and items by their places.
+use Rattle.std.proofs.Common.{ℕ, ◌≡◌, ◌<◌, ◌+◌, List, [], ◌∷◌, ◌++◌, map, take, length, get_or, Some, sym, ap, ◌∙◌}
+use Rattle.std.specs.List.{slice_get}
+use Rattle.std.specs.Option.{option_map}
+use Rattle.std.proofs.lemmas.List.{length-map, map-append, take_more}
+use Rattle.std.proofs.lemmas.Option.{same_Some, slice_get-get_or, slice_get-map, slice_get_read, slice_get_within}
+
+-- the key of an item, where the list of keys has it
+pub key_at : {X Y : Type 0} (key : X → Y) (xs : List X) (i : ℕ) (x : X) (y : Y) → slice_get (map key xs) i ≡ Some y → x ≡ get_or xs i x → key x ≡ y
+key_at key xs i x y e is =
+    let lt = simp length-map at (slice_get_within (map key xs) i y e) in
+    let there : Some (key (get_or xs i x)) ≡ Some y = ap (option_map key) (sym (slice_get-get_or xs i x lt)) ∙ (sym (slice_get-map key xs i) ∙ e) in
+    ap key is ∙ same_Some (key (get_or xs i x)) y there
+
+-- two readings of one place are one item
+pub same_item : {X : Type 0} (xs : List X) (i : ℕ) (a b : X) → i < length xs → a ≡ get_or xs i a → b ≡ get_or xs i b → a ≡ b
+same_item xs i a b lt first second =
+    same_Some a b (ap Some first ∙ (sym (slice_get-get_or xs i a lt) ∙ (slice_get-get_or xs i b lt ∙ ap Some (sym second))))
+
+-- one more item on both sides
+pub map-push : {X Y Z : Type 0} (f : X → Z) (g : Y → Z) (xs : List X) (ys : List Y) (i : ℕ) (x : X) (y : Y) → map f xs ≡ map g (take i ys) → i < length ys → y ≡ get_or ys i y → f x ≡ g y
+    → map f (xs ++ x ∷ []) ≡ map g (take (i + 1) ys)
+map-push f g xs ys i x y h lt is same =
+    let grown : take (i + 1) ys ≡ take i ys ++ y ∷ [] = take_more ys i y lt ∙ ap (λ z. take i ys ++ z ∷ []) (sym is) in
+    map-append f xs (x ∷ []) ∙ (ap (λ zs. zs ++ f x ∷ []) h ∙ (ap (λ z. map g (take i ys) ++ z ∷ []) same ∙ sym (ap (map g) grown ∙ map-append g (take i ys) (y ∷ []))))
+
+-- the same where the other side is the list itself
+pub take-push : {X Y : Type 0} (f : X → Y) (xs : List X) (ys : List Y) (i : ℕ) (x : X) → map f xs ≡ take i ys → i < length ys → f x ≡ get_or ys i (f x) → map f (xs ++ x ∷ []) ≡ take (i + 1) ys
+take-push f xs ys i x h lt is =
+    map-append f xs (x ∷ []) ∙ (ap (λ zs. zs ++ f x ∷ []) h ∙ (ap (λ z. take i ys ++ z ∷ []) is ∙ sym (take_more ys i (f x) lt)))

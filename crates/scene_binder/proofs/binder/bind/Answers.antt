@@ -1,0 +1,32 @@
+use Rattle.std.proofs.Common.{length, ap, sym, subst, arith}
+use Rattle.std.specs.List.{All}
+use Rattle.std.proofs.lemmas.List.{length-map}
+use Rattle.scene_reader.specs.Limits.{CallKeeps, InstanceKeeps}
+use Rattle.scene_binder.specs.Bound.{IsBoundCall, IsBoundInstance}
+use Rattle.scene_binder.proofs.BoundLemmas.{IsBound-from}
+use Rattle.scene_binder.proofs.binder.bind.Goals as goal
+
+pub returns-clause-bound : goal.returns-clause-bound
+returns-clause-bound c =
+    let instances = c.in_ok-instances.instances.scripts.items in
+    let bound = subst (λ scripts. All (IsBoundInstance scripts instances) c.in_ok-bound.bound.items) c.in_ok-scripts.ensures c.in_ok-bound.ensures.bound in
+    let calls = subst (λ scripts. All (IsBoundCall scripts instances) c.in_ok-calls.calls.items) c.in_ok-scripts.ensures c.in_ok-calls.ensures.bound in
+    IsBound-from c.args.outline.now.scripts.items instances _ c.in_ok-bound.ensures.scripts bound c.in_ok-natives.ensures.natives c.in_ok-natives.ensures.tapes calls
+
+pub returns-clause-limits : goal.returns-clause-limits
+returns-clause-limits c = λ h.
+    let names = ap length c.in_ok-bound.ensures.names in
+    let parts = ap length c.in_ok-calls.ensures.parts in
+    let few_instances = h.few_instances in
+    let few_calls = h.few_calls in
+    record {
+      few_instances = omega (arith, simp length-map at names, ap length c.deref-2.ensures.value);
+      instances = c.in_ok-bound.ensures.limits (subst (All InstanceKeeps) (sym c.deref-2.ensures.value) h.instances);
+      few_calls = omega (arith, simp length-map at parts, ap length c.deref-3.ensures.value);
+      calls = c.in_ok-calls.ensures.limits (subst (All CallKeeps) (sym c.deref-3.ensures.value) h.calls);
+      natives = c.in_ok-natives.ensures.limits h.natives;
+      tapes = h.tapes;
+      order = h.order;
+      turns = h.turns;
+      quantum = h.quantum;
+    }

@@ -1,0 +1,15 @@
+use Rattle.std.proofs.Common.{sym, subst}
+use Rattle.std.specs.List.{All}
+use Rattle.std.proofs.lemmas.Result.{IfOk-weaker}
+use Rattle.scene_reader.specs.Limits.{NativeKeeps}
+use Rattle.scene_binder.specs.Limits.{NativeKeepsLimits, NativesKeepLimits}
+use Rattle.scene_binder.proofs.binder.bind_natives.Goals as goal
+
+pub returns-clause-limits : goal.returns-clause-limits
+returns-clause-limits c =
+    let start = c.in_ok-natives.ensures.limits in
+    let end = c.bind_defaults.new.self in
+    let entries = c.args.tree.now.natives.items in
+    IfOk-weaker c.finish.result (λ bound. NativesKeepLimits end → All NativeKeepsLimits bound.items) (λ bound. All NativeKeeps entries → All NativeKeepsLimits bound.items)
+    (λ bound keeps h. keeps (c.bind_defaults.ensures.limits (c.bind_all.ensures.limits (subst (All NativeKeeps) (sym c.deref.ensures.value) h) start)))
+    c.finish.ensures.limits

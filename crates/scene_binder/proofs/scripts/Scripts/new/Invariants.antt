@@ -1,0 +1,5 @@
+use Rattle.std.proofs.Common.{◌≡◌, map, take}
+use Rattle.scene_binder.proofs.scripts.Scripts.new.Given as goal
+
+abbrev pub invariant-loop-number : goal.invariant-loop-number
+invariant-loop-number l = map (λ members. members.script.now) l.scripts.items ≡ take l.number l.outline.scripts.items

@@ -1,0 +1,86 @@
+// The calls of a scene.
+ghost use Rattle.std.specs.Prelude.{◌≡◌, ℕ, List, length, map, IfOk, slice_get, Some};
+ghost use Rattle.std.specs.List.{All};
+ghost use Rattle.scene_reader.specs.Limits.{CallKeeps, ValueKeeps};
+ghost use Rattle.scene_binder.specs.Bound.{IsBoundCall, IsCallableOn, AreOfTypes, call_parts};
+ghost use Rattle.scene_binder.specs.Instances.{tree_call_parts};
+ghost use Rattle.scene_binder.specs.Limits.{CallKeepsLimits, IsShortValue};
+
+use crate::values::{Scope, value_for};
+use core_tree::{BoundCall, CoreType, OutlineFunction, SceneCall, SceneValue, Value};
+use papy_base::Name;
+use scene_reader::{SceneFault, SceneRule};
+use std::alloc::Global;
+
+/// The calls. `NoFunction` and `Arguments` come by the first call that breaks one of them.
+pub(crate) fn bind_calls(
+    alloc: Global,
+    scope: Scope<'_, '_>,
+    calls: &[SceneCall],
+) -> Result<Vec<BoundCall>, SceneFault>
+    ensures bound { IfOk result (λ bound. All (IsBoundCall scope.entry.scripts.now scope.entry.instances.now.scripts.items) bound.items) }
+    ensures parts { IfOk result (λ bound. map call_parts bound.items ≡ map tree_call_parts calls.now) }
+    ensures limits { IfOk result (λ bound. All CallKeeps calls.now → All CallKeepsLimits bound.items) }
+{
+    let mut bound = Vec::with_capacity(alloc, calls.len())?;
+    for call in calls {
+        bound.push(bind_call(alloc, scope, call)?)?;
+    }
+    Ok(bound)
+}
+
+fn bind_call(alloc: Global, scope: Scope<'_, '_>, call: &SceneCall) -> Result<BoundCall, SceneFault>
+    ensures bound { IfOk result (IsBoundCall scope.entry.scripts.now scope.entry.instances.now.scripts.items) }
+    ensures parts { IfOk result (λ bound. call_parts bound ≡ tree_call_parts call.now) }
+    ensures limits { IfOk result (λ bound. CallKeeps call.now → CallKeepsLimits bound) }
+{
+    let Some(instance) = scope.instances.find(alloc, &call.instance)? else {
+        return Err(SceneFault::of(SceneRule::NoFunction));
+    };
+    let name = call.function.as_bytes();
+    let function = called_function(alloc, scope, instance, name)?;
+    let arguments = bind_arguments(alloc, scope, &function.parameters, &call.arguments)?;
+    Ok(BoundCall {
+        turn: call.turn,
+        instance,
+        function: Name::from_bytes(alloc, name)?,
+        arguments,
+    })
+}
+
+/// The function that a call of this name on the instance means.
+fn called_function<'a>(
+    alloc: Global,
+    scope: Scope<'_, 'a>,
+    instance: u16,
+    name: &[u8],
+) -> Result<&'a OutlineFunction, SceneFault>
+    ensures { IfOk result (λ function. IsCallableOn scope.entry.scripts.now scope.entry.instances.now.scripts.items instance name.now function.now) }
+{
+    let Some(script) = scope.instances.script_of(usize::from(instance)) else {
+        return Err(SceneFault::of(SceneRule::NoFunction));
+    };
+    match scope.scripts.find_function(alloc, script, name)? {
+        Some(function) if !function.is_native && !function.is_global => Ok(function),
+        _ => Err(SceneFault::of(SceneRule::NoFunction)),
+    }
+}
+
+fn bind_arguments(
+    alloc: Global,
+    scope: Scope<'_, '_>,
+    parameters: &[CoreType],
+    arguments: &[SceneValue],
+) -> Result<Vec<Value>, SceneFault>
+    ensures typed { IfOk result (λ values. AreOfTypes scope.entry.scripts.now scope.entry.instances.now.scripts.items parameters.now values.items) }
+    ensures short { IfOk result (λ values. All ValueKeeps arguments.now → All IsShortValue values.items) }
+{
+    if arguments.len() != parameters.len() {
+        return Err(SceneFault::of(SceneRule::Arguments));
+    }
+    let mut bound = Vec::with_capacity(alloc, arguments.len())?;
+    for (place, value) in arguments.iter().enumerate() {
+        bound.push(value_for(alloc, scope, parameters[place], value)?)?;
+    }
+    Ok(bound)
+}

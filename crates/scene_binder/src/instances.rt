@@ -1,0 +1,72 @@
+// The instances of a scene by name, each with the number of its script.
+ghost use Rattle.std.specs.Prelude.{◌≡◌, ◌<◌, ◌≤◌, ℕ, length, IfOk, IfSome, slice_get};
+ghost use Rattle.std.specs.List.{All};
+ghost use Rattle.scene_binder.specs.Instances.{IsInstantiable};
+
+use crate::name_table::NameTable;
+use crate::scripts::Scripts;
+use core_tree::SceneInstance;
+use papy_base::{OutOfMemory, Text};
+use scene_reader::{SceneFault, SceneRule};
+use std::alloc::Global;
+
+/// The instances that values and calls may name.
+#[derive(Drop)]
+pub(crate) struct Instances {
+    names: NameTable,
+    pub(crate) scripts: Vec<u16>,
+}
+
+impl Instances {
+    /// The instances of a scene. `DuplicateName` and `NoScript` come by the first instance that breaks
+    /// one of them.
+    pub(crate) fn new(
+        alloc: Global,
+        scripts: &Scripts<'_>,
+        instances: &[SceneInstance],
+    ) -> Result<Instances, SceneFault>
+        ensures count { IfOk result (λ found. length found.scripts.items ≡ length instances.now) }
+        ensures scripts { IfOk result (λ found. All (IsInstantiable scripts.now) found.scripts.items) }
+    {
+        let mut names = NameTable::new(alloc);
+        let mut numbers = Vec::with_capacity(alloc, instances.len())?;
+        for (number, instance) in instances.iter().enumerate() {
+            if !names.note(alloc, instance.name.as_bytes(), number)? {
+                return Err(SceneFault::of(SceneRule::DuplicateName));
+            }
+            numbers.push(script_of(alloc, scripts, instance)?)?;
+        }
+        Ok(Instances {
+            names,
+            scripts: numbers,
+        })
+    }
+
+    /// The number of the instance of this name.
+    pub(crate) fn find(&self, alloc: Global, name: &Text) -> Result<Option<u16>, OutOfMemory> {
+        match self.names.find(alloc, name.as_bytes())? {
+            Some(number) => Ok(u16::try_from(number).ok()),
+            None => Ok(None),
+        }
+    }
+
+    /// The script of the instance of this number.
+    pub(crate) fn script_of(&self, instance: usize) -> Option<u16>
+        ensures { result ≡ slice_get self.now.scripts.items instance }
+    {
+        self.scripts.as_slice().get(instance).copied()
+    }
+}
+
+fn script_of(
+    alloc: Global,
+    scripts: &Scripts<'_>,
+    instance: &SceneInstance,
+) -> Result<u16, SceneFault>
+    ensures { IfOk result (IsInstantiable scripts.now) }
+{
+    match scripts.find_instantiable(alloc, instance.script.as_bytes())? {
+        Some(script) => Ok(script),
+        None => Err(SceneFault::of(SceneRule::NoScript)),
+    }
+}

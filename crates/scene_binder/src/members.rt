@@ -1,0 +1,69 @@
+// The members that one script has of its own, by name.
+ghost use Rattle.std.specs.Prelude.{◌≡◌, ℕ, List, map, IfOk, IfSome};
+ghost use Rattle.std.specs.List.{Contains};
+ghost use Rattle.scene_binder.specs.Names.{IsTableOf};
+ghost use Rattle.scene_binder.specs.Keys.{function_key};
+
+use crate::name_table::NameTable;
+use core_tree::{OutlineFunction, OutlineProperty, OutlineScript};
+use papy_base::OutOfMemory;
+use std::alloc::Global;
+
+/// A script with tables of its members. A name that two members bear means the first.
+#[derive(Drop)]
+pub(crate) struct Members<'a> {
+    pub(crate) script: &'a OutlineScript,
+    properties: NameTable,
+    functions: NameTable,
+    ghost named: { IsTableOf (map function_key script.now.functions.items) functions },
+}
+
+impl<'a> Members<'a> {
+    /// The members of this script.
+    pub(crate) fn new(alloc: Global, script: &'a OutlineScript) -> Result<Members<'a>, OutOfMemory>
+        ensures { IfOk result (λ members. members.script.now ≡ script.now) }
+    {
+        let properties = property_table(alloc, &script.properties)?;
+        let functions = function_table(alloc, &script.functions)?;
+        Ok(Members {
+            script,
+            properties,
+            functions,
+        })
+    }
+
+    /// The Auto property of the name whose bytes these are once A to Z are read as a to z.
+    pub(crate) fn find_property(&self, folded: &[u8]) -> Option<&'a OutlineProperty>
+        ensures { IfSome result (λ property. Contains self.now.script.now.properties.items property.now) }
+    {
+        let place = self.properties.find_folded(folded)?;
+        self.script.properties.as_slice().get(place)
+    }
+
+    /// The function of that name in the empty state.
+    pub(crate) fn find_function(&self, folded: &[u8]) -> Option<&'a OutlineFunction>
+        ensures there { IfSome result (λ function. Contains self.now.script.now.functions.items function.now) }
+        ensures named { IfSome result (λ function. function_key function.now ≡ folded.now) }
+    {
+        let place = self.functions.find_folded(folded)?;
+        self.script.functions.as_slice().get(place)
+    }
+}
+
+fn property_table(alloc: Global, properties: &[OutlineProperty]) -> Result<NameTable, OutOfMemory> {
+    let mut table = NameTable::new(alloc);
+    for (place, property) in properties.iter().enumerate() {
+        table.note(alloc, property.name.as_bytes(), place)?;
+    }
+    Ok(table)
+}
+
+fn function_table(alloc: Global, functions: &[OutlineFunction]) -> Result<NameTable, OutOfMemory>
+    ensures { IfOk result (IsTableOf (map function_key functions.now)) }
+{
+    let mut table = NameTable::new(alloc);
+    for (place, function) in functions.iter().enumerate() {
+        table.note(alloc, function.name.as_bytes(), place)?;
+    }
+    Ok(table)
+}

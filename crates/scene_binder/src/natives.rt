@@ -1,0 +1,332 @@
+// What the native functions of an outline do.
+ghost use Rattle.std.specs.Prelude.{◌≡◌, ◌↔◌, ◌<◌, ℕ, List, [], ◌∷◌, length, IsTrue, IfOk, OnOk, IfSome, Some, slice_get};
+ghost use Rattle.std.specs.List.{All};
+ghost use Rattle.core_tree.specs.declared.outline.OutlineScript.{OutlineScript};
+ghost use Rattle.scene_reader.specs.Limits.{BindingKeeps, NativeKeeps};
+ghost use Rattle.scene_binder.specs.Bound.{AreBoundNatives};
+ghost use Rattle.scene_binder.specs.Limits.{NativeKeepsLimits, NativesKeepLimits};
+ghost use Rattle.scene_binder.specs.Natives.{AllowsBinding, BeginsWithText, HasDevice, IsCell, IsFunctionAt, IsReply, MayCall, MaySleep, MayTrace, native_place_here, native_places_from, native_places_in};
+ghost use Rattle.scene_binder.specs.NativeList.{AreNatives, Adds};
+
+use crate::name_table::NameTable;
+use core_tree::{Binding, BoundNative, CoreType, Outline, OutlineFunction, OutlineScript};
+use papy_base::{OutOfMemory, Text};
+use scene_reader::{SceneFault, SceneRule};
+use std::alloc::Global;
+
+/// A native function, with what it does where that is known.
+#[derive(Drop)]
+struct Native<'a> {
+    script: u16,
+    place: u16,
+    function: &'a OutlineFunction,
+    binding: Option<Binding>,
+}
+
+/// The native functions of an outline, in its order.
+#[derive(Drop)]
+pub(crate) struct Natives<'a> {
+    natives: Vec<Native<'a>>,
+    names: NameTable,
+    devices: u16,
+}
+
+impl<'a> Natives<'a> {
+    /// The native functions of this outline, without bindings.
+    pub(crate) fn new(
+        alloc: Global,
+        outline: &'a Outline,
+        devices: u16,
+    ) -> Result<Natives<'a>, OutOfMemory>
+        ensures natives { IfOk result (AreNatives outline.now.scripts.items) }
+        ensures devices { IfOk result (λ natives. natives.devices ≡ devices) }
+        ensures limits { IfOk result NativesKeepLimits }
+    {
+        let mut found = Natives {
+            natives: Vec::new(alloc),
+            names: NameTable::new(alloc),
+            devices,
+        };
+        for (number, script) in outline.scripts.iter().enumerate() {
+            found.add_script(alloc, number, script)?;
+        }
+        Ok(found)
+    }
+
+    // Numbers of scripts and places of functions have 16 bits.
+    fn add_script(
+        &mut self,
+        alloc: Global,
+        number: usize,
+        script: &'a OutlineScript,
+    ) -> Result<(), OutOfMemory>
+        ensures { OnOk result (Adds self.old self.new (native_places_in number script.now) (λ scripts. slice_get scripts number ≡ Some script.now)) }
+    {
+        match u16::try_from(number) {
+            Ok(number) => self.add_functions(alloc, number, script),
+            Err(_) => Ok(()),
+        }
+    }
+
+    fn add_functions(
+        &mut self,
+        alloc: Global,
+        number: u16,
+        script: &'a OutlineScript,
+    ) -> Result<(), OutOfMemory>
+        ensures { OnOk result (Adds self.old self.new (native_places_from number 0 script.now.functions.items) (λ scripts. slice_get scripts number ≡ Some script.now)) }
+    {
+        let functions = script.functions.as_slice();
+        for (place, function) in functions.iter().enumerate() {
+            self.add(alloc, script, number, place, function)?;
+        }
+        Ok(())
+    }
+
+    // Adds a function where it is native.
+    fn add(
+        &mut self,
+        alloc: Global,
+        script: &OutlineScript,
+        number: u16,
+        place: usize,
+        function: &'a OutlineFunction,
+    ) -> Result<(), OutOfMemory>
+        ensures { OnOk result (Adds self.old self.new (native_place_here number place function.now) (λ scripts. IsFunctionAt scripts number place function.now)) }
+    {
+        let Ok(at) = u16::try_from(place) else {
+            return Ok(());
+        };
+        if !function.is_native {
+            return Ok(());
+        }
+        let name = full_name(alloc, script, function)?;
+        self.names.note(alloc, &name, self.natives.len())?;
+        self.natives.push(Native {
+            script: number,
+            place: at,
+            function,
+            binding: None,
+        })?;
+        Ok(())
+    }
+
+    /// Gives the natives the bindings of a scene. `DuplicateName`, `NoFunction`, `NoDevice` and
+    /// `UnboundNative` come by the first entry that breaks one of them.
+    pub(crate) fn bind_all(
+        &mut self,
+        alloc: Global,
+        entries: &[(Text, Binding)],
+    ) -> Result<(), SceneFault>
+        ensures natives { (scripts : List OutlineScript) → AreNatives scripts self.old → AreNatives scripts self.new }
+        ensures devices { self.new.devices ≡ self.old.devices }
+        ensures limits { All NativeKeeps entries.now → NativesKeepLimits self.old → NativesKeepLimits self.new }
+    {
+        for entry in entries {
+            self.bind(alloc, entry.0.as_bytes(), entry.1)?;
+        }
+        Ok(())
+    }
+
+    // An earlier entry of the same name has bound the same native.
+    fn bind(&mut self, alloc: Global, name: &[u8], binding: Binding) -> Result<(), SceneFault>
+        ensures natives { (scripts : List OutlineScript) → AreNatives scripts self.old → AreNatives scripts self.new }
+        ensures devices { self.new.devices ≡ self.old.devices }
+        ensures limits { BindingKeeps binding → NativesKeepLimits self.old → NativesKeepLimits self.new }
+    {
+        let Some(number) = self.find(alloc, name)? else {
+            return Err(SceneFault::of(SceneRule::NoFunction));
+        };
+        if self.natives[number].binding.is_some() {
+            return Err(SceneFault::of(SceneRule::DuplicateName));
+        }
+        if !has_device(binding, self.devices) {
+            return Err(SceneFault::of(SceneRule::NoDevice));
+        }
+        if !types_allow(self.natives[number].function, binding) {
+            return Err(SceneFault::of(SceneRule::UnboundNative));
+        }
+        self.natives[number].binding = Some(binding);
+        Ok(())
+    }
+
+    // The number of the native of this name.
+    fn find(&self, alloc: Global, name: &[u8]) -> Result<Option<usize>, OutOfMemory>
+        ensures { IfOk result (λ found. IfSome found (λ number. number < length self.now.natives.items)) }
+    {
+        match self.names.find(alloc, name)? {
+            Some(number) if number < self.natives.len() => Ok(Some(number)),
+            _ => Ok(None),
+        }
+    }
+
+    /// Gives the natives of the first scripts what they do without an entry. `NoDevice` comes where the
+    /// device isn't there.
+    pub(crate) fn bind_defaults(&mut self, alloc: Global) -> Result<(), SceneFault>
+        ensures natives { (scripts : List OutlineScript) → AreNatives scripts self.old → AreNatives scripts self.new }
+        ensures devices { self.new.devices ≡ self.old.devices }
+        ensures limits { NativesKeepLimits self.old → NativesKeepLimits self.new }
+    {
+        self.bind_default(alloc, b"Debug.Trace", Binding::Trace { latency: 0 })?;
+        self.bind_default(alloc, b"Scene.Sleep", Binding::Sleep)?;
+        let dice = Binding::Device {
+            device: 3,
+            latency: 0,
+        };
+        self.bind_default(alloc, b"Utility.RandomInt", dice)
+    }
+
+    fn bind_default(
+        &mut self,
+        alloc: Global,
+        name: &[u8],
+        binding: Binding,
+    ) -> Result<(), SceneFault>
+        ensures natives { (scripts : List OutlineScript) → AreNatives scripts self.old → AreNatives scripts self.new }
+        ensures devices { self.new.devices ≡ self.old.devices }
+        ensures limits { BindingKeeps binding → NativesKeepLimits self.old → NativesKeepLimits self.new }
+    {
+        let Some(number) = self.find(alloc, name)? else {
+            return Ok(());
+        };
+        if self.natives[number].binding.is_some() {
+            return Ok(());
+        }
+        if !has_device(binding, self.devices) {
+            return Err(SceneFault::of(SceneRule::NoDevice));
+        }
+        if types_allow(self.natives[number].function, binding) {
+            self.natives[number].binding = Some(binding);
+        }
+        Ok(())
+    }
+
+    /// The natives with their bindings. `UnboundNative` comes where one has none.
+    pub(crate) fn finish(&self, alloc: Global) -> Result<Vec<BoundNative>, SceneFault>
+        ensures natives { (scripts : List OutlineScript) → AreNatives scripts self.now → IfOk result (λ bound. AreBoundNatives scripts self.now.devices bound.items) }
+        ensures limits { IfOk result (λ bound. NativesKeepLimits self.now → All NativeKeepsLimits bound.items) }
+    {
+        let mut bound = Vec::with_capacity(alloc, self.natives.len())?;
+        for native in &self.natives {
+            let Some(binding) = native.binding else {
+                return Err(SceneFault::of(SceneRule::UnboundNative));
+            };
+            bound.push(BoundNative {
+                script: native.script,
+                function: native.place,
+                binding,
+            })?;
+        }
+        Ok(bound)
+    }
+}
+
+// `Script.Function`, as scenes name a native.
+fn full_name(
+    alloc: Global,
+    script: &OutlineScript,
+    function: &OutlineFunction,
+) -> Result<Vec<u8>, OutOfMemory> {
+    let mut name = script.name.as_bytes().to_vec(alloc)?;
+    name.push(b'.')?;
+    name.extend_from_slice(function.name.as_bytes())?;
+    Ok(name)
+}
+
+fn has_device(binding: Binding, devices: u16) -> bool
+    ensures { IsTrue result ↔ HasDevice devices binding }
+{
+    match binding {
+        Binding::Device { device, .. } | Binding::PromptDevice { device } => device < devices,
+        Binding::Sleep | Binding::Trace { .. } | Binding::PromptTrace => true,
+    }
+}
+
+// Whether a native of these types may do this.
+fn types_allow(function: &OutlineFunction, binding: Binding) -> bool
+    ensures { IsTrue result → AllowsBinding function.now.parameters.items function.now.result binding }
+{
+    let parameters = function.parameters.as_slice();
+    let outcome = function.result;
+    match binding {
+        Binding::Sleep => may_sleep(parameters, outcome),
+        Binding::Trace { .. } | Binding::PromptTrace => may_trace(parameters, outcome),
+        Binding::Device { .. } | Binding::PromptDevice { .. } => may_call(parameters, outcome),
+    }
+}
+
+fn may_sleep(parameters: &[CoreType], outcome: Option<CoreType>) -> bool
+    ensures { IsTrue result → MaySleep parameters.now outcome }
+{
+    is_one_int(parameters) && outcome.is_none()
+}
+
+fn is_one_int(parameters: &[CoreType]) -> bool
+    ensures { IsTrue result → parameters.now ≡ CoreType.Int ∷ [] }
+{
+    match parameters {
+        [kind] => is_int(*kind),
+        _ => false,
+    }
+}
+
+fn is_int(kind: CoreType) -> bool
+    ensures { IsTrue result → kind ≡ CoreType.Int }
+{
+    matches!(kind, CoreType::Int)
+}
+
+fn may_trace(parameters: &[CoreType], outcome: Option<CoreType>) -> bool
+    ensures { IsTrue result → MayTrace parameters.now outcome }
+{
+    begins_with_text(parameters) && outcome.is_none()
+}
+
+fn begins_with_text(parameters: &[CoreType]) -> bool
+    ensures { IsTrue result → BeginsWithText parameters.now }
+{
+    match parameters {
+        [first, ..] => is_text(*first),
+        [] => false,
+    }
+}
+
+fn is_text(kind: CoreType) -> bool
+    ensures { IsTrue result → kind ≡ CoreType.Text }
+{
+    matches!(kind, CoreType::Text)
+}
+
+// Whether a device may be called with these.
+fn may_call(parameters: &[CoreType], outcome: Option<CoreType>) -> bool
+    ensures { IsTrue result → MayCall parameters.now outcome }
+{
+    are_cells(parameters) && is_reply(outcome)
+}
+
+fn are_cells(parameters: &[CoreType]) -> bool
+    ensures { IsTrue result → All IsCell parameters.now }
+{
+    for kind in parameters {
+        if !is_cell(*kind) {
+            return false;
+        }
+    }
+    true
+}
+
+// Devices know whole numbers and truth values.
+fn is_cell(kind: CoreType) -> bool
+    ensures { IsTrue result ↔ IsCell kind }
+{
+    matches!(kind, CoreType::Int | CoreType::Bool)
+}
+
+fn is_reply(outcome: Option<CoreType>) -> bool
+    ensures { IsTrue result ↔ IsReply outcome }
+{
+    match outcome {
+        Some(kind) => is_cell(kind),
+        None => true,
+    }
+}

@@ -1,0 +1,93 @@
+// What the instances of a scene set.
+ghost use Rattle.std.specs.Prelude.{◌≡◌, ℕ, List, length, map, IfOk};
+ghost use Rattle.std.specs.List.{All};
+ghost use Rattle.scene_reader.specs.Limits.{EntryKeeps, InstanceKeeps, ValueKeeps};
+ghost use Rattle.scene_binder.specs.Bound.{IsBoundEntry, IsBoundInstance, script_of, instance_name};
+ghost use Rattle.scene_binder.specs.Instances.{IsInstantiable, tree_name};
+ghost use Rattle.scene_binder.specs.Limits.{InstanceKeepsLimits, IsShortEntry};
+
+use crate::name_table::NameTable;
+use crate::values::{Scope, value_for};
+use core_tree::{BoundInstance, SceneInstance, SceneValue, Value};
+use papy_base::Text;
+use scene_reader::{SceneFault, SceneRule};
+use std::alloc::Global;
+
+/// The instances, each with the values that it sets. `DuplicateName`, `NoProperty` and `Arguments` come by
+/// the first entry that breaks one of them.
+pub(crate) fn bind_instances(
+    alloc: Global,
+    scope: Scope<'_, '_>,
+    instances: &[SceneInstance],
+) -> Result<Vec<BoundInstance>, SceneFault>
+    requires count { length scope.instances.now.scripts.items ≡ length instances.now }
+    requires scripts { All (IsInstantiable scope.scripts.now) scope.instances.now.scripts.items }
+    ensures bound { IfOk result (λ bound. All (IsBoundInstance scope.entry.scripts.now scope.entry.instances.now.scripts.items) bound.items) }
+    ensures scripts { IfOk result (λ bound. map script_of bound.items ≡ scope.entry.instances.now.scripts.items) }
+    ensures names { IfOk result (λ bound. map instance_name bound.items ≡ map tree_name instances.now) }
+    ensures limits { IfOk result (λ bound. All InstanceKeeps instances.now → All InstanceKeepsLimits bound.items) }
+{
+    let mut bound = Vec::with_capacity(alloc, instances.len())?;
+    for (number, instance) in instances.iter().enumerate() {
+        let script = scope.instances.scripts[number];
+        bound.push(bind_instance(alloc, scope, script, instance)?)?;
+    }
+    Ok(bound)
+}
+
+fn bind_instance(
+    alloc: Global,
+    scope: Scope<'_, '_>,
+    script: u16,
+    instance: &SceneInstance,
+) -> Result<BoundInstance, SceneFault>
+    requires { IsInstantiable scope.scripts.now script }
+    ensures bound { IfOk result (IsBoundInstance scope.entry.scripts.now scope.entry.instances.now.scripts.items) }
+    ensures script { IfOk result (λ bound. script_of bound ≡ script) }
+    ensures name { IfOk result (λ bound. instance_name bound ≡ tree_name instance.now) }
+    ensures limits { IfOk result (λ bound. InstanceKeeps instance.now → InstanceKeepsLimits bound) }
+{
+    Ok(BoundInstance {
+        name: instance.name.try_clone(alloc)?,
+        script,
+        set: bind_entries(alloc, scope, script, &instance.set)?,
+    })
+}
+
+fn bind_entries(
+    alloc: Global,
+    scope: Scope<'_, '_>,
+    script: u16,
+    entries: &[(Text, SceneValue)],
+) -> Result<Vec<(u16, u16, Value)>, SceneFault>
+    ensures bound { IfOk result (λ bound. All (IsBoundEntry scope.entry.scripts.now scope.entry.instances.now.scripts.items script) bound.items) }
+    ensures short { IfOk result (λ bound. All EntryKeeps entries.now → All IsShortEntry bound.items) }
+{
+    let mut names = NameTable::new(alloc);
+    let mut bound = Vec::with_capacity(alloc, entries.len())?;
+    for (place, entry) in entries.iter().enumerate() {
+        if !names.note(alloc, entry.0.as_bytes(), place)? {
+            return Err(SceneFault::of(SceneRule::DuplicateName));
+        }
+        bound.push(bind_entry(alloc, scope, script, &entry.0, &entry.1)?)?;
+    }
+    Ok(bound)
+}
+
+fn bind_entry(
+    alloc: Global,
+    scope: Scope<'_, '_>,
+    script: u16,
+    name: &Text,
+    value: &SceneValue,
+) -> Result<(u16, u16, Value), SceneFault>
+    ensures bound { IfOk result (IsBoundEntry scope.entry.scripts.now scope.entry.instances.now.scripts.items script) }
+    ensures short { IfOk result (λ bound. ValueKeeps value.now → IsShortEntry bound) }
+{
+    let found = scope.scripts.find_property(alloc, script, name.as_bytes())?;
+    let Some((owner, property)) = found else {
+        return Err(SceneFault::of(SceneRule::NoProperty));
+    };
+    let value = value_for(alloc, scope, property.kind, value)?;
+    Ok((owner, property.variable, value))
+}

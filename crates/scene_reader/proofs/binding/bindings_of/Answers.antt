@@ -1,0 +1,11 @@
+use Rattle.std.proofs.lemmas.List.Elements.{All-push}
+use Rattle.scene_reader.specs.Limits.{NativeKeeps}
+use Rattle.scene_reader.proofs.binding.bindings_of.Goals as goal
+
+pub loop-key-preserved : goal.loop-key-preserved
+loop-key-preserved c =
+    rw c.in_ok-push.ensures.items (λ h.
+    let last = c.in_ok-binding.ensures h in
+    let name = c.in_ok-name.ensures last.0 in
+    let before = c.loop-key.invariant name.0 in
+    (before.0, All-push NativeKeeps _ _ before.1 (name.1, last.1)))

@@ -1,0 +1,24 @@
+//! Scene files: what to run, as a JSON text (RFC 8259). A scene says which instances there are, which
+//! calls start stacks, what native functions do, and in which order stacks get their turns.
+#![tactic(auto)]
+
+mod binding;
+mod call;
+mod defaults;
+mod fault;
+mod instance;
+mod keys;
+mod limits;
+mod list;
+mod number;
+mod order;
+mod reader;
+mod scene;
+mod value;
+
+pub use defaults::default_scene;
+pub use fault::{SceneFault, SceneRule};
+pub use reader::{read_scene, upgrade_scene};
+
+#[cfg(test)]
+mod tests;
