@@ -40,6 +40,18 @@ def best(words, folder, accepted=(0,), runs=7):
     return min(seconds for seconds, _ in results), max(memory for _, memory in results)
 
 
+def peak_memory(words, folder):
+    """The peak memory in KiB of one run under GNU time, or 0 without it.
+
+    The figure of `once` is at least that of Python, whose memory a child counts until it becomes the program.
+    """
+    path = shutil.which("time")
+    if path is None:
+        return 0
+    ran = subprocess.run([path, "-f", "%M", *words], cwd=folder, stdout=subprocess.DEVNULL, stderr=subprocess.PIPE, text=True)
+    return int(ran.stderr.split()[-1])
+
+
 def row(name, seconds, memory, base=None):
     """Prints one line of a table: seconds, memory in MiB, and how many times as long as the base."""
     times = "" if not base else f"{seconds / base:8.2f} times"

@@ -1,13 +1,16 @@
 #!/usr/bin/env python3
-"""Measures `verify` on sets of a half, the whole and the double of three sizes.
+"""Measures `verify` on sets of a quarter, a half and the whole of three sizes.
 
 No command verifies compiled files yet, so this builds the small program of verify_set.rt.txt, in a folder of its own that is deleted
-afterwards: the crates are copied there, and proved as far as no check on this machine has proved them. Each figure is that of the
-program less that of the same program which only decodes the file; time is processor time.
+afterwards: the crates are copied there, and proved as far as no check on this machine has proved them. The time is the program's
+processor time less that of the same program which only decodes the file; the memory is the peak of the whole program, behind that of
+decoding alone. No set has the double: it has at most 4,096 objects, and a function at most 8,192 parameters and locals and 65,535
+instructions.
 
   verify.py                  builds the program, and measures
   verify.py --program PATH   measures with a program that was built before
   verify.py --keep PATH      builds the program, and keeps it there
+  verify.py --runs COUNT     the best of so many runs counts, in place of seven
 """
 import argparse
 import pathlib
@@ -136,13 +139,13 @@ def build(folder):
     return program
 
 
-def least(words, path, runs=7):
-    """The least time of some runs on a file, and the most memory."""
+def least(words, path, runs):
+    """The least time of some runs on a file, and the peak memory."""
     shell = ["sh", "-c", 'exec "$@" < "$0"', str(path), *words]
-    return measure.best(shell, path.parent, runs=runs)
+    return measure.best(shell, path.parent, runs=runs)[0], measure.peak_memory(shell, path.parent)
 
 
-def measured(program, folder):
+def measured(program, folder, runs):
     """Prints a row for each size, with how many times as long it takes as the one before."""
     for make, what, counts in SIZES:
         before = None
@@ -152,9 +155,10 @@ def measured(program, folder):
             answer = subprocess.run([program], stdin=path.open("rb"), stdout=subprocess.PIPE, check=True).stdout
             if answer != b"accepted\n":
                 raise SystemExit(f"{count} {what}: {answer}")
-            read, read_memory = least([str(program), "read"], path)
-            whole, memory = least([str(program)], path)
-            measure.row(f"{count} {what}, {path.stat().st_size} bytes", whole - read, memory - read_memory, before)
+            read, read_memory = least([str(program), "read"], path, runs)
+            whole, memory = least([str(program)], path, runs)
+            measure.row(f"{count} {what}, {path.stat().st_size} bytes: decoding", read, read_memory)
+            measure.row(f"{count} {what}, {path.stat().st_size} bytes", whole - read, memory, before)
             before = whole - read
 
 
@@ -162,13 +166,14 @@ def main():
     arguments = argparse.ArgumentParser()
     arguments.add_argument("--program", type=pathlib.Path)
     arguments.add_argument("--keep", type=pathlib.Path)
+    arguments.add_argument("--runs", type=int, default=7)
     given = arguments.parse_args()
     with tempfile.TemporaryDirectory() as made:
         folder = pathlib.Path(made)
         program = given.program.resolve() if given.program else build(folder)
         if given.keep:
             shutil.copy(program, given.keep)
-        measured(program, folder)
+        measured(program, folder, given.runs)
     return 0
 
 
