@@ -7,19 +7,27 @@ use scene_reader::{SceneFault, SceneRule, default_scene, read_scene};
 use std::alloc::Global;
 use std::test::Fail;
 
-fn script(
-    alloc: Global,
-    name: &str,
-    parent: Option<u16>,
-    functions: Vec<OutlineFunction>,
-) -> Result<OutlineScript, Fail> {
+fn script(alloc: Global, name: &str, parent: Option<u16>) -> Result<OutlineScript, Fail> {
     Ok(OutlineScript {
         name: Name::from_bytes(alloc, name.as_bytes())?,
         parent,
         auto_state: None,
         variables: Vec::new(alloc),
         properties: Vec::new(alloc),
-        functions,
+        functions: Vec::new(alloc),
+    })
+}
+
+fn property(
+    alloc: Global,
+    name: &str,
+    kind: CoreType,
+    variable: u16,
+) -> Result<OutlineProperty, Fail> {
+    Ok(OutlineProperty {
+        name: Name::from_bytes(alloc, name.as_bytes())?,
+        kind,
+        variable,
     })
 }
 
@@ -39,36 +47,51 @@ fn function(
     })
 }
 
-// The prelude with its natives, then Gate with a native and two properties, and Door below it.
-fn outline(alloc: Global) -> Result<Outline, Fail> {
-    let none = || Vec::new(alloc);
+// A script with one native.
+fn library(
+    alloc: Global,
+    name: &str,
+    native: &str,
+    parameters: &[CoreType],
+    outcome: Option<CoreType>,
+) -> Result<OutlineScript, Fail> {
+    let mut library = script(alloc, name, None)?;
+    let native = function(alloc, native, parameters, outcome, true)?;
+    library.functions.push(native)?;
+    Ok(library)
+}
+
+fn prelude(alloc: Global) -> Result<Vec<OutlineScript>, Fail> {
     let int = CoreType::Int;
-    let trace = function(alloc, "Trace", &[CoreType::Text], None, true)?;
-    let random = function(alloc, "RandomInt", &[int, int], Some(int), true)?;
-    let sleep = function(alloc, "Sleep", &[int], None, true)?;
+    let mut scripts = Vec::new(alloc);
+    scripts.push(library(alloc, "Debug", "Trace", &[CoreType::Text], None)?)?;
+    scripts.push(library(alloc, "Utility", "RandomInt", &[int, int], Some(int))?)?;
+    scripts.push(library(alloc, "Scene", "Sleep", &[int], None)?)?;
+    scripts.push(script(alloc, "Form", None)?)?;
+    scripts.push(script(alloc, "Quest", Some(3))?)?;
+    scripts.push(script(alloc, "ObjectReference", Some(3))?)?;
+    Ok(scripts)
+}
+
+// A script with a function, a native and two properties.
+fn gate(alloc: Global) -> Result<OutlineScript, Fail> {
+    let int = CoreType::Int;
+    let mut gate = script(alloc, "Gate", None)?;
     let open = function(alloc, "Open", &[int, CoreType::Script(6)], None, false)?;
+    gate.functions.push(open)?;
     let read = function(alloc, "Read", &[], Some(CoreType::Bool), true)?;
-    let mut gate = script(alloc, "Gate", None, vec![in alloc; open, read]?)?;
-    gate.properties.push(OutlineProperty {
-        name: Name::from_bytes(alloc, b"Uses")?,
-        kind: int,
-        variable: 4,
-    })?;
-    gate.properties.push(OutlineProperty {
-        name: Name::from_bytes(alloc, b"Next")?,
-        kind: CoreType::Script(7),
-        variable: 5,
-    })?;
-    let scripts = vec![in alloc;
-        script(alloc, "Debug", None, vec![in alloc; trace]?)?,
-        script(alloc, "Utility", None, vec![in alloc; random]?)?,
-        script(alloc, "Scene", None, vec![in alloc; sleep]?)?,
-        script(alloc, "Form", None, none())?,
-        script(alloc, "Quest", Some(3), none())?,
-        script(alloc, "ObjectReference", Some(3), none())?,
-        gate,
-        script(alloc, "Door", Some(6), none())?,
-    ]?;
+    gate.functions.push(read)?;
+    gate.properties.push(property(alloc, "Uses", int, 4)?)?;
+    gate.properties
+        .push(property(alloc, "Next", CoreType::Script(7), 5)?)?;
+    Ok(gate)
+}
+
+// The prelude, then Gate, and Door below it.
+fn outline(alloc: Global) -> Result<Outline, Fail> {
+    let mut scripts = prelude(alloc)?;
+    scripts.push(gate(alloc)?)?;
+    scripts.push(script(alloc, "Door", Some(6))?)?;
     Ok(Outline { scripts })
 }
 
@@ -90,44 +113,60 @@ const READ: &str = "\"gate.READ\":{\"kind\":\"device\",\"device\":1,\"latency\":
 const DOOR: &str =
     "{\"name\":\"d\",\"script\":\"door\",\"set\":{\"next\":{\"instance\":\"D\"},\"uses\":5}}";
 
+fn has_the_door(scene: &Scene) -> bool {
+    match scene.instances.as_slice() {
+        [door] => {
+            (door.script, door.set.len()) == (7, 2)
+                && (door.set[0].0, door.set[0].1) == (6, 5)
+                && matches!(door.set[0].2, Value::Instance(0))
+                && matches!(door.set[1].2, Value::Int(5))
+        }
+        _ => false,
+    }
+}
+
+fn has_the_call(scene: &Scene) -> bool {
+    match scene.calls.as_slice() {
+        [call] => {
+            (call.turn, call.instance, call.arguments.len()) == (2, 0, 2)
+                && call.function.as_bytes() == b"OPEN".as_slice()
+        }
+        _ => false,
+    }
+}
+
+// What the natives Trace, RandomInt, Sleep and Read do.
+fn has_natives(scene: &Scene) -> bool {
+    let dice = Binding::Device {
+        device: 3,
+        latency: 0,
+    };
+    let read = Binding::Device {
+        device: 1,
+        latency: 2,
+    };
+    match scene.natives.as_slice() {
+        [first, second, third, last] => {
+            first.binding == Binding::Trace { latency: 0 }
+                && second.binding == dice
+                && third.binding == Binding::Sleep
+                && last.binding == read
+                && (last.script, last.function) == (6, 1)
+        }
+        _ => false,
+    }
+}
+
 #[test]
 fn names_become_numbers(rt: HostRuntime) -> Result<(), Fail> {
     let alloc = rt.alloc();
     let calls =
         "{\"turn\":2,\"instance\":\"D\",\"function\":\"OPEN\",\"arguments\":[1,{\"instance\":\"d\"}]}";
     let scene = bound(alloc, (DOOR, calls, READ, "[3]"))??;
-    let instance = &scene.instances[0];
-    assert_eq!(rt; (instance.script, instance.set.len()), (7, 2));
-    assert_eq!(rt; (instance.set[0].0, instance.set[0].1), (6, 5));
-    assert!(rt; matches!(&instance.set[0].2, Value::Instance(0)));
-    assert!(rt; matches!(&instance.set[1].2, Value::Int(5)));
-    let call = &scene.calls[0];
-    assert_eq!(rt; (call.turn, call.instance, call.arguments.len()), (2, 0, 2));
-    assert_eq!(rt; call.function.as_bytes(), b"OPEN".as_slice());
-    assert_eq!(rt;
-        (scene.natives.len(), scene.devices, scene.tapes.len()),
-        (4, 4, 1)
-    );
-    assert_eq!(rt; scene.natives[0].binding, Binding::Trace { latency: 0 });
-    assert_eq!(rt;
-        scene.natives[1].binding,
-        Binding::Device {
-            device: 3,
-            latency: 0
-        }
-    );
-    assert_eq!(rt; scene.natives[2].binding, Binding::Sleep);
-    assert_eq!(rt;
-        scene.natives[3].binding,
-        Binding::Device {
-            device: 1,
-            latency: 2
-        }
-    );
-    assert_eq!(rt;
-        (scene.natives[3].script, scene.natives[3].function),
-        (6, 1)
-    );
+    assert!(rt; has_the_door(&scene));
+    assert!(rt; has_the_call(&scene));
+    assert!(rt; has_natives(&scene));
+    assert_eq!(rt; (scene.devices, scene.tapes.len()), (4, 1));
     Ok(())
 }
 
@@ -228,21 +267,42 @@ fn refuses_natives_and_calls(rt: HostRuntime) -> Result<(), Fail> {
     Ok(())
 }
 
+// The prelude, then a script with an event, and Lamp below it.
+fn outline_with_event(alloc: Global) -> Result<Outline, Fail> {
+    let mut scripts = prelude(alloc)?;
+    let mut base = script(alloc, "Base", Some(4))?;
+    let event = function(alloc, "OnInit", &[], None, false)?;
+    base.functions.push(event)?;
+    scripts.push(base)?;
+    scripts.push(script(alloc, "Lamp", Some(6))?)?;
+    Ok(Outline { scripts })
+}
+
+fn default_of(
+    alloc: Global,
+    name: &[u8],
+    outline: &Outline,
+) -> Result<Result<Scene, SceneFault>, Fail> {
+    let tree = default_scene(alloc, &Name::from_bytes(alloc, name)?)?;
+    Ok(bind(alloc, tree, outline, 4))
+}
+
+fn script_of_first(scene: &Scene) -> Option<u16> {
+    Some(scene.instances.as_slice().first()?.script)
+}
+
 #[test]
 fn binds_the_default_scene_of_a_script_with_its_event(rt: HostRuntime) -> Result<(), Fail> {
     let alloc = rt.alloc();
-    let mut outline = outline(alloc)?;
-    let event = function(alloc, "OnInit", &[], None, false)?;
-    outline.scripts[3].functions.push(event)?;
-    let tree = default_scene(alloc, &Name::from_bytes(alloc, b"Quest")?)?;
-    let answer = bind(alloc, tree, &outline, 4);
+    let unbound = outline(alloc)?;
+    let answer = default_of(alloc, b"Quest", &unbound)?;
     assert_eq!(rt;
         answer.err(),
         Some(SceneFault::of(SceneRule::UnboundNative))
     );
-    outline.scripts[6].functions.pop();
-    let tree = default_scene(alloc, &Name::from_bytes(alloc, b"Quest")?)?;
-    let scene = bind(alloc, tree, &outline, 4)?;
-    assert_eq!(rt; (scene.instances[0].script, scene.turns), (4, 10_000));
+    let outline = outline_with_event(alloc)?;
+    let scene = default_of(alloc, b"Lamp", &outline)??;
+    assert_eq!(rt; script_of_first(&scene), Some(7));
+    assert_eq!(rt; (scene.calls.len(), scene.turns), (1, 10_000));
     Ok(())
 }
