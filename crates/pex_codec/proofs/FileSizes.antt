@@ -1,16 +1,16 @@
 -- How many bytes the parts of a file have, and what a complete value is.
-use Rattle.std.proofs.Common.{◌≡◌, ℕ, ◌+◌, ◌*◌, ◌<◌, ◌^◌, List, [], ◌∷◌, ◌++◌, length, map, Option, Some, None, refl, sym, ap, subst, ◌∙◌, arith}
+use Rattle.std.proofs.Common.{◌≡◌, ℕ, ◌+◌, ◌*◌, ◌<◌, ◌^◌, List, [], ◌∷◌, length, map, Option, Some, refl, sym, ap, subst, ◌∙◌, arith}
 use Rattle.std.specs.Prelude.{Result, IfSome, option_map}
 use Rattle.std.specs.List.{flat_map, AllByRecursion}
-use Rattle.std.proofs.lemmas.List.{length-append, length-map, nil_from_length}
+use Rattle.std.proofs.lemmas.List.{length-append, length-map}
 use Rattle.pex_values.specs.declared.debug.PexDebug.{PexDebug}
 use Rattle.pex_values.specs.declared.debug.PexLines.{PexLines}
 use Rattle.pex_values.specs.declared.values.Pex.{Pex}
 use Rattle.pex_values.specs.declared.values.PexObject.{PexObject}
 use Rattle.pex_values.specs.Fit.{FitsDebug}
-use Rattle.pex_values.specs.Plain.{PlainDebug, plain_lines, plain_debug, plain_object, plain}
-use Rattle.pex_values.specs.Shape.{IsShapedDebug, IsShapedFlag, IsShapedObject}
-use Rattle.pex_values.specs.Spelling.{two_bytes, four_bytes, eight_bytes, one_byte, string, list, lines, debug, flag, object, object_data, size_of, heading, spelling}
+use Rattle.pex_values.specs.Plain.{plain_lines, plain_debug, plain_object, plain}
+use Rattle.pex_values.specs.Shape.{IsShapedDebug, IsShapedFlag}
+use Rattle.pex_values.specs.Spelling.{two_bytes, string, lines, debug, flag, object, object_data, spelling}
 use Rattle.pex_values.proofs.Sizes as sizes
 use Rattle.pex_codec.specs.declared.faults.PexFault.{PexFault}
 use Rattle.pex_codec.specs.declared.fields.Field.{Field}

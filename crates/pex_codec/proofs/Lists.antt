@@ -1,5 +1,5 @@
 -- What holds of each item of a list, and the bytes of each item, over a loop.
-use Rattle.std.proofs.Common.{◌≡◌, ℕ, ◌+◌, ◌<◌, List, [], ◌∷◌, ◌++◌, length, get_or, take, map, refl, sym, ap, subst, ◌∙◌, append_assoc, arith}
+use Rattle.std.proofs.Common.{◌≡◌, ℕ, ◌+◌, ◌<◌, List, [], ◌∷◌, ◌++◌, length, get_or, take, map, refl, sym, ap, subst, ◌∙◌, append_assoc}
 use Rattle.std.specs.Prelude.{⊤, Result, Ok, Err}
 use Rattle.pex_values.specs.Fit.{IsCounted}
 use Rattle.pex_values.proofs.Parts.{flat_map-map, each_view}

@@ -1,5 +1,5 @@
 -- How many bytes the parts of an object have.
-use Rattle.std.proofs.Common.{◌≡◌, ℕ, ◌+◌, ◌<◌, ◌^◌, List, [], ◌∷◌, ◌++◌, length, map, Option, refl, sym, ap, subst, ◌∙◌, arith}
+use Rattle.std.proofs.Common.{◌≡◌, ℕ, ◌+◌, ◌<◌, ◌^◌, List, [], ◌∷◌, ◌++◌, length, map, Option, ap, subst, ◌∙◌, arith}
 use Rattle.std.specs.Prelude.{Result, option_map}
 use Rattle.std.specs.List.{flat_map, AllByRecursion}
 use Rattle.std.proofs.lemmas.List.{length-append, length-map, nil_from_length}
@@ -7,11 +7,10 @@ use Rattle.pex_values.specs.declared.values.PexFunction.{PexFunction}
 use Rattle.pex_values.specs.declared.values.PexObject.{PexObject}
 use Rattle.pex_values.specs.declared.values.PexProperty.{PexProperty}
 use Rattle.pex_values.specs.declared.values.PexState.{PexState}
-use Rattle.pex_values.specs.declared.values.PexVariable.{PexVariable}
 use Rattle.pex_values.specs.Fit.{FitsProperty, FitsState}
 use Rattle.pex_values.specs.Plain.{plain_function, plain_named, plain_state, plain_property, plain_object}
 use Rattle.pex_values.specs.Shape.{IsShapedObject}
-use Rattle.pex_values.specs.Spelling.{two_bytes, four_bytes, one_byte, list, optional, datum, variable, property, state, named, function, object_data}
+use Rattle.pex_values.specs.Spelling.{two_bytes, optional, variable, property, state, named, function, object_data}
 use Rattle.pex_values.proofs.Sizes as sizes
 use Rattle.pex_codec.specs.declared.faults.PexFault.{PexFault}
 use Rattle.pex_codec.specs.declared.fields.ObjectField.{ObjectField}

@@ -1,17 +1,16 @@
 -- How many bytes the parts of a function have.
-use Rattle.std.proofs.Common.{◌≡◌, ℕ, ◌+◌, ◌*◌, ◌<◌, ◌≤◌, ◌^◌, Bool, true, false, List, [], ◌∷◌, ◌++◌, length, map, Option, Some, None, refl, sym, ap, subst, ◌∙◌, arith}
+use Rattle.std.proofs.Common.{◌≡◌, ℕ, ◌+◌, ◌*◌, ◌<◌, ◌^◌, List, [], ◌∷◌, ◌++◌, length, map, Option, refl, ap, subst, ◌∙◌, arith}
 use Rattle.std.specs.Prelude.{Result}
 use Rattle.std.specs.List.{flat_map, AllByRecursion}
 use Rattle.std.proofs.lemmas.List.{length-append, length-map, nil_from_length}
 use Rattle.pex_values.specs.declared.values.Instruction.{Instruction}
-use Rattle.pex_values.specs.Fit.{FitsInstruction, FitsFunction}
-use Rattle.pex_values.specs.Opcodes.{operands_of}
-use Rattle.pex_values.specs.Plain.{PlainInstruction, PlainFunction, plain_instruction, plain_function}
-use Rattle.pex_values.specs.Shape.{IsShapedInstruction, IsShapedFunction}
-use Rattle.pex_values.specs.Spelling.{two_bytes, four_bytes, one_byte, pair, list, datum, counted, instruction, function}
+use Rattle.pex_values.specs.Fit.{FitsInstruction}
+use Rattle.pex_values.specs.Plain.{PlainFunction, plain_instruction, plain_function}
+use Rattle.pex_values.specs.Shape.{IsShapedFunction}
+use Rattle.pex_values.specs.Spelling.{pair, instruction, function}
 use Rattle.pex_values.proofs.Sizes as sizes
 use Rattle.pex_codec.specs.declared.function_reader.FunctionReader.{FunctionReader}
-use Rattle.pex_codec.specs.FunctionReading.{data_len, code_len, before_item, IsWhole, Reaches}
+use Rattle.pex_codec.specs.FunctionReading.{code_len, before_item, IsWhole, Reaches}
 use Rattle.pex_codec.specs.declared.faults.PexFault.{PexFault}
 use Rattle.pex_codec.specs.declared.fields.FunctionField.{FunctionField}
 

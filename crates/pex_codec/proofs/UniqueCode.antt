@@ -1,5 +1,5 @@
 -- The bytes of values, instructions and functions tell them.
-use Rattle.std.proofs.Common.{◌≡◌, ℕ, ◌<◌, ◌^◌, ℤ, pos, negsuc, List, [], ◌∷◌, ◌++◌, length, Bool, true, false, Option, Some, None, refl, sym, ap, subst, ◌∙◌, append_assoc, arith}
+use Rattle.std.proofs.Common.{◌≡◌, ℕ, ◌<◌, ◌^◌, ℤ, pos, negsuc, List, ◌∷◌, ◌++◌, length, Bool, true, false, Option, Some, None, refl, sym, ap, subst, ◌∙◌, append_assoc, arith}
 use Rattle.std.specs.Prelude.{FitsSigned}
 use Rattle.std.specs.Int.{w32, cast_unsigned, cast_signed}
 use Rattle.std.specs.List.{flat_map, AllByRecursion}
@@ -12,7 +12,7 @@ use Rattle.pex_values.specs.Opcodes.{operands_of}
 use Rattle.pex_values.specs.Plain.{PlainInstruction, PlainFunction}
 use Rattle.pex_values.specs.Shape.{AgreesWith, ArePair, IsShapedDatum, IsShapedInstruction, IsShapedFunction, IsShapedNamed}
 use Rattle.pex_values.specs.Spelling.{two_bytes, four_bytes, one_byte, integer, datum, counted, instruction, pair, list, function, named}
-use Rattle.pex_codec.proofs.Unique.{Same, IsUnique, heads, tails, two_unique, four_unique, items_unique, list_unique, both, flat2, flat7, same_pair}
+use Rattle.pex_codec.proofs.Unique.{IsUnique, heads, tails, two_unique, four_unique, items_unique, list_unique, both, flat2, flat7, same_pair}
 
 unsigned_fits : (n : ℤ) → FitsSigned w32 n → cast_unsigned w32 n < 2 ^ 32
 unsigned_fits (pos n) f = omega (arith, f.sfits)

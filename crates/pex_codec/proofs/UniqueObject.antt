@@ -1,7 +1,6 @@
 -- The bytes of objects and their members tell them.
-use Rattle.std.proofs.Common.{◌≡◌, ℕ, ◌+◌, ◌<◌, ◌≤◌, ◌^◌, List, [], ◌∷◌, ◌++◌, length, Option, Some, None, refl, sym, ap, ◌∙◌, arith}
+use Rattle.std.proofs.Common.{◌≡◌, ℕ, ◌<◌, ◌≤◌, ◌^◌, List, ◌++◌, length, Option, Some, None, refl, sym, ap, ◌∙◌, arith}
 use Rattle.std.specs.Prelude.{IfSome}
-use Rattle.std.specs.List.{AllByRecursion}
 use Rattle.std.proofs.lemmas.List.{length-append}
 use Rattle.pex_values.specs.declared.values.Datum.{Datum}
 use Rattle.pex_values.specs.declared.values.PexVariable.{PexVariable}
@@ -13,7 +12,7 @@ use Rattle.pex_values.specs.Plain.{PlainFunction, PlainState, PlainProperty, Pla
 use Rattle.pex_values.specs.Shape.{IsReference, IsShapedFunction, IsShapedNamed, IsShapedState, IsShapedVariable, IsShapedProperty, IsShapedObject}
 use Rattle.pex_values.specs.Spelling.{two_bytes, four_bytes, one_byte, datum, variable, optional, function, property, named, state, list, object_data, size_of, object}
 use Rattle.pex_codec.specs.Writing.{HasSize}
-use Rattle.pex_codec.proofs.Unique.{Same, IsUnique, heads, tails, two_unique, four_unique, list_unique, optional_unique, both, flat2, flat3, flat4, flat7, flat8}
+use Rattle.pex_codec.proofs.Unique.{IsUnique, heads, tails, two_unique, four_unique, list_unique, optional_unique, both, flat2, flat3, flat4, flat7, flat8}
 use Rattle.pex_codec.proofs.UniqueCode.{datum_unique, ShapedFunction, function_unique, ShapedNamed, named_unique}
 
 -- ---- variables

@@ -1,12 +1,12 @@
 -- A whole value fits where its parts do and its spelling isn't too long.
-use Rattle.std.proofs.Common.{◌≡◌, ℕ, ◌+◌, ◌<◌, ◌≤◌, List, [], ◌∷◌, ◌++◌, length, sym, ◌∙◌, arith}
-use Rattle.std.specs.Prelude.{Result, Ok, Err, IsErrOf, IfSome}
+use Rattle.std.proofs.Common.{◌≡◌, ℕ, ◌≤◌, List, [], ◌∷◌, ◌++◌, length, arith}
+use Rattle.std.specs.Prelude.{Result, Err, IsErrOf}
 use Rattle.std.specs.List.{flat_map, AllByRecursion}
 use Rattle.std.proofs.lemmas.List.{length-append}
 use Rattle.pex_values.specs.Fit.{Fits, FitsObject, limit}
 use Rattle.pex_values.specs.Plain.{PlainObject, PlainPex}
 use Rattle.pex_values.specs.Spelling.{two_bytes, four_bytes, eight_bytes, string, list, flag, debug, heading, size_of, object, object_data, spelling}
-use Rattle.pex_codec.specs.Writing.{Writes, FitEach, FitsParts, HasSize}
+use Rattle.pex_codec.specs.Writing.{Writes, FitsParts, HasSize}
 use Rattle.pex_codec.specs.declared.faults.EncodeFault.{EncodeFault}
 use Rattle.pex_codec.specs.declared.faults.EncodeFault.TheVariants.{TooManyItems, OutOfMemory}
 

@@ -1,5 +1,4 @@
 -- What a decoder holds.
-use Rattle.std.specs.Prelude.{ℕ}
 use Rattle.pex_codec.specs.declared.decoder.Decoder.TheInside.{Inside}
 use Rattle.pex_codec.specs.declared.pieces.PieceReader.{PieceReader}
 use Rattle.pex_codec.specs.declared.progress.Standing.{Standing}

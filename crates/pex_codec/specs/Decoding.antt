@@ -1,7 +1,7 @@
 -- What a caller sees of a decoder.
 use Rattle.std.specs.Prelude.{◌≡◌, ℕ, ◌+◌, ◌<◌, ◌≤◌, Result, Ok, Err, IsOkAnd}
 use Rattle.pex_values.specs.declared.values.Pex.{Pex}
-use Rattle.pex_values.specs.Fit.{Fits, limit}
+use Rattle.pex_values.specs.Fit.{Fits}
 use Rattle.pex_values.specs.Plain.{plain}
 use Rattle.pex_values.specs.Shape.{IsWellShaped}
 use Rattle.pex_values.specs.Spelling.{spelling}

@@ -1,5 +1,5 @@
 -- What a reader of a file holds before each field.
-use Rattle.std.specs.Prelude.{◌≡◌, ℕ, ◌+◌, ◌*◌, ◌<◌, ◌≤◌, ◌^◌, ◌⊎◌, List, [], length, map, Option, Some, None, Result, Ok, Err, IfSome, option_map}
+use Rattle.std.specs.Prelude.{◌≡◌, ℕ, ◌+◌, ◌*◌, ◌<◌, ◌≤◌, ◌^◌, ◌⊎◌, [], length, map, Option, Some, None, Result, Ok, Err, IfSome, option_map}
 use Rattle.std.specs.List.{flat_map, AllByRecursion}
 use Rattle.pex_values.specs.Fit.{IsCounted, FitsDebug, FitsObject}
 use Rattle.pex_values.specs.Plain.{PlainPex, plain_lines, plain_debug, plain_object, plain}
@@ -12,7 +12,6 @@ use Rattle.pex_codec.specs.declared.fields.TextField.{TextField}
 use Rattle.pex_codec.specs.declared.fields.TextField.TheVariants as text
 use Rattle.pex_codec.specs.declared.file_reader.FileReader.{FileReader}
 use Rattle.pex_codec.specs.ObjectReading.{IsBeforeObject, before_object}
-use Rattle.pex_codec.specs.Writing.{FitsHeader}
 
 -- ---- how many bytes stand before a field
 

@@ -1,11 +1,11 @@
 -- What a reader of a function holds before each field.
-use Rattle.std.specs.Prelude.{◌≡◌, ℕ, ◌+◌, ◌*◌, ◌<◌, ◌≤◌, ◌^◌, Bool, true, List, length, map, Option, Some, None, Result, Ok, Err}
+use Rattle.std.specs.Prelude.{◌≡◌, ℕ, ◌+◌, ◌*◌, ◌<◌, ◌≤◌, ◌^◌, true, List, length, map, Option, Some, None, Result, Ok, Err}
 use Rattle.std.specs.List.{flat_map, AllByRecursion}
 use Rattle.pex_values.specs.declared.values.Datum.{Datum}
 use Rattle.pex_values.specs.Fit.{FitsInstruction, FitsFunction}
 use Rattle.pex_values.specs.Opcodes.{operands_of}
 use Rattle.pex_values.specs.Plain.{PlainInstruction, plain_instruction, plain_function}
-use Rattle.pex_values.specs.Shape.{IsReference, IsShapedDatum, IsShapedInstruction, IsShapedFunction}
+use Rattle.pex_values.specs.Shape.{IsReference, IsShapedDatum, IsShapedFunction}
 use Rattle.pex_values.specs.Spelling.{datum, instruction, function}
 use Rattle.pex_codec.specs.declared.faults.PexFault.{PexFault}
 use Rattle.pex_codec.specs.declared.fields.FunctionField.{FunctionField}

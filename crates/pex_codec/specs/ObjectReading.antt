@@ -1,5 +1,5 @@
 -- What a reader of an object's data holds before each field.
-use Rattle.std.specs.Prelude.{◌≡◌, ℕ, ◌+◌, ◌<◌, ◌≤◌, ◌^◌, true, List, length, map, Option, Some, None, Result, Ok, Err, is_some, IfSome, option_map}
+use Rattle.std.specs.Prelude.{◌≡◌, ℕ, ◌+◌, ◌<◌, ◌≤◌, ◌^◌, true, length, map, Option, Some, None, Result, Ok, Err, is_some, IfSome, option_map}
 use Rattle.std.specs.List.{flat_map, AllByRecursion}
 use Rattle.pex_values.specs.Bits.{has_variable, has_read, has_write}
 use Rattle.pex_values.specs.Fit.{FitsFunction, FitsState, FitsProperty, FitsObject}

@@ -1,5 +1,5 @@
 -- What writing a part of a file does.
-use Rattle.std.specs.Prelude.{◌≡◌, ℕ, ◌≤◌, ◌<◌, ◌^◌, List, ◌++◌, length, Result, Ok, Err, IfSome}
+use Rattle.std.specs.Prelude.{◌≡◌, ℕ, ◌≤◌, List, ◌++◌, length, Result, Ok, Err, IfSome}
 use Rattle.std.specs.List.{AllByRecursion}
 use Rattle.pex_values.specs.Fit.{IsCounted, FitsObject, FitsDebug, limit}
 use Rattle.pex_values.specs.Plain.{PlainLines, PlainObject, PlainPex}

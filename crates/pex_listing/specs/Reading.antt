@@ -1,5 +1,5 @@
 -- What reading a part of a listing gives.
-use Rattle.std.specs.Prelude.{◌≡◌, ℕ, ◌+◌, ◌<◌, ◌≤◌, ◌^◌, Bool, true, false, List, length, map, Option, Some, None, is_some, IfSome, option_map}
+use Rattle.std.specs.Prelude.{◌≡◌, ℕ, ◌+◌, ◌<◌, ◌≤◌, ◌^◌, Bool, true, false, List, length, Option, Some, None, is_some, IfSome, option_map}
 use Rattle.std.specs.List.{flat_map, AllByRecursion}
 use Rattle.pex_values.specs.declared.debug.PexDebug.{PexDebug}
 use Rattle.pex_values.specs.declared.debug.PexLines.{PexLines}
@@ -10,7 +10,7 @@ use Rattle.pex_values.specs.declared.values.PexObject.{PexObject}
 use Rattle.pex_values.specs.declared.values.PexProperty.{PexProperty}
 use Rattle.pex_values.specs.declared.values.PexState.{PexState}
 use Rattle.pex_values.specs.Fit.{IsCounted, FitsInstruction, FitsFunction, FitsState, FitsProperty, FitsObject, FitsDebug}
-use Rattle.pex_values.specs.Plain.{PlainLines, plain_instruction, plain_function, plain_named, plain_state, plain_property, plain_object, plain_lines, plain_debug}
+use Rattle.pex_values.specs.Plain.{plain_instruction, plain_function, plain_named, plain_state, plain_property, plain_object, plain_lines, plain_debug}
 use Rattle.pex_values.specs.Shape.{IsShapedDatum, IsShapedInstruction, IsShapedFunction, IsShapedNamed, IsShapedState, IsShapedProperty, IsShapedObject, IsShapedLines, IsShapedDebug}
 use Rattle.pex_values.specs.Spelling.{datum, function, optional, debug}
 

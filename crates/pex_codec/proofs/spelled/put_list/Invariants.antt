@@ -1,6 +1,3 @@
-use Rattle.std.proofs.Common.{◌≡◌, ◌<◌, ◌^◌, ◌++◌, length, take}
-use Rattle.std.specs.List.{flat_map, AllByRecursion}
-use Rattle.pex_values.specs.Spelling.{two_bytes}
 use Rattle.pex_codec.proofs.Lists.{WroteFirst}
 use Rattle.pex_codec.proofs.spelled.put_list.Given as goal
 

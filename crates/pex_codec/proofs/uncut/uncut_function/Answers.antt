@@ -1,4 +1,4 @@
-use Rattle.std.proofs.Common.{◌≡◌, length, map, arith, slice_index_or}
+use Rattle.std.proofs.Common.{map, arith, slice_index_or}
 use Rattle.std.proofs.lemmas.Grind.{common_steps}
 use Rattle.pex_values.specs.Plain.{PlainFunction, plain_instruction}
 use Rattle.pex_codec.proofs.Sizes.{function_len}

@@ -1,4 +1,4 @@
-use Rattle.std.proofs.Common.{◌≡◌, List, length, map, refl, arith}
+use Rattle.std.proofs.Common.{◌≡◌, length, map, refl, arith}
 use Rattle.std.specs.List.{flat_map}
 use Rattle.std.proofs.lemmas.List.{length-map}
 use Rattle.pex_values.specs.declared.debug.PexDebug.{PexDebug}

@@ -1,4 +1,4 @@
-use Rattle.std.proofs.Common.{arith, ap, map, length, length-append}
+use Rattle.std.proofs.Common.{arith, ap, map}
 use Rattle.pex_values.specs.Fit.{FitsInstruction}
 use Rattle.pex_values.specs.Plain.{plain_instruction}
 use Rattle.pex_values.specs.Shape.{IsShapedInstruction}
