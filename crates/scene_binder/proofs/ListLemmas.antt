@@ -3,7 +3,7 @@ use Rattle.std.proofs.Common.{ℕ, ◌≡◌, ◌<◌, ◌+◌, List, [], ◌∷
 use Rattle.std.specs.List.{slice_get}
 use Rattle.std.specs.Option.{option_map}
 use Rattle.std.proofs.lemmas.List.{length-map, map-append, take_more}
-use Rattle.std.proofs.lemmas.Option.{same_Some, slice_get-get_or, slice_get-map, slice_get_read, slice_get_within}
+use Rattle.std.proofs.lemmas.Option.{same_Some, slice_get-get_or, slice_get-map, slice_get_within}
 
 -- the key of an item, where the list of keys has it
 pub key_at : {X Y : Type 0} (key : X → Y) (xs : List X) (i : ℕ) (x : X) (y : Y) → slice_get (map key xs) i ≡ Some y → x ≡ get_or xs i x → key x ≡ y

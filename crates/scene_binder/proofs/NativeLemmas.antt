@@ -1,10 +1,10 @@
 -- The list of natives after one was bound.
-use Rattle.std.proofs.Common.{ℕ, ◌≡◌, ◌<◌, ◌+◌, List, [], ◌∷◌, ◌++◌, map, drop, length, get_or, nat_lt, Some, IfSome, refl, ap, sym, subst, ◌∙◌, append_assoc}
+use Rattle.std.proofs.Common.{ℕ, ◌≡◌, ◌<◌, ◌+◌, List, ◌∷◌, ◌++◌, map, drop, length, get_or, nat_lt, Some, IfSome, ap, sym, subst, ◌∙◌, append_assoc}
 use Rattle.std.specs.List.{All, slice_get}
 use Rattle.std.proofs.Math.ListN.{set}
 use Rattle.std.proofs.lemmas.Bool.{cond-true, lt-ltb}
-use Rattle.std.proofs.lemmas.List.{append-nil, drop_more, map-append, map-set, set-get_or, get_or-map}
-use Rattle.std.proofs.lemmas.List.Elements.{All-get_or, All-push, All-set}
+use Rattle.std.proofs.lemmas.List.{drop_more, map-set, set-get_or, get_or-map}
+use Rattle.std.proofs.lemmas.List.Elements.{All-get_or, All-set}
 use Rattle.core_tree.specs.declared.outline.OutlineFunction.{OutlineFunction}
 use Rattle.core_tree.specs.declared.outline.OutlineScript.{OutlineScript}
 use Rattle.core_tree.specs.declared.scene_tree.Binding.{Binding}

@@ -1,5 +1,5 @@
 -- What a bound scene has of the scene that was read.
-use Rattle.std.specs.Prelude.{ℕ, ◌≡◌, List, map}
+use Rattle.std.specs.Prelude.{ℕ, ◌≡◌, map}
 use Rattle.core_tree.specs.declared.scene.Scene.{Scene}
 use Rattle.core_tree.specs.declared.scene_tree.SceneTree.{SceneTree}
 use Rattle.scene_binder.specs.Bound.{instance_name, call_parts}

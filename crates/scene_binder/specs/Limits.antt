@@ -1,5 +1,5 @@
 -- The limits that a bound scene keeps where the scene that was read keeps them.
-use Rattle.std.specs.Prelude.{ℕ, ◌≤◌, List, length, IfSome}
+use Rattle.std.specs.Prelude.{ℕ, ◌≤◌, length, IfSome}
 use Rattle.std.specs.List.{All}
 use Rattle.core_tree.specs.declared.scene.BoundCall.{BoundCall}
 use Rattle.core_tree.specs.declared.scene.BoundInstance.{BoundInstance}

@@ -1,5 +1,5 @@
 -- The scripts of an outline: what stands above one, and what they have.
-use Rattle.std.specs.Prelude.{ℕ, ◌≡◌, List, [], ◌∷◌, Option, Some, None, slice_get}
+use Rattle.std.specs.Prelude.{ℕ, ◌≡◌, List, [], Option, Some, None, slice_get}
 use Rattle.std.specs.List.{Contains}
 use Rattle.papy_base.specs.Case.{SameIgnoringCase}
 use Rattle.core_tree.specs.declared.outline.OutlineFunction.{OutlineFunction}

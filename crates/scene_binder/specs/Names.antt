@@ -1,8 +1,7 @@
 -- What a table of names has.
-use Rattle.std.specs.Prelude.{ℕ, ◌≡◌, Bool, List, Option, Some, None, MatchBool, IsSome, if◌then◌else◌, slice_get}
+use Rattle.std.specs.Prelude.{ℕ, ◌≡◌, Bool, List, Option, Some, MatchBool, if◌then◌else◌, slice_get}
 use Rattle.std.specs.Str.{bytes_eq}
 use Rattle.std.specs.HashMap.{get_by}
-use Rattle.papy_base.specs.Case.{folded}
 use Rattle.scene_binder.specs.declared.name_table.NameTable.{NameTable}
 
 -- the number that a table has for the name with these folded bytes

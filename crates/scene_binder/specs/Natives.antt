@@ -1,5 +1,5 @@
 -- What native functions may do.
-use Rattle.std.specs.Prelude.{ℕ, ◌≡◌, ◌<◌, ◌+◌, List, [], ◌∷◌, ◌++◌, Bool, true, false, nat_lt, ◌&&◌, if◌then◌else◌, Option, Some, None, IsTrue, IsNone, slice_get}
+use Rattle.std.specs.Prelude.{ℕ, ◌≡◌, ◌<◌, ◌+◌, List, [], ◌∷◌, ◌++◌, true, nat_lt, ◌&&◌, if◌then◌else◌, Option, Some, None, slice_get}
 use Rattle.std.specs.List.{All}
 use Rattle.core_tree.specs.declared.core_type.CoreType.{CoreType}
 use Rattle.core_tree.specs.declared.core_type.CoreType.TheVariants as kinds

@@ -1,7 +1,4 @@
-use Rattle.std.proofs.Common.{◌≡◌, ◌<◌, sym, subst, arith}
-use Rattle.std.specs.Result.{OnOk}
-use Rattle.std.specs.List.{slice_get}
-use Rattle.core_tree.specs.declared.outline.OutlineScript.{OutlineScript}
+use Rattle.std.proofs.Common.{◌≡◌, ◌<◌, arith}
 use Rattle.std.proofs.lemmas.Result.{on_ok_weaker}
 use Rattle.scene_binder.proofs.NativeLemmas.{Adds-same, native_places_in-fits}
 use Rattle.scene_binder.proofs.natives.Natives.add_script.Goals as goal
