@@ -1,0 +1,22 @@
+use Rattle.std.proofs.Common.{◌≡◌, ℕ, suc, ◌+◌, ◌<◌, ◌≤◌, ◌^◌, List, [], ◌∷◌, ◌++◌, length, map, refl, sym, ap, subst, ◌∙◌, arith, rules}
+use Rattle.code_emit.proofs.Later.{reference_later, variable_later, property_later, state_later, named_later, all_later, each_grown}
+use Rattle.pex_values.specs.Shape.{IsReference, IsShapedDatum, IsShapedFunction, IsShapedVariable, IsShapedProperty, IsShapedState, IsShapedNamed}
+use Rattle.pex_values.specs.declared.values.PexFunction.{PexFunction}
+use Rattle.pex_values.specs.Plain.{plain_function}
+use Rattle.code_emit.proofs.functions.written_function.Goals as goal
+
+
+pub returns-clause-function : goal.returns-clause-function
+returns-clause-function c =
+    let n = c.text.new.self.strings in
+    let f : PexFunction = record { result = c.in_ok-kind.kind; doc = c.in_ok-doc.doc; flags = c.args.function.now.flags; bits = c.function_bits.result; parameters = c.end.result.parameters; locals = c.end.result.locals; code = c.end.result.code } in
+    let shaped : IsShapedFunction n (plain_function f) = record {
+      result = reference_later c.type_name.new.self.strings n c.in_ok-doc.ensures.goes.strings c.in_ok-kind.kind c.in_ok-kind.ensures.place;
+      doc = c.in_ok-doc.ensures.place;
+      flags = search rules;
+      bits = search rules;
+      parameters = c.end.ensures.body.parameters;
+      locals = c.end.ensures.body.locals;
+      code = c.end.ensures.body.code;
+    } in
+    subst (λ (k : ℕ). IsShapedFunction k (plain_function f)) (sym c.end.ensures.strings) shaped
