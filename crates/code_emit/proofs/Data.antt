@@ -1,11 +1,13 @@
 -- Operands as the file has them.
-use Rattle.std.proofs.Common.{◌≡◌, ℕ, suc, ◌<◌, ◌≤◌, ◌^◌, List, [], ◌∷◌, ◌++◌, length, map, Bool, false, Option, Some, refl, sym, ap, subst, ◌∙◌, arith}
+use Rattle.std.proofs.Common.{◌≡◌, ℕ, suc, ◌<◌, ◌≤◌, ◌^◌, List, [], ◌∷◌, ◌++◌, length, map, get_or, replicate, Bool, false, Option, Some, refl, sym, ap, subst, ◌∙◌, arith}
 use Rattle.std.specs.List.{AllByRecursion}
 use Rattle.pex_values.specs.declared.values.Datum.{Datum}
+use Rattle.pex_values.specs.declared.values.Datum.TheVariants as datum
 use Rattle.pex_values.specs.Opcodes.{operands_of}
 use Rattle.pex_values.specs.Shape.{AgreesWith, IsShapedDatum}
 use Rattle.pex_values.proofs.Parts.{each_added}
 use Rattle.std.proofs.lemmas.List.{length-map}
+use Rattle.std.proofs.lemmas.List.Elements.{All-from_recursion}
 use Rattle.code_emit.specs.declared.operand.Operand.{Operand}
 use Rattle.code_emit.specs.declared.operand.Operand.TheVariants as operand
 use Rattle.code_emit.specs.Operands.{datum_of, lasting, needs, IsWithin}
@@ -60,3 +62,11 @@ length_of os ds are = ap (λ (l : List Datum). length l) are ∙ length-map os d
 pub agrees_with : (opcode : ℕ) (all fixed : ℕ) → operands_of opcode ≡ Some (all, false) → fixed ≡ all → AgreesWith (operands_of opcode) fixed 0
 agrees_with opcode all fixed takes same = subst (λ (o : Option (ℕ × Bool)). AgreesWith o fixed 0) (sym takes) (same, refl)
 
+pub there_at : (n : ℕ) (os : List Operand) (at : ℕ) (o : Operand) → AreThere n os → at < length os → o ≡ get_or os at o → needs o ≤ n
+there_at n os at o all within is =
+    let P : Operand → Type 0 = λ x. needs x ≤ n in
+    subst P (sym is) (All-from_recursion P os all at o within)
+
+pub none_each : (strings n : ℕ) → AllByRecursion (IsShapedDatum strings) (replicate n datum.NoneValue)
+none_each strings 0 = tt
+none_each strings (suc n) = (tt, none_each strings n)

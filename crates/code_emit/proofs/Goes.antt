@@ -1,5 +1,5 @@
 -- What is written grows.
-use Rattle.std.proofs.Common.{◌≡◌, ℕ, ◌≤◌, List, [], ◌∷◌, ◌++◌, refl, sym, ap, subst, ◌∙◌, arith}
+use Rattle.std.proofs.Common.{◌≡◌, ℕ, ◌+◌, ◌≤◌, List, [], ◌∷◌, ◌++◌, refl, sym, ap, subst, ◌∙◌, arith}
 use Rattle.std.specs.List.{Contains}
 use Rattle.code_emit.specs.Writing.{Written, GoesOn, Leaps, Advances}
 
@@ -33,6 +33,8 @@ advances_further first second third one two = record { strings = omega (arith, o
 
 pub ruleset going = (goes_nowhere, goes_further)
 
+pub ruleset leaping = (goes_nowhere, goes_further, leaps_after)
+
 pub ruleset advancing = (goes_nowhere, goes_further, advances_from, advances_further)
 
 abbrev pub written : ℕ → ℕ → List ℕ → Written
@@ -42,3 +44,13 @@ pub goes_strings : (old : Written) (n m count : ℕ) (ahead : List ℕ) → writ
 goes_strings old n m count ahead is more =
     let P : Written → Type 0 = λ w. GoesOn w (written m count ahead) in
     subst P is record { strings = more; count = omega arith; ahead = refl }
+
+pub leaps_here : (old : Written) (n count count' : ℕ) (places after : List ℕ) (place : ℕ) → written n count places ≡ old → count' ≡ count + 1 → after ≡ places ++ place ∷ [] → ¬ Contains places place → Leaps old place (written n count' after)
+leaps_here old n count count' places after place is more added is_new =
+    let P : Written → Type 0 = λ w. Leaps w place (written n count' after) in
+    subst P is record { strings = omega arith; count = omega arith; ahead_are = added; is_new = is_new }
+
+pub goes_count : (old : Written) (n count count' : ℕ) (ahead after : List ℕ) → written n count ahead ≡ old → count' ≡ count + 1 → after ≡ ahead → GoesOn old (written n count' after)
+goes_count old n count count' ahead after is more same =
+    let P : Written → Type 0 = λ w. GoesOn w (written n count' after) in
+    subst P is record { strings = omega arith; count = omega arith; ahead = same }

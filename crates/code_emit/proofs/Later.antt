@@ -1,14 +1,14 @@
 -- What names strings that are there still does once there are more strings.
 use Rattle.std.proofs.Common.{◌≡◌, ℕ, ◌<◌, ◌≤◌, ◌^◌, List, [], ◌∷◌, ◌++◌, length, map, Option, Some, None, arith}
-use Rattle.std.specs.Prelude.{IfSome}
+use Rattle.std.specs.Prelude.{Result, Ok, Err, IfOk, IfSome}
 use Rattle.std.specs.List.{AllByRecursion}
 use Rattle.jump_patch.specs.Jumps.{Buffer}
 use Rattle.pex_values.specs.declared.debug.PexLines.{PexLines}
 use Rattle.pex_values.specs.declared.values.Datum.{Datum}
 use Rattle.pex_values.specs.declared.values.Datum.TheVariants.{NoneValue, Word, Quoted, Int, Float, Bool as BoolByte}
 use Rattle.pex_values.specs.declared.values.PexVariable.{PexVariable}
-use Rattle.pex_values.specs.Plain.{PlainInstruction, PlainFunction, PlainState, PlainProperty, PlainLines, plain_lines}
-use Rattle.pex_values.specs.Shape.{IsReference, ArePair, IsShapedDatum, IsShapedInstruction, IsShapedFunction, IsShapedNamed, IsShapedState, IsShapedVariable, IsShapedProperty, IsShapedLines, IsShapedFlag}
+use Rattle.pex_values.specs.Plain.{PlainInstruction, PlainFunction, PlainState, PlainProperty, PlainObject, PlainLines, plain_lines}
+use Rattle.pex_values.specs.Shape.{IsReference, ArePair, IsShapedDatum, IsShapedInstruction, IsShapedFunction, IsShapedNamed, IsShapedState, IsShapedVariable, IsShapedProperty, IsShapedObject, IsShapedLines, IsShapedFlag}
 use Rattle.code_emit.specs.Writing.{IsWriting}
 
 pub all_later : {A : Type 0} (P Q : A → Type 0) (each : (x : A) → P x → Q x) (xs : List A) → AllByRecursion P xs → AllByRecursion Q xs
@@ -18,6 +18,10 @@ all_later P Q each (x ∷ xs) all = (each x all.0, all_later P Q each xs all.1)
 some_later : {A : Type 0} (P Q : A → Type 0) (each : (x : A) → P x → Q x) (x : Option A) → IfSome x P → IfSome x Q
 some_later P Q each None is = tt
 some_later P Q each (Some x) is = each x is
+
+pub ok_weaker : {A E : Type 0} (P Q : A → Type 0) (r : Result A E) → ((x : A) → P x → Q x) → IfOk r P → IfOk r Q
+ok_weaker P Q (Ok x) each is = each x is
+ok_weaker P Q (Err e) each is = tt
 
 -- a list that grows by one item, which may name strings that are new
 pub each_grown : {X Y : Type 0} (P Q : Y → Type 0) (view : X → Y) (later : (y : Y) → P y → Q y) (xs : List X) (x : X) → AllByRecursion P (map view xs) → Q (view x) → AllByRecursion Q (map view (xs ++ x ∷ []))
@@ -97,6 +101,18 @@ module _ (n m : ℕ) (more : n ≤ m) where
     variable = some_later (IsReference n) (IsReference m) reference_later p.variable is.variable;
     read = accessor_later p.read is.read;
     write = accessor_later p.write is.write;
+  }
+
+  pub object_later : (o : PlainObject) → IsShapedObject n o → IsShapedObject m o
+  object_later o is = record {
+    name = reference_later o.name is.name;
+    parent = reference_later o.parent is.parent;
+    doc = reference_later o.doc is.doc;
+    flags = is.flags;
+    auto_state = reference_later o.auto_state is.auto_state;
+    variables = all_later (IsShapedVariable n) (IsShapedVariable m) variable_later o.variables is.variables;
+    properties = all_later (IsShapedProperty n) (IsShapedProperty m) property_later o.properties is.properties;
+    states = all_later (IsShapedState n) (IsShapedState m) state_later o.states is.states;
   }
 
   pub lines_later : (e : PlainLines) → IsShapedLines n e → IsShapedLines m e

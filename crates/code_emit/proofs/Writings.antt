@@ -6,6 +6,7 @@ use Rattle.std.proofs.lemmas.Int.{ints}
 use Rattle.std.proofs.lemmas.List.Elements.{All-from_recursion, recursion_from_All, All-append, All-take, All-drop, All-contains}
 use Rattle.jump_patch.specs.Jumps.{Buffer, with_offset, nop, offset, without, removed}
 use Rattle.jump_patch.specs.Jumps as jumps
+use Rattle.jump_patch.specs.declared.kind.JumpKind.TheVariants.{Always}
 use Rattle.pex_values.specs.declared.debug.PexLines.{PexLines}
 use Rattle.pex_values.specs.declared.values.Datum.{Datum}
 use Rattle.pex_values.specs.declared.values.Datum.TheVariants.{Int}
@@ -13,10 +14,10 @@ use Rattle.pex_values.specs.Opcodes.{operands_of}
 use Rattle.pex_values.specs.Plain.{PlainInstruction, plain_lines}
 use Rattle.pex_values.specs.Shape.{ArePair, AgreesWith, IsShapedDatum, IsShapedInstruction, IsShapedLines}
 use Rattle.pex_values.proofs.Parts.{each_added}
-use Rattle.code_emit.proofs.Later.{each_grown}
+use Rattle.code_emit.proofs.Later.{all_later, each_grown}
 use Rattle.code_emit.specs.Writing.{IsWriting}
 
-set_each : {X : Type 0} (P : X → Type 0) (xs : List X) (i : ℕ) (x : X) → AllByRecursion P xs → P x → AllByRecursion P (set xs i x)
+pub set_each : {X : Type 0} (P : X → Type 0) (xs : List X) (i : ℕ) (x : X) → AllByRecursion P xs → P x → AllByRecursion P (set xs i x)
 set_each P [] i x each here = tt
 set_each P (y ∷ ys) 0 x each here = (here, each.1)
 set_each P (y ∷ ys) (suc i) x each here = (each.0, set_each P ys i x each.1 here)
@@ -90,11 +91,11 @@ module _ (n count : ℕ) (code : Buffer) (debug : List PexLines) (parameters loc
   with_entry entry after shaped added =
       record is { entries = subst (λ (es : List PexLines). AllByRecursion (IsShapedLines n) (map plain_lines es)) (sym added) (each_grown (IsShapedLines n) (IsShapedLines n) plain_lines (λ y h. h) debug entry is.entries shaped) }
 
-  pub with_instruction : (i : PlainInstruction) (line : ℕ) (ahead : List ℕ) (count' : ℕ) (after : Buffer)
-      → IsShapedInstruction n i → line < 2 ^ 16 → count < 65535 → AllByRecursion (λ place. place < 2 ^ 16) ahead
+  with_more : (i : PlainInstruction) (line : ℕ) (ahead : List ℕ) (count' : ℕ) (after : Buffer)
+      → IsShapedInstruction n i → line < 2 ^ 16 → count < 65535 → AllByRecursion (λ place. place < count') ahead
       → after ≡ record { code = code.code ++ i ∷ []; lines = code.lines ++ line ∷ []; ahead = ahead } → count' ≡ count + 1
       → IsWriting n count' after debug parameters locals spare none
-  with_instruction i line ahead count' after shaped small room places added more =
+  with_more i line ahead count' after shaped small room places added more =
       subst (λ (b : Buffer). IsWriting n count' b debug parameters locals spare none) (sym added) record {
         count_is = omega (arith, length-append code.code (i ∷ []), is.count_is);
         few = omega arith;
@@ -108,15 +109,34 @@ module _ (n count : ℕ) (code : Buffer) (debug : List PexLines) (parameters loc
         none_is = is.none_is;
       }
 
+  places_later : (count' : ℕ) → count' ≡ count + 1 → AllByRecursion (λ place. place < count') code.ahead
+  places_later count' more =
+      all_later (λ (place : ℕ). place < count) (λ (place : ℕ). place < count') (λ (place : ℕ) (below : place < count). omega arith) code.ahead is.ahead_are
+
+  pub with_instruction : (i : PlainInstruction) (line : ℕ) (count' : ℕ) (after : Buffer)
+      → IsShapedInstruction n i → line < 2 ^ 16 → count < 65535
+      → after ≡ record { code = code.code ++ i ∷ []; lines = code.lines ++ line ∷ []; ahead = code.ahead } → count' ≡ count + 1
+      → IsWriting n count' after debug parameters locals spare none
+  with_instruction i line count' after shaped small room added more =
+      with_more i line code.ahead count' after shaped small room (places_later count' more) added more
+
+  pub with_jump : (i : PlainInstruction) (line : ℕ) (count' : ℕ) (after : Buffer)
+      → IsShapedInstruction n i → line < 2 ^ 16 → count < 65535
+      → after ≡ record { code = code.code ++ i ∷ []; lines = code.lines ++ line ∷ []; ahead = code.ahead ++ length code.code ∷ [] } → count' ≡ count + 1
+      → IsWriting n count' after debug parameters locals spare none
+  with_jump i line count' after shaped small room added more =
+      with_more i line (code.ahead ++ length code.code ∷ []) count' after shaped small room
+      (each_added (λ (place : ℕ). place < count') code.ahead (length code.code) (places_later count' more) (omega (arith, is.count_is))) added more
+
   pub with_landed : (at : ℕ) (after : Buffer) → Contains code.ahead at → after ≡ record code { code = jumps.landed code.code at; ahead = without code.ahead at } → IsWriting n count after debug parameters locals spare none
   with_landed at after has landed_is =
-      let low : at < 2 ^ 16 = All-contains (λ (place : ℕ). place < 2 ^ 16) code.ahead at (All-from_recursion (λ (place : ℕ). place < 2 ^ 16) code.ahead is.ahead_are) has in
+      let low : at < count = All-contains (λ (place : ℕ). place < count) code.ahead at (All-from_recursion (λ (place : ℕ). place < count) code.ahead is.ahead_are) has in
       let size : length (jumps.landed code.code at) ≡ length code.code = length-set code.code at (with_offset (get_or code.code at nop) (offset at (length code.code))) in
       subst (λ (b : Buffer). IsWriting n count b debug parameters locals spare none) (sym landed_is) record {
         count_is = is.count_is ∙ sym size;
         few = is.few;
-        ahead_are = removed_each (λ (place : ℕ). place < 2 ^ 16) code.ahead _ is.ahead_are;
-        instructions = landed_shaped n code.code at low (omega (arith, is.count_is, is.few)) is.instructions;
+        ahead_are = removed_each (λ (place : ℕ). place < count) code.ahead _ is.ahead_are;
+        instructions = landed_shaped n code.code at (omega (arith, is.few)) (omega (arith, is.count_is, is.few)) is.instructions;
         lines = is.lines;
         entries = is.entries;
         parameters_are = is.parameters_are;
@@ -124,3 +144,29 @@ module _ (n count : ℕ) (code : Buffer) (debug : List PexLines) (parameters loc
         spare_are = is.spare_are;
         none_is = is.none_is;
       }
+
+  pub jump_is_new : (place : ℕ) → place ≡ length code.code → ¬ Contains code.ahead place
+  jump_is_new place here = λ has.
+      let below : place < count = All-contains (λ (at : ℕ). at < count) code.ahead place (All-from_recursion (λ (at : ℕ). at < count) code.ahead is.ahead_are) has in
+      omega (arith, is.count_is)
+
+-- a jump back
+pub back_shaped : (n from to : ℕ) → from ≤ 65535 → to ≤ 65535 → IsShapedInstruction n (jumps.jump Always (offset from to))
+back_shaped n from to low high = record { opcode = omega arith; operands = (refl, refl); fixed = (offset_fits from to (omega arith) high, tt); more = tt }
+
+-- nothing is written of a function, while the debug entries stay
+pub with_nothing : (n : ℕ) (code : Buffer) (debug : List PexLines) (parameters locals spare : List (ℕ × ℕ))
+    → code ≡ record { code = []; lines = []; ahead = [] } → AllByRecursion (IsShapedLines n) (map plain_lines debug) → parameters ≡ [] → locals ≡ [] → spare ≡ []
+    → IsWriting n 0 code debug parameters locals spare None
+with_nothing n code debug parameters locals spare empty entries no_parameters no_locals no_spare = record {
+  count_is = sym (ap (λ (b : Buffer). length b.code) empty);
+  few = omega arith;
+  ahead_are = subst (λ (b : Buffer). AllByRecursion (λ place. place < 0) b.ahead) (sym empty) tt;
+  instructions = subst (λ (b : Buffer). AllByRecursion (IsShapedInstruction n) b.code) (sym empty) tt;
+  lines = subst (λ (b : Buffer). AllByRecursion (λ line. line < 2 ^ 16) b.lines) (sym empty) tt;
+  entries = entries;
+  parameters_are = subst (λ (ps : List (ℕ × ℕ)). AllByRecursion (ArePair n) ps) (sym no_parameters) tt;
+  locals_are = subst (λ (ps : List (ℕ × ℕ)). AllByRecursion (ArePair n) ps) (sym no_locals) tt;
+  spare_are = subst (λ (ps : List (ℕ × ℕ)). AllByRecursion (λ s. s.1 < n) ps) (sym no_spare) tt;
+  none_is = tt;
+}

@@ -25,7 +25,7 @@ pub record GoesOn (old new : Written) : Type 0 where
 pub record IsWriting (strings count : ℕ) (code : Buffer) (debug : List PexLines) (parameters locals : List (ℕ × ℕ)) (spare : List (ℕ × ℕ)) (none : Option ℕ) : Type 0 where
   pub count_is : count ≡ length code.code
   pub few : count ≤ 65535
-  pub ahead_are : AllByRecursion (λ place. place < 2 ^ 16) code.ahead
+  pub ahead_are : AllByRecursion (λ place. place < count) code.ahead
   pub instructions : AllByRecursion (IsShapedInstruction strings) code.code
   pub lines : AllByRecursion (λ n. n < 2 ^ 16) code.lines
   pub entries : AllByRecursion (IsShapedLines strings) (map plain_lines debug)

@@ -32,7 +32,8 @@ pub(crate) fn argument_values(
     for (place, argument) in arguments.iter().enumerate() {
         let operand = value(writer, argument, depth)?;
         let is_before = acting > 0 && place < acting - 1;
-        values.push(writer.kept(operand, is_before)?)?;
+        let kept = writer.kept(operand, is_before)?;
+        values.push(kept)?;
     }
     Ok(values)
 }
@@ -88,8 +89,8 @@ fn placed(alloc: Global, values: &[Operand], places: &[u16]) -> Result<Vec<Datum
         return Err(EmitFault::OutOfRange);
     }
     let mut placed = vec![in alloc; Datum::NoneValue; values.len()]?;
-    for (operand, place) in values.iter().zip(places) {
-        let place = usize::from(*place);
+    for (at, operand) in values.iter().enumerate() {
+        let place = usize::from(places[at]);
         if place >= placed.len() {
             return Err(EmitFault::OutOfRange);
         }

@@ -65,6 +65,7 @@ pub(crate) fn store_value(
 }
 
 /// Appends the code of a test, and a jump where it doesn't hold.
+#[tactic(auto, using(crate::proofs::Goes::leaping))]
 pub(crate) fn jump_unless(
     writer: &mut Writer<'_>,
     test: &Core,
@@ -75,5 +76,6 @@ pub(crate) fn jump_unless(
 {
     let test = value(writer, test, depth)?;
     writer.give_back(test)?;
-    writer.jump_ahead(JumpKind::IfFalse(test.datum()))
+    let over = writer.jump_ahead(jump_where(false, test.datum()))?;
+    Ok(over)
 }

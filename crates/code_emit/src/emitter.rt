@@ -32,11 +32,12 @@ pub fn emit(alloc: Global, set: &CoreSet) -> Result<Vec<Pex>, EmitFault>
     ensures shaped { IfOk result (λ files. AllByRecursion IsWellShaped (map plain files.items)) }
     ensures count { IfOk result (λ files. vec_len files ≡ vec_len set.now.scripts - PRELUDE_COUNT) }
 {
+    let scripts = set.scripts.as_slice();
+    let first = scripts.len().min(PRELUDE_COUNT);
     let mut files = Vec::new(alloc);
-    for (number, script) in set.scripts.as_slice().iter().enumerate() {
-        if number >= PRELUDE_COUNT {
-            files.push(emit_file(alloc, set, script)?)?;
-        }
+    for script in &scripts[first..] {
+        let file = emit_file(alloc, set, script)?;
+        files.push(file)?;
     }
     Ok(files)
 }
@@ -48,8 +49,7 @@ fn emit_file(alloc: Global, set: &CoreSet, script: &CoreScript) -> Result<Pex, E
     let object = object(&mut writer)?;
     let user_flags = user_flags(&mut writer)?;
     let (strings, functions) = writer.finish()?;
-    let mut objects = Vec::new(alloc);
-    objects.push(object)?;
+    let objects = vec![in alloc; object]?;
     Ok(Pex {
         minor: 1,
         time: 0,
@@ -69,18 +69,18 @@ fn user_flags(writer: &mut Writer<'_>) -> Result<Vec<(u16, u8)>, EmitFault>
 {
     let hidden = writer.string(b"hidden")?;
     let conditional = writer.string(b"conditional")?;
-    let mut flags = Vec::with_capacity(writer.alloc(), 2)?;
-    flags.push((hidden, 0))?;
-    flags.push((conditional, 1))?;
+    let flags = vec![in writer.alloc(); (hidden, 0), (conditional, 1)]?;
     Ok(flags)
 }
 
 /// What stands behind the last `/` of a file's name.
 fn source_name(alloc: Global, file: &Text) -> Result<Text, OutOfMemory> {
     let name = file.as_bytes();
-    let last = match name.iter().rposition(|byte| *byte == b'/') {
-        Some(at) => &name[at + 1..],
-        None => name,
-    };
-    Text::try_from_bytes(alloc, last)
+    let mut start = 0;
+    for (at, byte) in name.iter().enumerate() {
+        if *byte == b'/' {
+            start = at + 1;
+        }
+    }
+    Text::try_from_bytes(alloc, &name[start..])
 }

@@ -18,7 +18,7 @@ use pex_values::PexFunction;
 const MOST_NESTED: u16 = 1_000;
 
 /// Where a function stands: the name of its state, its own name, and what its debug entry has as its kind.
-#[derive(Clone, Copy, Debug)]
+#[derive(Clone, Copy)]
 pub(crate) struct Place<'a> {
     pub state: &'a [u8],
     pub name: &'a [u8],
@@ -41,9 +41,10 @@ pub(crate) fn function(
     ensures advances { Advances writer.old writer.new }
 {
     let (written, lines) = written_function(writer, function)?;
-    if !function.is_native {
-        writer.note_lines(place, lines)?;
+    if function.is_native {
+        return Ok(written);
     }
+    writer.note_lines(place, lines)?;
     Ok(written)
 }
 

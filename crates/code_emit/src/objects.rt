@@ -6,6 +6,7 @@ ghost use Rattle.std.specs.List.{AllByRecursion};
 ghost use Rattle.pex_values.specs.Bits.{has_variable, has_read, has_write};
 ghost use Rattle.pex_values.specs.Plain.{plain_function, plain_named, plain_property, plain_state, plain_object};
 ghost use Rattle.pex_values.specs.Shape.{IsReference, IsShapedFunction, IsShapedNamed, IsShapedVariable, IsShapedProperty, IsShapedState, IsShapedObject};
+ghost use Rattle.code_emit.specs.Function.{HaveParts};
 ghost use Rattle.code_emit.specs.Writing.{GoesOn, Advances};
 
 use crate::expressions::constant;
@@ -122,6 +123,15 @@ fn properties(
     Ok(found)
 }
 
+// What a property has besides its name, type and documentation.
+#[derive(Drop)]
+struct PropertyParts {
+    bits: u8,
+    variable: Option<u16>,
+    read: Option<PexFunction>,
+    write: Option<PexFunction>,
+}
+
 fn one_property(writer: &mut Writer<'_>, property: &CoreProperty) -> Result<PexProperty, EmitFault>
     requires { writer.old.ahead ≡ [] }
     ensures property { IfOk result (λ p. IsShapedProperty writer.new.strings (plain_property p)) }
@@ -130,32 +140,65 @@ fn one_property(writer: &mut Writer<'_>, property: &CoreProperty) -> Result<PexP
     let name = writer.string(property.name.as_bytes())?;
     let kind = writer.type_name(Some(property.kind))?;
     let doc = writer.text(&property.doc)?;
+    let parts = property_parts(writer, property)?;
+    Ok(PexProperty {
+        name,
+        kind,
+        doc,
+        flags: property.flags,
+        bits: parts.bits,
+        variable: parts.variable,
+        read: parts.read,
+        write: parts.write,
+    })
+}
+
+fn property_parts(
+    writer: &mut Writer<'_>,
+    property: &CoreProperty,
+) -> Result<PropertyParts, EmitFault>
+    requires { writer.old.ahead ≡ [] }
+    ensures parts { IfOk result (HaveParts writer.new.strings) }
+    ensures advances { Advances writer.old writer.new }
+{
     match &property.access {
-        CoreAccess::Auto(variable) => Ok(PexProperty {
-            name,
-            kind,
-            doc,
-            flags: property.flags,
-            bits: AUTO_BITS,
-            variable: Some(variable_name(writer, *variable)?),
-            read: None,
-            write: None,
-        }),
-        CoreAccess::Full(read, write) => {
-            let read = accessor(writer, property, read, READ)?;
-            let write = accessor(writer, property, write, WRITE)?;
-            Ok(PexProperty {
-                name,
-                kind,
-                doc,
-                flags: property.flags,
-                bits: accessor_bits(read.is_some(), write.is_some()),
-                variable: None,
-                read,
-                write,
-            })
-        }
+        CoreAccess::Auto(variable) => auto_parts(writer, *variable),
+        CoreAccess::Full(read, write) => full_parts(writer, property, read, write),
     }
+}
+
+fn auto_parts(writer: &mut Writer<'_>, variable: u16) -> Result<PropertyParts, EmitFault>
+    ensures parts { IfOk result (HaveParts writer.new.strings) }
+    ensures advances { Advances writer.old writer.new }
+{
+    let variable = variable_name(writer, variable)?;
+    Ok(PropertyParts {
+        bits: AUTO_BITS,
+        variable: Some(variable),
+        read: None,
+        write: None,
+    })
+}
+
+fn full_parts(
+    writer: &mut Writer<'_>,
+    property: &CoreProperty,
+    read: &Option<CoreFunction>,
+    write: &Option<CoreFunction>,
+) -> Result<PropertyParts, EmitFault>
+    requires { writer.old.ahead ≡ [] }
+    ensures parts { IfOk result (HaveParts writer.new.strings) }
+    ensures advances { Advances writer.old writer.new }
+{
+    let read = accessor(writer, property, read, READ)?;
+    let write = accessor(writer, property, write, WRITE)?;
+    let bits = accessor_bits(read.is_some(), write.is_some());
+    Ok(PropertyParts {
+        bits,
+        variable: None,
+        read,
+        write,
+    })
 }
 
 fn variable_name(writer: &mut Writer<'_>, number: u16) -> Result<u16, EmitFault>

@@ -1,7 +1,7 @@
 // The operands of instructions.
 ghost use Rattle.std.specs.Prelude.{◌≡◌, IfOk, map};
 ghost use Rattle.std.specs.List.{AllByRecursion};
-ghost use Rattle.code_emit.specs.Operands.{datum_of, lasting, IsWithin};
+ghost use Rattle.code_emit.specs.Operands.{datum_of, lasting, needs, IsWithin};
 
 use core_tree::CoreType;
 use papy_base::OutOfMemory;
@@ -9,7 +9,7 @@ use pex_values::Datum;
 use std::alloc::Global;
 
 /// Where the value of an expression stands. A name or text is given by its place among the file's strings.
-#[derive(Clone, Copy, Debug)]
+#[derive(Clone, Copy)]
 pub(crate) enum Operand {
     NoneValue,
     Int(i32),
@@ -42,7 +42,8 @@ impl Operand {
 
     /// The operand for an instruction after which it is read again.
     pub(crate) fn lasting(self) -> Operand
-        ensures { result ≡ lasting self }
+        ensures value { result ≡ lasting self }
+        ensures strings { needs result ≡ needs self }
     {
         match self {
             Operand::Temporary { name, .. } => Operand::Word(name),

@@ -108,28 +108,67 @@ fn branches(
     };
     let left = one_deeper(left)?;
     writer.set_line(*line);
-    let over = jump_unless(writer, test, depth)?;
     if rest.is_empty() && otherwise.is_empty() {
-        let done = block(writer, body, depth);
-        writer.land(over);
-        return done;
+        return last_branch(writer, test, body, depth);
     }
-    let end = body_and_exit(writer, body, depth);
-    writer.land(over);
-    let end = end?;
+    let end = branch(writer, test, body, depth)?;
     let others = branches(writer, rest, otherwise, depth, left);
     writer.land(end);
     others
 }
 
+// A test and its statements, behind which the If ends.
+#[cycle(statement)]
+#[tactic(auto, using(crate::proofs::Landing::landing, crate::proofs::Goes::going))]
+fn last_branch(
+    writer: &mut Writer<'_>,
+    test: &Core,
+    body: &[CoreLine],
+    depth: u16,
+) -> Result<(), EmitFault>
+    ensures { GoesOn writer.old writer.new }
+{
+    let over = jump_unless(writer, test, depth)?;
+    let done = block(writer, body, depth);
+    writer.land(over);
+    done
+}
+
+// A test and its statements, and the jump behind them over the branches that follow.
+#[cycle(statement)]
+#[tactic(auto, using(crate::proofs::Landing::landing, crate::proofs::Goes::going))]
+fn branch(
+    writer: &mut Writer<'_>,
+    test: &Core,
+    body: &[CoreLine],
+    depth: u16,
+) -> Result<Ahead, EmitFault>
+    ensures leaps { IfOk result (λ ahead. Leaps writer.old ahead writer.new) }
+    ensures err { OnErr result (GoesOn writer.old writer.new) }
+{
+    let over = jump_unless(writer, test, depth)?;
+    match body_and_exit(writer, body, depth) {
+        Ok(end) => {
+            writer.land(over);
+            Ok(end)
+        }
+        Err(fault) => {
+            writer.land(over);
+            Err(fault)
+        }
+    }
+}
+
 // The statements of a branch, and the jump behind them.
 #[cycle(statement)]
+#[tactic(auto, using(crate::proofs::Goes::leaping))]
 fn body_and_exit(writer: &mut Writer<'_>, body: &[CoreLine], depth: u16) -> Result<Ahead, EmitFault>
     ensures leaps { IfOk result (λ ahead. Leaps writer.old ahead writer.new) }
     ensures err { OnErr result (GoesOn writer.old writer.new) }
 {
     block(writer, body, depth)?;
-    writer.jump_ahead(JumpKind::Always)
+    let end = writer.jump_ahead(JumpKind::Always)?;
+    Ok(end)
 }
 
 #[cycle(statement)]

@@ -6,17 +6,54 @@ use pex_values::{Datum, Pex, PexFunction};
 use std::alloc::Global;
 use std::test::Fail;
 
+/// The files of the set whose one method has this statement.
 fn emitted(alloc: Global, form: CoreStatement) -> Result<Vec<Pex>, EmitFault> {
     let body = vec![in alloc; line(5, form)]?;
-    emit(alloc, &set(alloc, body)?)
+    let set = set(alloc, body)?;
+    emit(alloc, &set)
 }
 
-fn opcodes(alloc: Global, of: &PexFunction) -> Result<Vec<u8>, OutOfMemory> {
+fn fault_of(files: &Result<Vec<Pex>, EmitFault>) -> Option<EmitFault> {
+    match files {
+        Ok(_) => None,
+        Err(fault) => Some(*fault),
+    }
+}
+
+fn fault(alloc: Global, form: CoreStatement) -> Option<EmitFault> {
+    let files = emitted(alloc, form);
+    fault_of(&files)
+}
+
+/// The method in the first file.
+fn method(files: &[Pex]) -> Option<&PexFunction> {
+    let object = files.first()?.objects.first()?;
+    let state = object.states.first()?;
+    let (_, function) = state.functions.first()?;
+    Some(function)
+}
+
+/// How many instructions and locals the method has.
+fn sizes(files: &[Pex]) -> Option<(usize, usize)> {
+    let function = method(files)?;
+    Some((function.code.len(), function.locals.len()))
+}
+
+fn opcodes(alloc: Global, files: &[Pex]) -> Result<Vec<u8>, OutOfMemory> {
     let mut found = Vec::new(alloc);
-    for instruction in &of.code {
-        found.push(instruction.opcode)?;
+    if let Some(function) = method(files) {
+        for instruction in &function.code {
+            found.push(instruction.opcode)?;
+        }
     }
     Ok(found)
+}
+
+/// The opcode of the instruction at this place, and its operand at the second.
+fn operand(files: &[Pex], at: usize, place: usize) -> Option<(u8, Datum)> {
+    let instruction = method(files)?.code.get(at)?;
+    let operand = instruction.fixed.get(place)?;
+    Some((instruction.opcode, *operand))
 }
 
 #[test]
@@ -32,6 +69,8 @@ fn the_fixed_parts_stand_as_they_are_told(rt: HostRuntime) -> Result<(), Fail> {
     for (string, text) in file.strings.iter().zip(&wanted) {
         assert!(rt; string.as_bytes() == text.as_bytes());
     }
+    let debug = file.debug.as_ref().map(|debug| debug.functions.len());
+    assert_eq!(rt; debug, Some(1));
     Ok(())
 }
 
@@ -40,12 +79,13 @@ fn a_variable_is_taken_before_a_later_act(rt: HostRuntime) -> Result<(), Fail> {
     let alloc = rt.alloc();
     let acts = sum(alloc, Core::Field(0), call(alloc, int(1))?)?;
     let files = emitted(alloc, CoreStatement::Plain(acts))?;
-    let function = &files[0].objects[0].states[0].functions[0].1;
-    assert!(rt; opcodes(alloc, function)?.as_slice() == [0x0D, 0x19, 0x01].as_slice());
+    assert_eq!(rt;
+        opcodes(alloc, &files)?.as_slice(),
+        [0x0D, 0x19, 0x01].as_slice()
+    );
     let plain = sum(alloc, Core::Field(0), int(1))?;
     let files = emitted(alloc, CoreStatement::Plain(plain))?;
-    let function = &files[0].objects[0].states[0].functions[0].1;
-    assert!(rt; opcodes(alloc, function)?.as_slice() == [0x01].as_slice());
+    assert_eq!(rt; opcodes(alloc, &files)?.as_slice(), [0x01].as_slice());
     Ok(())
 }
 
@@ -57,9 +97,9 @@ fn temporaries_are_used_again(rt: HostRuntime) -> Result<(), Fail> {
         let traced = call(alloc, sum(alloc, Core::Local(0), int(1))?)?;
         body.push(line(1, CoreStatement::Plain(traced)))?;
     }
-    let files = emit(alloc, &set(alloc, body)?)?;
-    let function = &files[0].objects[0].states[0].functions[0].1;
-    assert_eq!(rt; (function.code.len(), function.locals.len()), (1000, 2));
+    let set = set(alloc, body)?;
+    let files = emit(alloc, &set)?;
+    assert_eq!(rt; sizes(&files), Some((1000, 2)));
     Ok(())
 }
 
@@ -70,10 +110,9 @@ fn the_right_side_is_jumped_over_where_the_left_decides(rt: HostRuntime) -> Resu
     let both = Core::And(boxed(alloc, truth)?, boxed(alloc, Core::Local(0))?);
     let either = Core::Or(boxed(alloc, both)?, boxed(alloc, int(0))?);
     let files = emitted(alloc, CoreStatement::Return(Some(either)))?;
-    let code = &files[0].objects[0].states[0].functions[0].1.code;
-    assert_eq!(rt; (code[1].opcode, code[1].fixed[1]), (0x16, Datum::Int(2)));
-    assert_eq!(rt; (code[4].opcode, code[4].fixed[1]), (0x15, Datum::Int(2)));
-    assert_eq!(rt; code.len(), 7);
+    assert_eq!(rt; operand(&files, 1, 1), Some((0x16, Datum::Int(2))));
+    assert_eq!(rt; operand(&files, 4, 1), Some((0x15, Datum::Int(2))));
+    assert_eq!(rt; sizes(&files).map(|sizes| sizes.0), Some(7));
     Ok(())
 }
 
@@ -85,14 +124,13 @@ fn a_loop_jumps_back_to_its_test(rt: HostRuntime) -> Result<(), Fail> {
     let inner = CoreStatement::If(tests, Vec::new(alloc));
     let body = vec![in alloc; line(6, inner)]?;
     let files = emitted(alloc, CoreStatement::While(Core::Local(0), body, 8))?;
-    let function = &files[0].objects[0].states[0].functions[0].1;
-    let wanted = [0x16, 0x16, 0x1A, 0x14];
-    assert!(rt; opcodes(alloc, function)?.as_slice() == wanted.as_slice());
-    assert_eq!(rt; function.code[0].fixed[1], Datum::Int(4));
-    assert_eq!(rt; function.code[1].fixed[1], Datum::Int(2));
-    assert_eq!(rt; function.code[3].fixed[0], Datum::Int(-3));
-    let debug = files[0].debug.as_ref().map(|debug| debug.functions.len());
-    assert_eq!(rt; debug, Some(1));
+    assert_eq!(rt;
+        opcodes(alloc, &files)?.as_slice(),
+        [0x16, 0x16, 0x1A, 0x14].as_slice()
+    );
+    assert_eq!(rt; operand(&files, 0, 1), Some((0x16, Datum::Int(4))));
+    assert_eq!(rt; operand(&files, 1, 1), Some((0x16, Datum::Int(2))));
+    assert_eq!(rt; operand(&files, 3, 0), Some((0x14, Datum::Int(-3))));
     Ok(())
 }
 
@@ -112,12 +150,10 @@ fn nested(alloc: Global, levels: usize, left: bool) -> Result<Core, OutOfMemory>
 fn the_longest_chains_are_written(rt: HostRuntime) -> Result<(), Fail> {
     let alloc = rt.alloc();
     for (left, most) in [(true, 3999), (false, 998)] {
-        let deep = CoreStatement::Plain(nested(alloc, most, left)?);
-        let files = emitted(alloc, deep)?;
-        let function = &files[0].objects[0].states[0].functions[0].1;
-        assert_eq!(rt; function.code.len(), most);
+        let files = emitted(alloc, CoreStatement::Plain(nested(alloc, most, left)?))?;
+        assert_eq!(rt; sizes(&files).map(|sizes| sizes.0), Some(most));
         let over = CoreStatement::Plain(nested(alloc, most + 1, left)?);
-        assert!(rt; matches!(emitted(alloc, over), Err(EmitFault::TooLarge)));
+        assert_eq!(rt; fault(alloc, over), Some(EmitFault::TooLarge));
     }
     Ok(())
 }
@@ -130,8 +166,8 @@ fn numbers_that_name_nothing_are_refused(rt: HostRuntime) -> Result<(), Fail> {
         Core::Field(1),
         Core::Lit(Value::Instance(0)),
     ] {
-        let found = emitted(alloc, CoreStatement::Plain(of));
-        assert!(rt; matches!(found, Err(EmitFault::OutOfRange)));
+        let found = fault(alloc, CoreStatement::Plain(of));
+        assert_eq!(rt; found, Some(EmitFault::OutOfRange));
     }
     Ok(())
 }

@@ -1,10 +1,12 @@
 // What is written of a file: its strings and debug entries, and the function that is being written.
-ghost use Rattle.std.specs.Prelude.{◌≡◌, ◌<◌, ◌≤◌, ◌^◌, [], pos, length, suc, map, vec_len, IfOk, IfSome, OnErr, Contains};
+#![tactic(auto, using(crate::proofs::Goes::going))]
+
+ghost use Rattle.std.specs.Prelude.{◌≡◌, ℕ, ◌<◌, ◌≤◌, ◌^◌, [], pos, length, suc, map, vec_len, IfOk, IfSome, OnErr, Contains};
 ghost use Rattle.std.specs.List.{AllByRecursion};
 ghost use Rattle.jump_patch.specs.Jumps.{jump};
 ghost use Rattle.pex_values.specs.Opcodes.{operands_of};
 ghost use Rattle.pex_values.specs.Plain.{plain_instruction, plain_lines};
-ghost use Rattle.pex_values.specs.Shape.{IsReference, AgreesWith, IsShapedDatum, IsShapedInstruction, IsShapedLines};
+ghost use Rattle.pex_values.specs.Shape.{ArePair, IsReference, AgreesWith, IsShapedDatum, IsShapedInstruction, IsShapedLines};
 ghost use Rattle.code_emit.specs.Function.{IsBody};
 ghost use Rattle.code_emit.specs.Operands.{needs};
 ghost use Rattle.code_emit.specs.Writing.{GoesOn, Leaps, AreThere, Takes, landed};
@@ -64,7 +66,7 @@ impl<'a> Model for Writer<'a> {
 }
 
 /// A function's parameters, locals and code, with a line for each instruction.
-#[derive(Debug, Drop)]
+#[derive(Drop)]
 pub(crate) struct Body {
     pub parameters: Vec<(u16, u16)>,
     pub locals: Vec<(u16, u16)>,
@@ -152,13 +154,9 @@ impl<'a> Writer<'a> {
         if number >= self.numbered {
             return Err(EmitFault::OutOfRange);
         }
-        let found = match self.parameters.get(number) {
-            Some(pair) => Some(pair),
-            None => self.locals.get(number - self.parameters.len()),
-        };
-        match found {
-            Some((name, _)) => Ok(*name),
-            None => Err(EmitFault::OutOfRange),
+        match number.checked_sub(self.parameters.len()) {
+            None => name_at(&self.parameters, number),
+            Some(place) => name_at(&self.locals, place),
         }
     }
 
@@ -545,4 +543,14 @@ impl<'a> Writer<'a> {
         let texts = self.strings.texts()?;
         Ok((texts, self.debug))
     }
+}
+
+fn name_at(pairs: &[(u16, u16)], place: usize) -> Result<u16, EmitFault>
+    ensures { IfOk result (λ name. (strings : ℕ) → AllByRecursion (ArePair strings) pairs.now → name < strings) }
+{
+    if place >= pairs.len() {
+        return Err(EmitFault::OutOfRange);
+    }
+    let (name, _) = pairs[place];
+    Ok(name)
 }

@@ -4,5 +4,5 @@ use Rattle.pex_values.specs.Shape.{IsShapedDatum}
 use Rattle.code_emit.specs.Writing.{AreThere}
 use Rattle.code_emit.proofs.calls.placed.Given as goal
 
-abbrev pub invariant-loop-operand : goal.invariant-loop-operand
-invariant-loop-operand l = (strings : ℕ) → AreThere strings l.values → AllByRecursion (IsShapedDatum strings) l.placed.items
+abbrev pub invariant-loop-at : goal.invariant-loop-at
+invariant-loop-at l = (strings : ℕ) → AreThere strings l.values → AllByRecursion (IsShapedDatum strings) l.placed.items

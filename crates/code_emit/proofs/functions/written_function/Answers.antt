@@ -5,7 +5,6 @@ use Rattle.pex_values.specs.declared.values.PexFunction.{PexFunction}
 use Rattle.pex_values.specs.Plain.{plain_function}
 use Rattle.code_emit.proofs.functions.written_function.Goals as goal
 
-
 pub returns-clause-function : goal.returns-clause-function
 returns-clause-function c =
     let n = c.text.new.self.strings in

@@ -5,7 +5,6 @@ use Rattle.std.specs.List.{AllByRecursion}
 use Rattle.pex_values.specs.Plain.{plain_property, plain_state}
 use Rattle.code_emit.proofs.objects.object.Goals as goal
 
-
 pub returns-clause-object : goal.returns-clause-object
 returns-clause-object c =
     let p1 = c.string.new.self.strings in

@@ -6,7 +6,6 @@ use Rattle.code_emit.specs.Operands.{datum_of, IsWithin}
 use Rattle.code_emit.proofs.Data.{datum_shaped}
 use Rattle.code_emit.proofs.objects.one_variable.Goals as goal
 
-
 pub returns-clause-variable : goal.returns-clause-variable
 returns-clause-variable c =
     let n3 = c.constant.new.writer.strings in

@@ -7,7 +7,6 @@ use Rattle.pex_values.specs.declared.values.PexProperty.{PexProperty}
 use Rattle.std.specs.List.{AllByRecursion}
 use Rattle.code_emit.proofs.objects.properties.Goals as goal
 
-
 pub loop-property-preserved : goal.loop-property-preserved
 loop-property-preserved c =
     let n = c.loop-property.writer.strings in

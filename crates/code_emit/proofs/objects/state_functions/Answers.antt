@@ -7,7 +7,6 @@ use Rattle.pex_values.specs.declared.values.PexFunction.{PexFunction}
 use Rattle.std.specs.List.{AllByRecursion}
 use Rattle.code_emit.proofs.objects.state_functions.Goals as goal
 
-
 pub loop-each-preserved : goal.loop-each-preserved
 loop-each-preserved c =
     let n = c.loop-each.writer.strings in

@@ -7,7 +7,6 @@ use Rattle.pex_values.specs.declared.values.PexState.{PexState}
 use Rattle.std.specs.List.{AllByRecursion}
 use Rattle.code_emit.proofs.objects.states.Goals as goal
 
-
 pub loop-state-preserved : goal.loop-state-preserved
 loop-state-preserved c =
     let n = c.loop-state.writer.strings in

@@ -7,7 +7,6 @@ use Rattle.pex_values.specs.declared.values.PexVariable.{PexVariable}
 use Rattle.std.specs.List.{AllByRecursion}
 use Rattle.code_emit.proofs.objects.variables.Goals as goal
 
-
 pub loop-variable-preserved : goal.loop-variable-preserved
 loop-variable-preserved c =
     let n = c.loop-variable.writer.strings in

@@ -5,7 +5,6 @@ use Rattle.code_emit.proofs.StringLemmas.{shown, list_any-shown, shown-insert_ke
 use Rattle.std.proofs.lemmas.List.{length-map}
 use Rattle.code_emit.proofs.strings.Strings.place_of.Goals as goal
 
-
 pub returns-in-Some-clause-added : goal.returns-in-Some-clause-added
 returns-in-Some-clause-added c =
     let keys = c.self.inside.numbers.keys in

@@ -8,7 +8,6 @@ use Rattle.code_emit.proofs.Later.{data_later}
 use Rattle.pex_values.proofs.Parts.{each_added}
 use Rattle.code_emit.proofs.writer.Writer.act.Goals as goal
 
-
 pub instruct-requires-clause-fixed : goal.instruct-requires-clause-fixed
 instruct-requires-clause-fixed c =
     data_are c.args.self.now.strings c.args.operands.now c.in_ok-fixed.fixed.items c.in_ok-fixed.ensures.values c.in_ok-fixed.ensures.within c.requires.operands

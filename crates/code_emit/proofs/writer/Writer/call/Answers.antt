@@ -9,7 +9,6 @@ use Rattle.std.proofs.lemmas.List.{length_push}
 use Rattle.pex_values.proofs.Parts.{each_added}
 use Rattle.code_emit.proofs.writer.Writer.call.Goals as goal
 
-
 pub instruct-requires-clause-fixed : goal.instruct-requires-clause-fixed
 instruct-requires-clause-fixed c =
     let n = c.place_for.new.self.strings in

@@ -4,7 +4,6 @@ use Rattle.code_emit.proofs.Writings.{with_spare}
 use Rattle.code_emit.specs.Writing.{Written}
 use Rattle.code_emit.proofs.writer.Writer.give_back.Goals as goal
 
-
 pub invariant_of-self-2 : goal.invariant_of-self-2
 invariant_of-self-2 c =
     let i = c.self.inside in

@@ -4,7 +4,6 @@ use Rattle.code_emit.proofs.Writings.{with_landed}
 use Rattle.code_emit.specs.Writing.{Written}
 use Rattle.code_emit.proofs.writer.Writer.land.Goals as goal
 
-
 pub invariant_of-self : goal.invariant_of-self
 invariant_of-self c =
     let i = c.self.inside in

@@ -8,7 +8,6 @@ use Rattle.code_emit.proofs.Later.{data_later}
 use Rattle.pex_values.proofs.Parts.{each_added}
 use Rattle.code_emit.proofs.writer.Writer.store.Goals as goal
 
-
 pub instruct-requires-clause-fixed : goal.instruct-requires-clause-fixed
 instruct-requires-clause-fixed c =
     let n = c.args.self.now.strings in

@@ -3,7 +3,6 @@ use Rattle.code_emit.proofs.Goes.{goes_strings}
 use Rattle.code_emit.proofs.Later.{writing_later}
 use Rattle.code_emit.proofs.writer.Writer.string.Goals as goal
 
-
 pub invariant_of-self : goal.invariant_of-self
 invariant_of-self c =
     let i = c.self.inside in
