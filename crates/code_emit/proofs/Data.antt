@@ -1,5 +1,5 @@
 -- Operands as the file has them.
-use Rattle.std.proofs.Common.{◌≡◌, ℕ, suc, ◌<◌, ◌≤◌, ◌^◌, List, [], ◌∷◌, ◌++◌, length, map, get_or, replicate, Bool, false, Option, Some, refl, sym, ap, subst, ◌∙◌, arith}
+use Rattle.std.proofs.Common.{◌≡◌, ℕ, zero, suc, ◌<◌, ◌≤◌, ◌^◌, List, [], ◌∷◌, ◌++◌, length, map, get_or, replicate, Bool, false, Option, Some, refl, sym, ap, subst, ◌∙◌, arith}
 use Rattle.std.specs.List.{AllByRecursion}
 use Rattle.pex_values.specs.declared.values.Datum.{Datum}
 use Rattle.pex_values.specs.declared.values.Datum.TheVariants as datum
@@ -68,5 +68,5 @@ there_at n os at o all within is =
     subst P (sym is) (All-from_recursion P os all at o within)
 
 pub none_each : (strings n : ℕ) → AllByRecursion (IsShapedDatum strings) (replicate n datum.NoneValue)
-none_each strings 0 = tt
+none_each strings zero = tt
 none_each strings (suc n) = (tt, none_each strings n)

@@ -1,6 +1,7 @@
 -- What is written stays right while parts are added to it.
-use Rattle.std.proofs.Common.{◌≡◌, ℕ, suc, ◌+◌, ◌-◌, ◌<◌, ◌≤◌, ◌^◌, ℤ, pos, ◌-ℤ◌, List, [], ◌∷◌, ◌++◌, length, map, take, drop, get_or, Option, Some, None, refl, sym, ap, subst, ◌∙◌, w32, FitsSigned, arith, length-append}
+use Rattle.std.proofs.Common.{◌≡◌, ℕ, zero, suc, ◌+◌, ◌-◌, ◌<◌, ◌≤◌, ◌^◌, ℤ, pos, ◌-ℤ◌, List, [], ◌∷◌, ◌++◌, length, map, take, drop, get_or, Option, Some, None, refl, sym, ap, subst, ◌∙◌, w32, FitsSigned, arith, length-append}
 use Rattle.std.proofs.Math.ListN.{set, length-set}
+use Rattle.std.specs.Prelude.{IfSome}
 use Rattle.std.specs.List.{AllByRecursion, All, Contains, remove}
 use Rattle.std.proofs.lemmas.Int.{ints}
 use Rattle.std.proofs.lemmas.List.Elements.{All-from_recursion, recursion_from_All, All-append, All-take, All-drop, All-contains}
@@ -19,12 +20,12 @@ use Rattle.code_emit.specs.Writing.{IsWriting}
 
 pub set_each : {X : Type 0} (P : X → Type 0) (xs : List X) (i : ℕ) (x : X) → AllByRecursion P xs → P x → AllByRecursion P (set xs i x)
 set_each P [] i x each here = tt
-set_each P (y ∷ ys) 0 x each here = (here, each.1)
+set_each P (y ∷ ys) zero x each here = (here, each.1)
 set_each P (y ∷ ys) (suc i) x each here = (each.0, set_each P ys i x each.1 here)
 
 get_each : {X : Type 0} (P : X → Type 0) (xs : List X) (i : ℕ) (x : X) → AllByRecursion P xs → P x → P (get_or xs i x)
 get_each P [] i x each here = here
-get_each P (y ∷ ys) 0 x each here = each.0
+get_each P (y ∷ ys) zero x each here = each.0
 get_each P (y ∷ ys) (suc i) x each here = get_each P ys i x each.1 here
 
 take_each : {X : Type 0} (P : X → Type 0) (n : ℕ) (xs : List X) → AllByRecursion P xs → AllByRecursion P (take n xs)
@@ -68,28 +69,45 @@ landed_shaped n code at low few each =
     (redirected n (get_or code at nop) (offset at (length code)) (offset_fits at (length code) low few) (get_each (IsShapedInstruction n) code at nop each (nop_shaped n)))
 
 module _ (n count : ℕ) (code : Buffer) (debug : List PexLines) (parameters locals spare : List (ℕ × ℕ)) (none : Option ℕ) (is : IsWriting n count code debug parameters locals spare none) where
+  -- the same code with other parts beside it
+  beside : (entries : List PexLines) (ps ls ss : List (ℕ × ℕ)) (some : Option ℕ)
+      → AllByRecursion (IsShapedLines n) (map plain_lines entries) → AllByRecursion (ArePair n) ps → AllByRecursion (ArePair n) ls → AllByRecursion (λ s. s.1 < n) ss → IfSome some (λ name. name < n)
+      → IsWriting n count code entries ps ls ss some
+  beside entries ps ls ss some entries_are ps_are ls_are ss_are some_is = record {
+    count_is = is.count_is;
+    few = is.few;
+    ahead_are = is.ahead_are;
+    instructions = is.instructions;
+    lines = is.lines;
+    entries = entries_are;
+    parameters_are = ps_are;
+    locals_are = ls_are;
+    spare_are = ss_are;
+    none_is = some_is;
+  }
+
   pub with_parameter : (pair : ℕ × ℕ) (after : List (ℕ × ℕ)) → ArePair n pair → after ≡ parameters ++ pair ∷ [] → IsWriting n count code debug after locals spare none
   with_parameter pair after are added =
-      record is { parameters_are = subst (λ (ps : List (ℕ × ℕ)). AllByRecursion (ArePair n) ps) (sym added) (each_added (ArePair n) parameters pair is.parameters_are are) }
+      beside debug after locals spare none is.entries (subst (λ (ps : List (ℕ × ℕ)). AllByRecursion (ArePair n) ps) (sym added) (each_added (ArePair n) parameters pair is.parameters_are are)) is.locals_are is.spare_are is.none_is
 
   pub with_local : (pair : ℕ × ℕ) (after : List (ℕ × ℕ)) → ArePair n pair → after ≡ locals ++ pair ∷ [] → IsWriting n count code debug parameters after spare none
   with_local pair after are added =
-      record is { locals_are = subst (λ (ps : List (ℕ × ℕ)). AllByRecursion (ArePair n) ps) (sym added) (each_added (ArePair n) locals pair is.locals_are are) }
+      beside debug parameters after spare none is.entries is.parameters_are (subst (λ (ps : List (ℕ × ℕ)). AllByRecursion (ArePair n) ps) (sym added) (each_added (ArePair n) locals pair is.locals_are are)) is.spare_are is.none_is
 
   pub with_spare : (pair : ℕ × ℕ) (after : List (ℕ × ℕ)) → pair.1 < n → after ≡ spare ++ pair ∷ [] → IsWriting n count code debug parameters locals after none
   with_spare pair after below added =
-      record is { spare_are = subst (λ (ps : List (ℕ × ℕ)). AllByRecursion (λ s. s.1 < n) ps) (sym added) (each_added (λ (s : ℕ × ℕ). s.1 < n) spare pair is.spare_are below) }
+      beside debug parameters locals after none is.entries is.parameters_are is.locals_are (subst (λ (ps : List (ℕ × ℕ)). AllByRecursion (λ s. s.1 < n) ps) (sym added) (each_added (λ (s : ℕ × ℕ). s.1 < n) spare pair is.spare_are below)) is.none_is
 
   pub without_spare : (at : ℕ) (after : List (ℕ × ℕ)) → after ≡ remove spare at → IsWriting n count code debug parameters locals after none
-  without_spare at after removed =
-      record is { spare_are = subst (λ (ps : List (ℕ × ℕ)). AllByRecursion (λ s. s.1 < n) ps) (sym removed) (remove_each (λ (s : ℕ × ℕ). s.1 < n) spare at is.spare_are) }
+  without_spare at after left =
+      beside debug parameters locals after none is.entries is.parameters_are is.locals_are (subst (λ (ps : List (ℕ × ℕ)). AllByRecursion (λ s. s.1 < n) ps) (sym left) (remove_each (λ (s : ℕ × ℕ). s.1 < n) spare at is.spare_are)) is.none_is
 
   pub with_none : (name : ℕ) → name < n → IsWriting n count code debug parameters locals spare (Some name)
-  with_none name below = record is { none_is = below }
+  with_none name below = beside debug parameters locals spare (Some name) is.entries is.parameters_are is.locals_are is.spare_are below
 
   pub with_entry : (entry : PexLines) (after : List PexLines) → IsShapedLines n (plain_lines entry) → after ≡ debug ++ entry ∷ [] → IsWriting n count code after parameters locals spare none
   with_entry entry after shaped added =
-      record is { entries = subst (λ (es : List PexLines). AllByRecursion (IsShapedLines n) (map plain_lines es)) (sym added) (each_grown (IsShapedLines n) (IsShapedLines n) plain_lines (λ y h. h) debug entry is.entries shaped) }
+      beside after parameters locals spare none (subst (λ (es : List PexLines). AllByRecursion (IsShapedLines n) (map plain_lines es)) (sym added) (each_grown (IsShapedLines n) (IsShapedLines n) plain_lines (λ y h. h) debug entry is.entries shaped)) is.parameters_are is.locals_are is.spare_are is.none_is
 
   with_more : (i : PlainInstruction) (line : ℕ) (ahead : List ℕ) (count' : ℕ) (after : Buffer)
       → IsShapedInstruction n i → line < 2 ^ 16 → count < 65535 → AllByRecursion (λ place. place < count') ahead
