@@ -4,5 +4,4 @@ pub mod Landing
 pub mod Later
 pub mod Spares
 pub mod StringLemmas
-pub mod Whole
 pub mod Writings

@@ -149,10 +149,10 @@ fn nested(alloc: Global, levels: usize, left: bool) -> Result<Core, OutOfMemory>
 #[test]
 fn the_longest_chains_are_written(rt: HostRuntime) -> Result<(), Fail> {
     let alloc = rt.alloc();
-    for (left, most) in [(true, 3999), (false, 998)] {
+    for (left, most, more) in [(true, 3999, 4000), (false, 998, 999)] {
         let files = emitted(alloc, CoreStatement::Plain(nested(alloc, most, left)?))?;
         assert_eq!(rt; sizes(&files).map(|sizes| sizes.0), Some(most));
-        let over = CoreStatement::Plain(nested(alloc, most + 1, left)?);
+        let over = CoreStatement::Plain(nested(alloc, more, left)?);
         assert_eq!(rt; fault(alloc, over), Some(EmitFault::TooLarge));
     }
     Ok(())

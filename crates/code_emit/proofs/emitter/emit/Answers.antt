@@ -1,6 +1,5 @@
-use Rattle.std.proofs.Common.{List, length, map, sym, ap, subst, arith}
+use Rattle.std.proofs.Common.{List, map, sym, subst, arith}
 use Rattle.std.specs.List.{AllByRecursion}
-use Rattle.std.proofs.lemmas.List.{length_push}
 use Rattle.pex_values.specs.declared.values.Pex.{Pex}
 use Rattle.pex_values.specs.Plain.{plain}
 use Rattle.pex_values.specs.Shape.{IsWellShaped}
@@ -12,5 +11,5 @@ loop-script-preserved c =
     let P : List Pex → Type 0 = λ xs. AllByRecursion IsWellShaped (map plain xs) in
     record {
       shaped = subst P (sym c.in_ok-push.ensures.items) (each_grown IsWellShaped IsWellShaped plain (λ y h. h) c.loop-script.files.items c.in_ok-file.file c.loop-script.invariant.shaped c.in_ok-file.ensures);
-      count = omega (arith, ap (λ (l : List Pex). length l) c.in_ok-push.ensures.items, length_push c.loop-script.files.items c.in_ok-file.file);
+      count = omega (arith, c.in_ok-push.ensures.len);
     }

@@ -4,8 +4,8 @@ use Rattle.code_emit.proofs.Writings.{with_spare}
 use Rattle.code_emit.specs.Writing.{Written}
 use Rattle.code_emit.proofs.writer.Writer.give_back.Goals as goal
 
-pub invariant_of-self-2 : goal.invariant_of-self-2
-invariant_of-self-2 c =
+pub invariant_of-self : goal.invariant_of-self
+invariant_of-self c =
     let i = c.self.inside in
     let P : Written → Type 0 = λ w. suc c.in-Temporary.name ≤ w.strings in
     with_spare (length i.strings) i.count i.code i.debug.items i.parameters.items i.locals.items i.spare i.none_variable c.self.invariant (c.in-Temporary.kind, c.in-Temporary.name) c.give_back.new.self (subst P (sym c.self.view_is) (omega arith)) c.in_ok-give_back.ensures.ok
