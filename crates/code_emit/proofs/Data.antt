@@ -70,3 +70,8 @@ there_at n os at o all within is =
 pub none_each : (strings n : ℕ) → AllByRecursion (IsShapedDatum strings) (replicate n datum.NoneValue)
 none_each strings zero = tt
 none_each strings (suc n) = (tt, none_each strings n)
+
+pub datum_at : (n : ℕ) (os : List Operand) (at : ℕ) (o : Operand) (d : Datum) → d ≡ datum_of (get_or os at o) → IsWithin d → AreThere n os → at < length os → IsShapedDatum n d
+datum_at n os at o d is within there below =
+    let P : Operand → Type 0 = λ x. needs x ≤ n in
+    one_datum n (get_or os at o) d is within (All-from_recursion P os there at o below)

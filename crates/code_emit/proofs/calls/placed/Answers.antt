@@ -3,7 +3,7 @@ use Rattle.std.specs.List.{AllByRecursion}
 use Rattle.pex_values.specs.declared.values.Datum.{Datum}
 use Rattle.pex_values.specs.declared.values.Datum.TheVariants.{NoneValue}
 use Rattle.pex_values.specs.Shape.{IsShapedDatum}
-use Rattle.code_emit.proofs.Data.{none_each, there_at, one_datum}
+use Rattle.code_emit.proofs.Data.{none_each, datum_at}
 use Rattle.code_emit.proofs.Writings.{set_each}
 use Rattle.code_emit.proofs.calls.placed.Goals as goal
 
@@ -15,5 +15,5 @@ loop-at-init c = λ strings there.
 
 pub loop-at-preserved : goal.loop-at-preserved
 loop-at-preserved c = λ strings there.
-    let here = there_at strings c.args.values.now _ _ there (omega arith) c.operand-item.is in
-    set_each (IsShapedDatum strings) c.loop-at.placed.items _ c.datum.result (c.loop-at.invariant strings there) (one_datum strings c.operand-item.result c.datum.result c.datum.ensures.value c.datum.ensures.within here)
+    let here = datum_at strings c.args.values.now c.loop-at.at _ c.datum.result c.datum.ensures.value c.datum.ensures.within there (omega arith) in
+    set_each (IsShapedDatum strings) c.loop-at.placed.items _ c.datum.result (c.loop-at.invariant strings there) here
