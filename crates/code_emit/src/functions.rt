@@ -71,13 +71,21 @@ fn written_function(
     let written = PexFunction {
         result: kind,
         doc,
-        flags: function.flags,
+        flags: flag_bits(function.flags),
         bits: function_bits(function.is_global, function.is_native),
         parameters,
         locals,
         code,
     };
     Ok((written, lines))
+}
+
+/// The user flags of a script or a member, as the file has them.
+pub(crate) fn flag_bits(flags: u32) -> u32
+    ensures value { result ≡ flags }
+    ensures within { result < 2 ^ 32 }
+{
+    flags
 }
 
 fn function_bits(is_global: bool, is_native: bool) -> u8 {

@@ -11,7 +11,7 @@ ghost use Rattle.code_emit.specs.Writing.{GoesOn, Advances};
 
 use crate::expressions::constant;
 use crate::faults::EmitFault;
-use crate::functions::{Place, function};
+use crate::functions::{Place, flag_bits, function};
 use crate::type_names::script_name;
 use crate::writer::Writer;
 use core_tree::{CoreAccess, CoreFunction, CoreProperty, CoreScript, CoreState, CoreVariable};
@@ -46,7 +46,7 @@ pub(crate) fn object(writer: &mut Writer<'_>) -> Result<PexObject, EmitFault>
         size_form: SizeForm::Counted,
         parent: above,
         doc,
-        flags: script.flags,
+        flags: flag_bits(script.flags),
         auto_state,
         variables,
         properties,
@@ -102,7 +102,7 @@ fn one_variable(writer: &mut Writer<'_>, variable: &CoreVariable) -> Result<PexV
     Ok(PexVariable {
         name,
         kind,
-        flags: variable.flags,
+        flags: flag_bits(variable.flags),
         value: value.datum(),
     })
 }
@@ -145,7 +145,7 @@ fn one_property(writer: &mut Writer<'_>, property: &CoreProperty) -> Result<PexP
         name,
         kind,
         doc,
-        flags: property.flags,
+        flags: flag_bits(property.flags),
         bits: parts.bits,
         variable: parts.variable,
         read: parts.read,
