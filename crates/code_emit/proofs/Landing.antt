@@ -1,10 +1,9 @@
 -- Jumps that land.
 use Rattle.std.proofs.Common.{◌≡◌, ◌≢◌, ℕ, ◌<◌, Bool, true, false, cond, ltb, List, [], ◌∷◌, ◌++◌, length, get_or, refl, sym, ap, subst, ◌∙◌, ⊎_elim, eqb, Option, Some, None, arith, length-append, append_assoc}
 use Rattle.std.proofs.Math.ListN.{get_or-append}
-use Rattle.std.specs.List.{position, position_or_len, remove, Contains}
+use Rattle.std.specs.List.{position, remove, Contains}
 use Rattle.std.proofs.lemmas.Bool.{eq-eqb}
 use Rattle.std.proofs.lemmas.Bool.Decides.{eqb_tells, nat_tests}
-use Rattle.std.proofs.lemmas.List.Edits.{remove-append_right}
 use Rattle.std.proofs.lemmas.List.Elements.{Contains-push, Contains-append_left}
 use Rattle.std.proofs.lemmas.List.Sums.{position_or_len_is}
 use Rattle.jump_patch.specs.Jumps.{without, removed}

@@ -1,15 +1,14 @@
 -- What is written stays right while parts are added to it.
-use Rattle.std.proofs.Common.{◌≡◌, ℕ, zero, suc, ◌+◌, ◌-◌, ◌<◌, ◌≤◌, ◌^◌, ℤ, pos, ◌-ℤ◌, List, [], ◌∷◌, ◌++◌, length, map, take, drop, get_or, Option, Some, None, refl, sym, ap, subst, ◌∙◌, w32, FitsSigned, arith, length-append}
+use Rattle.std.proofs.Common.{◌≡◌, ℕ, zero, suc, ◌+◌, ◌-◌, ◌<◌, ◌≤◌, ◌^◌, ℤ, List, [], ◌∷◌, ◌++◌, length, map, take, drop, get_or, Option, Some, None, refl, sym, ap, subst, ◌∙◌, w32, FitsSigned, arith, length-append}
 use Rattle.std.proofs.Math.ListN.{set, length-set}
 use Rattle.std.specs.Prelude.{IfSome}
-use Rattle.std.specs.List.{AllByRecursion, All, Contains, remove}
+use Rattle.std.specs.List.{AllByRecursion, Contains, remove}
 use Rattle.std.proofs.lemmas.Int.{ints}
-use Rattle.std.proofs.lemmas.List.Elements.{All-from_recursion, recursion_from_All, All-append, All-take, All-drop, All-contains}
+use Rattle.std.proofs.lemmas.List.Elements.{All-from_recursion, recursion_from_All, All-take, All-drop, All-contains}
 use Rattle.jump_patch.specs.Jumps.{Buffer, with_offset, nop, offset, without, removed}
 use Rattle.jump_patch.specs.Jumps as jumps
 use Rattle.jump_patch.specs.declared.kind.JumpKind.TheVariants.{Always}
 use Rattle.pex_values.specs.declared.debug.PexLines.{PexLines}
-use Rattle.pex_values.specs.declared.values.Datum.{Datum}
 use Rattle.pex_values.specs.declared.values.Datum.TheVariants.{Int}
 use Rattle.pex_values.specs.Opcodes.{operands_of}
 use Rattle.pex_values.specs.Plain.{PlainInstruction, plain_lines}

@@ -1,4 +1,4 @@
-use Rattle.std.proofs.Common.{◌≡◌, ℕ, suc, ◌≤◌, length, Bool, Option, refl, sym, subst}
+use Rattle.std.proofs.Common.{ℕ, suc, ◌≤◌, length, Bool, Option, refl, sym, subst}
 use Rattle.pex_values.specs.Shape.{AgreesWith}
 use Rattle.code_emit.specs.Operands.{needs}
 use Rattle.code_emit.specs.Writing.{Written}

@@ -1,4 +1,4 @@
-use Rattle.std.proofs.Common.{◌≤◌, sym, subst, arith}
+use Rattle.std.proofs.Common.{◌≤◌, sym, subst}
 use Rattle.code_emit.specs.Operands.{needs}
 use Rattle.code_emit.specs.Writing.{Written}
 use Rattle.code_emit.proofs.Data.{one_datum}

@@ -1,6 +1,6 @@
-use Rattle.std.proofs.Common.{◌≡◌, ℕ, suc, ◌+◌, ◌<◌, ◌≤◌, ◌^◌, List, [], ◌∷◌, ◌++◌, length, map, refl, sym, ap, subst, ◌∙◌, arith, rules}
-use Rattle.code_emit.proofs.Later.{reference_later, variable_later, property_later, state_later, named_later, all_later, each_grown}
-use Rattle.pex_values.specs.Shape.{IsReference, IsShapedDatum, IsShapedFunction, IsShapedVariable, IsShapedProperty, IsShapedState, IsShapedNamed}
+use Rattle.std.proofs.Common.{ℕ, sym, subst, rules}
+use Rattle.code_emit.proofs.Later.{reference_later}
+use Rattle.pex_values.specs.Shape.{IsShapedFunction}
 use Rattle.pex_values.specs.declared.values.PexFunction.{PexFunction}
 use Rattle.pex_values.specs.Plain.{plain_function}
 use Rattle.code_emit.proofs.functions.written_function.Goals as goal

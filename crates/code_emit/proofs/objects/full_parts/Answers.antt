@@ -1,4 +1,4 @@
-use Rattle.std.proofs.Common.{◌≡◌, Bool, Option, Some, None, refl, sym, ◌∙◌, arith, rules}
+use Rattle.std.proofs.Common.{◌≡◌, Option, Some, None, refl, sym, ◌∙◌, rules}
 use Rattle.std.specs.Prelude.{is_some, option_map}
 use Rattle.pex_values.specs.Plain.{plain_function}
 use Rattle.code_emit.proofs.Later.{accessor_later}

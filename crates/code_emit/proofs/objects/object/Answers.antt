@@ -1,8 +1,7 @@
-use Rattle.std.proofs.Common.{◌≡◌, ℕ, suc, ◌+◌, ◌<◌, ◌≤◌, ◌^◌, List, [], ◌∷◌, ◌++◌, length, map, refl, sym, ap, subst, ◌∙◌, arith, rules}
-use Rattle.code_emit.proofs.Later.{reference_later, variable_later, property_later, state_later, named_later, all_later, each_grown}
-use Rattle.pex_values.specs.Shape.{IsReference, IsShapedDatum, IsShapedFunction, IsShapedVariable, IsShapedProperty, IsShapedState, IsShapedNamed}
-use Rattle.std.specs.List.{AllByRecursion}
-use Rattle.pex_values.specs.Plain.{plain_property, plain_state}
+use Rattle.std.proofs.Common.{map, arith}
+use Rattle.code_emit.proofs.Later.{reference_later, variable_later, property_later, all_later}
+use Rattle.pex_values.specs.Shape.{IsShapedVariable, IsShapedProperty}
+use Rattle.pex_values.specs.Plain.{plain_property}
 use Rattle.code_emit.proofs.objects.object.Goals as goal
 
 pub returns-clause-object : goal.returns-clause-object

@@ -1,4 +1,4 @@
-use Rattle.std.proofs.Common.{arith, rules}
+use Rattle.std.proofs.Common.{arith}
 use Rattle.code_emit.proofs.Later.{reference_later}
 use Rattle.code_emit.proofs.objects.one_property.Goals as goal
 

@@ -1,8 +1,8 @@
-use Rattle.std.proofs.Common.{◌≡◌, ℕ, suc, ◌+◌, ◌<◌, ◌≤◌, ◌^◌, List, [], ◌∷◌, ◌++◌, length, map, refl, sym, ap, subst, ◌∙◌, arith, rules}
-use Rattle.code_emit.proofs.Later.{reference_later, variable_later, property_later, state_later, named_later, all_later, each_grown}
-use Rattle.pex_values.specs.Shape.{IsReference, IsShapedDatum, IsShapedFunction, IsShapedVariable, IsShapedProperty, IsShapedState, IsShapedNamed}
+use Rattle.std.proofs.Common.{sym, subst, arith}
+use Rattle.code_emit.proofs.Later.{reference_later}
+use Rattle.pex_values.specs.Shape.{IsShapedDatum}
 use Rattle.pex_values.specs.declared.values.Datum.{Datum}
-use Rattle.code_emit.specs.Operands.{datum_of, IsWithin}
+use Rattle.code_emit.specs.Operands.{IsWithin}
 use Rattle.code_emit.proofs.Data.{datum_shaped}
 use Rattle.code_emit.proofs.objects.one_variable.Goals as goal
 

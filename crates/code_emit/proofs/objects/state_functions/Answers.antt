@@ -1,6 +1,6 @@
-use Rattle.std.proofs.Common.{◌≡◌, ℕ, suc, ◌+◌, ◌<◌, ◌≤◌, ◌^◌, List, [], ◌∷◌, ◌++◌, length, map, refl, sym, ap, subst, ◌∙◌, arith, rules}
-use Rattle.code_emit.proofs.Later.{reference_later, variable_later, property_later, state_later, named_later, all_later, each_grown}
-use Rattle.pex_values.specs.Shape.{IsReference, IsShapedDatum, IsShapedFunction, IsShapedVariable, IsShapedProperty, IsShapedState, IsShapedNamed}
+use Rattle.std.proofs.Common.{ℕ, List, map, sym, subst, arith}
+use Rattle.code_emit.proofs.Later.{reference_later, named_later, each_grown}
+use Rattle.pex_values.specs.Shape.{IsShapedNamed}
 use Rattle.code_emit.proofs.Goes.{advances_from, advances_further}
 use Rattle.pex_values.specs.Plain.{plain_named}
 use Rattle.pex_values.specs.declared.values.PexFunction.{PexFunction}

@@ -1,8 +1,8 @@
 use Rattle.std.proofs.Common.{map}
 use Rattle.std.specs.List.{AllByRecursion}
-use Rattle.pex_values.specs.Plain.{plain_property, plain_state, plain_named}
-use Rattle.pex_values.specs.Shape.{IsShapedVariable, IsShapedProperty, IsShapedState, IsShapedNamed}
-use Rattle.code_emit.specs.Writing.{GoesOn, Advances}
+use Rattle.pex_values.specs.Plain.{plain_named}
+use Rattle.pex_values.specs.Shape.{IsShapedNamed}
+use Rattle.code_emit.specs.Writing.{Advances}
 use Rattle.code_emit.proofs.objects.state_functions.Given as goal
 
 abbrev pub invariant-loop-each : goal.invariant-loop-each

@@ -1,6 +1,6 @@
-use Rattle.std.proofs.Common.{◌≡◌, ℕ, suc, ◌+◌, ◌<◌, ◌≤◌, ◌^◌, List, [], ◌∷◌, ◌++◌, length, map, refl, sym, ap, subst, ◌∙◌, arith, rules}
-use Rattle.code_emit.proofs.Later.{reference_later, variable_later, property_later, state_later, named_later, all_later, each_grown}
-use Rattle.pex_values.specs.Shape.{IsReference, IsShapedDatum, IsShapedFunction, IsShapedVariable, IsShapedProperty, IsShapedState, IsShapedNamed}
+use Rattle.std.proofs.Common.{List, map, sym, subst}
+use Rattle.code_emit.proofs.Later.{state_later, each_grown}
+use Rattle.pex_values.specs.Shape.{IsShapedState}
 use Rattle.code_emit.proofs.Goes.{advances_further}
 use Rattle.pex_values.specs.Plain.{plain_state}
 use Rattle.pex_values.specs.declared.values.PexState.{PexState}

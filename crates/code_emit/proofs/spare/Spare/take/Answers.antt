@@ -1,4 +1,4 @@
-use Rattle.std.proofs.Common.{Some, ◌≡◌, ℕ, suc, ◌+◌, ◌<◌, ◌≤◌, ◌^◌, List, [], ◌∷◌, ◌++◌, length, map, refl, sym, ap, subst, ◌∙◌, arith, rules}
+use Rattle.std.proofs.Common.{Some, ℕ, List, sym, subst, ◌∙◌}
 use Rattle.code_emit.proofs.Spares.{handed_out}
 use Rattle.code_emit.specs.Spare.{TakenFrom}
 use Rattle.code_emit.proofs.spare.Spare.take.Goals as goal

@@ -1,7 +1,6 @@
-use Rattle.std.proofs.Common.{◌≡◌, ℕ, suc, ◌+◌, ◌<◌, ◌≤◌, ◌^◌, List, [], ◌∷◌, ◌++◌, length, map, refl, sym, ap, subst, ◌∙◌, arith, rules}
-use Rattle.pex_values.specs.Shape.{IsReference}
+use Rattle.std.proofs.Common.{◌≡◌, ℕ, List, sym, ap, subst, ◌∙◌, arith, rules}
 use Rattle.code_emit.specs.Strings.{with_string}
-use Rattle.code_emit.proofs.StringLemmas.{shown, list_any-shown, shown-insert_key, found_string, string_grows}
+use Rattle.code_emit.proofs.StringLemmas.{shown, list_any-shown, shown-insert_key, found_string}
 use Rattle.std.proofs.lemmas.List.{length-map}
 use Rattle.std.proofs.lemmas.List.Elements.{same_from_all_zip}
 use Rattle.code_emit.proofs.strings.Strings.place_of.Goals as goal

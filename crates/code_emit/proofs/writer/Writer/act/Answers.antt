@@ -1,11 +1,8 @@
-use Rattle.std.proofs.Common.{◌≡◌, ℕ, suc, ◌+◌, ◌<◌, ◌≤◌, ◌^◌, List, [], ◌∷◌, ◌++◌, length, map, refl, sym, ap, subst, ◌∙◌, arith, rules}
-use Rattle.std.specs.List.{AllByRecursion}
+use Rattle.std.proofs.Common.{List, length, sym, subst}
 use Rattle.pex_values.specs.declared.values.Datum.{Datum}
 use Rattle.pex_values.specs.Opcodes.{operands_of}
-use Rattle.pex_values.specs.Shape.{AgreesWith, IsShapedDatum}
-use Rattle.code_emit.proofs.Data.{data_are, one_datum, length_of, agrees_with, there_later}
-use Rattle.code_emit.proofs.Later.{data_later}
-use Rattle.pex_values.proofs.Parts.{each_added}
+use Rattle.pex_values.specs.Shape.{AgreesWith}
+use Rattle.code_emit.proofs.Data.{data_are, length_of, agrees_with}
 use Rattle.code_emit.proofs.writer.Writer.act.Goals as goal
 
 pub instruct-requires-clause-fixed : goal.instruct-requires-clause-fixed

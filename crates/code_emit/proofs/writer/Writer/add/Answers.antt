@@ -1,4 +1,4 @@
-use Rattle.std.proofs.Common.{◌≡◌, ℕ, suc, ◌+◌, ◌<◌, ◌≤◌, ◌^◌, List, [], ◌∷◌, ◌++◌, length, map, refl, sym, ap, subst, ◌∙◌, arith, rules}
+use Rattle.std.proofs.Common.{◌+◌, length, refl, sym, subst, arith, rules}
 use Rattle.pex_values.specs.Plain.{plain_instruction}
 use Rattle.pex_values.specs.Shape.{IsShapedInstruction}
 use Rattle.code_emit.proofs.Writings.{with_instruction}

@@ -1,4 +1,4 @@
-use Rattle.std.proofs.Common.{◌≡◌, ℕ, suc, ◌+◌, ◌<◌, ◌≤◌, ◌^◌, List, [], ◌∷◌, ◌++◌, length, map, refl, sym, ap, subst, ◌∙◌, arith, rules}
+use Rattle.std.proofs.Common.{length, sym, subst}
 use Rattle.pex_values.specs.Plain.{plain_lines}
 use Rattle.pex_values.specs.Shape.{IsShapedLines}
 use Rattle.code_emit.proofs.Writings.{with_entry}

@@ -1,4 +1,4 @@
-use Rattle.std.proofs.Common.{◌≡◌, ℕ, suc, ◌+◌, ◌<◌, ◌≤◌, ◌^◌, List, [], ◌∷◌, ◌++◌, length, map, refl, sym, ap, subst, ◌∙◌, arith, rules}
+use Rattle.std.proofs.Common.{ℕ, length, sym, subst}
 use Rattle.pex_values.specs.Shape.{IsReference}
 use Rattle.code_emit.proofs.Writings.{with_parameter}
 use Rattle.code_emit.specs.Writing.{Written}

@@ -1,9 +1,9 @@
-use Rattle.std.proofs.Common.{◌≡◌, ℕ, suc, ◌+◌, ◌<◌, ◌≤◌, ◌^◌, List, [], ◌∷◌, ◌++◌, length, map, refl, sym, ap, subst, ◌∙◌, add-one, arith, rules}
+use Rattle.std.proofs.Common.{◌≡◌, ℕ, suc, ◌+◌, List, length, sym, ap, subst, ◌∙◌, add-one}
 use Rattle.std.specs.List.{AllByRecursion}
 use Rattle.pex_values.specs.declared.values.Datum.{Datum}
 use Rattle.pex_values.specs.Opcodes.{operands_of}
 use Rattle.pex_values.specs.Shape.{AgreesWith, IsShapedDatum}
-use Rattle.code_emit.proofs.Data.{data_are, one_datum, length_of, agrees_with, there_later}
+use Rattle.code_emit.proofs.Data.{data_are, one_datum, length_of, there_later}
 use Rattle.code_emit.proofs.Later.{data_later}
 use Rattle.std.proofs.lemmas.List.{length_push}
 use Rattle.pex_values.proofs.Parts.{each_added}

@@ -1,4 +1,4 @@
-use Rattle.std.proofs.Common.{◌≡◌, ℕ, suc, ◌+◌, ◌<◌, ◌≤◌, ◌^◌, List, [], ◌∷◌, ◌++◌, length, map, refl, sym, ap, subst, ◌∙◌, arith, rules}
+use Rattle.std.proofs.Common.{suc, ◌≤◌, length, sym, subst}
 use Rattle.code_emit.specs.declared.operand.Operand.{Operand}
 use Rattle.code_emit.specs.Operands.{needs}
 use Rattle.code_emit.proofs.Writings.{with_spare}

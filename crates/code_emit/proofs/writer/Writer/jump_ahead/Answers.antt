@@ -1,4 +1,4 @@
-use Rattle.std.proofs.Common.{ℕ, pos, ◌+◌, List, [], ◌∷◌, ◌++◌, length, refl, sym, ap, subst, ◌∙◌, arith, rules}
+use Rattle.std.proofs.Common.{ℕ, pos, ◌+◌, [], ◌∷◌, ◌++◌, length, refl, sym, ap, subst, ◌∙◌, arith, rules}
 use Rattle.pex_values.specs.Shape.{IsShapedInstruction}
 use Rattle.jump_patch.specs.Jumps.{Buffer, jump}
 use Rattle.code_emit.proofs.Goes.{leaps_here}

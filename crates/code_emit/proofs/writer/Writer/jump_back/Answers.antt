@@ -1,5 +1,5 @@
-use Rattle.std.proofs.Common.{◌+◌, ◌≤◌, length, refl, sym, ap, subst, arith, rules}
-use Rattle.jump_patch.specs.Jumps.{Buffer, jump, offset}
+use Rattle.std.proofs.Common.{◌+◌, ◌≤◌, length, refl, sym, subst, arith, rules}
+use Rattle.jump_patch.specs.Jumps.{jump, offset}
 use Rattle.jump_patch.specs.declared.kind.JumpKind.TheVariants.{Always}
 use Rattle.code_emit.proofs.Writings.{with_instruction, back_shaped}
 use Rattle.code_emit.specs.Writing.{Written}

@@ -1,4 +1,4 @@
-use Rattle.std.proofs.Common.{◌≡◌, ℕ, suc, ◌+◌, ◌<◌, ◌≤◌, ◌^◌, List, [], ◌∷◌, ◌++◌, length, map, refl, sym, ap, subst, ◌∙◌, arith, rules}
+use Rattle.std.proofs.Common.{length, sym, subst}
 use Rattle.std.specs.List.{Contains}
 use Rattle.code_emit.proofs.Writings.{with_landed}
 use Rattle.code_emit.specs.Writing.{Written}

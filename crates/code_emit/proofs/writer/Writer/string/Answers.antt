@@ -1,4 +1,4 @@
-use Rattle.std.proofs.Common.{◌≡◌, ℕ, suc, ◌+◌, ◌<◌, ◌≤◌, ◌^◌, List, [], ◌∷◌, ◌++◌, length, map, refl, sym, ap, subst, ◌∙◌, arith, rules}
+use Rattle.std.proofs.Common.{length}
 use Rattle.code_emit.proofs.Goes.{goes_strings}
 use Rattle.code_emit.proofs.Later.{writing_later}
 use Rattle.code_emit.proofs.writer.Writer.string.Goals as goal

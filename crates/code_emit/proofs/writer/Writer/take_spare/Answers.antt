@@ -1,4 +1,4 @@
-use Rattle.std.proofs.Common.{◌≡◌, ℕ, suc, ◌+◌, ◌<◌, ◌≤◌, ◌^◌, List, [], ◌∷◌, ◌++◌, length, map, refl, sym, ap, subst, ◌∙◌, arith, rules}
+use Rattle.std.proofs.Common.{length}
 use Rattle.code_emit.proofs.Spares.{spare_left, spare_name}
 use Rattle.code_emit.proofs.writer.Writer.take_spare.Goals as goal
 
