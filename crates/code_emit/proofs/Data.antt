@@ -1,0 +1,77 @@
+-- Operands as the file has them.
+use Rattle.std.proofs.Common.{◌≡◌, ℕ, zero, suc, ◌<◌, ◌≤◌, List, [], ◌∷◌, ◌++◌, length, map, get_or, replicate, Bool, false, Option, Some, refl, sym, ap, subst, ◌∙◌, arith}
+use Rattle.std.specs.List.{AllByRecursion}
+use Rattle.pex_values.specs.declared.values.Datum.{Datum}
+use Rattle.pex_values.specs.declared.values.Datum.TheVariants as datum
+use Rattle.pex_values.specs.Opcodes.{operands_of}
+use Rattle.pex_values.specs.Shape.{AgreesWith, IsShapedDatum}
+use Rattle.pex_values.proofs.Parts.{each_added}
+use Rattle.std.proofs.lemmas.List.{length-map}
+use Rattle.std.proofs.lemmas.List.Elements.{All-from_recursion}
+use Rattle.code_emit.specs.declared.operand.Operand.{Operand}
+use Rattle.code_emit.specs.declared.operand.Operand.TheVariants as operand
+use Rattle.code_emit.specs.Operands.{datum_of, lasting, needs, IsWithin}
+use Rattle.code_emit.specs.Writing.{AreThere}
+
+pub datum_shaped : (n : ℕ) (o : Operand) → needs o ≤ n → IsWithin (datum_of o) → IsShapedDatum n (datum_of o)
+datum_shaped n operand.NoneValue there within = tt
+datum_shaped n (operand.Int number) there within = within
+datum_shaped n (operand.Bool truth) there within = within
+datum_shaped n (operand.Text text) there within = record { below = omega arith; fits = within }
+datum_shaped n (operand.Word name) there within = record { below = omega arith; fits = within }
+datum_shaped n (operand.Variable name kind) there within = record { below = omega arith; fits = within }
+datum_shaped n (operand.Temporary name kind) there within = record { below = omega arith; fits = within }
+
+pub data_shaped : (n : ℕ) (os : List Operand) → AreThere n os → AllByRecursion IsWithin (map datum_of os) → AllByRecursion (IsShapedDatum n) (map datum_of os)
+data_shaped n [] there within = tt
+data_shaped n (o ∷ os) there within = (datum_shaped n o there.0 within.0, data_shaped n os there.1 within.1)
+
+pub data_are : (n : ℕ) (os : List Operand) (ds : List Datum) → ds ≡ map datum_of os → AllByRecursion IsWithin ds → AreThere n os → AllByRecursion (IsShapedDatum n) ds
+data_are n os ds are within there =
+    let P : List Datum → Type 0 = λ l. AllByRecursion IsWithin l in
+    let Q : List Datum → Type 0 = λ l. AllByRecursion (IsShapedDatum n) l in
+    subst Q (sym are) (data_shaped n os there (subst P are within))
+
+pub there_later : (n m : ℕ) → n ≤ m → (os : List Operand) → AreThere n os → AreThere m os
+there_later n m more [] there = tt
+there_later n m more (o ∷ os) there = let here = there.0 in (omega arith, there_later n m more os there.1)
+
+pub there_added : (n : ℕ) (os : List Operand) (o : Operand) → AreThere n os → needs o ≤ n → AreThere n (os ++ o ∷ [])
+there_added n os o there here = each_added (λ (operand : Operand). needs operand ≤ n) os o there here
+
+pub within_added : (ds : List Datum) (d : Datum) → AllByRecursion IsWithin ds → IsWithin d → AllByRecursion IsWithin (ds ++ d ∷ [])
+within_added ds d all here = each_added IsWithin ds d all here
+
+pub lasting_needs : (o : Operand) → needs (lasting o) ≡ needs o
+lasting_needs operand.NoneValue = refl
+lasting_needs (operand.Int number) = refl
+lasting_needs (operand.Bool truth) = refl
+lasting_needs (operand.Text text) = refl
+lasting_needs (operand.Word name) = refl
+lasting_needs (operand.Variable name kind) = refl
+lasting_needs (operand.Temporary name kind) = refl
+
+pub one_datum : (n : ℕ) (o : Operand) (d : Datum) → d ≡ datum_of o → IsWithin d → needs o ≤ n → IsShapedDatum n d
+one_datum n o d is within there =
+    let Q : Datum → Type 0 = λ e. IsShapedDatum n e in
+    subst Q (sym is) (datum_shaped n o there (subst IsWithin is within))
+
+pub length_of : (os : List Operand) (ds : List Datum) → ds ≡ map datum_of os → length ds ≡ length os
+length_of os ds are = ap (λ (l : List Datum). length l) are ∙ length-map os datum_of
+
+pub agrees_with : (opcode : ℕ) (all fixed : ℕ) → operands_of opcode ≡ Some (all, false) → fixed ≡ all → AgreesWith (operands_of opcode) fixed 0
+agrees_with opcode all fixed takes same = subst (λ (o : Option (ℕ × Bool)). AgreesWith o fixed 0) (sym takes) (same, refl)
+
+pub there_at : (n : ℕ) (os : List Operand) (at : ℕ) (o : Operand) → AreThere n os → at < length os → o ≡ get_or os at o → needs o ≤ n
+there_at n os at o all within is =
+    let P : Operand → Type 0 = λ x. needs x ≤ n in
+    subst P (sym is) (All-from_recursion P os all at o within)
+
+pub none_each : (strings n : ℕ) → AllByRecursion (IsShapedDatum strings) (replicate n datum.NoneValue)
+none_each strings zero = tt
+none_each strings (suc n) = (tt, none_each strings n)
+
+pub datum_at : (n : ℕ) (os : List Operand) (at : ℕ) (o : Operand) (d : Datum) → d ≡ datum_of (get_or os at o) → IsWithin d → AreThere n os → at < length os → IsShapedDatum n d
+datum_at n os at o d is within there below =
+    let P : Operand → Type 0 = λ x. needs x ≤ n in
+    one_datum n (get_or os at o) d is within (All-from_recursion P os there at o below)

@@ -1,0 +1,143 @@
+-- What names strings that are there still does once there are more strings.
+use Rattle.std.proofs.Common.{ℕ, ◌<◌, ◌≤◌, List, [], ◌∷◌, ◌++◌, map, Option, Some, None, arith}
+use Rattle.std.specs.Prelude.{Result, Ok, Err, IfOk, IfSome}
+use Rattle.std.specs.List.{AllByRecursion}
+use Rattle.jump_patch.specs.Jumps.{Buffer}
+use Rattle.pex_values.specs.declared.debug.PexLines.{PexLines}
+use Rattle.pex_values.specs.declared.values.Datum.{Datum}
+use Rattle.pex_values.specs.declared.values.Datum.TheVariants.{NoneValue, Word, Quoted, Int, Float, Bool as BoolByte}
+use Rattle.pex_values.specs.declared.values.PexVariable.{PexVariable}
+use Rattle.pex_values.specs.Plain.{PlainInstruction, PlainFunction, PlainState, PlainProperty, PlainObject, PlainLines, plain_lines}
+use Rattle.pex_values.specs.Shape.{IsReference, ArePair, IsShapedDatum, IsShapedInstruction, IsShapedFunction, IsShapedNamed, IsShapedState, IsShapedVariable, IsShapedProperty, IsShapedObject, IsShapedLines}
+use Rattle.code_emit.specs.Writing.{IsWriting}
+
+pub all_later : {A : Type 0} (P Q : A → Type 0) (each : (x : A) → P x → Q x) (xs : List A) → AllByRecursion P xs → AllByRecursion Q xs
+all_later P Q each [] all = tt
+all_later P Q each (x ∷ xs) all = (each x all.0, all_later P Q each xs all.1)
+
+some_later : {A : Type 0} (P Q : A → Type 0) (each : (x : A) → P x → Q x) (x : Option A) → IfSome x P → IfSome x Q
+some_later P Q each None is = tt
+some_later P Q each (Some x) is = each x is
+
+pub ok_weaker : {A E : Type 0} (P Q : A → Type 0) (r : Result A E) → ((x : A) → P x → Q x) → IfOk r P → IfOk r Q
+ok_weaker P Q (Ok x) each is = each x is
+ok_weaker P Q (Err e) each is = tt
+
+-- a list that grows by one item, which may name strings that are new
+pub each_grown : {X Y : Type 0} (P Q : Y → Type 0) (view : X → Y) (later : (y : Y) → P y → Q y) (xs : List X) (x : X) → AllByRecursion P (map view xs) → Q (view x) → AllByRecursion Q (map view (xs ++ x ∷ []))
+each_grown P Q view later [] x all here = (here, tt)
+each_grown P Q view later (y ∷ ys) x all here = (later (view y) all.0, each_grown P Q view later ys x all.1 here)
+
+pub list_grown : {X : Type 0} (P Q : X → Type 0) (later : (x : X) → P x → Q x) (xs : List X) (x : X) → AllByRecursion P xs → Q x → AllByRecursion Q (xs ++ x ∷ [])
+list_grown P Q later [] x all here = (here, tt)
+list_grown P Q later (y ∷ ys) x all here = (later y all.0, list_grown P Q later ys x all.1 here)
+
+module _ (n m : ℕ) (more : n ≤ m) where
+  pub reference_later : (k : ℕ) → IsReference n k → IsReference m k
+  reference_later k is = record { below = omega (arith, is.below); fits = is.fits }
+
+  pub pair_later : (pair : ℕ × ℕ) → ArePair n pair → ArePair m pair
+  pair_later pair are = record { name = reference_later pair.0 are.name; kind = reference_later pair.1 are.kind }
+
+  pub datum_later : (d : Datum) → IsShapedDatum n d → IsShapedDatum m d
+  datum_later NoneValue is = is
+  datum_later (Word k) is = reference_later k is
+  datum_later (Quoted k) is = reference_later k is
+  datum_later (Int k) is = is
+  datum_later (Float k) is = is
+  datum_later (BoolByte k) is = is
+
+  pub data_later : (ds : List Datum) → AllByRecursion (IsShapedDatum n) ds → AllByRecursion (IsShapedDatum m) ds
+  data_later ds all = all_later (IsShapedDatum n) (IsShapedDatum m) datum_later ds all
+
+  pub instruction_later : (i : PlainInstruction) → IsShapedInstruction n i → IsShapedInstruction m i
+  instruction_later i is =
+      record { opcode = is.opcode; operands = is.operands; fixed = data_later i.fixed is.fixed; more = data_later i.more is.more }
+
+  pairs_later : (ps : List (ℕ × ℕ)) → AllByRecursion (ArePair n) ps → AllByRecursion (ArePair m) ps
+  pairs_later ps all = all_later (ArePair n) (ArePair m) pair_later ps all
+
+  pub function_later : (f : PlainFunction) → IsShapedFunction n f → IsShapedFunction m f
+  function_later f is = record {
+    result = reference_later f.result is.result;
+    doc = reference_later f.doc is.doc;
+    flags = is.flags;
+    bits = is.bits;
+    parameters = pairs_later f.parameters is.parameters;
+    locals = pairs_later f.locals is.locals;
+    code = all_later (IsShapedInstruction n) (IsShapedInstruction m) instruction_later f.code is.code;
+  }
+
+  pub named_later : (f : ℕ × PlainFunction) → IsShapedNamed n f → IsShapedNamed m f
+  named_later f is = record { name = reference_later f.0 is.name; function = function_later f.1 is.function }
+
+  pub state_later : (s : PlainState) → IsShapedState n s → IsShapedState m s
+  state_later s is = record {
+    name = reference_later s.name is.name;
+    functions = all_later (IsShapedNamed n) (IsShapedNamed m) named_later s.functions is.functions;
+  }
+
+  pub variable_later : (v : PexVariable) → IsShapedVariable n v → IsShapedVariable m v
+  variable_later v is = record {
+    name = reference_later v.name is.name;
+    kind = reference_later v.kind is.kind;
+    flags = is.flags;
+    value = datum_later v.value is.value;
+  }
+
+  pub accessor_later : (f : Option PlainFunction) → IfSome f (IsShapedFunction n) → IfSome f (IsShapedFunction m)
+  accessor_later f is = some_later (IsShapedFunction n) (IsShapedFunction m) function_later f is
+
+  pub property_later : (p : PlainProperty) → IsShapedProperty n p → IsShapedProperty m p
+  property_later p is = record {
+    name = reference_later p.name is.name;
+    kind = reference_later p.kind is.kind;
+    doc = reference_later p.doc is.doc;
+    flags = is.flags;
+    bits = is.bits;
+    has_variable = is.has_variable;
+    has_read = is.has_read;
+    has_write = is.has_write;
+    variable = some_later (IsReference n) (IsReference m) reference_later p.variable is.variable;
+    read = accessor_later p.read is.read;
+    write = accessor_later p.write is.write;
+  }
+
+  pub object_later : (o : PlainObject) → IsShapedObject n o → IsShapedObject m o
+  object_later o is = record {
+    name = reference_later o.name is.name;
+    parent = reference_later o.parent is.parent;
+    doc = reference_later o.doc is.doc;
+    flags = is.flags;
+    auto_state = reference_later o.auto_state is.auto_state;
+    variables = all_later (IsShapedVariable n) (IsShapedVariable m) variable_later o.variables is.variables;
+    properties = all_later (IsShapedProperty n) (IsShapedProperty m) property_later o.properties is.properties;
+    states = all_later (IsShapedState n) (IsShapedState m) state_later o.states is.states;
+  }
+
+  pub lines_later : (e : PlainLines) → IsShapedLines n e → IsShapedLines m e
+  lines_later e is = record {
+    object = reference_later e.object is.object;
+    state = reference_later e.state is.state;
+    function = reference_later e.function is.function;
+    kind = is.kind;
+    lines = is.lines;
+  }
+
+  below_later : (k : ℕ) → k < n → k < m
+  below_later k below = omega arith
+
+  pub writing_later : (count : ℕ) (code : Buffer) (debug : List PexLines) (parameters locals : List (ℕ × ℕ)) (spare : List (ℕ × ℕ)) (none : Option ℕ)
+      → IsWriting n count code debug parameters locals spare none → IsWriting m count code debug parameters locals spare none
+  writing_later count code debug parameters locals spare none is = record {
+    count_is = is.count_is;
+    few = is.few;
+    ahead_are = is.ahead_are;
+    instructions = all_later (IsShapedInstruction n) (IsShapedInstruction m) instruction_later code.code is.instructions;
+    lines = is.lines;
+    entries = all_later (IsShapedLines n) (IsShapedLines m) lines_later (map plain_lines debug) is.entries;
+    parameters_are = pairs_later parameters is.parameters_are;
+    locals_are = pairs_later locals is.locals_are;
+    spare_are = all_later (λ (s : ℕ × ℕ). s.1 < n) (λ (s : ℕ × ℕ). s.1 < m) (λ (s : ℕ × ℕ) (below : s.1 < n). below_later s.1 below) spare is.spare_are;
+    none_is = some_later (λ (k : ℕ). k < n) (λ (k : ℕ). k < m) below_later none is.none_is;
+  }

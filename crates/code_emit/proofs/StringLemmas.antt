@@ -1,0 +1,39 @@
+-- Strings that go into a table.
+use Rattle.std.proofs.Common.{◌≡◌, ℕ, ◌≤◌, Bool, true, false, ◌||◌, cond, List, [], ◌∷◌, ◌++◌, length, map, refl, sym, ap, ◌∙◌, arith, length-append}
+use Rattle.std.specs.List.{list_any}
+use Rattle.std.specs.declared.alloc.Global.{Global}
+use Rattle.std.specs.declared.vec.Vec.{Vec}
+use Rattle.std.proofs.lemmas.List.{map-append}
+use Rattle.indexmap.specs.IndexSet.{insert_key}
+use Rattle.code_emit.specs.Strings.{same_bytes, with_string}
+
+-- what is held, as lists
+abbrev pub shown : List (Vec ℕ Global) → List (List ℕ)
+shown ks = map (λ k. k.items) ks
+
+abbrev pub same : Vec ℕ Global → Vec ℕ Global → Bool
+same a b = same_bytes a.items b.items
+
+pub list_any-shown : (string : List ℕ) (ks : List (Vec ℕ Global)) → list_any (λ k. same_bytes string k.items) ks ≡ list_any (same_bytes string) (shown ks)
+list_any-shown string [] = refl
+list_any-shown string (k ∷ ks) = ap (λ (t : Bool). same_bytes string k.items || t) (list_any-shown string ks)
+
+map_cond : (b : Bool) (xs ys : List (Vec ℕ Global)) → shown (cond b xs ys) ≡ cond b (shown xs) (shown ys)
+map_cond true xs ys = refl
+map_cond false xs ys = refl
+
+pub shown-insert_key : (ks : List (Vec ℕ Global)) (k : Vec ℕ Global) → shown (insert_key same ks k) ≡ with_string (shown ks) k.items
+shown-insert_key ks k =
+    map_cond (list_any (same k) ks) ks (ks ++ k ∷ [])
+    ∙ ap (λ (t : List (List ℕ)). cond (list_any (same k) ks) (shown ks) t) (map-append (λ (b : Vec ℕ Global). b.items) ks (k ∷ []))
+    ∙ ap (λ (b : Bool). cond b (shown ks) (shown ks ++ k.items ∷ [])) (list_any-shown k.items ks)
+
+pub found_string : (strings : List (List ℕ)) (string : List ℕ) → list_any (same_bytes string) strings ≡ true → strings ≡ with_string strings string
+found_string strings string found = sym (ap (λ (b : Bool). cond b strings (strings ++ string ∷ [])) found)
+
+grows_cases : (b : Bool) (strings : List (List ℕ)) (string : List ℕ) → length strings ≤ length (cond b strings (strings ++ string ∷ []))
+grows_cases true strings string = omega arith
+grows_cases false strings string = omega (arith, length-append strings (string ∷ []))
+
+pub string_grows : (strings : List (List ℕ)) (string : List ℕ) → length strings ≤ length (with_string strings string)
+string_grows strings string = grows_cases (list_any (same_bytes string) strings) strings string

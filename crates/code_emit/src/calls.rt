@@ -1,0 +1,100 @@
+// Calls: the arguments in order of writing, each placed at its parameter.
+#![tactic(auto, using(crate::proofs::Goes::going))]
+
+ghost use Rattle.std.specs.Prelude.{◌≡◌, ℕ, ◌≤◌, [], ◌∷◌, suc, Some, true, length, IfOk};
+ghost use Rattle.std.specs.List.{AllByRecursion};
+ghost use Rattle.pex_values.specs.Opcodes.{operands_of};
+ghost use Rattle.pex_values.specs.Shape.{IsShapedDatum};
+ghost use Rattle.code_emit.specs.Operands.{needs};
+ghost use Rattle.code_emit.specs.Writing.{GoesOn, AreThere};
+
+use crate::acts::up_to_last_act;
+use crate::expressions::value;
+use crate::faults::EmitFault;
+use crate::operand::Operand;
+use crate::writer::Writer;
+use core_tree::{Core, CoreType, FunctionPlace};
+use pex_values::Datum;
+use std::alloc::Global;
+
+/// The operands of the arguments. Each keeps its value while those behind it are evaluated.
+#[cycle(expression)]
+pub(crate) fn argument_values(
+    writer: &mut Writer<'_>,
+    arguments: &[Core],
+    depth: u16,
+) -> Result<Vec<Operand>, EmitFault>
+    ensures operands { IfOk result (λ operands. AreThere writer.new.strings operands.items) }
+    ensures goes { GoesOn writer.old writer.new }
+{
+    let acting = up_to_last_act(arguments, depth);
+    let mut values = Vec::with_capacity(writer.alloc(), arguments.len())?;
+    for (place, argument) in arguments.iter().enumerate() {
+        let operand = value(writer, argument, depth)?;
+        let is_before = acting > 0 && place < acting - 1;
+        let kept = writer.kept(operand, is_before)?;
+        values.push(kept)?;
+    }
+    Ok(values)
+}
+
+/// Appends a call whose operands and arguments are evaluated.
+pub(crate) fn call(
+    writer: &mut Writer<'_>,
+    opcode: u8,
+    operands: &[Operand],
+    values: &[Operand],
+    places: &[u16],
+    kind: Option<CoreType>,
+) -> Result<Operand, EmitFault>
+    requires opcode { operands_of opcode ≡ Some (suc (length operands.now), true) }
+    requires operands { AreThere writer.old.strings operands.now }
+    requires values { AreThere writer.old.strings values.now }
+    ensures operand { IfOk result (λ operand. needs operand ≤ writer.new.strings) }
+    ensures goes { GoesOn writer.old writer.new }
+{
+    let more = placed(writer.alloc(), values, places)?;
+    let given = writer.call(opcode, operands, kind, more)?;
+    writer.give_all_back(values)?;
+    Ok(given)
+}
+
+/// The names of the script and of a function of its empty state.
+pub(crate) fn global_names(
+    writer: &mut Writer<'_>,
+    at: FunctionPlace,
+) -> Result<(Operand, Operand), EmitFault>
+    ensures names { IfOk result (λ names. AreThere writer.new.strings (names.0 ∷ names.1 ∷ [])) }
+    ensures goes { GoesOn writer.old writer.new }
+{
+    let Some(script) = writer.scripts().get(usize::from(at.script)) else {
+        return Err(EmitFault::OutOfRange);
+    };
+    let Some(empty) = script.states.first() else {
+        return Err(EmitFault::OutOfRange);
+    };
+    let Some(function) = empty.functions.get(usize::from(at.place)) else {
+        return Err(EmitFault::OutOfRange);
+    };
+    let script = writer.string(script.name.as_bytes())?;
+    let function = writer.string(function.name.as_bytes())?;
+    Ok((Operand::Word(script), Operand::Word(function)))
+}
+
+// The operands in the order of their parameters.
+fn placed(alloc: Global, values: &[Operand], places: &[u16]) -> Result<Vec<Datum>, EmitFault>
+    ensures { IfOk result (λ found. (strings : ℕ) → AreThere strings values.now → AllByRecursion (IsShapedDatum strings) found.items) }
+{
+    if places.len() != values.len() {
+        return Err(EmitFault::OutOfRange);
+    }
+    let mut placed = vec![in alloc; Datum::NoneValue; values.len()]?;
+    for (at, operand) in values.iter().enumerate() {
+        let place = usize::from(places[at]);
+        if place >= placed.len() {
+            return Err(EmitFault::OutOfRange);
+        }
+        placed[place] = operand.datum();
+    }
+    Ok(placed)
+}

@@ -1,0 +1,120 @@
+// Assignments, plain and compound.
+#![tactic(auto, using(crate::proofs::Goes::going))]
+
+ghost use Rattle.std.specs.Prelude.{◌≡◌, ◌≤◌};
+ghost use Rattle.code_emit.specs.Operands.{needs};
+ghost use Rattle.code_emit.specs.Writing.{GoesOn};
+
+use crate::acts::may_act;
+use crate::conditions::store_value;
+use crate::expressions::{field, get_property, kept_value, state_text, value};
+use crate::faults::EmitFault;
+use crate::opcodes::{ARRAY_GETELEMENT, ARRAY_SETELEMENT, ASSIGN, PROPSET, arith_opcode};
+use crate::operand::Operand;
+use crate::writer::Writer;
+use core_tree::{Arith, Core, CoreType};
+use papy_base::Name;
+
+pub(crate) fn set_local(
+    writer: &mut Writer<'_>,
+    number: u16,
+    of: &Core,
+    depth: u16,
+) -> Result<(), EmitFault>
+    ensures { GoesOn writer.old writer.new }
+{
+    let name = writer.local(number)?;
+    store_value(writer, Operand::Word(name), of, depth)
+}
+
+pub(crate) fn set_field(
+    writer: &mut Writer<'_>,
+    number: u16,
+    of: &Core,
+    depth: u16,
+) -> Result<(), EmitFault>
+    ensures { GoesOn writer.old writer.new }
+{
+    let variable = field(writer, number)?;
+    store_value(writer, variable, of, depth)
+}
+
+pub(crate) fn set_state(writer: &mut Writer<'_>, of: &Core, depth: u16) -> Result<(), EmitFault>
+    ensures { GoesOn writer.old writer.new }
+{
+    let variable = state_text(writer)?;
+    store_value(writer, variable, of, depth)
+}
+
+pub(crate) fn set_property(
+    writer: &mut Writer<'_>,
+    of: &Core,
+    name: &Name,
+    to: &Core,
+    depth: u16,
+) -> Result<(), EmitFault>
+    ensures { GoesOn writer.old writer.new }
+{
+    let of = kept_value(writer, of, may_act(to, depth), depth)?;
+    let to = value(writer, to, depth)?;
+    let name = writer.string(name.as_bytes())?;
+    writer.act(PROPSET, &[Operand::Word(name), of, to])
+}
+
+/// The property is read, then the right side is evaluated, then it is written.
+pub(crate) fn change_property(
+    writer: &mut Writer<'_>,
+    of: &Core,
+    name: &Name,
+    kind: CoreType,
+    operation: Arith,
+    right: &Core,
+    depth: u16,
+) -> Result<(), EmitFault>
+    ensures { GoesOn writer.old writer.new }
+{
+    // Reading it is an act.
+    let of = kept_value(writer, of, true, depth)?;
+    let old = get_property(writer, of.lasting(), name, kind)?;
+    let right = value(writer, right, depth)?;
+    let new = writer.compute(arith_opcode(operation), kind, &[old, right])?;
+    let name = writer.string(name.as_bytes())?;
+    writer.act(PROPSET, &[Operand::Word(name), of, new])
+}
+
+pub(crate) fn set_element(
+    writer: &mut Writer<'_>,
+    array: &Core,
+    index: &Core,
+    to: &Core,
+    depth: u16,
+) -> Result<(), EmitFault>
+    ensures { GoesOn writer.old writer.new }
+{
+    let acts = may_act(to, depth);
+    let array = kept_value(writer, array, acts || may_act(index, depth), depth)?;
+    let index = kept_value(writer, index, acts, depth)?;
+    let to = value(writer, to, depth)?;
+    writer.act(ARRAY_SETELEMENT, &[array, index, to])
+}
+
+/// The element is read, then the right side is evaluated, then it is written.
+pub(crate) fn change_element(
+    writer: &mut Writer<'_>,
+    array: &Core,
+    index: &Core,
+    kind: CoreType,
+    operation: Arith,
+    right: &Core,
+    depth: u16,
+) -> Result<(), EmitFault>
+    ensures { GoesOn writer.old writer.new }
+{
+    let acts = may_act(right, depth);
+    let array = kept_value(writer, array, acts || may_act(index, depth), depth)?;
+    let index = kept_value(writer, index, acts, depth)?;
+    let old = writer.compute(ARRAY_GETELEMENT, kind, &[array.lasting(), index.lasting()])?;
+    let right = value(writer, right, depth)?;
+    let new = writer.compute(arith_opcode(operation), kind, &[old, right])?;
+    writer.act(ARRAY_SETELEMENT, &[array, index, new])
+}

@@ -1,0 +1,313 @@
+// Expressions: for each form a function that appends its code.
+#![tactic(auto, using(crate::proofs::Goes::going))]
+
+ghost use Rattle.std.specs.Prelude.{◌≡◌, ◌+◌, ◌≤◌, IfOk};
+ghost use Rattle.code_emit.specs.Operands.{needs};
+ghost use Rattle.code_emit.specs.Writing.{GoesOn, Takes};
+
+use crate::acts::{may_act, up_to_last_act};
+use crate::calls::{argument_values, call, global_names};
+use crate::conditions::either;
+use crate::faults::EmitFault;
+use crate::opcodes::{
+    ARRAY_CREATE, ARRAY_FINDELEMENT, ARRAY_GETELEMENT, ARRAY_LENGTH, ARRAY_RFINDELEMENT,
+    CALL_METHOD, CALL_PARENT, CALL_STATIC, CAST, CMP_EQ, INEG, NOT, PROPGET, STRCAT, arith_opcode,
+    order_opcode,
+};
+use crate::operand::Operand;
+use crate::spine::spine;
+use crate::writer::Writer;
+use core_tree::{Core, CoreType, Value};
+use papy_base::Name;
+
+/// How many may stand inside one more.
+pub(crate) fn one_deeper(depth: u16) -> Result<u16, EmitFault>
+    ensures { IfOk result (λ inner. inner + 1 ≡ depth) }
+{
+    match depth.checked_sub(1) {
+        Some(inner) => Ok(inner),
+        None => Err(EmitFault::TooLarge),
+    }
+}
+
+/// Appends the code of an expression, and gives the operand that has its value. `depth` counts operands behind the first
+/// one, so that a chain as `a + b + c` takes one level.
+#[cycle(expression)]
+pub(crate) fn value(
+    writer: &mut Writer<'_>,
+    expression: &Core,
+    depth: u16,
+) -> Result<Operand, EmitFault>
+    ensures operand { IfOk result (λ operand. needs operand ≤ writer.new.strings) }
+    ensures goes { GoesOn writer.old writer.new }
+{
+    let depth = one_deeper(depth)?;
+    let mut forms = spine(writer.alloc(), expression)?;
+    let mut operand = Operand::NoneValue;
+    'forms: while let Some(form) = forms.pop() {
+        operand = form_value(writer, form, operand, depth)?;
+    }
+    Ok(operand)
+}
+
+// Appends the code of a form whose first operand is evaluated. A form without operands has no use for it.
+#[cycle(expression)]
+fn form_value(
+    writer: &mut Writer<'_>,
+    form: &Core,
+    first: Operand,
+    depth: u16,
+) -> Result<Operand, EmitFault>
+    requires { needs first ≤ writer.old.strings }
+    ensures operand { IfOk result (λ operand. needs operand ≤ writer.new.strings) }
+    ensures goes { GoesOn writer.old writer.new }
+{
+    match form {
+        Core::Lit(literal) => constant(writer, literal),
+        Core::Local(number) => Ok(Operand::Word(writer.local(*number)?)),
+        Core::Field(number) => field(writer, *number),
+        Core::SelfValue => Ok(Operand::Word(writer.string(b"self")?)),
+        Core::StateText => state_text(writer),
+        Core::Arith(operation, _, right) => {
+            let opcode = arith_opcode(*operation);
+            with_second(writer, opcode, CoreType::Int, first, right, depth)
+        }
+        Core::Neg(_) => writer.compute(INEG, CoreType::Int, &[first]),
+        Core::Not(_) => writer.compute(NOT, CoreType::Bool, &[first]),
+        Core::Join(_, right) => with_second(writer, STRCAT, CoreType::Text, first, right, depth),
+        Core::Equal(_, right) => with_second(writer, CMP_EQ, CoreType::Bool, first, right, depth),
+        Core::Order(order, _, right) => {
+            let opcode = order_opcode(*order);
+            with_second(writer, opcode, CoreType::Bool, first, right, depth)
+        }
+        Core::And(_, right) => either(writer, false, first, right, depth),
+        Core::Or(_, right) => either(writer, true, first, right, depth),
+        Core::Cast(to, _) => writer.compute(CAST, *to, &[first]),
+        Core::CallMethod { .. }
+        | Core::CallParent { .. }
+        | Core::CallGlobal { .. }
+        | Core::CallNative { .. } => call_value(writer, form, first, depth),
+        Core::PropGet {
+            name,
+            result: kind,
+            ..
+        } => get_property(writer, first, name, *kind),
+        Core::NewArray(kind, count) => new_array(writer, *kind, *count),
+        Core::Length(_) => writer.compute(ARRAY_LENGTH, CoreType::Int, &[first]),
+        Core::Element(_, index, kind) => {
+            with_second(writer, ARRAY_GETELEMENT, *kind, first, index, depth)
+        }
+        Core::Find(_, searched, start) => {
+            find(writer, ARRAY_FINDELEMENT, first, searched, start, depth)
+        }
+        Core::FindBack(_, searched, start) => {
+            find(writer, ARRAY_RFINDELEMENT, first, searched, start, depth)
+        }
+    }
+}
+
+// Appends the code of a call whose target, where it has one, is evaluated.
+#[cycle(expression)]
+fn call_value(
+    writer: &mut Writer<'_>,
+    form: &Core,
+    target: Operand,
+    depth: u16,
+) -> Result<Operand, EmitFault>
+    requires { needs target ≤ writer.old.strings }
+    ensures operand { IfOk result (λ operand. needs operand ≤ writer.new.strings) }
+    ensures goes { GoesOn writer.old writer.new }
+{
+    match form {
+        Core::CallMethod {
+            name,
+            arguments,
+            places,
+            result: kind,
+            ..
+        } => {
+            let of = writer.kept(target, up_to_last_act(arguments, depth) > 0)?;
+            let name = writer.string(name.as_bytes())?;
+            let values = argument_values(writer, arguments, depth)?;
+            let operands = [Operand::Word(name), of];
+            call(writer, CALL_METHOD, &operands, &values, places, *kind)
+        }
+        Core::CallParent {
+            name,
+            arguments,
+            places,
+            result: kind,
+        } => {
+            let name = writer.string(name.as_bytes())?;
+            let values = argument_values(writer, arguments, depth)?;
+            call(
+                writer,
+                CALL_PARENT,
+                &[Operand::Word(name)],
+                &values,
+                places,
+                *kind,
+            )
+        }
+        Core::CallGlobal {
+            at,
+            arguments,
+            places,
+            result: kind,
+        }
+        | Core::CallNative {
+            at,
+            arguments,
+            places,
+            result: kind,
+        } => {
+            let (script, function) = global_names(writer, *at)?;
+            let values = argument_values(writer, arguments, depth)?;
+            call(
+                writer,
+                CALL_STATIC,
+                &[script, function],
+                &values,
+                places,
+                *kind,
+            )
+        }
+        _ => Ok(target),
+    }
+}
+
+/// The operand of a value that the tree has written out.
+pub(crate) fn constant(writer: &mut Writer<'_>, value: &Value) -> Result<Operand, EmitFault>
+    ensures operand { IfOk result (λ operand. needs operand ≤ writer.new.strings) }
+    ensures goes { GoesOn writer.old writer.new }
+{
+    match value {
+        Value::NoneValue => Ok(Operand::NoneValue),
+        Value::Int(number) => Ok(Operand::Int(*number)),
+        Value::Bool(truth) => Ok(Operand::Bool(*truth)),
+        Value::Text(text) => Ok(Operand::Text(writer.string(text.as_bytes())?)),
+        Value::Instance(_) | Value::Array(_) => Err(EmitFault::OutOfRange),
+    }
+}
+
+/// The variable of this number.
+pub(crate) fn field(writer: &mut Writer<'_>, number: u16) -> Result<Operand, EmitFault>
+    ensures operand { IfOk result (λ operand. needs operand ≤ writer.new.strings) }
+    ensures goes { GoesOn writer.old writer.new }
+{
+    let script = writer.script();
+    let Some(variable) = script.variables.get(usize::from(number)) else {
+        return Err(EmitFault::OutOfRange);
+    };
+    let name = writer.string(variable.name.as_bytes())?;
+    Ok(Operand::Variable {
+        name,
+        kind: variable.kind,
+    })
+}
+
+/// The name of the state.
+pub(crate) fn state_text(writer: &mut Writer<'_>) -> Result<Operand, EmitFault>
+    ensures operand { IfOk result (λ operand. needs operand ≤ writer.new.strings) }
+    ensures goes { GoesOn writer.old writer.new }
+{
+    let name = writer.string(b"::State")?;
+    Ok(Operand::Variable {
+        name,
+        kind: CoreType::Text,
+    })
+}
+
+/// The operand of an expression. Where acts may come before it is read, it keeps the value that it has now.
+pub(crate) fn kept_value(
+    writer: &mut Writer<'_>,
+    expression: &Core,
+    acts: bool,
+    depth: u16,
+) -> Result<Operand, EmitFault>
+    ensures operand { IfOk result (λ operand. needs operand ≤ writer.new.strings) }
+    ensures goes { GoesOn writer.old writer.new }
+{
+    let operand = value(writer, expression, depth)?;
+    writer.kept(operand, acts)
+}
+
+#[cycle(expression)]
+fn with_second(
+    writer: &mut Writer<'_>,
+    opcode: u8,
+    kind: CoreType,
+    first: Operand,
+    second: &Core,
+    depth: u16,
+) -> Result<Operand, EmitFault>
+    requires opcode { Takes opcode 3 }
+    requires first { needs first ≤ writer.old.strings }
+    ensures operand { IfOk result (λ operand. needs operand ≤ writer.new.strings) }
+    ensures goes { GoesOn writer.old writer.new }
+{
+    let first = writer.kept(first, may_act(second, depth))?;
+    let second = value(writer, second, depth)?;
+    writer.compute(opcode, kind, &[first, second])
+}
+
+#[cycle(expression)]
+fn find(
+    writer: &mut Writer<'_>,
+    opcode: u8,
+    array: Operand,
+    searched: &Core,
+    start: &Core,
+    depth: u16,
+) -> Result<Operand, EmitFault>
+    requires opcode { Takes opcode 4 }
+    requires array { needs array ≤ writer.old.strings }
+    ensures operand { IfOk result (λ operand. needs operand ≤ writer.new.strings) }
+    ensures goes { GoesOn writer.old writer.new }
+{
+    let acts = may_act(start, depth);
+    let array = writer.kept(array, acts || may_act(searched, depth))?;
+    let searched = value(writer, searched, depth)?;
+    let searched = writer.kept(searched, acts)?;
+    let start = value(writer, start, depth)?;
+    let place = writer.take(CoreType::Int)?;
+    writer.act(opcode, &[array, place.lasting(), searched, start])?;
+    Ok(place)
+}
+
+fn new_array(writer: &mut Writer<'_>, kind: CoreType, count: u8) -> Result<Operand, EmitFault>
+    ensures operand { IfOk result (λ operand. needs operand ≤ writer.new.strings) }
+    ensures goes { GoesOn writer.old writer.new }
+{
+    let Some(array) = array_of(kind) else {
+        return Err(EmitFault::OutOfRange);
+    };
+    writer.compute(ARRAY_CREATE, array, &[Operand::Int(i32::from(count))])
+}
+
+// The type of arrays with elements of this type.
+fn array_of(element: CoreType) -> Option<CoreType> {
+    match element {
+        CoreType::Int => Some(CoreType::IntArray),
+        CoreType::Bool => Some(CoreType::BoolArray),
+        CoreType::Text => Some(CoreType::TextArray),
+        CoreType::Script(number) => Some(CoreType::ScriptArray(number)),
+        _ => None,
+    }
+}
+
+/// Appends the use of a property of an instance.
+pub(crate) fn get_property(
+    writer: &mut Writer<'_>,
+    of: Operand,
+    name: &Name,
+    kind: CoreType,
+) -> Result<Operand, EmitFault>
+    requires { needs of ≤ writer.old.strings }
+    ensures operand { IfOk result (λ operand. needs operand ≤ writer.new.strings) }
+    ensures goes { GoesOn writer.old writer.new }
+{
+    let name = writer.string(name.as_bytes())?;
+    let more = Vec::new(writer.alloc());
+    writer.call(PROPGET, &[Operand::Word(name), of], Some(kind), more)
+}

@@ -1,0 +1,46 @@
+ghost use Rattle.std.specs.Prelude.{◌≡◌};
+ghost use Rattle.code_emit.specs.declared.faults.EmitFault.TheVariants as fault;
+
+use papy_base::OutOfMemory;
+use std::alloc::{AllocError, AllocFailed};
+use thiserror::Error;
+
+/// Why a set of scripts has no files. The sets of accepted scripts meet the last alone.
+#[derive(Clone, Copy, Debug, PartialEq, Eq, Error)]
+pub enum EmitFault {
+    /// A number names no script, function, variable, local or parameter, or a literal is an instance or an array.
+    #[error("a number names nothing")]
+    OutOfRange,
+    /// More than 65,535 strings, or in a function more than 65,535 instructions, more than 8,192 parameters and
+    /// locals, an expression with more than 4,000 first operands inside each other, an If with more than 4,000
+    /// tests, or more than 1,000 expressions and statements inside each other in another way.
+    #[error("too large for a file")]
+    TooLarge,
+    /// No memory was found.
+    #[error("out of memory")]
+    OutOfMemory,
+}
+
+impl From<OutOfMemory> for EmitFault {
+    ghost from_gives = { λ _ given. given ≡ fault.OutOfMemory };
+
+    fn from(_error: OutOfMemory) -> EmitFault {
+        EmitFault::OutOfMemory
+    }
+}
+
+impl From<AllocError> for EmitFault {
+    ghost from_gives = { λ _ given. given ≡ fault.OutOfMemory };
+
+    fn from(_error: AllocError) -> EmitFault {
+        EmitFault::OutOfMemory
+    }
+}
+
+impl<T: Drop> From<AllocFailed<T>> for EmitFault {
+    ghost from_gives = { λ _ given. given ≡ fault.OutOfMemory };
+
+    fn from(_error: AllocFailed<T>) -> EmitFault {
+        EmitFault::OutOfMemory
+    }
+}

@@ -1,0 +1,30 @@
+//! From the typed trees of scripts to compiled files (PEX 3.2): strings, temporaries, code and debug lines.
+//!
+//! The format is that of UESP's page "Skyrim Mod:File Formats/PEX" (Compiled Script File).
+#![tactic(auto)]
+
+mod acts;
+mod calls;
+mod changes;
+mod conditions;
+mod emitter;
+mod expressions;
+mod faults;
+mod functions;
+mod objects;
+mod opcodes;
+mod operand;
+mod spare;
+mod spine;
+mod statements;
+mod strings;
+mod type_names;
+mod writer;
+
+pub use emitter::{PRELUDE_COUNT, emit};
+pub use faults::EmitFault;
+
+#[cfg(test)]
+mod test_sets;
+#[cfg(test)]
+mod tests;

@@ -1,0 +1,294 @@
+// The object of a script, with its members in order.
+#![tactic(auto, using(crate::proofs::Goes::advancing))]
+
+ghost use Rattle.std.specs.Prelude.{◌≡◌, [], false, IfOk, IfSome, map, option_map};
+ghost use Rattle.std.specs.List.{AllByRecursion};
+ghost use Rattle.pex_values.specs.Bits.{has_variable, has_read, has_write};
+ghost use Rattle.pex_values.specs.Plain.{plain_function, plain_named, plain_property, plain_state, plain_object};
+ghost use Rattle.pex_values.specs.Shape.{IsReference, IsShapedFunction, IsShapedNamed, IsShapedVariable, IsShapedProperty, IsShapedState, IsShapedObject};
+ghost use Rattle.code_emit.specs.Function.{HaveParts};
+ghost use Rattle.code_emit.specs.Writing.{GoesOn, Advances};
+
+use crate::expressions::constant;
+use crate::faults::EmitFault;
+use crate::functions::{Place, flag_bits, function};
+use crate::type_names::script_name;
+use crate::writer::Writer;
+use core_tree::{CoreAccess, CoreFunction, CoreProperty, CoreScript, CoreState, CoreVariable};
+use pex_values::{PexFunction, PexObject, PexProperty, PexState, PexVariable, SizeForm};
+
+/// The kinds of debug entries: of a state's function, of a Get and of a Set.
+const STATE_FUNCTION: u8 = 0;
+
+const READ: u8 = 1;
+
+const WRITE: u8 = 2;
+
+/// The bits of an auto property.
+const AUTO_BITS: u8 = 7;
+
+/// What the file has of the writer's script.
+pub(crate) fn object(writer: &mut Writer<'_>) -> Result<PexObject, EmitFault>
+    requires { writer.old.ahead ≡ [] }
+    ensures object { IfOk result (λ o. IsShapedObject writer.new.strings (plain_object o)) }
+    ensures advances { Advances writer.old writer.new }
+{
+    let script = writer.script();
+    let name = writer.string(script.name.as_bytes())?;
+    let above = parent(writer, script)?;
+    let doc = writer.text(&script.doc)?;
+    let auto_state = auto_state(writer, script)?;
+    let variables = variables(writer, &script.variables)?;
+    let properties = properties(writer, &script.properties)?;
+    let states = states(writer, &script.states)?;
+    Ok(PexObject {
+        name,
+        size_form: SizeForm::Counted,
+        parent: above,
+        doc,
+        flags: flag_bits(script.flags),
+        auto_state,
+        variables,
+        properties,
+        states,
+    })
+}
+
+fn parent(writer: &mut Writer<'_>, script: &CoreScript) -> Result<u16, EmitFault>
+    ensures place { IfOk result (IsReference writer.new.strings) }
+    ensures goes { GoesOn writer.old writer.new }
+{
+    match script.parent {
+        Some(number) => {
+            let name = script_name(writer.scripts(), number)?;
+            writer.string(name)
+        }
+        None => writer.string(b""),
+    }
+}
+
+fn auto_state(writer: &mut Writer<'_>, script: &CoreScript) -> Result<u16, EmitFault>
+    ensures place { IfOk result (IsReference writer.new.strings) }
+    ensures goes { GoesOn writer.old writer.new }
+{
+    match &script.auto_state {
+        Some(state) => writer.string(state.as_bytes()),
+        None => writer.string(b""),
+    }
+}
+
+fn variables(
+    writer: &mut Writer<'_>,
+    variables: &[CoreVariable],
+) -> Result<Vec<PexVariable>, EmitFault>
+    ensures variables { IfOk result (λ found. AllByRecursion (IsShapedVariable writer.new.strings) found.items) }
+    ensures goes { GoesOn writer.old writer.new }
+{
+    let mut found = Vec::with_capacity(writer.alloc(), variables.len())?;
+    for variable in variables {
+        let written = one_variable(writer, variable)?;
+        found.push(written)?;
+    }
+    Ok(found)
+}
+
+fn one_variable(writer: &mut Writer<'_>, variable: &CoreVariable) -> Result<PexVariable, EmitFault>
+    ensures variable { IfOk result (IsShapedVariable writer.new.strings) }
+    ensures goes { GoesOn writer.old writer.new }
+{
+    let name = writer.string(variable.name.as_bytes())?;
+    let kind = writer.type_name(Some(variable.kind))?;
+    let value = constant(writer, &variable.value)?;
+    Ok(PexVariable {
+        name,
+        kind,
+        flags: flag_bits(variable.flags),
+        value: value.datum(),
+    })
+}
+
+fn properties(
+    writer: &mut Writer<'_>,
+    properties: &[CoreProperty],
+) -> Result<Vec<PexProperty>, EmitFault>
+    requires { writer.old.ahead ≡ [] }
+    ensures properties { IfOk result (λ found. AllByRecursion (IsShapedProperty writer.new.strings) (map plain_property found.items)) }
+    ensures advances { Advances writer.old writer.new }
+{
+    let mut found = Vec::with_capacity(writer.alloc(), properties.len())?;
+    for property in properties {
+        let written = one_property(writer, property)?;
+        found.push(written)?;
+    }
+    Ok(found)
+}
+
+// What a property has besides its name, type and documentation.
+#[derive(Drop)]
+struct PropertyParts {
+    bits: u8,
+    variable: Option<u16>,
+    read: Option<PexFunction>,
+    write: Option<PexFunction>,
+}
+
+fn one_property(writer: &mut Writer<'_>, property: &CoreProperty) -> Result<PexProperty, EmitFault>
+    requires { writer.old.ahead ≡ [] }
+    ensures property { IfOk result (λ p. IsShapedProperty writer.new.strings (plain_property p)) }
+    ensures advances { Advances writer.old writer.new }
+{
+    let name = writer.string(property.name.as_bytes())?;
+    let kind = writer.type_name(Some(property.kind))?;
+    let doc = writer.text(&property.doc)?;
+    let parts = property_parts(writer, property)?;
+    Ok(PexProperty {
+        name,
+        kind,
+        doc,
+        flags: flag_bits(property.flags),
+        bits: parts.bits,
+        variable: parts.variable,
+        read: parts.read,
+        write: parts.write,
+    })
+}
+
+fn property_parts(
+    writer: &mut Writer<'_>,
+    property: &CoreProperty,
+) -> Result<PropertyParts, EmitFault>
+    requires { writer.old.ahead ≡ [] }
+    ensures parts { IfOk result (HaveParts writer.new.strings) }
+    ensures advances { Advances writer.old writer.new }
+{
+    match &property.access {
+        CoreAccess::Auto(variable) => auto_parts(writer, *variable),
+        CoreAccess::Full(read, write) => full_parts(writer, property, read, write),
+    }
+}
+
+fn auto_parts(writer: &mut Writer<'_>, variable: u16) -> Result<PropertyParts, EmitFault>
+    ensures parts { IfOk result (HaveParts writer.new.strings) }
+    ensures advances { Advances writer.old writer.new }
+{
+    let variable = variable_name(writer, variable)?;
+    Ok(PropertyParts {
+        bits: AUTO_BITS,
+        variable: Some(variable),
+        read: None,
+        write: None,
+    })
+}
+
+fn full_parts(
+    writer: &mut Writer<'_>,
+    property: &CoreProperty,
+    read: &Option<CoreFunction>,
+    write: &Option<CoreFunction>,
+) -> Result<PropertyParts, EmitFault>
+    requires { writer.old.ahead ≡ [] }
+    ensures parts { IfOk result (HaveParts writer.new.strings) }
+    ensures advances { Advances writer.old writer.new }
+{
+    let read = accessor(writer, property, read, READ)?;
+    let write = accessor(writer, property, write, WRITE)?;
+    let bits = accessor_bits(read.is_some(), write.is_some());
+    Ok(PropertyParts {
+        bits,
+        variable: None,
+        read,
+        write,
+    })
+}
+
+fn variable_name(writer: &mut Writer<'_>, number: u16) -> Result<u16, EmitFault>
+    ensures place { IfOk result (IsReference writer.new.strings) }
+    ensures goes { GoesOn writer.old writer.new }
+{
+    let script = writer.script();
+    match script.variables.get(usize::from(number)) {
+        Some(variable) => writer.string(variable.name.as_bytes()),
+        None => Err(EmitFault::OutOfRange),
+    }
+}
+
+fn accessor_bits(reads: bool, writes: bool) -> u8
+    ensures variable { has_variable result ≡ false }
+    ensures read { has_read result ≡ reads }
+    ensures write { has_write result ≡ writes }
+{
+    match (reads, writes) {
+        (false, false) => 0,
+        (true, false) => 1,
+        (false, true) => 2,
+        (true, true) => 3,
+    }
+}
+
+// The Get or the Set of a property, where it has one.
+fn accessor(
+    writer: &mut Writer<'_>,
+    property: &CoreProperty,
+    found: &Option<CoreFunction>,
+    kind: u8,
+) -> Result<Option<PexFunction>, EmitFault>
+    requires { writer.old.ahead ≡ [] }
+    ensures accessor { IfOk result (λ f. IfSome (option_map plain_function f) (IsShapedFunction writer.new.strings)) }
+    ensures advances { Advances writer.old writer.new }
+{
+    let Some(found) = found else {
+        return Ok(None);
+    };
+    let place = Place {
+        state: b"",
+        name: property.name.as_bytes(),
+        kind,
+    };
+    Ok(Some(function(writer, found, place)?))
+}
+
+fn states(writer: &mut Writer<'_>, states: &[CoreState]) -> Result<Vec<PexState>, EmitFault>
+    requires { writer.old.ahead ≡ [] }
+    ensures states { IfOk result (λ found. AllByRecursion (IsShapedState writer.new.strings) (map plain_state found.items)) }
+    ensures advances { Advances writer.old writer.new }
+{
+    let mut found = Vec::with_capacity(writer.alloc(), states.len())?;
+    for state in states {
+        let written = one_state(writer, state)?;
+        found.push(written)?;
+    }
+    Ok(found)
+}
+
+fn one_state(writer: &mut Writer<'_>, state: &CoreState) -> Result<PexState, EmitFault>
+    requires { writer.old.ahead ≡ [] }
+    ensures state { IfOk result (λ s. IsShapedState writer.new.strings (plain_state s)) }
+    ensures advances { Advances writer.old writer.new }
+{
+    let name = writer.string(state.name.as_bytes())?;
+    let functions = state_functions(writer, state.name.as_bytes(), &state.functions)?;
+    Ok(PexState { name, functions })
+}
+
+fn state_functions(
+    writer: &mut Writer<'_>,
+    state: &[u8],
+    functions: &[CoreFunction],
+) -> Result<Vec<(u16, PexFunction)>, EmitFault>
+    requires { writer.old.ahead ≡ [] }
+    ensures functions { IfOk result (λ found. AllByRecursion (IsShapedNamed writer.new.strings) (map plain_named found.items)) }
+    ensures advances { Advances writer.old writer.new }
+{
+    let mut found = Vec::with_capacity(writer.alloc(), functions.len())?;
+    for each in functions {
+        let name = writer.string(each.name.as_bytes())?;
+        let place = Place {
+            state,
+            name: each.name.as_bytes(),
+            kind: STATE_FUNCTION,
+        };
+        let written = function(writer, each, place)?;
+        found.push((name, written))?;
+    }
+    Ok(found)
+}

@@ -1,0 +1,65 @@
+// The operands of instructions.
+ghost use Rattle.std.specs.Prelude.{◌≡◌, IfOk, map};
+ghost use Rattle.std.specs.List.{AllByRecursion};
+ghost use Rattle.code_emit.specs.Operands.{datum_of, lasting, needs, IsWithin};
+
+use core_tree::CoreType;
+use papy_base::OutOfMemory;
+use pex_values::Datum;
+use std::alloc::Global;
+
+/// Where the value of an expression stands. A name or text is given by its place among the file's strings.
+#[derive(Clone, Copy)]
+pub(crate) enum Operand {
+    NoneValue,
+    Int(i32),
+    Bool(bool),
+    Text(u16),
+    /// What stays as it is while a statement runs: a parameter, a local, `self`, or a name that isn't read.
+    Word(u16),
+    /// What an act may change: a variable of the script, or the name of the state.
+    Variable { name: u16, kind: CoreType },
+    /// A temporary, which is given back with the instruction that reads it. Its type is given as its name is.
+    Temporary { name: u16, kind: u16 },
+}
+
+impl Operand {
+    /// The operand as the file has it.
+    pub(crate) fn datum(self) -> Datum
+        ensures value { result ≡ datum_of self }
+        ensures within { IsWithin result }
+    {
+        match self {
+            Operand::NoneValue => Datum::NoneValue,
+            Operand::Int(number) => Datum::Int(number),
+            Operand::Bool(truth) => Datum::Bool(u8::from(truth)),
+            Operand::Text(text) => Datum::Quoted(text),
+            Operand::Word(name) => Datum::Word(name),
+            Operand::Variable { name, .. } => Datum::Word(name),
+            Operand::Temporary { name, .. } => Datum::Word(name),
+        }
+    }
+
+    /// The operand for an instruction after which it is read again.
+    pub(crate) fn lasting(self) -> Operand
+        ensures value { result ≡ lasting self }
+        ensures strings { needs result ≡ needs self }
+    {
+        match self {
+            Operand::Temporary { name, .. } => Operand::Word(name),
+            other => other,
+        }
+    }
+}
+
+/// The operands as the file has them.
+pub(crate) fn data(alloc: Global, operands: &[Operand]) -> Result<Vec<Datum>, OutOfMemory>
+    ensures values { IfOk result (λ found. found.items ≡ map datum_of operands.now) }
+    ensures within { IfOk result (λ found. AllByRecursion IsWithin found.items) }
+{
+    let mut found = Vec::with_capacity(alloc, operands.len())?;
+    for operand in operands {
+        found.push(operand.datum())?;
+    }
+    Ok(found)
+}

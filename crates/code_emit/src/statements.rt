@@ -1,0 +1,207 @@
+// Statements: for each form a function that appends its code.
+#![tactic(auto, using(crate::proofs::Goes::going))]
+
+ghost use Rattle.std.specs.Prelude.{◌≤◌, IfOk, OnErr};
+ghost use Rattle.code_emit.specs.Writing.{GoesOn, Leaps};
+
+use crate::changes::{
+    change_element, change_property, set_element, set_field, set_local, set_property, set_state,
+};
+use crate::conditions::jump_unless;
+use crate::expressions::{one_deeper, value};
+use crate::faults::EmitFault;
+use crate::opcodes::RETURN;
+use crate::operand::Operand;
+use crate::writer::Writer;
+use core_tree::{Core, CoreLine, CoreStatement};
+use jump_patch::{Ahead, JumpKind, Mark};
+
+/// How many tests an If and its ElseIfs may have. One of an accepted script has no more.
+const MOST_BRANCHES: u16 = 4_000;
+
+/// Appends the code of statements in a row.
+#[cycle(statement)]
+pub(crate) fn block(
+    writer: &mut Writer<'_>,
+    lines: &[CoreLine],
+    depth: u16,
+) -> Result<(), EmitFault>
+    ensures { GoesOn writer.old writer.new }
+{
+    for line in lines {
+        writer.set_line(line.line);
+        statement(writer, &line.form, depth)?;
+    }
+    Ok(())
+}
+
+#[cycle(statement)]
+fn statement(
+    writer: &mut Writer<'_>,
+    statement: &CoreStatement,
+    depth: u16,
+) -> Result<(), EmitFault>
+    ensures { GoesOn writer.old writer.new }
+{
+    let depth = one_deeper(depth)?;
+    match statement {
+        CoreStatement::SetLocal(number, to) => set_local(writer, *number, to, depth),
+        CoreStatement::SetField(number, to) => set_field(writer, *number, to, depth),
+        CoreStatement::SetState(to) => set_state(writer, to, depth),
+        CoreStatement::SetProp(of, name, to) => set_property(writer, of, name, to, depth),
+        CoreStatement::ChangeProp(of, name, kind, operation, right) => {
+            change_property(writer, of, name, *kind, *operation, right, depth)
+        }
+        CoreStatement::SetElement(array, index, to) => {
+            set_element(writer, array, index, to, depth)
+        }
+        CoreStatement::ChangeElement(array, index, kind, operation, right) => {
+            change_element(writer, array, index, *kind, *operation, right, depth)
+        }
+        CoreStatement::Plain(of) => plain(writer, of, depth),
+        CoreStatement::Return(of) => give(writer, of, depth),
+        CoreStatement::If(tests, otherwise) => branches(
+            writer,
+            tests,
+            otherwise,
+            depth,
+            MOST_BRANCHES,
+        ),
+        CoreStatement::While(test, body, end_line) => {
+            repeat(writer, test, body, *end_line, depth)
+        }
+    }
+}
+
+// An expression whose value isn't used.
+fn plain(writer: &mut Writer<'_>, of: &Core, depth: u16) -> Result<(), EmitFault>
+    ensures { GoesOn writer.old writer.new }
+{
+    let of = value(writer, of, depth)?;
+    writer.give_back(of)
+}
+
+fn give(writer: &mut Writer<'_>, of: &Option<Core>, depth: u16) -> Result<(), EmitFault>
+    ensures { GoesOn writer.old writer.new }
+{
+    let of = match of {
+        Some(of) => value(writer, of, depth)?,
+        None => Operand::NoneValue,
+    };
+    writer.act(RETURN, &[of])
+}
+
+// The tests of an If and its ElseIfs, at most `left`, and the statements of its Else.
+#[cycle(statement)]
+#[tactic(auto, using(crate::proofs::Landing::landing, crate::proofs::Goes::going))]
+fn branches(
+    writer: &mut Writer<'_>,
+    tests: &[(u16, Core, Vec<CoreLine>)],
+    otherwise: &[CoreLine],
+    depth: u16,
+    left: u16,
+) -> Result<(), EmitFault>
+    ensures { GoesOn writer.old writer.new }
+{
+    let Some(((line, test, body), rest)) = tests.split_first() else {
+        return block(writer, otherwise, depth);
+    };
+    let left = one_deeper(left)?;
+    writer.set_line(*line);
+    if rest.is_empty() && otherwise.is_empty() {
+        return last_branch(writer, test, body, depth);
+    }
+    let end = branch(writer, test, body, depth)?;
+    let others = branches(writer, rest, otherwise, depth, left);
+    writer.land(end);
+    others
+}
+
+// A test and its statements, behind which the If ends.
+#[cycle(statement)]
+#[tactic(auto, using(crate::proofs::Landing::landing, crate::proofs::Goes::going))]
+fn last_branch(
+    writer: &mut Writer<'_>,
+    test: &Core,
+    body: &[CoreLine],
+    depth: u16,
+) -> Result<(), EmitFault>
+    ensures { GoesOn writer.old writer.new }
+{
+    let over = jump_unless(writer, test, depth)?;
+    let done = block(writer, body, depth);
+    writer.land(over);
+    done
+}
+
+// A test and its statements, and the jump behind them over the branches that follow.
+#[cycle(statement)]
+#[tactic(auto, using(crate::proofs::Landing::landing, crate::proofs::Goes::going))]
+fn branch(
+    writer: &mut Writer<'_>,
+    test: &Core,
+    body: &[CoreLine],
+    depth: u16,
+) -> Result<Ahead, EmitFault>
+    ensures leaps { IfOk result (λ ahead. Leaps writer.old ahead writer.new) }
+    ensures err { OnErr result (GoesOn writer.old writer.new) }
+{
+    let over = jump_unless(writer, test, depth)?;
+    match body_and_exit(writer, body, depth) {
+        Ok(end) => {
+            writer.land(over);
+            Ok(end)
+        }
+        Err(fault) => {
+            writer.land(over);
+            Err(fault)
+        }
+    }
+}
+
+// The statements of a branch, and the jump behind them.
+#[cycle(statement)]
+#[tactic(auto, using(crate::proofs::Goes::leaping))]
+fn body_and_exit(writer: &mut Writer<'_>, body: &[CoreLine], depth: u16) -> Result<Ahead, EmitFault>
+    ensures leaps { IfOk result (λ ahead. Leaps writer.old ahead writer.new) }
+    ensures err { OnErr result (GoesOn writer.old writer.new) }
+{
+    block(writer, body, depth)?;
+    let end = writer.jump_ahead(JumpKind::Always)?;
+    Ok(end)
+}
+
+#[cycle(statement)]
+#[tactic(auto, using(crate::proofs::Landing::landing, crate::proofs::Goes::going))]
+fn repeat(
+    writer: &mut Writer<'_>,
+    test: &Core,
+    body: &[CoreLine],
+    end_line: u16,
+    depth: u16,
+) -> Result<(), EmitFault>
+    ensures { GoesOn writer.old writer.new }
+{
+    let start = writer.mark();
+    let over = jump_unless(writer, test, depth)?;
+    let done = body_and_back(writer, body, start, end_line, depth);
+    writer.land(over);
+    done
+}
+
+// The statements of a While, and the jump back to its test.
+#[cycle(statement)]
+fn body_and_back(
+    writer: &mut Writer<'_>,
+    body: &[CoreLine],
+    start: Mark,
+    end_line: u16,
+    depth: u16,
+) -> Result<(), EmitFault>
+    requires { start ≤ writer.old.count }
+    ensures { GoesOn writer.old writer.new }
+{
+    block(writer, body, depth)?;
+    writer.set_line(end_line);
+    writer.jump_back(start)
+}

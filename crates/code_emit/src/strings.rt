@@ -1,0 +1,75 @@
+// The strings of a file, each once, in order of first use.
+ghost use Rattle.std.specs.Prelude.{◌≡◌, ◌≤◌, [], length, map, IfOk, OnOk};
+ghost use Rattle.pex_values.specs.Shape.{IsReference};
+ghost use Rattle.code_emit.specs.Strings.{with_string};
+
+use crate::faults::EmitFault;
+use indexmap::IndexSet;
+use papy_base::{OutOfMemory, Text};
+use std::alloc::Global;
+use std::marker::Model;
+
+/// The most strings of a file.
+const MOST_STRINGS: usize = 65_535;
+
+/// The strings so far. Contracts see them as a list, in which none stands twice.
+#[derive(Drop)]
+pub(crate) struct Strings {
+    alloc: Global,
+    numbers: IndexSet<Vec<u8>>,
+}
+
+impl Model for Strings {
+    ghost use Rattle.std.specs.Prelude.{ℕ, ◌≤◌, List, length, map};
+
+    ghost Value = { List (List ℕ) };
+
+    ghost view = { λ s. map (λ k. k.items) s.numbers.keys };
+
+    ghost invariant = { λ s. length s.numbers.keys ≤ 65535 };
+}
+
+impl Strings {
+    /// No strings.
+    pub(crate) fn new(alloc: Global) -> Strings
+        ensures { result ≡ [] }
+    {
+        Strings {
+            alloc,
+            numbers: IndexSet::new(alloc),
+        }
+    }
+
+    /// The place of this string, which is added where it isn't there.
+    pub(crate) fn place_of(&mut self, string: &[u8]) -> Result<u16, EmitFault>
+        ensures added { OnOk result (self.new ≡ with_string self.old string.now) }
+        ensures place { IfOk result (IsReference (length self.new)) }
+        ensures grows { length self.old ≤ length self.new }
+    {
+        if let Some(place) = self.numbers.get_index_of(string) {
+            return Ok(place as u16);
+        }
+        if self.numbers.len() >= MOST_STRINGS {
+            return Err(EmitFault::TooLarge);
+        }
+        let inserted = self.numbers.insert_full(string.to_vec(self.alloc)?)?;
+        Ok(inserted.0 as u16)
+    }
+
+    /// The strings as texts, in their order.
+    pub(crate) fn texts(&self) -> Result<Vec<Text>, OutOfMemory>
+        ensures { IfOk result (λ texts. texts.items ≡ self.now) }
+    {
+        texts_of(self.alloc, self.numbers.as_slice())
+    }
+}
+
+fn texts_of(alloc: Global, strings: &[Vec<u8>]) -> Result<Vec<Text>, OutOfMemory>
+    ensures { IfOk result (λ texts. texts.items ≡ map (λ string. string.items) strings.now) }
+{
+    let mut texts = Vec::with_capacity(alloc, strings.len())?;
+    for string in strings {
+        texts.push(Text::try_from_bytes(alloc, string.as_slice())?)?;
+    }
+    Ok(texts)
+}
