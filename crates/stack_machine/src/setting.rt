@@ -1,0 +1,118 @@
+//! What no turn changes: the loaded scripts, the scene and what was resolved at the start.
+
+use crate::frame::{Body, Running};
+use crate::plan::Plan;
+use core_tree::{CoreType, Scene};
+use pex_verify::{Loaded, LoadedFunction, MethodPlace, Operand, PropertyPlace};
+
+/// What no turn changes.
+#[derive(Drop)]
+pub struct Setting {
+    pub loaded: Loaded,
+    pub scene: Scene,
+    pub plan: Plan,
+}
+
+impl Setting {
+    /// The function of a body.
+    pub fn function(&self, body: Body) -> Option<&LoadedFunction> {
+        match body {
+            Body::Method(place) => self.method(place),
+            Body::Reader(place) => self.property(place)?.read.as_ref(),
+            Body::Writer(place) => self.property(place)?.write.as_ref(),
+        }
+    }
+
+    /// The function at a place.
+    pub fn method(&self, at: MethodPlace) -> Option<&LoadedFunction> {
+        if usize::from(at.script) >= self.loaded.outline().scripts.len() {
+            return None;
+        }
+        let (_, functions) = self.loaded.script(at.script).states.get(at.state)?;
+        functions.get(at.place)
+    }
+
+    /// The property at a place.
+    pub fn property(&self, at: PropertyPlace) -> Option<&pex_verify::LoadedProperty> {
+        if usize::from(at.script) >= self.loaded.outline().scripts.len() {
+            return None;
+        }
+        self.loaded.script(at.script).properties.get(at.place)
+    }
+
+    /// The number of the script above a script.
+    pub fn parent_of(&self, script: u16) -> Option<u16> {
+        self.loaded
+            .outline()
+            .scripts
+            .get(usize::from(script))?
+            .parent
+    }
+
+    /// The number of an instance's script.
+    pub fn script_of(&self, instance: u16) -> Option<u16> {
+        Some(self.scene.instances.get(usize::from(instance))?.script)
+    }
+
+    /// Whether the second script is the first one or stands above it.
+    pub fn is_child(&self, child: u16, parent: u16) -> bool {
+        let mut script = child;
+        for _ in 0..self.loaded.outline().scripts.len() {
+            if script == parent {
+                return true;
+            }
+            let Some(above) = self.parent_of(script) else {
+                return false;
+            };
+            script = above;
+        }
+        false
+    }
+
+    /// The type of what is stored in an operand, none where what is stored is dropped.
+    pub fn type_of(
+        &self,
+        running: &Running,
+        function: &LoadedFunction,
+        operand: &Operand,
+    ) -> Option<CoreType> {
+        match operand {
+            Operand::Slot(number) => slot_type(function, usize::from(*number)),
+            Operand::Variable(number) => {
+                let script = usize::from(running.body.script());
+                let outline = self.loaded.outline().scripts.get(script)?;
+                Some(outline.variables.get(usize::from(*number))?.kind)
+            }
+            Operand::State => Some(CoreType::Text),
+            Operand::Instance => Some(CoreType::Script(running.body.script())),
+            _ => None,
+        }
+    }
+}
+
+// The type of a parameter or local.
+fn slot_type(function: &LoadedFunction, number: usize) -> Option<CoreType> {
+    if let Some((_, kind)) = function.parameters.get(number) {
+        return Some(*kind);
+    }
+    let local = number.checked_sub(function.parameters.len())?;
+    let (_, kind) = function.locals.get(local)?;
+    *kind
+}
+
+impl Setting {
+    /// The script and the variable of an instance's Auto property of this number, in the order of the report.
+    pub fn property_place(&self, instance: u16, property: u32) -> Option<(u16, u16)> {
+        let mut script = self.script_of(instance)?;
+        for _ in 0..self.loaded.outline().scripts.len() {
+            let above = self.plan.properties_above(script)?;
+            if property >= above {
+                let place = (property - above) as usize;
+                let outline = self.loaded.outline().scripts.get(usize::from(script))?;
+                return Some((script, outline.properties.get(place)?.variable));
+            }
+            script = self.parent_of(script)?;
+        }
+        None
+    }
+}

@@ -1,0 +1,67 @@
+//! The frames of one stack.
+
+use crate::frame::Frame;
+use papy_base::OutOfMemory;
+use std::alloc::Global;
+
+/// The most frames of one stack.
+const FRAME_LIMIT: usize = 128;
+
+/// The frames of one stack, innermost first.
+#[derive(Debug, Drop)]
+pub struct Stack {
+    // Innermost last.
+    frames: Vec<Frame>,
+}
+
+impl Stack {
+    /// A stack whose first call is this one.
+    pub fn starting(alloc: Global, first: Frame) -> Result<Stack, OutOfMemory> {
+        let mut frames = Vec::new(alloc);
+        frames.push(first)?;
+        Ok(Stack { frames })
+    }
+
+    /// Whether the first call has returned.
+    pub fn is_done(&self) -> bool {
+        self.frames.is_empty()
+    }
+
+    /// Whether a further frame may be pushed.
+    pub fn has_room(&self) -> bool {
+        self.frames.len() < FRAME_LIMIT
+    }
+
+    /// The innermost frame.
+    pub fn innermost(&self) -> Option<&Frame> {
+        self.frames.last()
+    }
+
+    /// The innermost frame, to be changed.
+    pub fn innermost_mut(&mut self) -> Option<&mut Frame> {
+        self.frames.last_mut()
+    }
+
+    /// Makes this frame the innermost one.
+    pub fn push(&mut self, frame: Frame) -> Result<(), OutOfMemory> {
+        self.frames.push(frame)?;
+        Ok(())
+    }
+
+    /// Takes the innermost frame away.
+    pub fn pop(&mut self) -> Option<Frame> {
+        self.frames.pop()
+    }
+
+    /// The instance of the innermost frame.
+    pub fn instance(&self) -> Option<u16> {
+        self.frames.last()?.instance()
+    }
+
+    /// Hands the innermost frame, which is a running one, the reply to its act.
+    pub fn reply(&mut self, value: core_tree::Value) {
+        if let Some(Frame::Running(running)) = self.frames.last_mut() {
+            running.reply = Some(value);
+        }
+    }
+}
