@@ -25,3 +25,6 @@ mod values;
 
 pub use machine::Machine;
 pub use status::{Status, TurnEnd, TurnFault};
+
+#[cfg(test)]
+mod tests;

@@ -1,0 +1,7 @@
+//! Tests of the machine, on sets that are written as lines and scenes that are written as files have them.
+#![tactic(auto)]
+
+#[cfg(test)]
+mod tests;
+#[cfg(test)]
+mod worlds;

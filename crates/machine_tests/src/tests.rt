@@ -1,0 +1,105 @@
+use crate::worlds::{run, turn, world_of};
+use core_tree::Value;
+use stack_machine::{Status, TurnEnd};
+use std::alloc::Global;
+use std::test::Fail;
+
+// A counter whose `Add` traces before and after it adds.
+static COUNTER: &[u8] = b"object Counter - -/\
+    variable ::Count_var Int 0/property Count Int 7 ::Count_var/state -/\
+    function Add None 0/param n Int/local ::none None/\
+    callstatic Debug Trace ::none + \"begin/\
+    iadd ::Count_var ::Count_var n/\
+    callstatic Debug Trace ::none + \"end/\
+    return none";
+
+static TWO_ADD: &[u8] = b"{\"version\":1,\"instances\":[{\"name\":\"a\",\"script\":\"Counter\"}],\
+    \"calls\":[{\"turn\":0,\"instance\":\"a\",\"function\":\"Add\",\"arguments\":[2]},\
+    {\"turn\":0,\"instance\":\"a\",\"function\":\"Add\",\"arguments\":[3]}],\
+    \"order\":\"round\",\"turns\":100}";
+
+fn is_int(value: &Value, wanted: i32) -> bool {
+    match value {
+        Value::Int(number) => *number == wanted,
+        _ => false,
+    }
+}
+
+#[test]
+fn two_stacks_take_turns_at_a_lock(rt: HostRuntime) -> Result<(), Fail> {
+    let alloc: Global = rt.alloc();
+    let mut world = world_of(alloc, COUNTER, TWO_ADD)?;
+    assert_eq!(rt; turn(&mut world).ok(), Some(TurnEnd::Ran(0)));
+    assert_eq!(rt; world.machine.stack_count(), 2);
+    assert_eq!(rt; world.machine.status_of(0), Status::Waits(0));
+    assert_eq!(rt; world.machine.status_of(1), Status::Ready);
+    assert!(rt; run(&mut world).is_ok());
+    assert_eq!(rt; world.sink.bytes(), b"#0 begin\n#1 begin\n#0 end\n#1 end\n".as_slice());
+    assert_eq!(rt; world.machine.turns_done(), 6);
+    assert_eq!(rt; world.machine.status_of(1), Status::Done);
+    let count = world.machine.property_at(0, 0)?;
+    assert!(rt; is_int(&count, 5));
+    Ok(())
+}
+
+// A script whose `Fault` meets three faults and goes on.
+static FAULTS: &[u8] = b"object Other - -/variable ::Level_var Int 0/property Level Int 7 ::Level_var/state -|\
+    object Faulty - -/state -/\
+    function Fault None 0/param o Other/local ::t Int/local ::a Int[]/local ::none None/local s String/\
+    callmethod GetState o s/\
+    idiv ::t 7 0/\
+    array_create ::a 3/\
+    array_getelement ::t ::a 3/\
+    propget Level o ::t/\
+    cast s ::t/\
+    callstatic Debug Trace ::none + s/\
+    return none";
+
+static ONE_FAULT: &[u8] = b"{\"version\":1,\"instances\":[{\"name\":\"f\",\"script\":\"Faulty\"}],\
+    \"calls\":[{\"turn\":0,\"instance\":\"f\",\"function\":\"Fault\",\"arguments\":[null]}],\
+    \"order\":\"round\",\"turns\":100}";
+
+#[test]
+fn a_fault_prints_its_line_and_the_stack_goes_on(rt: HostRuntime) -> Result<(), Fail> {
+    let mut world = world_of(rt.alloc(), FAULTS, ONE_FAULT)?;
+    assert!(rt; run(&mut world).is_ok());
+    let wanted = b"!0 Faulty.Fault:0 NoneCall\n!0 Faulty.Fault:0 DivideZero\n\
+        !0 Faulty.Fault:0 IndexRange\n!0 Faulty.Fault:0 NoneProperty\n#0 0\n";
+    assert_eq!(rt; world.sink.bytes(), wanted.as_slice());
+    assert_eq!(rt; world.machine.turns_done(), 2);
+    Ok(())
+}
+
+// A worker that raises a property of another instance, with a loop and a sleep.
+static WORKER: &[u8] = b"object Store - -/variable ::Sum_var Int 0/property Sum Int 7 ::Sum_var/state -|\
+    object Worker - -/variable ::Goal_var Store none/property Goal Store 7 ::Goal_var/state -/\
+    function Work None 0/local ::n Int/local ::t Int/local ::b Bool/local ::none None/\
+    cmp_lt ::b ::n 3/\
+    jmpf ::b 6/\
+    propget Sum ::Goal_var ::t/\
+    iadd ::t ::t 1/\
+    propset Sum ::Goal_var ::t/\
+    iadd ::n ::n 1/\
+    jmp -6/\
+    callstatic Scene Sleep ::none + 2/\
+    return none";
+
+static ONE_WORKER: &[u8] = b"{\"version\":1,\"instances\":[{\"name\":\"s\",\"script\":\"Store\"},\
+    {\"name\":\"w\",\"script\":\"Worker\",\"set\":{\"Goal\":{\"instance\":\"s\"}}}],\
+    \"calls\":[{\"turn\":1,\"instance\":\"w\",\"function\":\"Work\"}],\
+    \"order\":\"round\",\"turns\":100}";
+
+#[test]
+fn a_property_of_another_instance_is_a_call(rt: HostRuntime) -> Result<(), Fail> {
+    let mut world = world_of(rt.alloc(), WORKER, ONE_WORKER)?;
+    assert_eq!(rt; turn(&mut world).ok(), Some(TurnEnd::Idle));
+    assert_eq!(rt; turn(&mut world).ok(), Some(TurnEnd::Ran(0)));
+    assert_eq!(rt; world.machine.owner_of(1), None);
+    assert!(rt; run(&mut world).is_ok());
+    let sum = world.machine.property_at(0, 0)?;
+    assert!(rt; is_int(&sum, 3));
+    // One idle turn, in each round of the loop the call of Get, its entry, the call of Set, its entry and the pass,
+    // then the call of Sleep, two turns asleep, and the return.
+    assert_eq!(rt; world.machine.turns_done(), 20);
+    Ok(())
+}
