@@ -61,11 +61,7 @@ impl Threads {
 
     /// Returns a value from a frame of this instance, which was popped, to its caller.
     pub fn return_from(&mut self, stack: u16, instance: Option<u16>, value: Value) {
-        let is_done = match self.stacks.get(usize::from(stack)) {
-            Some(found) => found.is_done(),
-            None => true,
-        };
-        if is_done {
+        if self.is_done(stack) {
             self.finish(stack);
             return;
         }

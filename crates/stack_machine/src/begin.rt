@@ -16,7 +16,10 @@ pub fn begin(
     turn: u32,
 ) -> Result<(), OutOfMemory> {
     let calls = &setting.plan.calls;
-    while let Some(planned) = calls.get(usize::from(threads.count())) {
+    for _ in 0..calls.len() {
+        let Some(planned) = calls.get(usize::from(threads.count())) else {
+            break;
+        };
         if planned.turn > turn {
             break;
         }
@@ -56,7 +59,7 @@ fn copies(alloc: Global, values: &[Value]) -> Result<Vec<Value>, OutOfMemory> {
 /// The stack that gets this turn, none where the turn is idle.
 pub fn choose(scene: &Scene, threads: &Threads, turn: u32, last: Option<u16>) -> Option<u16> {
     match &scene.order {
-        TurnOrder::Round => threads.locks.ready_next(last),
+        TurnOrder::Round => threads.ready_after(last),
         TurnOrder::List(stacks) => {
             let stack = *stacks.get(turn as usize)?;
             if stack < threads.count() && threads.is_ready(stack) {

@@ -1,5 +1,9 @@
 //! The machine.
 
+ghost use Rattle.std.specs.Prelude.{◌≡◌, ◌<◌, Ok, Err, None, IfOk, IfSome, map, vec_len};
+ghost use Rattle.latent_natives.specs.Devices.{SameKinds};
+ghost use Rattle.stack_machine.specs.Machine.{turns_after, fault_after, CountsTurn, AppendsSome};
+
 use crate::begin::{begin, choose};
 use crate::entry::{Found, look_up, open};
 use crate::frame::{Call, Frame, Way};
@@ -16,8 +20,9 @@ use instance_store::Arrays;
 use latent_natives::{Device, load_device};
 use papy_base::{OutOfMemory, Text};
 use papy_io::Sink;
-use pex_verify::Loaded;
+use pex_verify::{Loaded, MethodPlace};
 use std::alloc::Global;
+use std::marker::Model;
 
 /// A world of loaded scripts that a scene set up, which runs in turns.
 #[derive(Drop)]
@@ -34,6 +39,14 @@ pub struct Machine {
     fault: Option<TurnFault>,
 }
 
+impl Model for Machine {
+    ghost use Rattle.stack_machine.specs.Machine.{MachineState};
+
+    ghost Value = { MachineState };
+
+    ghost view = { λ m. record { outline = m.setting.loaded.outline; scene = m.setting.scene; turns = m.turns; started = m.threads.started; fault = m.fault } };
+}
+
 impl Machine {
     /// The world of a scene that is bound to the loaded outline and to this number of devices, before its first
     /// turn. Each device is loaded with its tape, or with no cells, from 0 on.
@@ -47,7 +60,11 @@ impl Machine {
         loaded: Loaded,
         scene: Scene,
         devices: &mut Vec<Box<dyn Device>>,
-    ) -> Result<Machine, OutOfMemory> {
+    ) -> Result<Machine, OutOfMemory>
+        ensures fixed { IfOk result (λ machine. (machine.outline ≡ loaded.outline) × (machine.scene ≡ scene)) }
+        ensures fresh { IfOk result (λ machine. (machine.turns ≡ 0) × (machine.started ≡ 0) × (machine.fault ≡ None)) }
+        ensures kinds { SameKinds (map (λ d. device_state d) devices.old.items) (map (λ d. device_state d) devices.new.items) }
+    {
         let plan = Plan::of(alloc, &loaded, &scene)?;
         let store = Store::create(alloc, &loaded, loaded.outline(), &scene)?;
         let (instances, stacks) = (scene.instances.len() as u16, scene.calls.len() as u16);
@@ -82,7 +99,20 @@ impl Machine {
         &mut self,
         sink: &mut S,
         devices: &mut Vec<Box<dyn Device>>,
-    ) -> Result<TurnEnd, TurnFault> {
+    ) -> Result<TurnEnd, TurnFault>
+        ensures fixed { (self.new.outline ≡ self.old.outline) × (self.new.scene ≡ self.old.scene) }
+        ensures turns { self.new.turns ≡ turns_after result self.old.turns }
+        ensures fault { self.new.fault ≡ fault_after result self.old.fault }
+        ensures ended { result ≡ Ok TurnEnd.Ended → self.new ≡ self.old }
+        ensures count { self.old.fault ≡ None → CountsTurn result (S.faults sink.old) (S.faults sink.new) }
+        ensures appended { AppendsSome (S.written sink.old) (S.written sink.new) }
+        ensures kinds { SameKinds (map (λ d. device_state d) devices.old.items) (map (λ d. device_state d) devices.new.items) }
+
+        // After a fault.
+        ensures same_fault { IfSome self.old.fault (λ fault. result ≡ Err fault) }
+        ensures nothing_written { IfSome self.old.fault (λ fault. (S.written sink.new ≡ S.written sink.old) × (S.faults sink.new ≡ S.faults sink.old)) }
+        ensures devices_kept { IfSome self.old.fault (λ fault. map (λ d. device_state d) devices.new.items ≡ map (λ d. device_state d) devices.old.items) }
+    {
         if let Some(fault) = self.fault {
             return Err(fault);
         }
@@ -157,25 +187,35 @@ impl Machine {
                 Ok(false)
             }
             Some(Found::Native(native)) => {
-                let performed =
-                    perform(self.alloc, &self.setting, hands, native, call.arguments.as_slice())?;
-                match performed.rest {
-                    Some(latency) => {
-                        self.threads
-                            .rest_after_native(hands.stack, self.turns, performed.reply, latency)
-                    }
-                    None => {
-                        self.threads
-                            .return_from(hands.stack, call.instance, performed.reply)
-                    }
-                }
+                self.enter_native(hands, &call, native)?;
                 Ok(false)
             }
             None => {
-                self.threads.return_from(hands.stack, call.instance, Value::NoneValue);
+                self.threads
+                    .return_from(hands.stack, call.instance, Value::NoneValue);
                 Ok(false)
             }
         }
+    }
+
+    // A native method: it is performed, and its frame, which was popped, has ended.
+    fn enter_native<S: Sink>(
+        &mut self,
+        hands: &mut Hands<'_, S>,
+        call: &Call,
+        native: MethodPlace,
+    ) -> Result<(), TurnFault> {
+        let arguments = call.arguments.as_slice();
+        let performed = perform(self.alloc, &self.setting, hands, native, arguments)?;
+        let (stack, reply) = (hands.stack, performed.reply);
+        match performed.rest {
+            Some(latency) => {
+                self.threads
+                    .rest_after_native(stack, self.turns, reply, latency);
+            }
+            None => self.threads.return_from(stack, call.instance, reply),
+        }
+        Ok(())
     }
 
     // An Auto property: its variable is read or written, and the call returns.
@@ -207,10 +247,7 @@ impl Machine {
         hands: &mut Hands<'_, S>,
     ) -> Result<Option<Ending>, TurnFault> {
         let has_room = self.threads.has_room(hands.stack);
-        let Some(stack) = self.threads.stacks.get_mut(usize::from(hands.stack)) else {
-            return Ok(None);
-        };
-        let Some(Frame::Running(running)) = stack.innermost_mut() else {
+        let Some(Frame::Running(running)) = self.threads.innermost_mut(hands.stack) else {
             return Ok(None);
         };
         let Some(function) = self.setting.function(running.body) else {
@@ -231,48 +268,51 @@ impl Machine {
 
 impl Machine {
     /// The number of stacks that have started.
-    pub fn stack_count(&self) -> u16 {
+    pub fn stack_count(&self) -> u16
+        ensures { result ≡ self.now.started }
+    {
         self.threads.count()
     }
 
     /// The number of turns that were done.
-    pub fn turns_done(&self) -> u32 {
+    pub fn turns_done(&self) -> u32
+        ensures { result ≡ self.now.turns }
+    {
         self.turns
     }
 
     /// The scene of the start.
-    pub fn scene(&self) -> &Scene {
+    pub fn scene(&self) -> &Scene
+        ensures { result.now ≡ self.now.scene }
+    {
         &self.setting.scene
     }
 
     /// The outline of the loaded scripts.
-    pub fn outline(&self) -> &Outline {
+    pub fn outline(&self) -> &Outline
+        ensures { result.now.scripts.items ≡ self.now.outline }
+    {
         self.setting.loaded.outline()
     }
 
     /// What a stack that has started is doing.
-    pub fn status_of(&self, stack: u16) -> Status {
-        if self.threads.stacks[usize::from(stack)].is_done() {
-            return Status::Done;
-        }
-        if let Some(until) = self.threads.sleepers.until(stack) {
-            return Status::Asleep(until);
-        }
-        match self.threads.locks.waits_for(stack) {
-            Some(instance) if !self.threads.locks.may_take(stack, instance) => {
-                Status::Waits(instance)
-            }
-            _ => Status::Ready,
-        }
+    pub fn status_of(&self, stack: u16) -> Status
+        requires { stack < self.now.started }
+    {
+        self.threads.status_of(stack)
     }
 
     /// The stack that holds an instance.
-    pub fn owner_of(&self, instance: u16) -> Option<u16> {
-        self.threads.locks.owner_of(instance)
+    pub fn owner_of(&self, instance: u16) -> Option<u16>
+        requires { instance < vec_len self.now.scene.instances }
+    {
+        self.threads.owner_of(instance)
     }
 
     /// The text of an instance's state.
-    pub fn state_of(&self, instance: u16) -> &Text {
+    pub fn state_of(&self, instance: u16) -> &Text
+        requires { instance < vec_len self.now.scene.instances }
+    {
         self.store.instances.state_of(instance)
     }
 

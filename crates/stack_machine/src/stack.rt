@@ -1,6 +1,7 @@
 //! The frames of one stack.
 
 use crate::frame::Frame;
+use core_tree::Value;
 use papy_base::OutOfMemory;
 use std::alloc::Global;
 
@@ -59,7 +60,7 @@ impl Stack {
     }
 
     /// Hands the innermost frame, which is a running one, the reply to its act.
-    pub fn reply(&mut self, value: core_tree::Value) {
+    pub fn reply(&mut self, value: Value) {
         if let Some(Frame::Running(running)) = self.frames.last_mut() {
             running.reply = Some(value);
         }

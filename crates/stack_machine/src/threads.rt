@@ -2,11 +2,13 @@
 
 use crate::frame::Frame;
 use crate::stack::Stack;
+use crate::status::Status;
 use core_tree::Value;
 use latent_natives::Sleepers;
 use lock_queue::Locks;
 use papy_base::OutOfMemory;
 use std::alloc::Global;
+use std::marker::Model;
 
 /// The most frames of all stacks beyond the first of each.
 const ALL_FRAMES: u16 = 512;
@@ -14,9 +16,12 @@ const ALL_FRAMES: u16 = 512;
 /// The stacks that have started, numbered in order of start.
 #[derive(Debug, Drop)]
 pub struct Threads {
-    pub stacks: Vec<Stack>,
-    pub locks: Locks,
-    pub sleepers: Sleepers,
+    stacks: Vec<Stack>,
+    locks: Locks,
+    sleepers: Sleepers,
+    // How many instances there are, and for how many stacks there is room.
+    instances: u16,
+    room: u16,
     // How many stacks sleep, and a turn before which none is due.
     sleeping: u16,
     earliest: u32,
@@ -26,6 +31,17 @@ pub struct Threads {
     done: u16,
 }
 
+impl Model for Threads {
+    ghost use Rattle.std.specs.Prelude.{◌≡◌, ◌≤◌, ◌<◌, length, vec_len};
+    ghost use Rattle.stack_machine.specs.Threads.{ThreadTable};
+
+    ghost Value = { ThreadTable };
+
+    ghost view = { λ t. record { started = vec_len t.stacks; locks = t.locks; sleepers = t.sleepers; instances = t.instances; room = t.room } };
+
+    ghost invariant = { λ t. (vec_len t.stacks ≤ t.room) × (t.room < 65536) × (t.locks.instances ≡ t.instances) × (length t.locks.seats ≡ t.room) × (length t.sleepers ≡ t.room) };
+}
+
 impl Threads {
     /// No stacks, with room for so many.
     pub fn with_room(alloc: Global, instances: u16, stacks: u16) -> Result<Threads, OutOfMemory> {
@@ -33,6 +49,8 @@ impl Threads {
             stacks: Vec::with_capacity(alloc, usize::from(stacks))?,
             locks: Locks::with_room(alloc, instances, stacks)?,
             sleepers: Sleepers::with_room(alloc, stacks)?,
+            instances,
+            room: stacks,
             sleeping: 0,
             earliest: u32::MAX,
             extra: 0,
@@ -50,9 +68,18 @@ impl Threads {
         self.done == self.count()
     }
 
-    /// Starts a stack, which waits for the instance of its first call.
+    /// The innermost frame of a stack, to be changed.
+    pub fn innermost_mut(&mut self, stack: u16) -> Option<&mut Frame> {
+        self.stacks.get_mut(usize::from(stack))?.innermost_mut()
+    }
+
+    /// Starts a stack, which waits for the instance of its first call. Where there is no room for one more it
+    /// starts none.
     pub fn start(&mut self, alloc: Global, first: Frame) -> Result<(), OutOfMemory> {
         let stack = self.count();
+        if stack >= self.room {
+            return Ok(());
+        }
         self.stacks.push(Stack::starting(alloc, first)?)?;
         self.go_to_wait(stack);
         Ok(())
@@ -107,15 +134,65 @@ impl Threads {
         }
     }
 
+    /// The stack that gets the next turn of a round.
+    pub fn ready_after(&self, last: Option<u16>) -> Option<u16> {
+        match last {
+            Some(stack) if stack >= self.room => None,
+            _ => self.locks.ready_next(last),
+        }
+    }
+
     /// Whether a stack may get a turn.
     pub fn is_ready(&self, stack: u16) -> bool {
-        self.locks.ready_next(stack.checked_sub(1)) == Some(stack)
+        stack < self.room && self.ready_after(stack.checked_sub(1)) == Some(stack)
+    }
+
+    /// The instance that a stack waits for.
+    pub fn waits_for(&self, stack: u16) -> Option<u16> {
+        if stack >= self.room {
+            return None;
+        }
+        self.locks.waits_for(stack)
+    }
+
+    /// The turn at which a stack that sleeps is due.
+    pub fn due_at(&self, stack: u16) -> Option<u32> {
+        if stack >= self.room {
+            return None;
+        }
+        self.sleepers.until(stack)
+    }
+
+    /// The stack that holds an instance.
+    pub fn owner_of(&self, instance: u16) -> Option<u16> {
+        if instance >= self.instances {
+            return None;
+        }
+        self.locks.owner_of(instance)
+    }
+
+    /// What a stack that has started is doing.
+    pub fn status_of(&self, stack: u16) -> Status {
+        match self.stacks.get(usize::from(stack)) {
+            Some(found) if !found.is_done() => {}
+            _ => return Status::Done,
+        }
+        if let Some(until) = self.due_at(stack) {
+            return Status::Asleep(until);
+        }
+        if self.is_ready(stack) {
+            return Status::Ready;
+        }
+        match self.waits_for(stack) {
+            Some(instance) => Status::Waits(instance),
+            None => Status::Ready,
+        }
     }
 
     /// Gives a stack that waits and may take its instance that instance.
     pub fn take(&mut self, stack: u16) {
-        if let Some(instance) = self.locks.waits_for(stack) {
-            if self.locks.may_take(stack, instance) {
+        if let Some(instance) = self.waits_for(stack) {
+            if instance < self.instances && self.locks.may_take(stack, instance) {
                 self.locks.take(stack, instance);
             }
         }
@@ -123,30 +200,41 @@ impl Threads {
 
     /// Releases what a stack holds, or lets a free one rest.
     pub fn let_go(&mut self, stack: u16) {
+        if stack >= self.room || self.locks.waits_for(stack).is_some() {
+            return;
+        }
         if self.locks.held_by(stack).is_some() {
             self.locks.release(stack);
-        } else if self.runs_free(stack) {
+        } else if self.is_ready(stack) {
             self.locks.rest(stack);
         }
     }
 
-    // A ready stack that neither holds nor waits.
-    fn runs_free(&self, stack: u16) -> bool {
-        self.locks.waits_for(stack).is_none() && self.is_ready(stack)
-    }
-
     /// Lets a resting stack wait for the instance of its innermost frame, or run free.
     pub fn go_to_wait(&mut self, stack: u16) {
-        match self.instance_of(stack) {
-            Some(instance) => self.locks.join(stack, instance),
-            None => self.locks.run_free(stack),
+        if stack >= self.room || !self.is_resting(stack) {
+            return;
         }
+        match self.instance_of(stack) {
+            Some(instance) if instance < self.instances => self.locks.join(stack, instance),
+            _ => self.locks.run_free(stack),
+        }
+    }
+
+    // It holds nothing, waits for nothing and doesn't run free.
+    fn is_resting(&self, stack: u16) -> bool {
+        self.locks.held_by(stack).is_none()
+            && self.locks.waits_for(stack).is_none()
+            && !self.is_ready(stack)
     }
 
     /// Lets a resting stack sleep for so many turns, or with 0 wait at once.
     pub fn rest(&mut self, stack: u16, turn: u32, latency: u32) {
         if latency == 0 {
             self.go_to_wait(stack);
+            return;
+        }
+        if stack >= self.room || self.sleepers.until(stack).is_some() {
             return;
         }
         let until = turn.saturating_add(1).saturating_add(latency);
@@ -169,6 +257,14 @@ impl Threads {
         }
         if self.sleeping == 0 {
             self.earliest = u32::MAX;
+        }
+    }
+
+    /// Whether a stack's first call has returned.
+    pub fn is_done(&self, stack: u16) -> bool {
+        match self.stacks.get(usize::from(stack)) {
+            Some(found) => found.is_done(),
+            None => true,
         }
     }
 
