@@ -1,6 +1,7 @@
 use crate::worlds::{run, turn, world_of};
 use core_tree::Value;
-use stack_machine::{Status, TurnEnd};
+use papy_io::MemorySink;
+use stack_machine::{Status, TurnEnd, TurnFault};
 use std::alloc::Global;
 use std::test::Fail;
 
@@ -101,5 +102,67 @@ fn a_property_of_another_instance_is_a_call(rt: HostRuntime) -> Result<(), Fail>
     // One idle turn, in each round of the loop the call of Get, its entry, the call of Set, its entry and the pass,
     // then the call of Sleep, two turns asleep, and the return.
     assert_eq!(rt; world.machine.turns_done(), 20);
+    Ok(())
+}
+
+// A script that goes four times through a loop.
+static LOOPER: &[u8] = b"object Looper - -/state -/\
+    function Spin None 0/local ::n Int/local ::b Bool/\
+    cmp_lt ::b ::n 4/\
+    jmpf ::b 3/\
+    iadd ::n ::n 1/\
+    jmp -3/\
+    return none";
+
+static TWO_PASSES: &[u8] = b"{\"version\":2,\"instances\":[{\"name\":\"l\",\"script\":\"Looper\"}],\
+    \"calls\":[{\"turn\":0,\"instance\":\"l\",\"function\":\"Spin\"}],\
+    \"order\":[0,5,0],\"turns\":3,\"quantum\":2}";
+
+#[test]
+fn a_turn_ends_with_its_last_loop_pass(rt: HostRuntime) -> Result<(), Fail> {
+    let mut world = world_of(rt.alloc(), LOOPER, TWO_PASSES)?;
+    assert_eq!(rt; turn(&mut world).ok(), Some(TurnEnd::Ran(0)));
+    assert_eq!(rt; turn(&mut world).ok(), Some(TurnEnd::Idle));
+    assert_eq!(rt; turn(&mut world).ok(), Some(TurnEnd::Ran(0)));
+    assert_eq!(rt; turn(&mut world).ok(), Some(TurnEnd::Ended));
+    assert_eq!(rt; world.machine.status_of(0), Status::Ready);
+    assert_eq!(rt; world.machine.owner_of(0), Some(0));
+    assert_eq!(rt; world.machine.turns_done(), 3);
+    Ok(())
+}
+
+// A script that sleeps.
+static SLEEPER: &[u8] = b"object Sleeper - -/state -/\
+    function Rest None 0/local ::none None/\
+    callstatic Scene Sleep ::none + 5/\
+    return none";
+
+static ONE_SLEEPER: &[u8] = b"{\"version\":1,\"instances\":[{\"name\":\"z\",\"script\":\"Sleeper\"}],\
+    \"calls\":[{\"turn\":0,\"instance\":\"z\",\"function\":\"Rest\"}],\
+    \"order\":\"round\",\"turns\":100}";
+
+#[test]
+fn a_sleeper_is_due_after_its_latency(rt: HostRuntime) -> Result<(), Fail> {
+    let mut world = world_of(rt.alloc(), SLEEPER, ONE_SLEEPER)?;
+    assert_eq!(rt; turn(&mut world).ok(), Some(TurnEnd::Ran(0)));
+    assert_eq!(rt; world.machine.status_of(0), Status::Asleep(6));
+    assert_eq!(rt; turn(&mut world).ok(), Some(TurnEnd::Idle));
+    assert!(rt; run(&mut world).is_ok());
+    assert_eq!(rt; world.machine.turns_done(), 7);
+    Ok(())
+}
+
+#[test]
+fn a_failed_write_is_answered_from_then_on(rt: HostRuntime) -> Result<(), Fail> {
+    let alloc = rt.alloc();
+    let mut world = world_of(alloc, COUNTER, TWO_ADD)?;
+    let mut failing = Vec::new(alloc);
+    failing.push(1)?;
+    world.sink = MemorySink::new(alloc, failing);
+    assert_eq!(rt; turn(&mut world).err(), None);
+    assert_eq!(rt; turn(&mut world).err(), Some(TurnFault::WriteFault));
+    assert_eq!(rt; turn(&mut world).err(), Some(TurnFault::WriteFault));
+    assert_eq!(rt; world.sink.bytes(), b"#0 begin\n".as_slice());
+    assert_eq!(rt; world.machine.turns_done(), 1);
     Ok(())
 }
