@@ -29,10 +29,10 @@ impl Work<'_> {
         let Some(name) = instruction.name else {
             return self.refuse(instruction, StackFault::NoneCall);
         };
-        let script = self.running.body.script();
+        let script = self.script;
         let arguments = self.arguments(instruction)?;
         self.call(instruction, Call {
-            instance: self.running.instance,
+            instance: self.instance,
             way: Way::Parent { script, name },
             arguments,
         })
@@ -107,16 +107,12 @@ impl Work<'_> {
         Ok(Step::Done(Some(fault)))
     }
 
-    /// Stores the reply to the call at which the body stands, and goes on behind it.
-    pub fn give(&mut self, value: Value) -> Result<(), OutOfMemory> {
-        let function = self.function;
-        if let Some(instruction) = function.code.get(self.running.place) {
-            if let Some(place) = result_place(instruction) {
-                self.write(instruction, place, value)?;
-            }
+    /// Stores the reply to a call.
+    pub fn give(&mut self, call: &LoadedInstruction, reply: Value) -> Result<(), OutOfMemory> {
+        match result_place(call) {
+            Some(place) => self.write(call, place, reply),
+            None => Ok(()),
         }
-        self.running.place = self.running.place.saturating_add(1);
-        Ok(())
     }
 }
 

@@ -12,8 +12,8 @@ use pex_verify::{Action, LoadedInstruction, MethodPlace, action_of};
 pub enum Step {
     /// It is done, perhaps with a fault, and the next one follows.
     Done(Option<StackFault>),
-    /// The body goes on at this place.
-    Ahead(usize),
+    /// A jump leads to this place.
+    Jump(usize),
     /// More than the body is needed.
     Event(Event),
 }
@@ -21,8 +21,6 @@ pub enum Step {
 /// What the machine does for a body.
 #[derive(Debug, Drop)]
 pub enum Event {
-    /// A jump led back, to this place.
-    Pass(usize),
     /// A call that needs a frame.
     Called(Call),
     /// A call of a global native.
@@ -35,10 +33,10 @@ pub enum Event {
 const JUMP_IF_TRUE: u8 = 0x15;
 
 impl Work<'_> {
-    /// Runs an instruction, which stands at the body's place.
+    /// Runs an instruction.
     pub fn step(&mut self, instruction: &LoadedInstruction) -> Result<Step, OutOfMemory> {
         match action_of(instruction.opcode) {
-            Some(Action::Jump) => Ok(self.jump(instruction)),
+            Some(Action::Jump) => Ok(jump(instruction)),
             Some(Action::JumpIf) => self.jump_if(instruction),
             Some(Action::CallMethod) => self.call_method(instruction),
             Some(Action::CallParent) => self.call_parent(instruction),
@@ -85,25 +83,19 @@ impl Work<'_> {
         self.write(instruction, 0, value)
     }
 
-    // A jump that doesn't lead ahead is a loop pass.
-    fn jump(&mut self, instruction: &LoadedInstruction) -> Step {
-        let Some(landing) = instruction.jump else {
-            return Step::Done(None);
-        };
-        let landing = usize::from(landing);
-        if landing > self.running.place {
-            Step::Ahead(landing)
-        } else {
-            Step::Event(Event::Pass(landing))
-        }
-    }
-
     // jmpt, jmpf: a condition and an offset.
     fn jump_if(&mut self, instruction: &LoadedInstruction) -> Result<Step, OutOfMemory> {
         let truth = counts_as_true(&self.value(instruction, 0)?);
         if truth == (instruction.opcode == JUMP_IF_TRUE) {
-            return Ok(self.jump(instruction));
+            return Ok(jump(instruction));
         }
         Ok(Step::Done(None))
+    }
+}
+
+fn jump(instruction: &LoadedInstruction) -> Step {
+    match instruction.jump {
+        Some(landing) => Step::Jump(usize::from(landing)),
+        None => Step::Done(None),
     }
 }

@@ -4,18 +4,23 @@ use crate::operands::Work;
 use papy_base::{OutOfMemory, StackFault, Text};
 use std::alloc::Global;
 
-/// The line of a fault at the body's place: `!k Script.function:line Kind`.
-pub fn fault_line(work: &Work<'_>, stack: u16, fault: StackFault) -> Result<Vec<u8>, OutOfMemory> {
+/// The line of a fault of the instruction at a place: `!k Script.function:line Kind`.
+pub fn fault_line(
+    work: &Work<'_>,
+    place: usize,
+    stack: u16,
+    fault: StackFault,
+) -> Result<Vec<u8>, OutOfMemory> {
     let mut line = Vec::new(work.alloc);
     append_number(&mut line, b'!', u32::from(stack))?;
     line.push(b' ')?;
-    let script = usize::from(work.running.body.script());
+    let script = usize::from(work.script);
     if let Some(outline) = work.setting.loaded.outline().scripts.get(script) {
         line.extend_from_slice(outline.name.as_bytes())?;
     }
     line.push(b'.')?;
     line.extend_from_slice(work.function.name.as_bytes())?;
-    append_number(&mut line, b':', u32::from(source_line(work)))?;
+    append_number(&mut line, b':', u32::from(source_line(work, place)))?;
     line.push(b' ')?;
     line.extend_from_slice(fault_name(fault).as_bytes())?;
     line.push(b'\n')?;
@@ -32,8 +37,8 @@ pub fn trace_line(alloc: Global, stack: u16, text: &Text) -> Result<Vec<u8>, Out
     Ok(line)
 }
 
-fn source_line(work: &Work<'_>) -> u16 {
-    match work.function.lines.get(work.running.place) {
+fn source_line(work: &Work<'_>, place: usize) -> u16 {
+    match work.function.lines.get(place) {
         Some(line) => *line,
         None => 0,
     }

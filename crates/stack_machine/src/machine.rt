@@ -241,7 +241,7 @@ impl Machine {
         Ok(())
     }
 
-    // Runs the innermost frame's body.
+    // Runs the innermost frame's body: the reply that it awaited is stored, and it goes on behind its act.
     fn run_innermost<S: Sink>(
         &mut self,
         hands: &mut Hands<'_, S>,
@@ -253,16 +253,21 @@ impl Machine {
         let Some(function) = self.setting.function(running.body) else {
             return Ok(None);
         };
+        let reply = running.reply.take();
         let mut work = Work {
             alloc: self.alloc,
             setting: &self.setting,
             function,
             store: &mut self.store,
-            running,
+            instance: running.instance,
+            script: running.body.script(),
+            slots: &mut running.slots,
             has_room,
         };
-        let ending = run_body(&mut work, hands, self.setting.scene.quantum)?;
-        Ok(Some(ending))
+        let from = take_reply(&mut work, running.place, reply)?;
+        let stop = run_body(&mut work, hands, self.setting.scene.quantum, from)?;
+        running.place = stop.place;
+        Ok(Some(stop.ending))
     }
 }
 
@@ -333,6 +338,22 @@ impl Machine {
     pub fn arrays(&self) -> &Arrays {
         &self.store.arrays
     }
+}
+
+// Stores the reply that was awaited at a place, and gives the place at which the body goes on.
+fn take_reply(
+    work: &mut Work<'_>,
+    place: usize,
+    awaited: Option<Value>,
+) -> Result<usize, OutOfMemory> {
+    let Some(reply) = awaited else {
+        return Ok(place);
+    };
+    let function = work.function;
+    if let Some(call) = function.code.get(place) {
+        work.give(call, reply)?;
+    }
+    Ok(place.saturating_add(1))
 }
 
 // Loads each device with its tape, or with no cells.

@@ -1,6 +1,5 @@
 //! The body that runs, and what its operands are worth.
 
-use crate::frame::Running;
 use crate::setting::Setting;
 use crate::store::{Store, default_of};
 use core_tree::{CoreType, Value};
@@ -15,7 +14,12 @@ pub struct Work<'a> {
     pub setting: &'a Setting,
     pub function: &'a LoadedFunction,
     pub store: &'a mut Store,
-    pub running: &'a mut Running,
+    /// The instance that the body runs on, none in a global function.
+    pub instance: Option<u16>,
+    /// The number of the script in which the body stands.
+    pub script: u16,
+    /// The parameters, and the locals behind them.
+    pub slots: &'a mut Vec<Value>,
     /// Whether a further frame may be pushed.
     pub has_room: bool,
 }
@@ -57,30 +61,28 @@ impl Work<'_> {
     }
 
     fn read_slot(&self, number: usize) -> Result<Value, OutOfMemory> {
-        match self.running.slots.get(number) {
+        match self.slots.get(number) {
             Some(value) => value.try_clone(self.alloc),
             None => Ok(Value::NoneValue),
         }
     }
 
     fn read_variable(&self, number: u16) -> Result<Value, OutOfMemory> {
-        match self.running.instance {
-            Some(instance) => self
-                .store
-                .variable(instance, self.running.body.script(), number),
+        match self.instance {
+            Some(instance) => self.store.variable(instance, self.script, number),
             None => Ok(Value::NoneValue),
         }
     }
 
     fn own_instance(&self) -> Value {
-        match self.running.instance {
+        match self.instance {
             Some(instance) => Value::Instance(instance),
             None => Value::NoneValue,
         }
     }
 
     fn read_state(&self) -> Result<Value, OutOfMemory> {
-        match self.running.instance {
+        match self.instance {
             Some(instance) if self.store.has_instance(instance) => {
                 let state = self.store.instances.state_of(instance);
                 Ok(Value::Text(state.try_clone(self.alloc)?))
@@ -92,7 +94,7 @@ impl Work<'_> {
     /// The type of what a fixed operand takes, none where it drops it.
     pub fn type_of(&self, instruction: &LoadedInstruction, place: usize) -> Option<CoreType> {
         let operand = instruction.fixed.get(place)?;
-        self.setting.type_of(self.running, self.function, operand)
+        self.setting.type_of(self.script, self.function, operand)
     }
 
     /// Stores a value in a fixed operand. A local of the type None drops it.
@@ -125,20 +127,19 @@ impl Work<'_> {
     }
 
     fn write_slot(&mut self, number: usize, value: Value) {
-        if let Some(slot) = self.running.slots.get_mut(number) {
+        if let Some(slot) = self.slots.get_mut(number) {
             *slot = value;
         }
     }
 
     fn write_variable(&mut self, number: u16, value: Value) {
-        if let Some(instance) = self.running.instance {
-            let script = self.running.body.script();
-            self.store.set_variable(instance, script, number, value);
+        if let Some(instance) = self.instance {
+            self.store.set_variable(instance, self.script, number, value);
         }
     }
 
     fn write_state(&mut self, value: Value) -> Result<(), OutOfMemory> {
-        match (self.running.instance, value) {
+        match (self.instance, value) {
             (Some(instance), Value::Text(state)) => {
                 self.store
                     .set_state(self.alloc, &self.setting.loaded, instance, state)

@@ -1,6 +1,6 @@
 //! What no turn changes: the loaded scripts, the scene and what was resolved at the start.
 
-use crate::frame::{Body, Running};
+use crate::frame::Body;
 use crate::plan::Plan;
 use core_tree::{CoreType, Scene};
 use pex_verify::{Loaded, LoadedFunction, MethodPlace, Operand, PropertyPlace};
@@ -69,22 +69,21 @@ impl Setting {
         false
     }
 
-    /// The type of what is stored in an operand, none where what is stored is dropped.
+    /// The type of what is stored in an operand of a script's function, none where what is stored is dropped.
     pub fn type_of(
         &self,
-        running: &Running,
+        script: u16,
         function: &LoadedFunction,
         operand: &Operand,
     ) -> Option<CoreType> {
         match operand {
             Operand::Slot(number) => slot_type(function, usize::from(*number)),
             Operand::Variable(number) => {
-                let script = usize::from(running.body.script());
-                let outline = self.loaded.outline().scripts.get(script)?;
+                let outline = self.loaded.outline().scripts.get(usize::from(script))?;
                 Some(outline.variables.get(usize::from(*number))?.kind)
             }
             Operand::State => Some(CoreType::Text),
-            Operand::Instance => Some(CoreType::Script(running.body.script())),
+            Operand::Instance => Some(CoreType::Script(script)),
             _ => None,
         }
     }
