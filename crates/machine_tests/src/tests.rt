@@ -9,9 +9,9 @@ use std::test::Fail;
 static COUNTER: &[u8] = b"object Counter - -/\
     variable ::Count_var Int 0/property Count Int 7 ::Count_var/state -/\
     function Add None 0/param n Int/local ::none None/\
-    callstatic Debug Trace ::none + \"begin/\
+    callstatic Debug Trace ::none + \"begin 0/\
     iadd ::Count_var ::Count_var n/\
-    callstatic Debug Trace ::none + \"end/\
+    callstatic Debug Trace ::none + \"end 0/\
     return none";
 
 static TWO_ADD: &[u8] = b"{\"version\":1,\"instances\":[{\"name\":\"a\",\"script\":\"Counter\"}],\
@@ -35,7 +35,10 @@ fn two_stacks_take_turns_at_a_lock(rt: HostRuntime) -> Result<(), Fail> {
     assert_eq!(rt; world.machine.status_of(0), Status::Waits(0));
     assert_eq!(rt; world.machine.status_of(1), Status::Ready);
     assert!(rt; run(&mut world).is_ok());
-    assert_eq!(rt; world.sink.bytes(), b"#0 begin\n#1 begin\n#0 end\n#1 end\n".as_slice());
+    assert_eq!(rt;
+        world.sink.bytes(),
+        b"#0 begin\n#1 begin\n#0 end\n#1 end\n".as_slice()
+    );
     assert_eq!(rt; world.machine.turns_done(), 6);
     assert_eq!(rt; world.machine.status_of(1), Status::Done);
     let count = world.machine.property_at(0, 0)?;
@@ -44,7 +47,8 @@ fn two_stacks_take_turns_at_a_lock(rt: HostRuntime) -> Result<(), Fail> {
 }
 
 // A script whose `Fault` meets three faults and goes on.
-static FAULTS: &[u8] = b"object Other - -/variable ::Level_var Int 0/property Level Int 7 ::Level_var/state -|\
+static FAULTS: &[u8] =
+    b"object Other - -/variable ::Level_var Int 0/property Level Int 7 ::Level_var/state -|\
     object Faulty - -/state -/\
     function Fault None 0/param o Other/local ::t Int/local ::a Int[]/local ::none None/local s String/\
     callmethod GetState o s/\
@@ -53,7 +57,7 @@ static FAULTS: &[u8] = b"object Other - -/variable ::Level_var Int 0/property Le
     array_getelement ::t ::a 3/\
     propget Level o ::t/\
     cast s ::t/\
-    callstatic Debug Trace ::none + s/\
+    callstatic Debug Trace ::none + s 0/\
     return none";
 
 static ONE_FAULT: &[u8] = b"{\"version\":1,\"instances\":[{\"name\":\"f\",\"script\":\"Faulty\"}],\
@@ -72,7 +76,8 @@ fn a_fault_prints_its_line_and_the_stack_goes_on(rt: HostRuntime) -> Result<(), 
 }
 
 // A worker that raises a property of another instance, with a loop and a sleep.
-static WORKER: &[u8] = b"object Store - -/variable ::Sum_var Int 0/property Sum Int 7 ::Sum_var/state -|\
+static WORKER: &[u8] =
+    b"object Store - -/variable ::Sum_var Int 0/property Sum Int 7 ::Sum_var/state -|\
     object Worker - -/variable ::Goal_var Store none/property Goal Store 7 ::Goal_var/state -/\
     function Work None 0/local ::n Int/local ::t Int/local ::b Bool/local ::none None/\
     cmp_lt ::b ::n 3/\
@@ -137,7 +142,8 @@ static SLEEPER: &[u8] = b"object Sleeper - -/state -/\
     callstatic Scene Sleep ::none + 5/\
     return none";
 
-static ONE_SLEEPER: &[u8] = b"{\"version\":1,\"instances\":[{\"name\":\"z\",\"script\":\"Sleeper\"}],\
+static ONE_SLEEPER: &[u8] =
+    b"{\"version\":1,\"instances\":[{\"name\":\"z\",\"script\":\"Sleeper\"}],\
     \"calls\":[{\"turn\":0,\"instance\":\"z\",\"function\":\"Rest\"}],\
     \"order\":\"round\",\"turns\":100}";
 

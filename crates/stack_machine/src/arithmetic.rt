@@ -8,11 +8,17 @@ use pex_verify::LoadedInstruction;
 
 // The opcodes of one action.
 const ADD: u8 = 0x01;
+
 const SUBTRACT: u8 = 0x03;
+
 const MULTIPLY: u8 = 0x05;
+
 const DIVIDE: u8 = 0x07;
+
 const LESS: u8 = 0x10;
+
 const LESS_EQUAL: u8 = 0x11;
+
 const GREATER: u8 = 0x12;
 
 impl Work<'_> {
@@ -67,9 +73,10 @@ impl Work<'_> {
         &mut self,
         instruction: &LoadedInstruction,
     ) -> Result<Option<StackFault>, OutOfMemory> {
-        let (Value::Text(left), Value::Text(right)) =
-            (self.value(instruction, 1)?, self.value(instruction, 2)?)
-        else {
+        let (Value::Text(left), Value::Text(right)) = (
+            self.value(instruction, 1)?,
+            self.value(instruction, 2)?,
+        ) else {
             return Ok(None);
         };
         match left.try_join(self.alloc, &right) {

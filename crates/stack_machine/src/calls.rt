@@ -17,11 +17,14 @@ impl Work<'_> {
             return self.refuse(instruction, StackFault::NoneCall);
         };
         let arguments = self.arguments(instruction)?;
-        self.call(instruction, Call {
-            instance: Some(target),
-            way: Way::Method(name),
-            arguments,
-        })
+        self.call(
+            instruction,
+            Call {
+                instance: Some(target),
+                way: Way::Method(name),
+                arguments,
+            },
+        )
     }
 
     /// callparent: a name, a result, and arguments.
@@ -31,11 +34,14 @@ impl Work<'_> {
         };
         let script = self.script;
         let arguments = self.arguments(instruction)?;
-        self.call(instruction, Call {
-            instance: self.instance,
-            way: Way::Parent { script, name },
-            arguments,
-        })
+        self.call(
+            instruction,
+            Call {
+                instance: self.instance,
+                way: Way::Parent { script, name },
+                arguments,
+            },
+        )
     }
 
     /// callstatic: a script, a name, a result, and arguments.
@@ -45,12 +51,18 @@ impl Work<'_> {
         };
         let arguments = self.arguments(instruction)?;
         match self.setting.method(at) {
-            Some(function) if function.is_native => Ok(Step::Event(Event::Native { at, arguments })),
-            _ => self.call(instruction, Call {
-                instance: None,
-                way: Way::Global(at),
+            Some(function) if function.is_native => Ok(Step::Event(Event::Native {
+                at,
                 arguments,
-            }),
+            })),
+            _ => self.call(
+                instruction,
+                Call {
+                    instance: None,
+                    way: Way::Global(at),
+                    arguments,
+                },
+            ),
         }
     }
 
@@ -63,11 +75,14 @@ impl Work<'_> {
             return self.refuse(instruction, StackFault::NoneProperty);
         };
         let arguments = Vec::new(self.alloc);
-        self.call(instruction, Call {
-            instance: Some(target),
-            way: Way::Get(name),
-            arguments,
-        })
+        self.call(
+            instruction,
+            Call {
+                instance: Some(target),
+                way: Way::Get(name),
+                arguments,
+            },
+        )
     }
 
     /// propset: a name, an object and a value.
@@ -80,11 +95,14 @@ impl Work<'_> {
         };
         let mut arguments = Vec::new(self.alloc);
         arguments.push(self.value(instruction, 2)?)?;
-        self.call(instruction, Call {
-            instance: Some(target),
-            way: Way::Set(name),
-            arguments,
-        })
+        self.call(
+            instruction,
+            Call {
+                instance: Some(target),
+                way: Way::Set(name),
+                arguments,
+            },
+        )
     }
 
     // The call, or a fault where its frame has no room.

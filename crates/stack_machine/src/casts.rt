@@ -33,12 +33,7 @@ impl Work<'_> {
     fn cast_to_text(&self, value: Value) -> Result<Value, OutOfMemory> {
         match value {
             Value::Text(text) => Ok(Value::Text(text)),
-            other => Ok(Value::Text(text_of(
-                self.alloc,
-                self.setting,
-                self.store,
-                &other,
-            )?)),
+            other => Ok(Value::Text(text_of(self.alloc, self.setting, self.store, &other)?)),
         }
     }
 

@@ -26,14 +26,24 @@ pub fn look_up(setting: &Setting, store: &Store, call: &Call) -> Option<Found> {
             find_method(setting, store, instance, setting.script_of(instance)?, name)
         }
         Way::Parent { script, name } => {
-            find_method(setting, store, call.instance?, setting.parent_of(script)?, name)
+            find_method(
+                setting,
+                store,
+                call.instance?,
+                setting.parent_of(script)?,
+                name,
+            )
         }
         Way::Get(name) => {
-            let at = setting.loaded.find_property(setting.script_of(call.instance?)?, name)?;
+            let at = setting
+                .loaded
+                .find_property(setting.script_of(call.instance?)?, name)?;
             Some(accessor(setting, at, Body::Reader(at)))
         }
         Way::Set(name) => {
-            let at = setting.loaded.find_property(setting.script_of(call.instance?)?, name)?;
+            let at = setting
+                .loaded
+                .find_property(setting.script_of(call.instance?)?, name)?;
             Some(accessor(setting, at, Body::Writer(at)))
         }
     }

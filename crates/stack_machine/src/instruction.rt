@@ -24,7 +24,10 @@ pub enum Event {
     /// A call that needs a frame.
     Called(Call),
     /// A call of a global native.
-    Native { at: MethodPlace, arguments: Vec<Value> },
+    Native {
+        at: MethodPlace,
+        arguments: Vec<Value>,
+    },
     /// The body returned this value.
     Returned(Value),
 }

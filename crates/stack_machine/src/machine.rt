@@ -357,10 +357,7 @@ fn take_reply(
 }
 
 // Loads each device with its tape, or with no cells.
-fn load_devices(
-    tapes: &[Vec<i32>],
-    devices: &mut Vec<Box<dyn Device>>,
-) -> Result<(), OutOfMemory> {
+fn load_devices(tapes: &[Vec<i32>], devices: &mut Vec<Box<dyn Device>>) -> Result<(), OutOfMemory> {
     for place in 0..devices.len() {
         match tapes.get(place) {
             Some(tape) => load_device(devices, place, tape.as_slice(), 0)?,

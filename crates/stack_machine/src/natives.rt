@@ -99,11 +99,7 @@ fn call<S: Sink>(
     if usize::from(device) >= hands.devices.len() {
         return Ok(0);
     }
-    Ok(call_device(
-        hands.devices,
-        usize::from(device),
-        numbers.as_slice(),
-    ))
+    Ok(call_device(hands.devices, usize::from(device), numbers.as_slice()))
 }
 
 fn numbers_of(alloc: Global, arguments: &[Value]) -> Result<Vec<i32>, OutOfMemory> {

@@ -134,7 +134,8 @@ impl Work<'_> {
 
     fn write_variable(&mut self, number: u16, value: Value) {
         if let Some(instance) = self.instance {
-            self.store.set_variable(instance, self.script, number, value);
+            self.store
+                .set_variable(instance, self.script, number, value);
         }
     }
 
