@@ -19,7 +19,7 @@ mod signatures;
 
 pub use fault::{LinkFault, LinkRule};
 pub use linker::link;
-pub use name_table::{NameTable, fold_into, folded};
+pub use name_table::{NameTable, SHORT_NAME, fold_into, folded};
 pub use set::{FunctionRef, PropertyRef, ScriptSet, SourceFile};
 
 #[cfg(test)]

@@ -8,6 +8,9 @@ use papy_base::{Name, OutOfMemory};
 use std::alloc::Global;
 use std::collections::HashMap;
 
+/// The most bytes of a name that is looked up in a buffer, and not in memory that has to be found.
+pub const SHORT_NAME: usize = 32;
+
 /// The least number that was noted for each name.
 #[derive(Drop)]
 pub struct NameTable {
@@ -71,6 +74,10 @@ impl NameTable {
     pub fn find(&self, alloc: Global, name: &Name) -> Result<Option<usize>, OutOfMemory>
         ensures { IfOk result (λ found. found ≡ number_in self.now (folded_bytes name.now)) }
     {
+        let mut buffer = [0; SHORT_NAME];
+        if let Some(short) = fold_into(&mut buffer, name) {
+            return Ok(self.find_folded(short));
+        }
         let folded = folded(alloc, name)?;
         Ok(self.find_folded(folded.as_slice()))
     }

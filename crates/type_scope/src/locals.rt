@@ -3,7 +3,7 @@ ghost use Rattle.std.specs.Prelude.{◌≡◌, [], ◌∷◌, ◌++◌, IfOk, If
 
 use core_tree::CoreType;
 use papy_base::{Name, OutOfMemory};
-use script_linker::folded;
+use script_linker::{SHORT_NAME, fold_into, folded};
 use std::alloc::Global;
 use std::collections::HashMap;
 
@@ -43,10 +43,21 @@ impl Locals {
     pub fn find(&self, name: &Name) -> Result<Option<Local>, OutOfMemory>
         ensures { IfOk result (λ found. IfSome found (λ local. slice_get self.now.kinds.items local.number ≡ Some local.kind)) }
     {
-        let key = folded(self.alloc, name)?;
-        match self.seen.get(key.as_slice()) {
-            Some(number) => Ok(self.local(*number)),
-            None => Ok(None),
+        let mut buffer = [0; SHORT_NAME];
+        if let Some(short) = fold_into(&mut buffer, name) {
+            return Ok(self.seen_local(short));
+        }
+        let folded = folded(self.alloc, name)?;
+        Ok(self.seen_local(folded.as_slice()))
+    }
+
+    // The local that is seen under these folded bytes.
+    fn seen_local(&self, folded: &[u8]) -> Option<Local>
+        ensures { IfSome result (λ local. slice_get self.now.kinds.items local.number ≡ Some local.kind) }
+    {
+        match self.seen.get(folded) {
+            Some(number) => self.local(*number),
+            None => None,
         }
     }
 
