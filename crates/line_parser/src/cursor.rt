@@ -156,15 +156,16 @@ impl<'a> Cursor<'a> {
         Ok(Some(name))
     }
 
-    /// Takes a binary sign of this level where it is next.
-    pub(crate) fn take_binary(&mut self, level: Level) -> Option<Sign>
+    /// Takes a binary sign that binds no looser than this level where it is next, and gives its level.
+    pub(crate) fn take_binary(&mut self, loosest: Level) -> Option<(Sign, Level)>
         ensures shorter { OnSome result (length self.new.rest.now < length self.old.rest.now) }
         ensures bound { length self.new.rest.now ≤ length self.old.rest.now }
     {
-        match self.next_sign() {
-            Some(found) if level.holds(found) => {
+        let sign = self.next_sign()?;
+        match Level::of(sign) {
+            Some(level) if level.looseness() <= loosest.looseness() => {
                 self.skip();
-                Some(found)
+                Some((sign, level))
             }
             _ => None,
         }

@@ -17,17 +17,15 @@ pub(crate) fn expression(cursor: &mut Cursor<'_>, depth: u8) -> Result<Expr, For
     binary(cursor, Level::Or, depth)
 }
 
-// Operands of a level with its signs between them, grouped to the left.
+// Operands with signs between them that bind no looser than this level. An operand behind a sign holds
+// only signs that bind tighter, so signs of one level group to the left.
 #[cycle(expression)]
-fn binary(cursor: &mut Cursor<'_>, level: Level, depth: u8) -> Result<Expr, FormFault>
+fn binary(cursor: &mut Cursor<'_>, loosest: Level, depth: u8) -> Result<Expr, FormFault>
     ensures shorter { OnOk result (length cursor.new.rest.now < length cursor.old.rest.now) }
 {
-    let Some(tighter) = level.tighter() else {
-        return unary(cursor, depth);
-    };
-    let mut left = binary(cursor, tighter, depth)?;
-    'signs: while let Some(sign) = cursor.take_binary(level) {
-        let right = binary(cursor, tighter, depth)?;
+    let mut left = unary(cursor, depth)?;
+    'signs: while let Some((sign, level)) = cursor.take_binary(loosest) {
+        let right = binary(cursor, level.tighter(), depth)?;
         left = Expr::Binary {
             sign,
             left: boxed(cursor.alloc, left)?,

@@ -34,7 +34,7 @@ abbrev pub decreases-arguments : goal.decreases-arguments
 decreases-arguments l = 20 * l.depth + 0
 
 abbrev pub decreases-binary : goal.decreases-binary
-decreases-binary l = 20 * l.depth + 7 + looseness l.level
+decreases-binary l = 20 * l.depth + 7 + looseness l.loosest
 
 abbrev pub invariant-binary-signs : goal.invariant-binary-signs
 invariant-binary-signs l = length l.cursor.rest.now < length l.fn.cursor.rest.now
