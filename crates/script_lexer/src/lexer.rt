@@ -115,7 +115,7 @@ fn lex_text(alloc: Global, start: u32, text: &[u8]) -> Result<Lines, LexFault>
         }
     }
     let last = last_line(text, progress.line);
-    let lines = progress.finish()?;
+    let lines = progress.finish(alloc)?;
     Ok(Lines { lines, last })
 }
 
