@@ -1,4 +1,4 @@
-ghost use Rattle.std.specs.Prelude.{◌≡◌, ◌≢◌, MatchOption};
+ghost use Rattle.std.specs.Prelude.{◌≡◌, ◌≢◌, ◌↔◌, MatchOption, IsTrue};
 ghost use Rattle.papy_base.specs.Case.{folded};
 ghost use Rattle.script_lexer.specs.declared.keyword.Keyword.{Keyword};
 ghost use Rattle.script_lexer.specs.Words.{keyword_spelling, keywords_of_length};
@@ -141,10 +141,27 @@ impl Keyword {
     {
         let candidates = Keyword::of_length(word.len());
         for keyword in candidates {
-            if word.eq_ignore_ascii_case(keyword.spelling()) {
+            if is_same_word(word, keyword.spelling()) {
                 return Some(*keyword);
             }
         }
         None
+    }
+}
+
+// Whether the two are the same where A to Z are read as a to z.
+fn is_same_word(word: &[u8], spelling: &[u8]) -> bool
+    ensures { IsTrue result ↔ folded word.now ≡ folded spelling.now }
+{
+    begins_alike(word, spelling) && word.eq_ignore_ascii_case(spelling)
+}
+
+// Whether the first letters are the same, in which most words that are no keyword differ from one.
+fn begins_alike(word: &[u8], spelling: &[u8]) -> bool
+    ensures { folded word.now ≡ folded spelling.now → IsTrue result }
+{
+    match (word, spelling) {
+        ([first, ..], [small, ..]) => first.eq_ignore_ascii_case(small),
+        _ => true,
     }
 }
