@@ -10,7 +10,7 @@ use crate::members::{element, length, member, new_array};
 use crate::notes::Notes;
 use crate::operators::{binary, unary};
 use crate::rule::TypeRule;
-use crate::spine::{Leaf, Spine, Step, Written};
+use crate::spine::{Leaf, Spine, Step, Steps, Written};
 use crate::typed::Typed;
 use crate::words::{instance, meaning_of, member_of_word, read_word, unknown_word};
 use core_tree::{Core, CoreType, Value};
@@ -86,7 +86,7 @@ fn leaf(
     context: &Context<'_>,
     notes: &mut Notes,
     leaf: Leaf<'_>,
-    steps: &mut Vec<Step<'_>>,
+    steps: &mut Steps<'_>,
     depth: u16,
 ) -> Result<Typed, OutOfMemory>
     ensures { ContextInRange context.now → IfOk result (TypedInRange (bounds_of context.now)) }
@@ -113,7 +113,7 @@ fn word(
     context: &Context<'_>,
     notes: &mut Notes,
     name: &Name,
-    steps: &mut Vec<Step<'_>>,
+    steps: &mut Steps<'_>,
     depth: u16,
 ) -> Result<Typed, OutOfMemory>
     ensures { ContextInRange context.now → IfOk result (TypedInRange (bounds_of context.now)) }
@@ -121,9 +121,8 @@ fn word(
     if let Some(meaning) = meaning_of(context, name)? {
         return read_word(context, notes, meaning, name);
     }
-    match steps.last() {
+    match steps.last {
         Some(Step::MemberCall(function, arguments)) => {
-            let (function, arguments) = (*function, *arguments);
             let _ = steps.pop();
             let given = given(context, notes, arguments, depth)?;
             script_call(context, notes, name, function, given)
