@@ -2,15 +2,19 @@ ghost use Rattle.std.specs.Prelude.{◌≡◌, ◌↔◌, ℕ, List, IfOk, IsTru
 ghost use Rattle.papy_base.specs.Case.{SameIgnoringCase};
 
 use crate::faults::OutOfMemory;
+use smallvec::SmallVec;
 use std::alloc::Global;
 use std::marker::Model;
+
+// The most bytes of a name that is kept in the value itself.
+const SHORT_NAME: usize = 24;
 
 /// The name of a script, a member, a variable or a state, as it was written.
 ///
 /// Names of Papyrus compare with the case of A to Z ignored, and print as they were declared.
 #[derive(Debug, Drop)]
 pub struct Name {
-    bytes: Vec<u8>,
+    bytes: SmallVec<u8, SHORT_NAME>,
 }
 
 impl Model for Name {
@@ -24,7 +28,7 @@ impl Name {
     pub fn from_bytes(alloc: Global, bytes: &[u8]) -> Result<Name, OutOfMemory>
         ensures { IfOk result (λ name. name ≡ bytes.now) }
     {
-        let bytes = bytes.to_vec(alloc)?;
+        let bytes = SmallVec::from_slice(alloc, bytes)?;
         Ok(Name { bytes })
     }
 
