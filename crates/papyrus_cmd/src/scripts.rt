@@ -20,6 +20,7 @@ use script_lexer::{LexFault, LexRule, Lines, lex};
 use script_linker::{LinkFault, SourceFile, link};
 use script_parser::{ParseFault, Script, parse_script};
 use std::alloc::Global;
+use std::mem::ManuallyDrop;
 use type_rules::{TypeFault, elaborate};
 
 /// The most bytes of a script.
@@ -177,10 +178,18 @@ fn core_set(alloc: Global, files: Vec<SourceFile>) -> Result<CoreSet, Ending>
         Ok(set) => set,
         Err(fault) => return Err(link_ending(fault)),
     };
-    match elaborate(alloc, &set) {
+    let elaborated = elaborate(alloc, &set);
+    leave(set);
+    match elaborated {
         Ok(core) => Ok(core),
         Err(fault) => Err(type_ending(fault)),
     }
+}
+
+// Leaves a value's memory to the end of the program, which is near: taking all trees of a set apart would
+// take longer than an eighth of the whole run.
+fn leave<T: Drop>(value: T) {
+    let _left = ManuallyDrop::new(value);
 }
 
 /// Reads the scripts and gives their core set, or how the command ends that names them.
@@ -229,8 +238,9 @@ pub fn accept_alone(alloc: Global, name: &[u8], text: &[u8]) -> Result<CoreSet, 
 }
 
 /// How a command ends whose scripts are accepted, where what follows isn't built yet.
-pub fn not_built(_set: CoreSet) -> Ending
+pub fn not_built(set: CoreSet) -> Ending
     ensures { result ≡ Ending.NotBuilt }
 {
+    leave(set);
     Ending::NotBuilt
 }
