@@ -90,6 +90,13 @@ fn node(out: &mut String, front: &str, of: &Expr) -> Shown {
     expr(out, of)
 }
 
+// The last part of a node, and its end.
+#[cycle(show)]
+fn last(out: &mut String, front: &str, of: &Expr) -> Shown {
+    node(out, front, of)?;
+    out.push_str(")")
+}
+
 #[cycle(show)]
 fn expr(out: &mut String, tree: &Expr) -> Shown {
     match tree {
@@ -121,14 +128,10 @@ fn expr(out: &mut String, tree: &Expr) -> Shown {
             word(out, " ", name)?;
             out.push_str(")")
         }
-        Expr::Length { of } => {
-            node(out, "(length ", of)?;
-            out.push_str(")")
-        }
+        Expr::Length { of } => last(out, "(length ", of),
         Expr::Index { of, at } => {
             node(out, "(index ", of)?;
-            node(out, " ", at)?;
-            out.push_str(")")
+            last(out, " ", at)
         }
         Expr::NewArray { element, count } => {
             word(out, "(new ", element)?;
@@ -137,15 +140,13 @@ fn expr(out: &mut String, tree: &Expr) -> Shown {
         Expr::Unary { sign, of } => {
             out.push_str("(")?;
             spelled(out, *sign)?;
-            node(out, " ", of)?;
-            out.push_str(")")
+            last(out, " ", of)
         }
         Expr::Binary { sign, left, right } => {
             out.push_str("(")?;
             spelled(out, *sign)?;
             node(out, " ", left)?;
-            node(out, " ", right)?;
-            out.push_str(")")
+            last(out, " ", right)
         }
         Expr::Cast { of, to } => {
             node(out, "(as ", of)?;
