@@ -162,6 +162,23 @@ fn core(out: &mut String, tree: &Core) -> Shown {
 }
 
 #[cycle(show)]
+fn found(out: &mut String, tree: &Core) -> Shown {
+    match tree {
+        Core::Find(array, value, start) => {
+            opened(out, "find", array)?;
+            closed(out, value)?;
+            one(out, "from", start)
+        }
+        Core::FindBack(array, value, start) => {
+            opened(out, "rfind", array)?;
+            closed(out, value)?;
+            one(out, "from", start)
+        }
+        _ => out.push_str("?"),
+    }
+}
+
+#[cycle(show)]
 fn call(out: &mut String, tree: &Core) -> Shown {
     match tree {
         Core::CallMethod {
@@ -216,17 +233,7 @@ fn call(out: &mut String, tree: &Core) -> Shown {
             bytes(out, name.as_bytes())?;
             out.push_str(")")
         }
-        Core::Find(array, value, start) => {
-            opened(out, "find", array)?;
-            closed(out, value)?;
-            one(out, "from", start)
-        }
-        Core::FindBack(array, value, start) => {
-            opened(out, "rfind", array)?;
-            closed(out, value)?;
-            one(out, "from", start)
-        }
-        _ => out.push_str("?"),
+        other => found(out, other),
     }
 }
 
