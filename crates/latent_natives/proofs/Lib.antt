@@ -1,1 +1,2 @@
 pub mod DeviceLists
+pub mod SleepLists

@@ -1,2 +1,4 @@
 pub mod Devices
+pub mod SleepTree
+pub mod SleepTreeFalls
 pub mod Sleepers

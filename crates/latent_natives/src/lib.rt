@@ -6,6 +6,7 @@ mod device_list;
 mod dice;
 mod latch;
 mod numbers;
+mod sleep_tree;
 mod sleepers;
 mod sum;
 mod tape;

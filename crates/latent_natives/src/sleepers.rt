@@ -3,6 +3,7 @@
 ghost use Rattle.std.specs.Prelude.{◌≡◌, ◌<◌, length, IfOk, None, Some, replicate, slice_index_or, slice_set, position};
 ghost use Rattle.latent_natives.specs.Sleepers.{is_due, without_first_due};
 
+use crate::sleep_tree::SleepTree;
 use papy_base::OutOfMemory;
 use std::alloc::Global;
 use std::marker::Model;
@@ -11,17 +12,15 @@ use std::marker::Model;
 /// due, or none where it doesn't sleep.
 #[derive(Debug, Drop)]
 pub struct Sleepers {
-    turns: Vec<Option<u32>>,
+    sleeps: SleepTree,
 }
 
 impl Model for Sleepers {
-    ghost use Rattle.std.specs.Prelude.{ℕ, ◌<◌, List, Option, vec_len};
+    ghost use Rattle.std.specs.Prelude.{ℕ, List, Option};
 
     ghost Value = { List (Option ℕ) };
 
-    ghost view = { λ s. s.turns.items };
-
-    ghost invariant = { λ s. vec_len s.turns < 65536 };
+    ghost view = { λ s. s.sleeps };
 }
 
 impl Sleepers {
@@ -33,8 +32,8 @@ impl Sleepers {
     pub fn with_room(alloc: Global, stacks: u16) -> Result<Sleepers, OutOfMemory>
         ensures { IfOk result (λ s. s ≡ replicate stacks None) }
     {
-        let turns = vec![in alloc; None; usize::from(stacks)]?;
-        Ok(Sleepers { turns })
+        let sleeps = SleepTree::with_room(alloc, stacks)?;
+        Ok(Sleepers { sleeps })
     }
 
     /// Lets a stack sleep until a turn.
@@ -43,7 +42,7 @@ impl Sleepers {
         requires awake { slice_index_or self.old stack None ≡ None }
         ensures { self.new ≡ slice_set self.old stack (Some until) }
     {
-        self.turns[usize::from(stack)] = Some(until);
+        self.sleeps.set(stack, Some(until));
     }
 
     /// Takes out the least stack whose turn is not after this one. It is `None` exactly where
@@ -52,9 +51,9 @@ impl Sleepers {
         ensures least { result ≡ position (is_due turn) self.old }
         ensures taken { self.new ≡ without_first_due turn self.old }
     {
-        let stack = first_due(&self.turns, turn)?;
-        self.turns[stack] = None;
-        Some(stack as u16)
+        let stack = self.sleeps.first_due(turn)?;
+        self.sleeps.set(stack, None);
+        Some(stack)
     }
 
     /// The turn at which a stack is due, or `None` where it doesn't sleep.
@@ -62,14 +61,6 @@ impl Sleepers {
         requires { stack < length self.now }
         ensures { result ≡ slice_index_or self.now stack None }
     {
-        self.turns[usize::from(stack)]
+        self.sleeps.until(stack)
     }
-}
-
-fn first_due(turns: &[Option<u32>], turn: u32) -> Option<usize>
-    ensures { result ≡ position (is_due turn) turns.now }
-{
-    turns
-        .iter()
-        .position(|until| matches!(until, Some(due) if *due <= turn))
 }

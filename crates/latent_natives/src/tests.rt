@@ -85,3 +85,27 @@ fn sleepers_tell_their_turns(rt: HostRuntime) -> Result<(), Fail> {
     assert_eq!(rt; (sleepers.until(0), sleepers.until(1)), (None, Some(9)));
     Ok(())
 }
+
+#[test]
+fn sleepers_are_found_on_each_side_of_the_tree(rt: HostRuntime) -> Result<(), Fail> {
+    let mut sleepers = Sleepers::with_room(rt.alloc(), 7)?;
+    sleepers.rest(6, 3);
+    sleepers.rest(3, 9);
+    sleepers.rest(1, 4);
+    assert_eq!(rt; sleepers.until(6), Some(3));
+    assert_eq!(rt; sleepers.until(5), None);
+    assert_eq!(rt; sleepers.due(2), None);
+    assert_eq!(rt; sleepers.due(3), Some(6));
+    assert_eq!(rt; sleepers.until(6), None);
+    assert_eq!(rt; sleepers.due(9), Some(1));
+    assert_eq!(rt; sleepers.due(9), Some(3));
+    assert_eq!(rt; sleepers.due(9), None);
+    Ok(())
+}
+
+#[test]
+fn no_sleeper_without_room(rt: HostRuntime) -> Result<(), Fail> {
+    let mut sleepers = Sleepers::with_room(rt.alloc(), 0)?;
+    assert_eq!(rt; sleepers.due(u32::MAX), None);
+    Ok(())
+}

@@ -1,0 +1,186 @@
+//! The sleeps of stacks in a tree, where a stack that is due is found without a look at those that aren't.
+
+ghost use Rattle.std.specs.Prelude.{◌≡◌, ◌+◌, ◌<◌, ◌≤◌, ◌++◌, length, IfOk, None, replicate, slice_index_or, slice_set, position};
+ghost use Rattle.latent_natives.specs.Sleepers.{is_due};
+ghost use Rattle.latent_natives.specs.SleepTree.{sleeps, NotBefore};
+
+use papy_base::OutOfMemory;
+use std::alloc::Global;
+use std::marker::Model;
+
+/// The sleeps of stacks in order of number. Contracts see, for each stack, the turn at which it is due, or none
+/// where it doesn't sleep.
+#[cycle(sleep_tree)]
+#[derive(Debug, Drop)]
+pub struct SleepTree {
+    // No sleep ends before this turn.
+    earliest: u32,
+    count: u16,
+    node: Node,
+}
+
+#[cycle(sleep_tree)]
+#[derive(Debug, Drop)]
+enum Node {
+    Empty,
+    One(Option<u32>),
+    // Neither side is empty.
+    Two(Box<SleepTree>, Box<SleepTree>),
+}
+
+impl Model for SleepTree {
+    ghost use Rattle.std.specs.Prelude.{◌≡◌, ◌<◌, ℕ, List, Option, length};
+
+    ghost Value = { List (Option ℕ) };
+
+    ghost use Rattle.latent_natives.specs.SleepTree.{sleeps, NotBefore, HasFullSides};
+
+    ghost view = { λ t. sleeps t.node };
+
+    ghost invariant = { λ t. (t.count ≡ length (sleeps t.node)) × NotBefore t.earliest (sleeps t.node) × HasFullSides t.node × (t.count < 65536) };
+
+    ghost size = { length };
+
+    ghost use Rattle.latent_natives.specs.SleepTreeFalls.{depth_le-length-sleeps};
+
+    ghost size_decreases = { λ t h. depth_le-length-sleeps t.node h.2 };
+}
+
+impl SleepTree {
+    /// The tree of this many stacks, of which none sleeps.
+    ///
+    /// # Errors
+    ///
+    /// `OutOfMemory` comes where there is no room.
+    pub fn with_room(alloc: Global, stacks: u16) -> Result<SleepTree, OutOfMemory>
+        ensures { IfOk result (λ t. t ≡ replicate stacks None) }
+    {
+        match stacks {
+            0 => Ok(SleepTree {
+                earliest: u32::MAX,
+                count: 0,
+                node: Node::Empty,
+            }),
+            1 => Ok(SleepTree {
+                earliest: u32::MAX,
+                count: 1,
+                node: Node::One(None),
+            }),
+            _ => {
+                let left = SleepTree::with_room(alloc, stacks / 2)?;
+                let right = SleepTree::with_room(alloc, stacks - stacks / 2)?;
+                SleepTree::of_sides(alloc, left, right)
+            }
+        }
+    }
+
+    // The stacks of one tree, and behind them those of another.
+    fn of_sides(alloc: Global, left: SleepTree, right: SleepTree) -> Result<SleepTree, OutOfMemory>
+        requires filled { (1 ≤ length left) × (1 ≤ length right) }
+        requires few { length left + length right < 65536 }
+        ensures { IfOk result (λ t. t ≡ left ++ right) }
+    {
+        let count = left.count() + right.count();
+        let earliest = left.earliest().min(right.earliest());
+        let node = Node::Two(Box::new(alloc, left)?, Box::new(alloc, right)?);
+        Ok(SleepTree {
+            earliest,
+            count,
+            node,
+        })
+    }
+
+    /// How many stacks there are.
+    pub fn count(&self) -> u16
+        ensures { result ≡ length self.now }
+    {
+        self.count
+    }
+
+    /// A turn before which no sleep ends.
+    pub fn earliest(&self) -> u32
+        ensures { NotBefore result self.now }
+    {
+        self.earliest
+    }
+
+    /// Lets a stack sleep until a turn, or not at all.
+    pub fn set(&mut self, stack: u16, until: Option<u32>)
+        requires { stack < length self.old }
+        ensures { self.new ≡ slice_set self.old stack until }
+    {
+        match &mut self.node {
+            Node::Empty => {}
+            Node::One(held) => *held = until,
+            Node::Two(left, right) => {
+                let middle = left.count();
+                if stack < middle {
+                    left.set(stack, until);
+                } else {
+                    right.set(stack - middle, until);
+                }
+            }
+        }
+        self.earliest = earliest_of(&self.node);
+    }
+
+    /// The turn at which a stack is due, or `None` where it doesn't sleep.
+    pub fn until(&self, stack: u16) -> Option<u32>
+        requires { stack < length self.now }
+        ensures { result ≡ slice_index_or self.now stack None }
+    {
+        match &self.node {
+            Node::Empty => None,
+            Node::One(until) => *until,
+            Node::Two(left, right) => {
+                let middle = left.count();
+                if stack < middle {
+                    left.until(stack)
+                } else {
+                    right.until(stack - middle)
+                }
+            }
+        }
+    }
+
+    /// The least stack whose turn is not after this one.
+    pub fn first_due(&self, turn: u32) -> Option<u16>
+        ensures { result ≡ position (is_due turn) self.now }
+    {
+        if turn < self.earliest {
+            return None;
+        }
+        match &self.node {
+            Node::Empty => None,
+            Node::One(until) => if is_due(*until, turn) { Some(0) } else { None },
+            Node::Two(left, right) => {
+                let on_left = left.first_due(turn);
+                if on_left.is_some() {
+                    return on_left;
+                }
+                match right.first_due(turn) {
+                    Some(stack) => Some(left.count() + stack),
+                    None => None,
+                }
+            }
+        }
+    }
+}
+
+// Whether a sleep ends at this turn or before.
+fn is_due(until: Option<u32>, turn: u32) -> bool
+    ensures { result ≡ is_due turn until }
+{
+    matches!(until, Some(due) if due <= turn)
+}
+
+// A turn before which no sleep of a node ends.
+fn earliest_of(node: &Node) -> u32
+    ensures { NotBefore result (sleeps node.now) }
+{
+    match node {
+        Node::Empty | Node::One(None) => u32::MAX,
+        Node::One(Some(until)) => *until,
+        Node::Two(left, right) => left.earliest().min(right.earliest()),
+    }
+}
