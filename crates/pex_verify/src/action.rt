@@ -85,7 +85,7 @@ static ACTIONS: [Action; 36] = [
 const LAST: u8 = 0x23;
 
 /// What instructions of this opcode do, none where it is over 23h.
-pub(crate) fn action_of(opcode: u8) -> Option<Action>
+pub fn action_of(opcode: u8) -> Option<Action>
     ensures { result ≡ spec.action_of opcode }
 {
     if opcode > LAST {

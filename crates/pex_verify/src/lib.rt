@@ -28,7 +28,7 @@ mod values;
 mod variables;
 mod verifier;
 
-pub use action::{Action, Use};
+pub use action::{Action, Use, action_of};
 pub use fault::{VerifyFault, VerifyRule};
 pub use loaded::{
     Loaded, LoadedFunction, LoadedInstruction, LoadedProperty, LoadedScript, MethodPlace, Operand,

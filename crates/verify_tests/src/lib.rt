@@ -2,7 +2,8 @@
 //! rules and the listing, so that neither crate rests on the other.
 #![tactic(auto)]
 
-#[cfg(test)]
 mod test_sets;
 #[cfg(test)]
 mod tests;
+
+pub use test_sets::files_of;

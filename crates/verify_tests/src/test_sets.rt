@@ -22,7 +22,7 @@ struct Listing {
 }
 
 /// The files of a set.
-pub(crate) fn files_of(alloc: Global, text: &[u8]) -> Result<Vec<Pex>, OutOfMemory>
+pub fn files_of(alloc: Global, text: &[u8]) -> Result<Vec<Pex>, OutOfMemory>
     ensures { IfOk result (λ files. All IsFile files.items) }
 {
     let mut files = Vec::new(alloc);
