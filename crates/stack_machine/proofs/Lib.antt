@@ -1,0 +1,5 @@
+pub mod AsMany
+pub mod Scripts
+pub mod Seats
+pub mod Sinks
+pub mod Texts

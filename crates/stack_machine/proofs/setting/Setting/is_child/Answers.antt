@@ -1,0 +1,12 @@
+use Rattle.std.proofs.Common.{◌≡◌, ◌+◌, ◌-◌, length, Some, sym, ap, ◌∙◌, arith, rules}
+use Rattle.stack_machine.proofs.Scripts.{is_among, among_step}
+use Rattle.stack_machine.proofs.setting.Setting.is_child.Goals as goal
+
+pub loop-preserved : goal.loop-preserved
+loop-preserved c =
+    let scripts = c.args.self.now.loaded.outline in
+    let count : c.len-end.result ≡ length scripts = search (rules, c.outline.ensures.outline) in
+    let less : length scripts - (c.loop.counter + 1) ≡ length scripts - c.loop.counter - 1 = omega arith in
+    ap (λ left. is_among left scripts (Some c.in-Some.above) c.args.parent) less
+    ∙ sym (among_step (length scripts - c.loop.counter) scripts c.loop.script c.in-Some.above c.args.parent (omega (arith, count)) c.if-script-parent.false (sym c.in-Some.ensures))
+    ∙ c.loop.invariant

@@ -1,0 +1,15 @@
+pub mod Arithmetic
+pub mod Calls
+pub mod Casts
+pub mod Choices
+pub mod Faults
+pub mod Instructions
+pub mod Lines
+pub mod Machine
+pub mod Natives
+pub mod Operands
+pub mod Runs
+pub mod Settings
+pub mod Stores
+pub mod Threads
+pub mod Values

@@ -1,0 +1,47 @@
+-- What callers see of a machine, and what its turns leave.
+use Rattle.std.specs.Prelude.{◌≡◌, ℕ, ◌+◌, List, Option, Some, Result, Ok, Err}
+use Rattle.core_tree.specs.declared.outline.OutlineScript.{OutlineScript}
+use Rattle.core_tree.specs.declared.scene.Scene.{Scene}
+use Rattle.papy_io.specs.Count.{HasRisen}
+use Rattle.papy_io.specs.Sink.{Appended}
+use Rattle.stack_machine.specs.declared.status.TurnEnd.{TurnEnd}
+use Rattle.stack_machine.specs.declared.status.TurnEnd.TheVariants.{Ran, Idle, Ended}
+use Rattle.stack_machine.specs.declared.status.TurnFault.{TurnFault}
+use Rattle.stack_machine.specs.declared.status.TurnFault.TheVariants.{WriteFault, OutOfMemory}
+
+pub record MachineState : Type 0 where
+  -- what no turn changes
+  pub outline : List OutlineScript
+  pub scene : Scene
+  -- how many turns are done, and how many stacks have started
+  pub turns : ℕ
+  pub started : ℕ
+  -- the fault that it has answered
+  pub fault : Option TurnFault
+
+-- how many turns are done after this answer
+abbrev pub turns_after : Result TurnEnd TurnFault → ℕ → ℕ
+turns_after (Ok Ended) turns = turns
+turns_after (Ok (Ran stack)) turns = turns + 1
+turns_after (Ok Idle) turns = turns + 1
+turns_after (Err fault) turns = turns
+
+-- the fault that a machine has answered after this answer
+abbrev pub fault_after : Result TurnEnd TurnFault → Option TurnFault → Option TurnFault
+fault_after (Ok end) before = before
+fault_after (Err fault) before = Some fault
+
+-- the count of a sink's faults rises with WriteFault
+abbrev pub CountsFault : TurnFault → ℕ → ℕ → Type 0
+CountsFault WriteFault before now = HasRisen before now
+CountsFault OutOfMemory before now = now ≡ before
+
+-- it rises exactly in a turn that answers WriteFault
+abbrev pub CountsTurn : {T : Type 0} → Result T TurnFault → ℕ → ℕ → Type 0
+CountsTurn (Ok value) before now = now ≡ before
+CountsTurn (Err fault) before now = CountsFault fault before now
+
+-- some bytes were appended, or none
+pub record AppendsSome (before now : Option (List ℕ)) : Type 0 where
+  pub bytes : List ℕ
+  pub appended : Appended bytes before now

@@ -1,0 +1,88 @@
+//! What the acts of stacks do to their frames and their locks.
+
+ghost use Rattle.stack_machine.specs.Threads.{IsSameSize};
+
+use crate::frame::{Call, Frame, Way};
+use crate::run::Ending;
+use crate::threads::Threads;
+use core_tree::Value;
+use papy_base::OutOfMemory;
+
+impl Threads {
+    /// Does the act that ended a stack's turn.
+    pub fn act(&mut self, stack: u16, turn: u32, ending: Ending) -> Result<(), OutOfMemory>
+        ensures { IsSameSize self.old self.new }
+    {
+        match ending {
+            Ending::Pass => {}
+            Ending::Called(call) => self.call(stack, call)?,
+            Ending::Performed { reply, latency } => {
+                self.rest_after_native(stack, turn, reply, latency);
+            }
+            Ending::Returned(value) => {
+                if let Some(frame) = self.pop(stack) {
+                    self.return_from(stack, frame.instance(), value);
+                }
+            }
+        }
+        Ok(())
+    }
+
+    // A call that needs a frame.
+    fn call(&mut self, stack: u16, call: Call) -> Result<(), OutOfMemory>
+        ensures { IsSameSize self.old self.new }
+    {
+        match call.way {
+            Way::Global(_) => self.call_global(stack, call),
+            Way::Parent { .. } => self.push(stack, Frame::Pending(call)),
+            Way::Method(_) | Way::Get(_) | Way::Set(_) => self.call_instance(stack, call),
+        }
+    }
+
+    // A method or property: on the frame's own instance it keeps the lock.
+    fn call_instance(&mut self, stack: u16, call: Call) -> Result<(), OutOfMemory>
+        ensures { IsSameSize self.old self.new }
+    {
+        let is_own = self.instance_of(stack) == call.instance;
+        self.push(stack, Frame::Pending(call))?;
+        if !is_own {
+            self.let_go(stack);
+            self.go_to_wait(stack);
+        }
+        Ok(())
+    }
+
+    // A global function with a body runs free.
+    fn call_global(&mut self, stack: u16, call: Call) -> Result<(), OutOfMemory>
+        ensures { IsSameSize self.old self.new }
+    {
+        self.push(stack, Frame::Pending(call))?;
+        self.let_go(stack);
+        self.go_to_wait(stack);
+        Ok(())
+    }
+
+    /// Hands the frame that is now innermost what a native that isn't prompt gave, and lets the stack rest.
+    pub fn rest_after_native(&mut self, stack: u16, turn: u32, reply: Value, latency: u32)
+        ensures { IsSameSize self.old self.new }
+    {
+        self.let_go(stack);
+        self.reply(stack, reply);
+        self.rest(stack, turn, latency);
+    }
+
+    /// Returns a value from a frame of this instance, which was popped, to its caller.
+    pub fn return_from(&mut self, stack: u16, instance: Option<u16>, value: Value)
+        ensures { IsSameSize self.old self.new }
+    {
+        if self.is_done(stack) {
+            self.finish(stack);
+            return;
+        }
+        self.reply(stack, value);
+        if instance.is_none() || self.instance_of(stack) != instance {
+            self.let_go(stack);
+            self.go_to_wait(stack);
+        }
+    }
+}

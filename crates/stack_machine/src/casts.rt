@@ -1,0 +1,156 @@
+//! Casts.
+
+ghost use Rattle.std.specs.Prelude.{◌≡◌, ◌++◌, slice_get, IfOk, OnOk};
+ghost use Rattle.stack_machine.specs.Casts.{named, plain_text, text_of_bound, IsTextOf};
+
+use crate::operands::Work;
+use crate::setting::Setting;
+use crate::store::Store;
+use crate::values::{counts_as_true, number_of};
+use core_tree::{CoreType, Value};
+use papy_base::{OutOfMemory, Text, read_int, write_int};
+use pex_verify::LoadedInstruction;
+use std::alloc::Global;
+
+impl Work<'_> {
+    /// cast: a result and a value.
+    pub fn cast(&mut self, instruction: &LoadedInstruction) -> Result<(), OutOfMemory> {
+        let value = self.value(instruction, 1)?;
+        let Some(kind) = self.type_of(instruction, 0) else {
+            return Ok(());
+        };
+        let cast = self.cast_to(kind, value)?;
+        self.write(instruction, 0, cast)
+    }
+
+    fn cast_to(&self, kind: CoreType, value: Value) -> Result<Value, OutOfMemory> {
+        match kind {
+            CoreType::Bool => Ok(Value::Bool(counts_as_true(&value))),
+            CoreType::Int => Ok(Value::Int(cast_to_number(&value))),
+            CoreType::Text => self.cast_to_text(value),
+            CoreType::Script(script) => Ok(self.cast_to_script(script, value)),
+            _ => Ok(value),
+        }
+    }
+
+    fn cast_to_text(&self, value: Value) -> Result<Value, OutOfMemory> {
+        match value {
+            Value::Text(text) => Ok(Value::Text(text)),
+            other => Ok(Value::Text(text_of(
+                self.turn.alloc,
+                self.turn.setting,
+                self.store,
+                &other,
+            )?)),
+        }
+    }
+
+    // None of an instance whose script is another one.
+    fn cast_to_script(&self, script: u16, value: Value) -> Value {
+        let Value::Instance(instance) = value else {
+            return value;
+        };
+        match self.turn.setting.script_of(instance) {
+            Some(own) if self.turn.setting.is_child(own, script) => Value::Instance(instance),
+            _ => Value::NoneValue,
+        }
+    }
+}
+
+fn cast_to_number(value: &Value) -> i32 {
+    match value {
+        Value::Text(text) => read_int(text.as_bytes()),
+        other => number_of(other),
+    }
+}
+
+/// The text of a value: a number's decimals, `True` or `False`, `[Script <name>]`, `None`, or an array's
+/// elements between brackets.
+#[tactic(auto, using(crate::proofs::Texts::is_text))]
+pub fn text_of(
+    alloc: Global,
+    setting: &Setting,
+    store: &Store,
+    value: &Value,
+) -> Result<Text, OutOfMemory>
+    ensures { IfOk result (IsTextOf setting.now.loaded.outline setting.now.scene value.now) }
+{
+    let mut bytes = Vec::new(alloc);
+    if let Value::Array(array) = value {
+        append_array(&mut bytes, setting, store, *array)?;
+        return Text::try_from_bytes(alloc, bytes.as_slice());
+    }
+    append_plain(&mut bytes, setting, value)?;
+    Text::try_from_bytes(alloc, bytes.as_slice())
+}
+
+// The text of a value that is no array.
+fn append_plain(bytes: &mut Vec<u8>, setting: &Setting, value: &Value) -> Result<(), OutOfMemory>
+    ensures { OnOk result (bytes.new.items ≡ bytes.old.items ++ plain_text setting.now.loaded.outline setting.now.scene value.now) }
+{
+    match value {
+        Value::Int(number) => {
+            let digits = write_int(*bytes.allocator(), *number)?;
+            append(bytes, digits.as_bytes())
+        }
+        Value::Bool(true) => append(bytes, b"True"),
+        Value::Bool(false) => append(bytes, b"False"),
+        Value::Text(text) => append(bytes, text.as_bytes()),
+        Value::Instance(instance) => append_instance(bytes, setting, *instance),
+        Value::NoneValue | Value::Array(_) => append(bytes, b"None"),
+    }
+}
+
+fn append(bytes: &mut Vec<u8>, more: &[u8]) -> Result<(), OutOfMemory>
+    ensures { OnOk result (bytes.new.items ≡ bytes.old.items ++ more.now) }
+{
+    bytes.extend_from_slice(more)?;
+    Ok(())
+}
+
+fn append_instance(bytes: &mut Vec<u8>, setting: &Setting, instance: u16) -> Result<(), OutOfMemory>
+    ensures { OnOk result (bytes.new.items ≡ bytes.old.items ++ text_of_bound setting.now.loaded.outline (slice_get setting.now.scene.instances.items instance)) }
+{
+    let Some(bound) = setting.scene.instances.get(usize::from(instance)) else {
+        return Ok(());
+    };
+    let Some(script) = setting
+        .loaded
+        .outline()
+        .scripts
+        .get(usize::from(bound.script))
+    else {
+        return Ok(());
+    };
+    append_named(bytes, script.name.as_bytes(), bound.name.as_bytes())
+}
+
+// `[Script <name>]`
+fn append_named(bytes: &mut Vec<u8>, script: &[u8], name: &[u8]) -> Result<(), OutOfMemory>
+    ensures { OnOk result (bytes.new.items ≡ bytes.old.items ++ named script.now name.now) }
+{
+    bytes.push(b'[')?;
+    bytes.extend_from_slice(script)?;
+    bytes.extend_from_slice(b" <")?;
+    bytes.extend_from_slice(name)?;
+    bytes.extend_from_slice(b">]")?;
+    Ok(())
+}
+
+fn append_array(
+    bytes: &mut Vec<u8>,
+    setting: &Setting,
+    store: &Store,
+    array: u16,
+) -> Result<(), OutOfMemory> {
+    let count = store.length_of(array);
+    bytes.push(b'[')?;
+    for at in 0..count {
+        if at > 0 {
+            bytes.extend_from_slice(b", ")?;
+        }
+        append_plain(bytes, setting, &store.element(array, at)?)?;
+    }
+    bytes.push(b']')?;
+    Ok(())
+}

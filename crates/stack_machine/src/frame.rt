@@ -1,0 +1,81 @@
+//! The frames of stacks.
+
+use core_tree::Value;
+use pex_verify::{MethodPlace, PropertyPlace};
+
+/// How a call names its function. Names stand as their numbers.
+#[derive(Clone, Copy, Debug, PartialEq, Eq)]
+pub enum Way {
+    /// A method, from the instance's script upward.
+    Method(usize),
+    /// A method, from the parent of the script in which the call stands.
+    Parent { script: u16, name: usize },
+    /// A global function with a body.
+    Global(MethodPlace),
+    /// The reading of a property.
+    Get(usize),
+    /// The writing of a property.
+    Set(usize),
+}
+
+/// A call that is pending: its function is looked up at its entry.
+#[derive(Debug, Drop)]
+pub struct Call {
+    /// None for a global function.
+    pub instance: Option<u16>,
+    pub way: Way,
+    /// By parameter.
+    pub arguments: Vec<Value>,
+}
+
+/// Which body runs.
+#[derive(Clone, Copy, Debug, PartialEq, Eq)]
+pub enum Body {
+    /// A function of a state.
+    Method(MethodPlace),
+    /// The function that reads a property.
+    Reader(PropertyPlace),
+    /// The function that writes a property.
+    Writer(PropertyPlace),
+}
+
+impl Body {
+    /// The number of the script in which the body stands.
+    pub fn script(self) -> u16 {
+        match self {
+            Body::Method(method) => method.script,
+            Body::Reader(property) | Body::Writer(property) => property.script,
+        }
+    }
+}
+
+/// A body that was entered.
+#[derive(Debug, Drop)]
+pub struct Running {
+    /// None in a global function.
+    pub instance: Option<u16>,
+    pub body: Body,
+    /// The place of the instruction that comes next, or of the act whose reply is awaited.
+    pub place: usize,
+    /// The parameters, and the locals behind them.
+    pub slots: Vec<Value>,
+    /// What the act gave, until the next turn of the stack.
+    pub reply: Option<Value>,
+}
+
+/// A frame.
+#[derive(Debug, Drop)]
+pub enum Frame {
+    Pending(Call),
+    Running(Running),
+}
+
+impl Frame {
+    /// The instance that the frame belongs to.
+    pub fn instance(&self) -> Option<u16> {
+        match self {
+            Frame::Pending(call) => call.instance,
+            Frame::Running(running) => running.instance,
+        }
+    }
+}

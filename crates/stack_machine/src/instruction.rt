@@ -1,0 +1,109 @@
+//! Instructions, one after another.
+
+ghost use Rattle.std.specs.Prelude.{OnOk};
+ghost use Rattle.stack_machine.specs.Operands.{worth_at, StoresAt};
+
+use crate::frame::Call;
+use crate::operands::Work;
+use crate::values::counts_as_true;
+use core_tree::Value;
+use papy_base::{OutOfMemory, StackFault};
+use pex_verify::{Action, LoadedInstruction, MethodPlace, action_of};
+
+/// What an instruction did.
+#[derive(Debug, Drop)]
+pub enum Step {
+    /// It is done, perhaps with a fault, and the next one follows.
+    Done(Option<StackFault>),
+    /// A jump leads to this place.
+    Jump(usize),
+    /// More than the body is needed.
+    Event(Event),
+}
+
+/// What the machine does for a body.
+#[derive(Debug, Drop)]
+pub enum Event {
+    /// A call that needs a frame.
+    Called(Call),
+    /// A call of a global native.
+    Native {
+        at: MethodPlace,
+        arguments: Vec<Value>,
+    },
+    /// The body returned this value.
+    Returned(Value),
+}
+
+// The opcode of jmpt.
+const JUMP_IF_TRUE: u8 = 0x15;
+
+impl Work<'_> {
+    /// Runs an instruction.
+    pub fn step(&mut self, instruction: &LoadedInstruction) -> Result<Step, OutOfMemory> {
+        match action_of(instruction.opcode) {
+            Some(Action::Jump) => Ok(jump(instruction)),
+            Some(Action::JumpIf) => self.jump_if(instruction),
+            Some(Action::CallMethod) => self.call_method(instruction),
+            Some(Action::CallParent) => self.call_parent(instruction),
+            Some(Action::CallStatic) => self.call_static(instruction),
+            Some(Action::GetProperty) => self.get_property(instruction),
+            Some(Action::SetProperty) => self.set_property(instruction),
+            Some(Action::Return) => {
+                let value = self.value(instruction, 0)?;
+                Ok(Step::Event(Event::Returned(value)))
+            }
+            Some(action) => Ok(Step::Done(self.evaluate(action, instruction)?)),
+            None => Ok(Step::Done(None)),
+        }
+    }
+
+    // An instruction that works on values alone.
+    fn evaluate(
+        &mut self,
+        action: Action,
+        instruction: &LoadedInstruction,
+    ) -> Result<Option<StackFault>, OutOfMemory> {
+        match action {
+            Action::Arithmetic => return self.compute(instruction),
+            Action::Join => return self.join(instruction),
+            Action::CreateArray => return self.create_array(instruction),
+            Action::ArrayLength => return self.array_length(instruction),
+            Action::GetElement => return self.get_element(instruction),
+            Action::SetElement => return self.set_element(instruction),
+            Action::FindElement => return self.find_element(instruction),
+            Action::Invert => self.invert(instruction)?,
+            Action::Negate => self.negate(instruction)?,
+            Action::Assign => self.assign(instruction)?,
+            Action::Cast => self.cast(instruction)?,
+            Action::Equal => self.equate(instruction)?,
+            Action::Order => self.compare(instruction)?,
+            _ => {}
+        }
+        Ok(None)
+    }
+
+    // assign: a result and a value.
+    fn assign(&mut self, instruction: &LoadedInstruction) -> Result<(), OutOfMemory>
+        ensures { OnOk result (StoresAt self.old self.new instruction.now 0 (worth_at self.old instruction.now 1)) }
+    {
+        let value = self.value(instruction, 1)?;
+        self.write(instruction, 0, value)
+    }
+
+    // jmpt, jmpf: a condition and an offset.
+    fn jump_if(&mut self, instruction: &LoadedInstruction) -> Result<Step, OutOfMemory> {
+        let truth = counts_as_true(&self.value(instruction, 0)?);
+        if truth == (instruction.opcode == JUMP_IF_TRUE) {
+            return Ok(jump(instruction));
+        }
+        Ok(Step::Done(None))
+    }
+}
+
+fn jump(instruction: &LoadedInstruction) -> Step {
+    match instruction.jump {
+        Some(landing) => Step::Jump(usize::from(landing)),
+        None => Step::Done(None),
+    }
+}

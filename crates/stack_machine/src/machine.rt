@@ -1,0 +1,285 @@
+//! The machine.
+#![tactic(auto, using(crate::proofs::AsMany::as_many))]
+
+ghost use Rattle.std.specs.Prelude.{◌≡◌, ℕ, ◌+◌, ◌<◌, ◌≤◌, ◌^◌, false, true, Ok, Err, None, IfOk, IfSome, MatchOption, map, vec_len};
+ghost use Rattle.latent_natives.specs.Devices.{SameKinds};
+ghost use Rattle.stack_machine.specs.Casts.{IsTextOf};
+ghost use Rattle.stack_machine.specs.Machine.{turns_after, fault_after, CountsTurn, AppendsSome};
+
+use crate::casts::text_of;
+use crate::plan::Plan;
+use crate::setting::Setting;
+use crate::status::{Status, TurnEnd, TurnFault};
+use crate::store::Store;
+use crate::threads::Threads;
+use crate::world::World;
+use core_tree::{Outline, Scene, TurnOrder, Value};
+use instance_store::Arrays;
+use latent_natives::{Device, load_device};
+use papy_base::{OutOfMemory, Text};
+use papy_io::Sink;
+use pex_verify::Loaded;
+use std::alloc::Global;
+use std::marker::Model;
+
+/// A world of loaded scripts that a scene set up, which runs in turns.
+#[derive(Drop)]
+pub struct Machine {
+    setting: Setting,
+    world: World,
+    // The turns that were done.
+    turns: u32,
+    // The fault that was answered.
+    fault: Option<TurnFault>,
+    // The state of an instance that isn't there.
+    no_state: Text,
+}
+
+impl Model for Machine {
+    ghost use Rattle.std.specs.Prelude.{◌<◌, vec_len};
+    ghost use Rattle.stack_machine.specs.Casts.{IsTextOf};
+    ghost use Rattle.stack_machine.specs.Machine.{MachineState};
+
+    ghost Value = { MachineState };
+
+    ghost view = { λ m. record { outline = m.setting.loaded.outline; scene = m.setting.scene; turns = m.turns; started = m.world.threads.started; fault = m.fault } };
+
+    ghost invariant = { λ m. (vec_len m.setting.scene.instances < 65536) × (vec_len m.setting.scene.calls < 65536) };
+}
+
+impl Machine {
+    /// The world of a scene that is bound to the loaded outline and to this number of devices, before its first
+    /// turn. Each device is loaded with its tape, or with no cells, from 0 on. The scene has at most 65,535
+    /// instances and as many calls, as each scene that keeps the limits has.
+    ///
+    /// # Errors
+    ///
+    /// `OutOfMemory` comes where there is no room. Then the first devices may be loaded, and the rest are as
+    /// they were.
+    pub fn start(
+        alloc: Global,
+        loaded: Loaded,
+        scene: Scene,
+        devices: &mut Vec<Box<dyn Device>>,
+    ) -> Result<Machine, OutOfMemory>
+        requires instances { vec_len scene.instances < 65536 }
+        requires calls { vec_len scene.calls < 65536 }
+        ensures fixed { IfOk result (λ machine. (machine.outline ≡ loaded.outline) × (machine.scene ≡ scene)) }
+        ensures fresh { IfOk result (λ machine. (machine.turns ≡ 0) × (machine.started ≡ 0) × (machine.fault ≡ None)) }
+        ensures kinds { SameKinds (map (λ d. device_state d) devices.old.items) (map (λ d. device_state d) devices.new.items) }
+    {
+        let plan = Plan::of(alloc, &loaded, &scene)?;
+        let store = Store::create(alloc, &loaded, loaded.outline(), &scene)?;
+        let (instances, stacks) = (scene.instances.len() as u16, scene.calls.len() as u16);
+        let threads = Threads::with_room(alloc, instances, stacks)?;
+        let no_state = Text::try_from_bytes(alloc, &[])?;
+        load_devices(&scene.tapes, devices)?;
+        Ok(Machine {
+            setting: Setting {
+                loaded,
+                scene,
+                plan,
+            },
+            world: World {
+                alloc,
+                store,
+                threads,
+                last: None,
+            },
+            turns: 0,
+            fault: None,
+            no_state,
+        })
+    }
+
+    /// Does one turn: starts the stacks and wakes the sleepers of this turn, chooses a stack, and runs it to the
+    /// act that ends its turn. The lines of the turn are written, each by one call of the sink.
+    ///
+    /// `Ended` comes exactly where the run has ended, as after the scene's number of turns, and changes nothing.
+    ///
+    /// # Errors
+    ///
+    /// `WriteFault` comes where the sink failed, and `OutOfMemory` where there is no room. Then a prefix of the
+    /// turn's lines was written, and each later turn answers the same fault, writes nothing and leaves the
+    /// devices as they were.
+    pub fn turn<S: Sink>(
+        &mut self,
+        sink: &mut S,
+        devices: &mut Vec<Box<dyn Device>>,
+    ) -> Result<TurnEnd, TurnFault>
+        ensures fixed { (self.new.outline ≡ self.old.outline) × (self.new.scene ≡ self.old.scene) }
+        ensures turns { self.new.turns ≡ turns_after result self.old.turns }
+        ensures fault { self.new.fault ≡ fault_after result self.old.fault }
+        ensures ended { result ≡ Ok TurnEnd.Ended → self.new ≡ self.old }
+        ensures ends { self.old.fault ≡ None → self.old.scene.turns ≤ self.old.turns → result ≡ Ok TurnEnd.Ended }
+        ensures count { self.old.fault ≡ None → CountsTurn result (S.faults sink.old) (S.faults sink.new) }
+        ensures appended { AppendsSome (S.written sink.old) (S.written sink.new) }
+        ensures kinds { SameKinds (map (λ d. device_state d) devices.old.items) (map (λ d. device_state d) devices.new.items) }
+
+        // After a fault.
+        ensures same_fault { IfSome self.old.fault (λ fault. result ≡ Err fault) }
+        ensures nothing_written { IfSome self.old.fault (λ fault. (S.written sink.new ≡ S.written sink.old) × (S.faults sink.new ≡ S.faults sink.old)) }
+        ensures devices_kept { IfSome self.old.fault (λ fault. map (λ d. device_state d) devices.new.items ≡ map (λ d. device_state d) devices.old.items) }
+    {
+        if let Some(fault) = self.fault {
+            return Err(fault);
+        }
+        if self.has_ended() {
+            return Ok(TurnEnd::Ended);
+        }
+        match self.world.do_turn(&self.setting, self.turns, sink, devices) {
+            Ok(ran) => {
+                self.turns += 1;
+                Ok(end_of(ran))
+            }
+            Err(fault) => {
+                self.fault = Some(fault);
+                Err(fault)
+            }
+        }
+    }
+
+    // A run ends after its number of turns. In round order it also ends where every stack is done and no scene
+    // call is left.
+    fn has_ended(&self) -> bool
+        ensures goes_on { result ≡ false → self.now.turns < self.now.scene.turns }
+        ensures room { result ≡ false → self.now.turns + 1 < 2 ^ 32 }
+        ensures ends { self.now.scene.turns ≤ self.now.turns → result ≡ true }
+    {
+        let scene = &self.setting.scene;
+        if self.turns >= scene.turns {
+            return true;
+        }
+        let threads = &self.world.threads;
+        matches!(scene.order, TurnOrder::Round)
+            && threads.are_done()
+            && usize::from(threads.count()) >= scene.calls.len()
+    }
+}
+
+impl Machine {
+    /// The number of stacks that have started.
+    pub fn stack_count(&self) -> u16
+        ensures { result ≡ self.now.started }
+    {
+        self.world.threads.count()
+    }
+
+    /// The number of turns that were done.
+    pub fn turns_done(&self) -> u32
+        ensures { result ≡ self.now.turns }
+    {
+        self.turns
+    }
+
+    /// The scene of the start.
+    pub fn scene(&self) -> &Scene
+        ensures scene { result.now ≡ self.now.scene }
+        ensures few_instances { vec_len self.now.scene.instances < 65536 }
+        ensures few_calls { vec_len self.now.scene.calls < 65536 }
+    {
+        &self.setting.scene
+    }
+
+    /// The outline of the loaded scripts.
+    pub fn outline(&self) -> &Outline
+        ensures { result.now.scripts.items ≡ self.now.outline }
+    {
+        self.setting.loaded.outline()
+    }
+
+    /// What a stack that has started is doing.
+    pub fn status_of(&self, stack: u16) -> Status
+        requires { stack < self.now.started }
+    {
+        self.world.threads.status_of(stack)
+    }
+
+    /// The stack that holds an instance.
+    pub fn owner_of(&self, instance: u16) -> Option<u16>
+        requires { instance < vec_len self.now.scene.instances }
+    {
+        self.world.threads.owner_of(instance)
+    }
+
+    /// The text of an instance's state.
+    pub fn state_of(&self, instance: u16) -> &Text
+        requires { instance < vec_len self.now.scene.instances }
+    {
+        if self.world.store.has_instance(instance) {
+            return self.world.store.instances.state_of(instance);
+        }
+        &self.no_state
+    }
+
+    /// The value of an instance's Auto property of this number, where those of the root script come first, each
+    /// script's in order of declaration.
+    ///
+    /// # Errors
+    ///
+    /// `OutOfMemory` comes only of a text.
+    pub fn property_at(&self, instance: u16, property: u32) -> Result<Value, OutOfMemory> {
+        match self.setting.property_place(instance, property) {
+            Some((script, variable)) => self.world.store.variable(instance, script, variable),
+            None => Ok(Value::NoneValue),
+        }
+    }
+
+    /// The value of an instance's variable of this number, among the variables of this script. None where the
+    /// instance has no such variable.
+    ///
+    /// # Errors
+    ///
+    /// `OutOfMemory` comes only of a text.
+    pub fn variable_at(
+        &self,
+        instance: u16,
+        script: u16,
+        variable: u16,
+    ) -> Result<Value, OutOfMemory> {
+        self.world.store.variable(instance, script, variable)
+    }
+
+    /// The text of a value: a number's decimals, `True` or `False`, a text itself, `[Script <name>]` of an
+    /// instance, `None`, or an array's elements between brackets, joined by a comma and a space.
+    ///
+    /// # Errors
+    ///
+    /// `OutOfMemory` comes where there is no room.
+    pub fn value_text(&self, value: &Value) -> Result<Text, OutOfMemory>
+        ensures { IfOk result (IsTextOf self.now.outline self.now.scene value.now) }
+    {
+        text_of(self.world.alloc, &self.setting, &self.world.store, value)
+    }
+
+    /// The arrays that scripts have made.
+    pub fn arrays(&self) -> &Arrays {
+        &self.world.store.arrays
+    }
+}
+
+// The end of a turn in which this stack ran, or none.
+fn end_of(ran: Option<u16>) -> TurnEnd
+    ensures end { MatchOption ran (result ≡ TurnEnd.Idle) (λ stack. result ≡ TurnEnd.Ran stack) }
+    ensures counts { (turns : ℕ) → turns_after (Ok result) turns ≡ turns + 1 }
+    ensures goes_on { ¬ (result ≡ TurnEnd.Ended) }
+{
+    match ran {
+        Some(stack) => TurnEnd::Ran(stack),
+        None => TurnEnd::Idle,
+    }
+}
+
+// Loads each device with its tape, or with no cells.
+fn load_devices(tapes: &[Vec<i32>], devices: &mut Vec<Box<dyn Device>>) -> Result<(), OutOfMemory>
+    ensures { SameKinds (map (λ d. device_state d) devices.old.items) (map (λ d. device_state d) devices.new.items) }
+{
+    for place in 0..devices.len() {
+        let cells: &[i32] = match tapes.get(place) {
+            Some(tape) => tape.as_slice(),
+            None => &[],
+        };
+        load_device(devices, place, cells, 0)?;
+    }
+    Ok(())
+}

@@ -1,0 +1,210 @@
+//! The body that runs, and what its operands are worth.
+
+ghost use Rattle.std.specs.Prelude.{◌≡◌, IfOk, OnOk, map, slice_index_or, slice_set};
+ghost use Rattle.core_tree.specs.declared.value.Value.TheVariants as values;
+ghost use Rattle.stack_machine.specs.Operands.{own_instance, state_in, state_with, type_at, variable_in, variable_with, worth, worth_at, Stores, StoresAt};
+ghost use Rattle.stack_machine.specs.Stores.{default_in};
+
+use crate::setting::Setting;
+use crate::store::{Store, default_of};
+use core_tree::{CoreType, Value};
+use papy_base::OutOfMemory;
+use pex_verify::{LoadedFunction, LoadedInstruction, Operand};
+use std::alloc::Global;
+
+/// The turn of a stack.
+#[derive(Drop)]
+pub struct Turn<'a> {
+    pub alloc: Global,
+    pub setting: &'a Setting,
+    pub number: u32,
+    pub stack: u16,
+}
+
+/// A body that runs, and what it works on.
+#[derive(Drop)]
+pub struct Work<'a> {
+    pub turn: &'a Turn<'a>,
+    pub function: &'a LoadedFunction,
+    pub store: &'a mut Store,
+    /// The instance that the body runs on, none in a global function.
+    pub instance: Option<u16>,
+    /// The number of the script in which the body stands.
+    pub script: u16,
+    /// The parameters, and the locals behind them.
+    pub slots: &'a mut Vec<Value>,
+    /// Whether a further frame may be pushed.
+    pub has_room: bool,
+}
+
+impl Work<'_> {
+    /// The value of a fixed operand.
+    pub fn value(&self, instruction: &LoadedInstruction, place: usize) -> Result<Value, OutOfMemory>
+        ensures { IfOk result (λ value. value ≡ worth_at self.now instruction.now place) }
+    {
+        match instruction.fixed.get(place) {
+            Some(operand) => self.read(operand),
+            None => Ok(Value::NoneValue),
+        }
+    }
+
+    /// The values of the further operands.
+    pub fn arguments(&self, instruction: &LoadedInstruction) -> Result<Vec<Value>, OutOfMemory>
+        ensures { IfOk result (λ values. values.items ≡ map (worth self.now) instruction.now.more.items) }
+    {
+        let mut values = Vec::with_capacity(self.turn.alloc, instruction.more.len())?;
+        for operand in &instruction.more {
+            values.push(self.read(operand)?)?;
+        }
+        Ok(values)
+    }
+
+    /// The value of an operand.
+    pub fn read(&self, operand: &Operand) -> Result<Value, OutOfMemory>
+        ensures { IfOk result (λ value. value ≡ worth self.now operand.now) }
+    {
+        match operand {
+            Operand::NoneValue | Operand::Word(_) => Ok(Value::NoneValue),
+            Operand::Quoted(text) => Ok(Value::Text(text.try_clone(self.turn.alloc)?)),
+            Operand::Int(number) => Ok(Value::Int(*number)),
+            Operand::Bool(truth) => Ok(Value::Bool(*truth)),
+            Operand::Slot(number) => self.read_slot(usize::from(*number)),
+            Operand::Variable(number) => self.read_variable(*number),
+            Operand::Instance => Ok(self.own_instance()),
+            Operand::State => self.read_state(),
+        }
+    }
+
+    fn read_slot(&self, number: usize) -> Result<Value, OutOfMemory>
+        ensures { IfOk result (λ value. value ≡ slice_index_or self.now.slots.now.items number values.NoneValue) }
+    {
+        match self.slots.get(number) {
+            Some(value) => value.try_clone(self.turn.alloc),
+            None => Ok(Value::NoneValue),
+        }
+    }
+
+    fn read_variable(&self, number: u16) -> Result<Value, OutOfMemory>
+        ensures { IfOk result (λ value. value ≡ variable_in self.now.store.now.instances self.now.instance self.now.script number) }
+    {
+        match self.instance {
+            Some(instance) => self.store.variable(instance, self.script, number),
+            None => Ok(Value::NoneValue),
+        }
+    }
+
+    fn own_instance(&self) -> Value
+        ensures { result ≡ own_instance self.now.instance }
+    {
+        match self.instance {
+            Some(instance) => Value::Instance(instance),
+            None => Value::NoneValue,
+        }
+    }
+
+    fn read_state(&self) -> Result<Value, OutOfMemory>
+        ensures { IfOk result (λ value. value ≡ state_in self.now.store.now.instances self.now.instance) }
+    {
+        match self.instance {
+            Some(instance) if self.store.has_instance(instance) => {
+                let state = self.store.instances.state_of(instance);
+                Ok(Value::Text(state.try_clone(self.turn.alloc)?))
+            }
+            _ => Ok(Value::NoneValue),
+        }
+    }
+
+    /// The type of what a fixed operand takes, none where it drops it.
+    pub fn type_of(&self, instruction: &LoadedInstruction, place: usize) -> Option<CoreType>
+        ensures { result ≡ type_at self.now instruction.now place }
+    {
+        let operand = instruction.fixed.get(place)?;
+        self.turn
+            .setting
+            .type_of(self.script, self.function, operand)
+    }
+
+    /// Stores a value in a fixed operand. A local of the type None drops it.
+    pub fn write(
+        &mut self,
+        instruction: &LoadedInstruction,
+        place: usize,
+        value: Value,
+    ) -> Result<(), OutOfMemory>
+        ensures { OnOk result (StoresAt self.old self.new instruction.now place value) }
+    {
+        let Some(operand) = instruction.fixed.get(place) else {
+            return Ok(());
+        };
+        let setting = self.turn.setting;
+        match setting.type_of(self.script, self.function, operand) {
+            Some(_) => self.keep(operand, value),
+            None => Ok(()),
+        }
+    }
+
+    fn keep(&mut self, operand: &Operand, value: Value) -> Result<(), OutOfMemory>
+        ensures { OnOk result (Stores self.old self.new operand.now value) }
+    {
+        match operand {
+            Operand::Slot(number) => {
+                self.write_slot(usize::from(*number), value);
+                Ok(())
+            }
+            Operand::Variable(number) => {
+                self.write_variable(*number, value);
+                Ok(())
+            }
+            Operand::State => self.write_state(value),
+            _ => Ok(()),
+        }
+    }
+
+    /// Stores the default of a fixed operand's type in it.
+    pub fn write_default(
+        &mut self,
+        instruction: &LoadedInstruction,
+        place: usize,
+    ) -> Result<(), OutOfMemory>
+        ensures { OnOk result (StoresAt self.old self.new instruction.now place (default_in (type_at self.old instruction.now place))) }
+    {
+        let value = default_of(self.turn.alloc, self.type_of(instruction, place))?;
+        self.write(instruction, place, value)
+    }
+
+    fn write_slot(&mut self, number: usize, value: Value)
+        ensures slots { self.new.slots.now.items ≡ slice_set self.old.slots.now.items number value }
+        ensures instances { self.new.store.now.instances ≡ self.old.store.now.instances }
+        ensures arrays { self.new.store.now.arrays ≡ self.old.store.now.arrays }
+    {
+        if let Some(slot) = self.slots.get_mut(number) {
+            *slot = value;
+        }
+    }
+
+    fn write_variable(&mut self, number: u16, value: Value)
+        ensures slots { self.new.slots.now.items ≡ self.old.slots.now.items }
+        ensures instances { self.new.store.now.instances ≡ variable_with self.old.store.now.instances self.old.instance self.old.script number value }
+        ensures arrays { self.new.store.now.arrays ≡ self.old.store.now.arrays }
+    {
+        if let Some(instance) = self.instance {
+            self.store
+                .set_variable(instance, self.script, number, value);
+        }
+    }
+
+    fn write_state(&mut self, value: Value) -> Result<(), OutOfMemory>
+        ensures slots { self.new.slots.now.items ≡ self.old.slots.now.items }
+        ensures instances { OnOk result (self.new.store.now.instances ≡ state_with self.old.store.now.instances self.old.instance value) }
+        ensures arrays { self.new.store.now.arrays ≡ self.old.store.now.arrays }
+    {
+        let (alloc, setting) = (self.turn.alloc, self.turn.setting);
+        match (self.instance, value) {
+            (Some(instance), Value::Text(state)) => {
+                self.store
+                    .set_state(alloc, &setting.loaded, instance, state)
+            }
+            _ => Ok(()),
+        }
+    }
+}

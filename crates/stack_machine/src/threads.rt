@@ -1,0 +1,346 @@
+//! Stacks, and where each of them is: it holds an instance, waits for one, runs free, sleeps or is done.
+#![tactic(auto, using(crate::proofs::Seats::seats))]
+
+ghost use Rattle.std.specs.Prelude.{◌≡◌, ◌↔◌, ◌+◌, ◌<◌, ◌≤◌, [], None, IfOk, IfSome, IsTrue, replicate, slice_index_or};
+ghost use Rattle.std.specs.Option.{ForSome};
+ghost use Rattle.lock_queue.specs.declared.seat.Seat.TheVariants.{Resting};
+ghost use Rattle.lock_queue.specs.LockTable.{seat_of, waits_for, is_ready, ready_after, start_after};
+ghost use Rattle.stack_machine.specs.Threads.{GoesToWait, HasGrown, IsSameSize, due_after, let_go, put_to_sleep, taken};
+
+use crate::frame::Frame;
+use crate::stack::Stack;
+use crate::status::Status;
+use core_tree::Value;
+use latent_natives::Sleepers;
+use lock_queue::Locks;
+use papy_base::OutOfMemory;
+use std::alloc::Global;
+use std::marker::Model;
+
+/// The most frames of all stacks beyond the first of each.
+const ALL_FRAMES: u16 = 512;
+
+/// The stacks that have started, numbered in order of start.
+#[derive(Debug, Drop)]
+pub struct Threads {
+    stacks: Vec<Stack>,
+    locks: Locks,
+    sleepers: Sleepers,
+    // How many instances there are, and for how many stacks there is room.
+    instances: u16,
+    room: u16,
+    // The frames of all stacks beyond the first of each.
+    extra: u16,
+    // How many stacks are done.
+    done: u16,
+}
+
+impl Model for Threads {
+    ghost use Rattle.std.specs.Prelude.{◌≡◌, ◌≤◌, ◌<◌, length, vec_len};
+    ghost use Rattle.stack_machine.specs.Threads.{ThreadTable};
+
+    ghost Value = { ThreadTable };
+
+    ghost view = { λ t. record { started = vec_len t.stacks; locks = t.locks; sleepers = t.sleepers; instances = t.instances; room = t.room } };
+
+    ghost invariant = { λ t. (vec_len t.stacks ≤ t.room) × (t.room < 65536) × (t.locks.instances ≡ t.instances) × (length t.locks.seats ≡ t.room) × (length t.sleepers ≡ t.room) };
+}
+
+impl Threads {
+    /// No stacks, with room for so many.
+    pub fn with_room(alloc: Global, instances: u16, stacks: u16) -> Result<Threads, OutOfMemory>
+        ensures fresh { IfOk result (λ threads. threads.started ≡ 0) }
+        ensures sizes { IfOk result (λ threads. (threads.instances ≡ instances) × (threads.room ≡ stacks)) }
+        ensures locks { IfOk result (λ threads. threads.locks ≡ record { seats = replicate stacks Resting; waiters = []; instances = instances }) }
+        ensures sleepers { IfOk result (λ threads. threads.sleepers ≡ replicate stacks None) }
+    {
+        Ok(Threads {
+            stacks: Vec::with_capacity(alloc, usize::from(stacks))?,
+            locks: Locks::with_room(alloc, instances, stacks)?,
+            sleepers: Sleepers::with_room(alloc, stacks)?,
+            instances,
+            room: stacks,
+            extra: 0,
+            done: 0,
+        })
+    }
+
+    /// How many stacks have started.
+    pub fn count(&self) -> u16
+        ensures number { result ≡ self.now.started }
+        ensures within { self.now.started ≤ self.now.room }
+    {
+        self.stacks.len() as u16
+    }
+
+    /// Whether every stack that has started is done.
+    pub fn are_done(&self) -> bool {
+        self.done == self.count()
+    }
+
+    /// The frames of a stack, of which the innermost one may be changed.
+    pub fn stack_mut(&mut self, stack: u16) -> Option<&mut Stack> {
+        self.stacks.get_mut(usize::from(stack))
+    }
+
+    /// Starts a stack, which waits for the instance of its first call. Where there is no room for one more it
+    /// starts none.
+    pub fn start(&mut self, alloc: Global, first: Frame) -> Result<(), OutOfMemory>
+        ensures grown { HasGrown self.old self.new }
+        ensures by_one { self.new.started ≤ self.old.started + 1 }
+    {
+        let stack = self.count();
+        if stack >= self.room {
+            return Ok(());
+        }
+        self.stacks.push(Stack::starting(alloc, first)?)?;
+        self.go_to_wait(stack);
+        Ok(())
+    }
+
+    /// The instance of a stack's innermost frame.
+    pub fn instance_of(&self, stack: u16) -> Option<u16> {
+        self.stacks.get(usize::from(stack))?.instance()
+    }
+
+    /// Whether a stack's innermost frame is a call that is pending.
+    pub fn is_pending(&self, stack: u16) -> bool {
+        match self.stacks.get(usize::from(stack)) {
+            Some(found) => matches!(found.innermost(), Some(Frame::Pending(_))),
+            None => false,
+        }
+    }
+
+    /// Whether a stack may push a further frame.
+    pub fn has_room(&self, stack: u16) -> bool {
+        match self.stacks.get(usize::from(stack)) {
+            Some(found) => found.has_room() && self.extra < ALL_FRAMES,
+            None => false,
+        }
+    }
+
+    /// Pushes a frame.
+    pub fn push(&mut self, stack: u16, frame: Frame) -> Result<(), OutOfMemory>
+        ensures { IsSameSize self.old self.new }
+    {
+        let Some(found) = self.stacks.get_mut(usize::from(stack)) else {
+            return Ok(());
+        };
+        if !found.is_done() {
+            self.extra = self.extra.saturating_add(1);
+        }
+        found.push(frame)
+    }
+
+    /// Takes the innermost frame away.
+    pub fn pop(&mut self, stack: u16) -> Option<Frame>
+        ensures { IsSameSize self.old self.new }
+    {
+        let found = self.stacks.get_mut(usize::from(stack))?;
+        let frame = found.pop();
+        if !found.is_done() {
+            self.extra = self.extra.saturating_sub(1);
+        }
+        frame
+    }
+
+    /// Hands the innermost frame the reply to its act.
+    pub fn reply(&mut self, stack: u16, value: Value)
+        ensures { IsSameSize self.old self.new }
+    {
+        if let Some(found) = self.stacks.get_mut(usize::from(stack)) {
+            found.reply(value);
+        }
+    }
+
+    /// The stack that gets the next turn of a round.
+    pub fn ready_after(&self, last: Option<u16>) -> Option<u16>
+        ensures within { IfSome result (λ stack. stack < self.now.room) }
+        ensures ready { ForSome last (λ stack. stack < self.now.room) → result ≡ ready_after self.now.locks last }
+    {
+        if !self.has_place(last) {
+            return None;
+        }
+        self.locks.ready_next(last)
+    }
+
+    // Whether there is room for this stack, or none is given.
+    fn has_place(&self, stack: Option<u16>) -> bool
+        ensures { IsTrue result ↔ ForSome stack (λ stack. stack < self.now.room) }
+    {
+        match stack {
+            Some(number) => number < self.room,
+            None => true,
+        }
+    }
+
+    /// Whether a stack may get a turn.
+    pub fn is_ready(&self, stack: u16) -> bool
+        ensures { result ≡ is_ready self.now.locks stack }
+    {
+        if stack >= self.room {
+            return false;
+        }
+        self.ready_after(stack_before(stack)) == Some(stack)
+    }
+
+    /// The instance that a stack waits for.
+    pub fn waits_for(&self, stack: u16) -> Option<u16>
+        ensures { result ≡ waits_for (seat_of self.now.locks stack) }
+    {
+        if stack >= self.room {
+            return None;
+        }
+        self.locks.waits_for(stack)
+    }
+
+    /// The turn at which a stack that sleeps is due.
+    pub fn due_at(&self, stack: u16) -> Option<u32>
+        ensures { result ≡ slice_index_or self.now.sleepers stack None }
+    {
+        if stack >= self.room {
+            return None;
+        }
+        self.sleepers.until(stack)
+    }
+
+    /// The stack that holds an instance.
+    pub fn owner_of(&self, instance: u16) -> Option<u16> {
+        if instance >= self.instances {
+            return None;
+        }
+        self.locks.owner_of(instance)
+    }
+
+    /// What a stack that has started is doing.
+    pub fn status_of(&self, stack: u16) -> Status {
+        match self.stacks.get(usize::from(stack)) {
+            Some(found) if !found.is_done() => {}
+            _ => return Status::Done,
+        }
+        if let Some(until) = self.due_at(stack) {
+            return Status::Asleep(until);
+        }
+        if self.is_ready(stack) {
+            return Status::Ready;
+        }
+        match self.waits_for(stack) {
+            Some(instance) => Status::Waits(instance),
+            None => Status::Ready,
+        }
+    }
+
+    /// Gives a stack that waits and may take its instance that instance.
+    pub fn take(&mut self, stack: u16)
+        ensures size { IsSameSize self.old self.new }
+        ensures locks { self.new.locks ≡ taken self.old.locks self.old.instances stack (seat_of self.old.locks stack) }
+        ensures sleepers { self.new.sleepers ≡ self.old.sleepers }
+    {
+        if stack >= self.room {
+            return;
+        }
+        if let Some(instance) = self.locks.waits_for(stack) {
+            if instance < self.instances && self.locks.may_take(stack, instance) {
+                self.locks.take(stack, instance);
+            }
+        }
+    }
+
+    /// Releases what a stack holds, or lets a free one rest.
+    pub fn let_go(&mut self, stack: u16)
+        ensures size { IsSameSize self.old self.new }
+        ensures locks { self.new.locks ≡ let_go self.old.locks stack (seat_of self.old.locks stack) }
+        ensures sleepers { self.new.sleepers ≡ self.old.sleepers }
+    {
+        if stack >= self.room || self.locks.waits_for(stack).is_some() {
+            return;
+        }
+        if self.locks.held_by(stack).is_some() {
+            self.locks.release(stack);
+        } else if self.is_ready(stack) {
+            self.locks.rest(stack);
+        }
+    }
+
+    /// Lets a resting stack wait for the instance of its innermost frame, or run free.
+    pub fn go_to_wait(&mut self, stack: u16)
+        ensures size { IsSameSize self.old self.new }
+        ensures locks { stack < self.old.room → GoesToWait self.old.locks self.new.locks stack (seat_of self.old.locks stack) }
+        ensures sleepers { self.new.sleepers ≡ self.old.sleepers }
+    {
+        if stack >= self.room || !self.is_resting(stack) {
+            return;
+        }
+        match self.instance_of(stack) {
+            Some(instance) if instance < self.instances => self.locks.join(stack, instance),
+            _ => self.locks.run_free(stack),
+        }
+    }
+
+    // It holds nothing, waits for nothing and doesn't run free.
+    fn is_resting(&self, stack: u16) -> bool
+        requires { stack < self.now.room }
+        ensures { IsTrue result ↔ (seat_of self.now.locks stack ≡ Resting) }
+    {
+        self.locks.held_by(stack).is_none()
+            && self.locks.waits_for(stack).is_none()
+            && !self.is_ready(stack)
+    }
+
+    /// Lets a resting stack sleep for so many turns, or with 0 wait at once.
+    pub fn rest(&mut self, stack: u16, turn: u32, latency: u32)
+        ensures size { IsSameSize self.old self.new }
+        ensures awake { latency ≡ 0 → self.new.sleepers ≡ self.old.sleepers }
+        ensures asleep { 0 < latency → self.new.sleepers ≡ put_to_sleep self.old.sleepers stack (due_after turn latency) }
+        ensures locks { 0 < latency → self.new.locks ≡ self.old.locks }
+    {
+        if latency == 0 {
+            self.go_to_wait(stack);
+            return;
+        }
+        if stack >= self.room || self.sleepers.until(stack).is_some() {
+            return;
+        }
+        let until = turn.saturating_add(1).saturating_add(latency);
+        self.sleepers.rest(stack, until);
+    }
+
+    /// Lets the sleepers that are due at a turn wait, in order of stack number.
+    pub fn wake(&mut self, turn: u32)
+        ensures { IsSameSize self.old self.new }
+    {
+        for _ in 0..self.room {
+            let Some(stack) = self.sleepers.due(turn) else {
+                break;
+            };
+            self.go_to_wait(stack);
+        }
+    }
+
+    /// Whether a stack's first call has returned.
+    pub fn is_done(&self, stack: u16) -> bool {
+        match self.stacks.get(usize::from(stack)) {
+            Some(found) => found.is_done(),
+            None => true,
+        }
+    }
+
+    /// Notes that a stack's first call has returned.
+    pub fn finish(&mut self, stack: u16)
+        ensures { IsSameSize self.old self.new }
+    {
+        self.let_go(stack);
+        self.done = self.done.saturating_add(1);
+    }
+}
+
+// The stack whose number is one less.
+fn stack_before(stack: u16) -> Option<u16>
+    ensures start { start_after result ≡ stack }
+    ensures below { ForSome result (λ before. before < stack) }
+{
+    if stack == 0 {
+        return None;
+    }
+    Some(stack - 1)
+}

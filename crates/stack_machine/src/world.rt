@@ -1,0 +1,210 @@
+//! What turns change, and what a turn does.
+#![tactic(auto, using(crate::proofs::Sinks::sinks))]
+
+ghost use Rattle.std.specs.Prelude.{map};
+ghost use Rattle.latent_natives.specs.Devices.{SameKinds};
+ghost use Rattle.stack_machine.specs.Machine.{CountsTurn, AppendsSome};
+
+use crate::begin::{begin, choose};
+use crate::entry::{Found, look_up, open};
+use crate::frame::{Call, Frame, Way};
+use crate::natives::{Performed, perform};
+use crate::operands::Turn;
+use crate::run::{Ending, run_frame};
+use crate::setting::Setting;
+use crate::status::TurnFault;
+use crate::store::Store;
+use crate::threads::Threads;
+use core_tree::Value;
+use latent_natives::Device;
+use papy_base::OutOfMemory;
+use papy_io::Sink;
+use std::alloc::Global;
+
+/// What turns change.
+#[derive(Drop)]
+pub struct World {
+    pub alloc: Global,
+    pub store: Store,
+    pub threads: Threads,
+    /// The stack that was chosen last.
+    pub last: Option<u16>,
+}
+
+impl World {
+    /// Does the turn of this number: starts the stacks and wakes the sleepers of the turn, chooses a stack, and
+    /// runs it to the act that ends its turn. It gives the stack that ran, none where the turn is idle.
+    pub fn do_turn<S: Sink>(
+        &mut self,
+        setting: &Setting,
+        number: u32,
+        sink: &mut S,
+        devices: &mut Vec<Box<dyn Device>>,
+    ) -> Result<Option<u16>, TurnFault>
+        ensures appended { AppendsSome (S.written sink.old) (S.written sink.new) }
+        ensures count { CountsTurn result (S.faults sink.old) (S.faults sink.new) }
+        ensures kinds { SameKinds (map (λ d. device_state d) devices.old.items) (map (λ d. device_state d) devices.new.items) }
+    {
+        begin(self.alloc, setting, &mut self.threads, number)?;
+        let chosen = choose(&setting.scene, &self.threads, number, self.last);
+        let Some(stack) = chosen else {
+            return Ok(None);
+        };
+        let turn = Turn {
+            alloc: self.alloc,
+            setting,
+            number,
+            stack,
+        };
+        self.run_stack(&turn, sink, devices)?;
+        self.last = chosen;
+        Ok(chosen)
+    }
+
+    // Takes the stack's instance where it waits, enters its call where one is pending, and runs its body.
+    fn run_stack<S: Sink>(
+        &mut self,
+        turn: &Turn<'_>,
+        sink: &mut S,
+        devices: &mut Vec<Box<dyn Device>>,
+    ) -> Result<(), TurnFault>
+        ensures appended { AppendsSome (S.written sink.old) (S.written sink.new) }
+        ensures count { CountsTurn result (S.faults sink.old) (S.faults sink.new) }
+        ensures kinds { SameKinds (map (λ d. device_state d) devices.old.items) (map (λ d. device_state d) devices.new.items) }
+    {
+        self.threads.take(turn.stack);
+        if self.threads.is_pending(turn.stack) {
+            return self.enter_and_run(turn, sink, devices);
+        }
+        self.run_and_act(turn, sink, devices)
+    }
+
+    // Enters the pending call, and runs its body where the entry didn't end the turn.
+    fn enter_and_run<S: Sink>(
+        &mut self,
+        turn: &Turn<'_>,
+        sink: &mut S,
+        devices: &mut Vec<Box<dyn Device>>,
+    ) -> Result<(), TurnFault>
+        ensures appended { AppendsSome (S.written sink.old) (S.written sink.new) }
+        ensures count { CountsTurn result (S.faults sink.old) (S.faults sink.new) }
+        ensures kinds { SameKinds (map (λ d. device_state d) devices.old.items) (map (λ d. device_state d) devices.new.items) }
+    {
+        if self.enter(turn, sink, devices)? {
+            return self.run_and_act(turn, sink, devices);
+        }
+        Ok(())
+    }
+
+    // Runs the innermost frame's body, and does the act that ends the turn.
+    fn run_and_act<S: Sink>(
+        &mut self,
+        turn: &Turn<'_>,
+        sink: &mut S,
+        devices: &mut Vec<Box<dyn Device>>,
+    ) -> Result<(), TurnFault>
+        ensures appended { AppendsSome (S.written sink.old) (S.written sink.new) }
+        ensures count { CountsTurn result (S.faults sink.old) (S.faults sink.new) }
+        ensures kinds { SameKinds (map (λ d. device_state d) devices.old.items) (map (λ d. device_state d) devices.new.items) }
+    {
+        if let Some(ending) = self.run_innermost(turn, sink, devices)? {
+            self.threads.act(turn.stack, turn.number, ending)?;
+        }
+        Ok(())
+    }
+
+    // Enters the pending call. It is false where the entry ended the turn.
+    fn enter<S: Sink>(
+        &mut self,
+        turn: &Turn<'_>,
+        sink: &mut S,
+        devices: &mut Vec<Box<dyn Device>>,
+    ) -> Result<bool, TurnFault>
+        ensures appended { AppendsSome (S.written sink.old) (S.written sink.new) }
+        ensures count { CountsTurn result (S.faults sink.old) (S.faults sink.new) }
+        ensures kinds { SameKinds (map (λ d. device_state d) devices.old.items) (map (λ d. device_state d) devices.new.items) }
+    {
+        let Some(Frame::Pending(call)) = self.threads.pop(turn.stack) else {
+            return Ok(false);
+        };
+        match look_up(turn.setting, &self.store, &call) {
+            Some(Found::Body(body)) => {
+                let running = open(turn.alloc, turn.setting, call, body)?;
+                self.threads.push(turn.stack, Frame::Running(running))?;
+                Ok(true)
+            }
+            Some(Found::Variable { script, variable }) => {
+                self.enter_variable(turn.stack, call, script, variable)?;
+                Ok(false)
+            }
+            Some(Found::Native(native)) => {
+                let performed = perform(turn, native, call.arguments.as_slice(), sink, devices)?;
+                self.leave_native(turn, call.instance, performed);
+                Ok(false)
+            }
+            None => {
+                self.threads
+                    .return_from(turn.stack, call.instance, Value::NoneValue);
+                Ok(false)
+            }
+        }
+    }
+
+    // A native method was performed, and its frame, which was popped, has ended.
+    fn leave_native(&mut self, turn: &Turn<'_>, instance: Option<u16>, performed: Performed) {
+        let reply = performed.reply;
+        match performed.rest {
+            Some(latency) => {
+                self.threads
+                    .rest_after_native(turn.stack, turn.number, reply, latency);
+            }
+            None => self.threads.return_from(turn.stack, instance, reply),
+        }
+    }
+
+    // An Auto property: its variable is read or written, and the call returns.
+    fn enter_variable(
+        &mut self,
+        stack: u16,
+        call: Call,
+        script: u16,
+        variable: u16,
+    ) -> Result<(), OutOfMemory> {
+        let Some(instance) = call.instance else {
+            return Ok(());
+        };
+        let mut arguments = call.arguments;
+        let value = match (call.way, arguments.pop()) {
+            (Way::Set(_), Some(value)) => {
+                self.store.set_variable(instance, script, variable, value);
+                Value::NoneValue
+            }
+            _ => self.store.variable(instance, script, variable)?,
+        };
+        self.threads.return_from(stack, Some(instance), value);
+        Ok(())
+    }
+
+    // Runs the innermost frame's body.
+    fn run_innermost<S: Sink>(
+        &mut self,
+        turn: &Turn<'_>,
+        sink: &mut S,
+        devices: &mut Vec<Box<dyn Device>>,
+    ) -> Result<Option<Ending>, TurnFault>
+        ensures appended { AppendsSome (S.written sink.old) (S.written sink.new) }
+        ensures count { CountsTurn result (S.faults sink.old) (S.faults sink.new) }
+        ensures kinds { SameKinds (map (λ d. device_state d) devices.old.items) (map (λ d. device_state d) devices.new.items) }
+    {
+        let has_room = self.threads.has_room(turn.stack);
+        let Some(stack) = self.threads.stack_mut(turn.stack) else {
+            return Ok(None);
+        };
+        match stack.innermost_mut() {
+            Some(Frame::Running(running)) => {
+                run_frame(turn, &mut self.store, running, has_room, sink, devices)
+            }
+            _ => Ok(None),
+        }
+    }
+}
