@@ -1,0 +1,26 @@
+-- Bytes that are appended in one call after another.
+use Rattle.std.proofs.Common.{◌≡◌, ℕ, List, [], ◌++◌, append_assoc, append-nil, sym, ap, ◌∙◌, take}
+use Rattle.std.specs.Prelude.{Option, None, Some, Result, Ok, Err}
+use Rattle.papy_io.specs.declared.fault.IoFault.{IoFault}
+use Rattle.papy_io.specs.declared.fault.IoFault.TheVariants.{Failed, OutOfMemory}
+use Rattle.papy_io.specs.Sink.{Appended, SinkWrites}
+use Rattle.stack_machine.specs.Machine.{AppendsSome}
+
+pub appends_nothing : (before now : Option (List ℕ)) → now ≡ before → AppendsSome before now
+appends_nothing None now same = record { bytes = []; appended = same }
+appends_nothing (Some written) now same = record { bytes = []; appended = same ∙ ap Some (sym (append-nil written)) }
+
+both-appended : (first second : List ℕ) (before between now : Option (List ℕ)) → Appended first before between → Appended second between now → Appended (first ++ second) before now
+both-appended first second None None now a b = b
+both-appended first second None (Some w) now a b = absurd (cc)
+both-appended first second (Some v) None now a b = absurd (cc)
+both-appended first second (Some v) (Some w) now a b =
+    let is : w ≡ v ++ first = cc in b ∙ ap Some (ap (λ x. x ++ second) is ∙ append_assoc v first second)
+
+pub appends_more : (before between now : Option (List ℕ)) → AppendsSome before between → AppendsSome between now → AppendsSome before now
+appends_more before between now a b = record { bytes = a.bytes ++ b.bytes; appended = both-appended a.bytes b.bytes before between now a.appended b.appended }
+
+pub appends_written : {T : Type 0} (result : Result T IoFault) (bytes : List ℕ) (before now : Option (List ℕ)) → SinkWrites result bytes before now → AppendsSome before now
+appends_written (Ok _) bytes before now wrote = record { bytes = bytes; appended = wrote }
+appends_written (Err Failed) bytes before now (n, wrote) = record { bytes = take n bytes; appended = wrote }
+appends_written (Err OutOfMemory) bytes before now same = appends_nothing before now same

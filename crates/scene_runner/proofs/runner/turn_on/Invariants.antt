@@ -1,0 +1,17 @@
+use Rattle.std.proofs.Common.{◌≡◌, map}
+use Rattle.std.specs.Prelude.{None}
+use Rattle.latent_natives.specs.Devices.{SameKinds}
+use Rattle.stack_machine.specs.Machine.{AppendsSome}
+use Rattle.scene_runner.proofs.runner.turn_on.Given as goal
+
+abbrev pub invariant-loop : goal.invariant-loop
+invariant-loop g l =
+    let sink = g.S.Sink in
+    record {
+      outline : l.machine.outline ≡ l.fn.machine.outline;
+      scene : l.machine.scene ≡ l.fn.machine.scene;
+      fault : l.machine.fault ≡ None;
+      appended : AppendsSome (sink.written l.fn.sink) (sink.written l.sink);
+      count : sink.faults l.sink ≡ sink.faults l.fn.sink;
+      kinds : SameKinds (map (λ d. (goal.Device-dyn g (d.vtable, d.value)).device_state d.value) l.fn.devices.items) (map (λ d. (goal.Device-dyn g (d.vtable, d.value)).device_state d.value) l.devices.items);
+    }
