@@ -23,7 +23,7 @@ import tempfile
 
 CASES = pathlib.Path(__file__).resolve().parent
 PROGRAM = CASES.parent / "crates" / "papyrus" / "out" / "papyrus"
-EXPECTED = {"args", "status", "out", "notes", "after", "closed", "generate"}
+EXPECTED = {"args", "status", "out", "notes", "after", "listed", "made", "judge", "closed", "generate"}
 SECONDS = 60
 
 
@@ -54,12 +54,42 @@ def wanted_after(before, folder):
     return {**before, **dict(laid(name, content) for name, content in files_in(folder).items())}
 
 
+def listing_of(room, name):
+    return subprocess.run([str(PROGRAM), "show", name], cwd=room, capture_output=True, timeout=SECONDS).stdout
+
+
+def judged(case, room):
+    """What the case's own program finds wrong."""
+    if not (case / "judge").exists():
+        return []
+    ran = subprocess.run([sys.executable, str(case / "judge"), str(PROGRAM)], cwd=room, capture_output=True, text=True)
+    return [] if ran.returncode == 0 else ["judge: " + line for line in (ran.stdout + ran.stderr).splitlines()] or ["judge"]
+
+
 def difference(what, wanted, found):
     if wanted == found:
         return []
     lines = [text.decode("utf-8", "backslashreplace").splitlines() for text in (wanted, found)]
     changed = list(difflib.unified_diff(*lines, f"expected {what}", f"found {what}", lineterm="", n=2))[:40]
     return changed or [f"{what} differs in the end of its last line"]
+
+
+def wrong_files(case, before, room):
+    """How the files that are there afterwards differ from those that are expected."""
+    wrong = []
+    wanted = wanted_after(before, case / "after")
+    found = files_in(room)
+    for name, listing in files_in(case / "listed").items():
+        wanted[name] = found.get(name, b"")
+        wrong += difference(f"listing of {name}", listing, listing_of(room, name))
+    for name in expected_of(case, "made").decode().split():
+        wanted[name] = found.get(name, b"")
+    for name in sorted(wanted.keys() | found.keys()):
+        if name not in wanted or name not in found:
+            wrong.append(f"the file {name} is {'not ' if name in wanted else ''}there afterwards")
+        else:
+            wrong += difference(name, wanted[name], found[name])
+    return wrong
 
 
 def run(case):
@@ -87,14 +117,8 @@ def run(case):
         wrong = [] if str(ran.returncode) == status else [f"status {ran.returncode}, and {status} is expected"]
         wrong += difference("out", expected_of(case, "out"), ran.stdout or b"")
         wrong += difference("notes", expected_of(case, "notes"), ran.stderr or b"")
-        wanted = wanted_after(before, case / "after")
-        found = files_in(room)
-        for name in sorted(wanted.keys() | found.keys()):
-            if name not in wanted or name not in found:
-                wrong.append(f"the file {name} is {'not ' if name in wanted else ''}there afterwards")
-            else:
-                wrong += difference(name, wanted[name], found[name])
-        return wrong
+        wrong += wrong_files(case, before, room)
+        return wrong or judged(case, room)
 
 
 def main():

@@ -6,12 +6,9 @@ use Rattle.std.specs.Str.{bytes_eq}
 use Rattle.std.specs.String.{string_bytes}
 use Rattle.std.proofs.lemmas.Bool.Decides.{nat_tests}
 use Rattle.std.proofs.lemmas.List.{length-map, length-take}
-use Rattle.papy_io.specs.Files.{Files}
-use Rattle.papyrus_cmd.specs.declared.command.Command.{Command}
 use Rattle.papyrus_cmd.specs.declared.command.Command.TheVariants.{Help, Version, Once, Compile, Check, Show, Asm}
 use Rattle.papyrus_cmd.specs.declared.ending.Ending.{Ending}
 use Rattle.papyrus_cmd.specs.declared.ending.Ending.TheVariants.{Done, OutOfMemory, Usage, ReadFault, WriteFault, Refused, NotBuilt}
-use Rattle.papyrus_cmd.specs.Asm.{AsmLeaves}
 use Rattle.papyrus_cmd.specs.Command.{command_of, files_of, files_read, are_file_words, are_script_words, is_file_word}
 use Rattle.papyrus_cmd.specs.Ending.{MissesScript, MissesWord, word_at}
 use Rattle.papyrus_cmd.proofs.OutputsOf.{names_behind, names-behind}
@@ -97,7 +94,3 @@ asm-misses-in words NotBuilt missed is misses = tt
 
 pub asm_misses : (words : List (String Global)) (ending : Ending) (missed : Option (List ℕ)) → command_of (map string_bytes words) ≡ Some Asm → MissesScript (take 1 (names_behind words)) ending missed → MissesWord (map string_bytes words) ending missed
 asm_misses words ending missed is misses = asm-misses-in (map string_bytes words) ending missed is (subst (λ names. MissesScript (take 1 names) ending missed) (names-behind words) misses)
-
--- `asm` writes the file that its third word names
-pub asm_leaves : (words : List (String Global)) (ending : Ending) (old new : Option Files) → AsmLeaves (word_at (names_behind words) 1) ending old new → AsmLeaves (word_at (drop 1 (map string_bytes words)) 1) ending old new
-asm_leaves words ending old new leaves = subst (λ names. AsmLeaves (word_at names 1) ending old new) (names-behind words) leaves

@@ -1,24 +1,20 @@
 -- What `asm` answers, by what reading its listing gave.
-use Rattle.std.proofs.Common.{arith, ◌≡◌, ◌∙◌, inl, inr, ℕ, ◌<◌, List, [], refl, subst, sym}
+use Rattle.std.proofs.Common.{arith, ◌≡◌, inl, inr, ℕ, List, [], refl}
 use Rattle.std.specs.Prelude.{Option, None, Some, Result, Ok, Err, IfSome}
 use Rattle.std.specs.declared.alloc.Global.{Global}
 use Rattle.std.specs.declared.vec.Vec.{Vec}
 use Rattle.papy_io.specs.declared.fault.IoFault.{IoFault}
 use Rattle.papy_io.specs.declared.fault.IoFault.TheVariants as io
-use Rattle.papy_io.specs.Count.{CountsFaults}
 use Rattle.papy_io.specs.Files.{Files}
 use Rattle.papy_io.specs.WriteFile.{WritesFile}
 use Rattle.pex_listing.specs.declared.faults.ListingRule.TheVariants.{BadLine}
 use Rattle.papyrus_cmd.specs.declared.ending.Ending.TheVariants.{Done}
 use Rattle.papyrus_cmd.specs.declared.file_fault.FileFault.{FileFault}
 use Rattle.papyrus_cmd.specs.declared.file_fault.FileFault.TheVariants as file
-use Rattle.papyrus_cmd.specs.declared.refusal.Place.{Place}
-use Rattle.papyrus_cmd.specs.declared.refusal.Place.TheVariants.{Line}
-use Rattle.papyrus_cmd.specs.declared.refusal.Rule.{Rule}
 use Rattle.papyrus_cmd.specs.declared.refusal.Rule.TheVariants.{Listing}
 use Rattle.papyrus_cmd.specs.Answers.{AnswersTo, AsmAnswers, EndsUnprinted}
-use Rattle.papyrus_cmd.specs.Asm.{AsmLeaves, Assembles, IsSpelling, MayWrite, ReadsListing, limit}
-use Rattle.papyrus_cmd.specs.Ending.{CountsWrites, write_ending}
+use Rattle.papyrus_cmd.specs.Asm.{AsmLeaves, Assembles, IsSpelling, ReadsListing}
+use Rattle.papyrus_cmd.specs.Ending.{write_ending}
 use Rattle.papyrus_cmd.specs.FileFault.{ending_at}
 use Rattle.papyrus_cmd.specs.TextFile.{ReadsText}
 

@@ -1,10 +1,7 @@
 -- Which count of failed writes rose.
-use Rattle.std.proofs.Common.{◌≡◌, inl, inr, ℕ, List, refl}
-use Rattle.std.specs.Prelude.{Option}
-use Rattle.papy_io.specs.Files.{Files}
+use Rattle.std.proofs.Common.{◌≡◌, inl, inr, ℕ}
 use Rattle.papyrus_cmd.specs.declared.ending.Ending.{Ending}
 use Rattle.papyrus_cmd.specs.declared.ending.Ending.TheVariants.{Done, OutOfMemory, Usage, ReadFault, WriteFault, Refused, NotBuilt}
-use Rattle.papyrus_cmd.specs.Answers.{SilentlyEnds}
 use Rattle.papyrus_cmd.specs.Ending.{CountsBoth, CountsWrites}
 
 pub out_counted : (ending : Ending) (before now files_before files_now : ℕ) → CountsWrites ending before now → files_now ≡ files_before → CountsBoth ending before now files_before files_now
@@ -24,13 +21,3 @@ file_counted Usage before now files_before files_now same counts = (same, counts
 file_counted (ReadFault word) before now files_before files_now same counts = (same, counts)
 file_counted (Refused word place rule) before now files_before files_now same counts = (same, counts)
 file_counted NotBuilt before now files_before files_now same counts = (same, counts)
-
--- a command that is silent counts no failed write
-pub silently_counted : (Ends : Files → Ending → List ℕ → Type 0) (holds : Option Files) (ending : Ending) (before files_before files_now : ℕ) → SilentlyEnds Ends holds ending → files_now ≡ files_before → CountsBoth ending before before files_before files_now
-silently_counted Ends holds NotBuilt before files_before files_now ends same = (refl, same)
-silently_counted Ends holds (Refused word place rule) before files_before files_now ends same = (refl, same)
-silently_counted Ends holds (ReadFault word) before files_before files_now ends same = (refl, same)
-silently_counted Ends holds OutOfMemory before files_before files_now ends same = (refl, same)
-silently_counted Ends holds Done before files_before files_now ends same = absurd ends
-silently_counted Ends holds Usage before files_before files_now ends same = absurd ends
-silently_counted Ends holds WriteFault before files_before files_now ends same = absurd ends

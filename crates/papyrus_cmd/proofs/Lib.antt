@@ -16,3 +16,6 @@ pub mod CutShort
 pub mod FirstFormLemmas
 pub mod Lines
 pub mod WritesTextLemmas
+pub mod Compiling
+pub mod Encoded
+pub mod WrittenFiles

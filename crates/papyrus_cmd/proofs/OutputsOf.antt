@@ -9,6 +9,7 @@ use Rattle.papyrus_cmd.specs.declared.ending.Ending.{Ending}
 use Rattle.papyrus_cmd.specs.declared.ending.Ending.TheVariants.{Done, OutOfMemory, Usage, ReadFault, WriteFault, Refused, NotBuilt}
 use Rattle.papyrus_cmd.specs.Answers.{IsPart, Outputs, CommandOn, CommandAnswers, Answers, EndsUnprinted, SilentlyEnds}
 use Rattle.papyrus_cmd.specs.Command.{command_of}
+use Rattle.papyrus_cmd.specs.TopCall.{CommandLeaves, FilesLeft}
 use Rattle.papyrus_cmd.proofs.NotedLines.{appended_nothing}
 
 -- one way to end implies another
@@ -57,6 +58,14 @@ command_outputs command words holds ending before now is outputs =
 -- the names that stand behind the command
 abbrev pub names_behind : List (String Global) → List (List ℕ)
 names_behind words = map string_bytes (take (length words - 1) (drop 1 words))
+
+-- what a command leaves that is given the words behind it
+pub files_left : (command : Command) (words : List (String Global)) (ending : Ending) (old new : Option Files) → command_of (map string_bytes words) ≡ Some command →
+    CommandLeaves (Some command) (names_behind words) ending old new → FilesLeft (map string_bytes words) ending old new
+files_left command words ending old new is leaves =
+    let P : Option Command → Type 0 = λ found. CommandLeaves found (drop 1 (map string_bytes words)) ending old new in
+    let Q : List (List ℕ) → Type 0 = λ names. CommandLeaves (Some command) names ending old new in
+    subst P (sym is) (subst Q (names-behind words) leaves)
 
 nothing-yet : (Ends : Files → Ending → List ℕ → Type 0) (holds : Option Files) → IfSome holds (λ files. IsPart (Ends files) [])
 nothing-yet Ends None = tt

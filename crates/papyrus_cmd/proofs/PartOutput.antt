@@ -1,5 +1,5 @@
 -- What a command had written whose output failed.
-use Rattle.std.proofs.Common.{◌≡◌, ℕ, List, refl, take, inr}
+use Rattle.std.proofs.Common.{ℕ, List, refl, take, inr}
 use Rattle.std.specs.Prelude.{Option, None, Some, IfSome}
 use Rattle.papy_io.specs.declared.fault.IoFault.{IoFault}
 use Rattle.papy_io.specs.declared.fault.IoFault.TheVariants as io

@@ -1,5 +1,5 @@
 -- How many bytes of a compiled file have come.
-use Rattle.std.proofs.Common.{◌≡◌, ℕ, ◌+◌, ◌-◌, ◌<◌, ◌≤◌, List, [], length, drop, Option, None, Some, Ok, Err, IfSome, sym, ap, subst, refl, arith, length-drop}
+use Rattle.std.proofs.Common.{◌≡◌, ℕ, ◌+◌, ◌<◌, ◌≤◌, List, length, drop, Option, None, Some, Ok, Err, IfSome, sym, ap, subst, refl, arith, length-drop}
 use Rattle.std.specs.Option.{option_map}
 use Rattle.papy_io.specs.declared.fault.Failed as unit
 use Rattle.papy_io.specs.Activity.{Activity, Idle, Reading, Writing, IsReading}

@@ -1,5 +1,5 @@
 -- What `check` and `show` answer, by what reading their file gave.
-use Rattle.std.proofs.Common.{arith, ◌≡◌, ◌∙◌, ℕ, List, [], refl, ap, subst, take, length, inr}
+use Rattle.std.proofs.Common.{arith, ◌≡◌, ◌∙◌, ℕ, List, ap, subst, take, length, inr}
 use Rattle.std.specs.Prelude.{Option, None, Some, Result, Ok, Err, IfSome}
 use Rattle.std.proofs.lemmas.Grind.{common_steps}
 use Rattle.papy_io.specs.declared.fault.IoFault.{IoFault}
@@ -15,7 +15,7 @@ use Rattle.papyrus_cmd.specs.declared.pex_file.PexFile.{PexFile}
 use Rattle.papyrus_cmd.specs.Answers.{AnswersTo, CheckAnswers, ShowAnswers, IsPart, IsPex}
 use Rattle.papyrus_cmd.specs.Check.{accepted_line}
 use Rattle.papyrus_cmd.specs.FileFault.{CountsFile, MissesFile, start_fault}
-use Rattle.papyrus_cmd.specs.PexFile.{CountsHeld, Decodes, ReadsPex, limit}
+use Rattle.papyrus_cmd.specs.PexFile.{CountsHeld, Decodes, ReadsPex}
 
 -- a file that was not read whole
 pub start_counts : (fault : IoFault) (before now : ℕ) → CountsFaults {T = Option ℕ} (Err fault) before now → CountsFile {T = PexFile} (Err (start_fault fault)) before now

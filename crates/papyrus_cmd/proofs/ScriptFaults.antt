@@ -1,17 +1,19 @@
 -- Which rule a script breaks, and where, by what the layers answered.
-use Rattle.std.proofs.Common.{arith, ◌≡◌, ◌∙◌, inl, inr, ℕ, suc, ◌+◌, ◌<◌, ◌≤◌, ◌^◌, ◌==◌, Bool, true, false, List, [], ◌∷◌, length, take, drop, map, refl, sym, ap, subst, slice_index_or, String, Global, length-drop}
+use Rattle.std.proofs.Common.{arith, ◌≡◌, ◌∙◌, inl, inr, ℕ, suc, ◌+◌, ◌<◌, ◌≤◌, ◌^◌, ◌==◌, Bool, true, false, List, [], ◌∷◌, length, take, map, refl, sym, ap, subst, slice_index_or, String, Global, length-drop}
 use Rattle.std.specs.Prelude.{Option, None, Some, Result, Ok, Err, IfSome, if◌then◌else◌}
 use Rattle.std.specs.String.{string_bytes}
 use Rattle.std.specs.declared.vec.Vec.{Vec}
 use Rattle.std.proofs.lemmas.List.{get_or-map, length-map, take-map}
-use Rattle.papy_io.specs.Files.{Files, told_bytes}
+use Rattle.papy_io.specs.Files.{Files}
 use Rattle.script_lexer.specs.declared.fault.LexRule.TheVariants.{TooLarge}
 use Rattle.script_lexer.specs.Lines.{LogicalLine, Lexes, physical_lines, text_of, mark_len}
-use Rattle.script_linker.specs.Link.{IsFaultOf}
+use Rattle.core_tree.specs.declared.script.CoreScript.{CoreScript}
+use Rattle.script_linker.specs.Link.{AreFilesOf, IsFaultOf}
 use Rattle.script_linker.specs.declared.fault.LinkFault.{LinkFault}
 use Rattle.script_linker.specs.declared.fault.LinkFault.TheVariants as link
 use Rattle.script_linker.specs.declared.set.SourceFile.{SourceFile}
 use Rattle.type_rules.specs.Faults.{IsFaultBelow}
+use Rattle.type_rules.specs.Heads.{core_script_head, script_head}
 use Rattle.type_rules.specs.declared.fault.TypeFault.{TypeFault}
 use Rattle.type_rules.specs.declared.fault.TypeFault.TheVariants as typing
 use Rattle.papyrus_cmd.specs.declared.ending.Ending.{Ending}
@@ -173,3 +175,11 @@ pub type_ends : (count : ℕ) (fault : TypeFault) → IsFaultBelow (count + 6) f
 type_ends count typing.OutOfMemory below = tt
 type_ends count (typing.Broken file line rule) below =
     record { line = line; place_is = refl; rule_is = tt; above = omega arith; within = omega arith }
+
+-- ---- an accepted set
+
+-- the prelude's six scripts and these
+pub set_counted : (made : List CoreScript) (set files : List SourceFile) → map core_script_head made ≡ map script_head set → AreFilesOf files set → length made ≡ length files + 6
+set_counted made set files heads are =
+    let counted : length (map core_script_head made) ≡ length (map script_head set) = ap length heads in
+    sym (length-map made core_script_head) ∙ counted ∙ length-map set script_head ∙ are.count

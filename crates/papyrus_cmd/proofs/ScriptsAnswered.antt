@@ -1,24 +1,23 @@
--- What `once` and `compile` answer, by what reading their scripts gave.
-use Rattle.std.proofs.Common.{arith, ◌≡◌, ◌⊎◌, inl, inr, ℕ, suc, ◌<◌, List, [], ◌∷◌, refl, sym, ap, ◌∙◌, take}
-use Rattle.std.specs.Prelude.{Option, None, Some, Result, Ok, Err, IfSome}
+-- What `once` answers, by what reading its scripts gave.
+use Rattle.std.proofs.Common.{arith, ◌≡◌, ◌⊎◌, inl, inr, ℕ, List, [], ◌∷◌, refl, sym, ap, ◌∙◌, take}
+use Rattle.std.specs.Prelude.{Option, None, Some, Ok, Err, IfSome}
 use Rattle.std.specs.declared.alloc.Global.{Global}
 use Rattle.std.specs.declared.vec.Vec.{Vec}
 use Rattle.papy_io.specs.declared.fault.IoFault.{IoFault}
 use Rattle.papy_io.specs.declared.fault.IoFault.TheVariants as io
 use Rattle.papy_io.specs.Files.{Files, told_bytes}
 use Rattle.papy_io.specs.Sink.{Appended}
-use Rattle.script_linker.specs.declared.set.SourceFile.{SourceFile}
 use Rattle.papyrus_cmd.specs.declared.ending.Ending.{Ending}
 use Rattle.papyrus_cmd.specs.declared.ending.Ending.TheVariants.{Done, OutOfMemory, Usage, ReadFault, WriteFault, Refused, NotBuilt}
 use Rattle.papyrus_cmd.specs.declared.file_fault.FileFault.{FileFault}
 use Rattle.papyrus_cmd.specs.declared.file_fault.FileFault.TheVariants as file
 use Rattle.papyrus_cmd.specs.declared.refusal.Place.{Place}
 use Rattle.papyrus_cmd.specs.declared.refusal.Rule.{Rule}
-use Rattle.papyrus_cmd.specs.Answers.{CompileAnswersTo, IsPart, OnceAnswers, OnceAnswersTo, Outputs, RunsFirstForm, RunsText, SilentlyEnds}
+use Rattle.papyrus_cmd.specs.Answers.{IsPart, OnceAnswers, OnceAnswersTo, Outputs, RunsFirstForm, RunsText, SilentlyEnds}
 use Rattle.papyrus_cmd.specs.Ending.{write_ending}
 use Rattle.papyrus_cmd.specs.FileFault.{ending_at}
 use Rattle.papyrus_cmd.specs.Held.{AreHeld}
-use Rattle.papyrus_cmd.specs.Scripts.{AcceptsAlone, EndsOnScripts, HoldsRefused, ReadsScript, RefusesScript, RefusesScripts, RefusesSet}
+use Rattle.papyrus_cmd.specs.Scripts.{AcceptsAlone, EndsOnScripts, HoldsRefused, RefusesScript, RefusesScripts, RefusesSet}
 use Rattle.papyrus_cmd.proofs.NotedLines.{appended_nothing}
 use Rattle.papyrus_cmd.proofs.ScriptFaults.{ReadsSource, script_unread}
 
@@ -33,20 +32,6 @@ once_refused holds names Done ends = absurd ends
 once_refused holds names Usage ends = absurd ends
 once_refused holds names WriteFault ends = absurd ends
 once_refused holds names NotBuilt ends = absurd ends
-
-pub compile_refused : (holds : Option Files) (names : List (List ℕ)) (ending : Ending) → EndsOnScripts names holds ending → SilentlyEnds (CompileAnswersTo names) holds ending
-compile_refused None names (Refused word place rule) ends = tt
-compile_refused (Some files) names (Refused word place rule) ends = (ends, refl)
-compile_refused holds names (ReadFault word) ends = tt
-compile_refused holds names OutOfMemory ends = tt
-compile_refused holds names Done ends = absurd ends
-compile_refused holds names Usage ends = absurd ends
-compile_refused holds names WriteFault ends = absurd ends
-compile_refused holds names NotBuilt ends = absurd ends
-
-pub compile_accepted : (holds : Option Files) (names : List (List ℕ)) → IfSome holds (AreHeld names) → SilentlyEnds (CompileAnswersTo names) holds NotBuilt
-compile_accepted None names held = tt
-compile_accepted (Some files) names held = (held, refl)
 
 -- ---- one script
 

@@ -1,7 +1,6 @@
 -- What the status of the top call says of how its command ended.
-use Rattle.std.proofs.Common.{arith, ◌≡◌, ◌≢◌, ◌⊎◌, ◌∙◌, sym, refl, inl, inr, ℕ, List, []}
-use Rattle.std.specs.Prelude.{Option, None, Some, Result, Ok, Err, IfSome}
-use Rattle.papy_io.specs.declared.fault.IoFault.{IoFault}
+use Rattle.std.proofs.Common.{arith, ◌≡◌, ◌≢◌, ◌⊎◌, ◌∙◌, sym, inl, inr, ℕ, List, [], drop}
+use Rattle.std.specs.Prelude.{false, Option, None, Some, Ok, Err}
 use Rattle.papy_io.specs.declared.fault.IoFault.TheVariants as io
 use Rattle.papy_io.specs.Count.{HasRisen}
 use Rattle.papy_io.specs.Files.{Files}
@@ -10,14 +9,16 @@ use Rattle.papyrus_cmd.specs.declared.command.Command.{Command}
 use Rattle.papyrus_cmd.specs.declared.command.Command.TheVariants.{Help, Version, Once, Compile, Check, Show, Asm}
 use Rattle.papyrus_cmd.specs.declared.ending.Ending.{Ending}
 use Rattle.papyrus_cmd.specs.declared.ending.Ending.TheVariants.{Done, OutOfMemory, Usage, ReadFault, WriteFault, Refused, NotBuilt}
+use Rattle.papyrus_cmd.specs.declared.refusal.Place.{Place}
 use Rattle.papyrus_cmd.specs.declared.refusal.Rule.{Rule}
 use Rattle.papyrus_cmd.specs.declared.refusal.Rule.TheVariants.{Pex, Listing, Lexical, Grammar, Link, Typing}
 use Rattle.papyrus_cmd.specs.Answers.{Answers, Outputs}
 use Rattle.papyrus_cmd.specs.Asm.{AsmLeaves, MayWrite}
 use Rattle.papyrus_cmd.specs.Command.{command_of}
+use Rattle.papyrus_cmd.specs.Compile.{CompileLeaves, MayCompile}
 use Rattle.papyrus_cmd.specs.Ending.{CountsBoth, CountsReads, MissesWord, word_at}
 use Rattle.papyrus_cmd.specs.Refusal.{rule_status}
-use Rattle.papyrus_cmd.specs.TopCall.{Answered, FilesLeft, IsAnswer, Noted, NotRead, Told, WasCut, WritesNone}
+use Rattle.papyrus_cmd.specs.TopCall.{Answered, CommandCut, CommandLeaves, FilesCut, FilesLeft, IsAnswer, Noted, NotRead, Told, WasCut, WritesNone, writes_files}
 use Rattle.papyrus_cmd.proofs.NotedLines.{appended_nothing}
 
 -- the line was written where its status tells neither want of memory nor a failed write
@@ -87,44 +88,79 @@ not_read words holds (ReadFault word) status out out' notes notes' missed f f' r
 
 -- ---- files
 
--- whatever the command is
-either-way : (found : Option Command) (Same : Type 0) → (found ≢ Some Asm → Same) → (found ≡ Some Asm → Same) → Same
-either-way None Same other asm = other (λ is. cc)
-either-way (Some Help) Same other asm = other (λ is. cc)
-either-way (Some Version) Same other asm = other (λ is. cc)
-either-way (Some Once) Same other asm = other (λ is. cc)
-either-way (Some Compile) Same other asm = other (λ is. cc)
-either-way (Some Check) Same other asm = other (λ is. cc)
-either-way (Some Show) Same other asm = other (λ is. cc)
-either-way (Some Asm) Same other asm = asm refl
+-- an ending of which a status tells that a file was not read leaves the files as that ending says
+unread-left : (L : Ending → Type 0) (Same : Type 0) → ((word : ℕ) → L (ReadFault word) → Same) → ((word : ℕ) (place : Place) (rule : Rule) → L (Refused word place rule) → Same) → (L Usage → Same) → (L NotBuilt → Same) →
+    (words : List (List ℕ)) (ending : Ending) (status : ℕ) (notes notes' : Option (List ℕ)) (f f' : ℕ) → Told words ending status notes notes' f f' → status ≡ 3 → L ending → Same
+unread-left L Same unread refused usage unbuilt words Done status notes notes' f f' (is, silent, kept) three leaves = absurd (omega arith)
+unread-left L Same unread refused usage unbuilt words OutOfMemory status notes notes' f f' (is, tried) three leaves = absurd (omega arith)
+unread-left L Same unread refused usage unbuilt words WriteFault status notes notes' f f' (is, tried) three leaves = absurd (omega arith)
+unread-left L Same unread refused usage unbuilt words Usage status notes notes' f f' told three leaves = usage leaves
+unread-left L Same unread refused usage unbuilt words NotBuilt status notes notes' f f' told three leaves = unbuilt leaves
+unread-left L Same unread refused usage unbuilt words (ReadFault word) status notes notes' f f' told three leaves = unread word leaves
+unread-left L Same unread refused usage unbuilt words (Refused word place rule) status notes notes' f f' told three leaves = refused word place rule leaves
 
-unread-left : (name : List ℕ) (words : List (List ℕ)) (ending : Ending) (status : ℕ) (old new : Option Files) (notes notes' : Option (List ℕ)) (f f' : ℕ) → Told words ending status notes notes' f f' → status ≡ 3 →
-    AsmLeaves name ending old new → new ≡ old
-unread-left name words Done status old new notes notes' f f' (is, silent, kept) three leaves = absurd (omega arith)
-unread-left name words OutOfMemory status old new notes notes' f f' (is, tried) three leaves = absurd (omega arith)
-unread-left name words WriteFault status old new notes notes' f f' (is, tried) three leaves = absurd (omega arith)
-unread-left name words Usage status old new notes notes' f f' told three leaves = absurd leaves
-unread-left name words NotBuilt status old new notes notes' f f' told three leaves = absurd leaves
-unread-left name words (ReadFault word) status old new notes notes' f f' told three leaves = leaves
-unread-left name words (Refused word place rule) status old new notes notes' f f' told three leaves = leaves
+-- the files that a command leaves which read none of them
+unread-by : (found : Option Command) (names words : List (List ℕ)) (ending : Ending) (status : ℕ) (old new : Option Files) (notes notes' : Option (List ℕ)) (f f' : ℕ) → Told words ending status notes notes' f f' → status ≡ 3 →
+    CommandLeaves found names ending old new → new ≡ old
+unread-by (Some Asm) names words ending status old new notes notes' f f' told three leaves =
+    unread-left (λ e. AsmLeaves (word_at names 1) e old new) (new ≡ old) (λ word same. same) (λ word place rule same. same) (λ none. absurd none) (λ none. absurd none) words ending status notes notes' f f' told three leaves
+unread-by (Some Compile) names words ending status old new notes notes' f f' told three leaves =
+    unread-left (λ e. CompileLeaves names e old new) (new ≡ old) (λ word same. same) (λ word place rule same. same) (λ none. absurd none) (λ same. same) words ending status notes notes' f f' told three leaves
+unread-by None names words ending status old new notes notes' f f' told three leaves = leaves
+unread-by (Some Help) names words ending status old new notes notes' f f' told three leaves = leaves
+unread-by (Some Version) names words ending status old new notes notes' f f' told three leaves = leaves
+unread-by (Some Once) names words ending status old new notes notes' f f' told three leaves = leaves
+unread-by (Some Check) names words ending status old new notes notes' f f' told three leaves = leaves
+unread-by (Some Show) names words ending status old new notes notes' f f' told three leaves = leaves
 
 -- a file that was not read leaves all files as they were
 pub unread_kept : (words : List (List ℕ)) (ending : Ending) (status : ℕ) (old new : Option Files) (notes notes' : Option (List ℕ)) (f f' : ℕ) → Told words ending status notes notes' f f' → status ≡ 3 →
-    (WritesNone words → new ≡ old) → FilesLeft words ending old new → new ≡ old
-unread_kept words ending status old new notes notes' f f' told three kept left =
-    either-way (command_of words) (new ≡ old) kept (λ is. unread-left _ words ending status old new notes notes' f f' told three (left is))
+    FilesLeft words ending old new → new ≡ old
+unread_kept words ending status old new notes notes' f f' told three left = unread-by (command_of words) (drop 1 words) words ending status old new notes notes' f f' told three left
 
--- a command that was cut short may have written the first part of its file
-pub cut_file : (words : List (List ℕ)) (ending : Ending) (status : ℕ) (name : List ℕ) (old new : Option Files) (notes notes' : Option (List ℕ)) (f f' : ℕ) → Told words ending status notes notes' f f' → WasCut status →
-    AsmLeaves name ending old new → MayWrite name old new
-cut_file words Done status name old new notes notes' f f' (is, silent, kept) (inl one) leaves = absurd (omega arith)
-cut_file words Done status name old new notes notes' f f' (is, silent, kept) (inr four) leaves = absurd (omega arith)
-cut_file words OutOfMemory status name old new notes notes' f f' told cut leaves = leaves
-cut_file words WriteFault status name old new notes notes' f f' told cut leaves = leaves
-cut_file words Usage status name old new notes notes' f f' told cut leaves = absurd leaves
-cut_file words NotBuilt status name old new notes notes' f f' told cut leaves = absurd leaves
-cut_file words (ReadFault word) status name old new notes notes' f f' told cut leaves = inl leaves
-cut_file words (Refused word place rule) status name old new notes notes' f f' told cut leaves = inl leaves
+-- the files of a command that writes none
+kept-by : (found : Option Command) (names : List (List ℕ)) (ending : Ending) (old new : Option Files) → CommandLeaves found names ending old new → writes_files found ≡ false → new ≡ old
+kept-by None names ending old new leaves none = leaves
+kept-by (Some Help) names ending old new leaves none = leaves
+kept-by (Some Version) names ending old new leaves none = leaves
+kept-by (Some Once) names ending old new leaves none = leaves
+kept-by (Some Check) names ending old new leaves none = leaves
+kept-by (Some Show) names ending old new leaves none = leaves
+kept-by (Some Asm) names ending old new leaves none = absurd (cc)
+kept-by (Some Compile) names ending old new leaves none = absurd (cc)
+
+pub files_kept : (words : List (List ℕ)) (ending : Ending) (old new : Option Files) → FilesLeft words ending old new → WritesNone words → new ≡ old
+files_kept words ending old new left none = kept-by (command_of words) (drop 1 words) ending old new left none
+
+-- what is left where a status tells that the command was cut short
+cut-left : (L : Ending → Type 0) (Cut : Type 0) → (L OutOfMemory → Cut) → (L WriteFault → Cut) → (L Usage → Cut) → (L NotBuilt → Cut) → ((word : ℕ) → L (ReadFault word) → Cut) → ((word : ℕ) (place : Place) (rule : Rule) → L (Refused word place rule) → Cut) →
+    (words : List (List ℕ)) (ending : Ending) (status : ℕ) (notes notes' : Option (List ℕ)) (f f' : ℕ) → Told words ending status notes notes' f f' → WasCut status → L ending → Cut
+cut-left L Cut memory write usage unbuilt unread refused words Done status notes notes' f f' (is, silent, kept) (inl one) leaves = absurd (omega arith)
+cut-left L Cut memory write usage unbuilt unread refused words Done status notes notes' f f' (is, silent, kept) (inr four) leaves = absurd (omega arith)
+cut-left L Cut memory write usage unbuilt unread refused words OutOfMemory status notes notes' f f' told cut leaves = memory leaves
+cut-left L Cut memory write usage unbuilt unread refused words WriteFault status notes notes' f f' told cut leaves = write leaves
+cut-left L Cut memory write usage unbuilt unread refused words Usage status notes notes' f f' told cut leaves = usage leaves
+cut-left L Cut memory write usage unbuilt unread refused words NotBuilt status notes notes' f f' told cut leaves = unbuilt leaves
+cut-left L Cut memory write usage unbuilt unread refused words (ReadFault word) status notes notes' f f' told cut leaves = unread word leaves
+cut-left L Cut memory write usage unbuilt unread refused words (Refused word place rule) status notes notes' f f' told cut leaves = refused word place rule leaves
+
+cut-by : (found : Option Command) (names words : List (List ℕ)) (ending : Ending) (status : ℕ) (old new : Option Files) (notes notes' : Option (List ℕ)) (f f' : ℕ) → Told words ending status notes notes' f f' → WasCut status →
+    CommandLeaves found names ending old new → CommandCut found names old new
+cut-by (Some Asm) names words ending status old new notes notes' f f' told cut leaves =
+    cut-left (λ e. AsmLeaves (word_at names 1) e old new) (MayWrite (word_at names 1) old new) (λ may. may) (λ may. may) (λ none. absurd none) (λ none. absurd none) (λ word same. inl same) (λ word place rule same. inl same) words ending status notes notes' f f' told cut leaves
+cut-by (Some Compile) names words ending status old new notes notes' f f' told cut leaves =
+    cut-left (λ e. CompileLeaves names e old new) (MayCompile names old new) (λ may. may) (λ may. may) (λ none. absurd none) (λ same. inl same) (λ word same. inl same) (λ word place rule same. inl same) words ending status notes notes' f f' told cut leaves
+cut-by None names words ending status old new notes notes' f f' told cut leaves = leaves
+cut-by (Some Help) names words ending status old new notes notes' f f' told cut leaves = leaves
+cut-by (Some Version) names words ending status old new notes notes' f f' told cut leaves = leaves
+cut-by (Some Once) names words ending status old new notes notes' f f' told cut leaves = leaves
+cut-by (Some Check) names words ending status old new notes notes' f f' told cut leaves = leaves
+cut-by (Some Show) names words ending status old new notes notes' f f' told cut leaves = leaves
+
+-- a command that was cut short may have written the first part of a file
+pub cut_file : (words : List (List ℕ)) (ending : Ending) (status : ℕ) (old new : Option Files) (notes notes' : Option (List ℕ)) (f f' : ℕ) → Told words ending status notes notes' f f' → WasCut status →
+    FilesLeft words ending old new → FilesCut words old new
+cut_file words ending status old new notes notes' f f' told cut left = cut-by (command_of words) (drop 1 words) words ending status old new notes notes' f f' told cut left
 
 -- ---- counts
 

@@ -69,11 +69,11 @@ OnceAnswersTo names files Usage text = ⊥
 OnceAnswersTo names files (ReadFault word) text = ⊥
 OnceAnswersTo names files WriteFault text = ⊥
 
--- how `compile` ends on the scripts of these names: it judges them, and writes no file yet
+-- how `compile` ends on the scripts of these names; it writes nothing to `out`
 abbrev pub CompileAnswersTo : List (List ℕ) → Files → Ending → List ℕ → Type 0
 CompileAnswersTo names files (Refused word place rule) text = RefusesScripts names files word place rule × (text ≡ [])
 CompileAnswersTo names files NotBuilt text = AreHeld names files × (text ≡ [])
-CompileAnswersTo names files Done text = ⊥
+CompileAnswersTo names files Done text = AreHeld names files × (text ≡ [])
 CompileAnswersTo names files OutOfMemory text = ⊥
 CompileAnswersTo names files Usage text = ⊥
 CompileAnswersTo names files (ReadFault word) text = ⊥

@@ -3,6 +3,8 @@ use Rattle.std.specs.Prelude.{◌≡◌, ◌⊎◌, ℕ, suc, ◌<◌, List, [],
 use Rattle.papy_io.specs.declared.fault.IoFault.{IoFault}
 use Rattle.papy_io.specs.declared.fault.IoFault.TheVariants as io
 use Rattle.papy_io.specs.Count.{HasRisen}
+use Rattle.papyrus_cmd.specs.declared.compile_fault.CompileFault.{CompileFault}
+use Rattle.papyrus_cmd.specs.declared.compile_fault.CompileFault.TheVariants as compile
 use Rattle.papyrus_cmd.specs.declared.ending.Ending.{Ending}
 use Rattle.papyrus_cmd.specs.declared.ending.Ending.TheVariants.{Done, OutOfMemory, Usage, ReadFault, WriteFault, Refused, NotBuilt}
 use Rattle.papyrus_cmd.specs.Command.{files_read}
@@ -12,6 +14,11 @@ use Rattle.papyrus_cmd.specs.Refusal.{refusal_line, rule_status}
 abbrev pub write_ending : IoFault → Ending
 write_ending io.Failed = WriteFault
 write_ending io.OutOfMemory = OutOfMemory
+
+-- how a command ends whose accepted scripts have no files
+abbrev pub compile_ending : CompileFault → Ending
+compile_ending compile.NotBuilt = NotBuilt
+compile_ending compile.OutOfMemory = OutOfMemory
 
 -- the status that each ending has
 abbrev pub status_of : Ending → ℕ

@@ -2,6 +2,8 @@ pub mod Answers
 pub mod Asm
 pub mod Check
 pub mod Command
+pub mod Compile
+pub mod Compiled
 pub mod Ending
 pub mod FileFault
 pub mod FirstForm
@@ -15,3 +17,4 @@ pub mod Scripts
 pub mod TextFile
 pub mod TopCall
 pub mod WritesText
+pub mod Written

@@ -1,5 +1,5 @@
 -- What reading, parsing, linking and elaborating scripts gives.
-use Rattle.std.specs.Prelude.{◌≡◌, ◌⊎◌, ℕ, suc, ◌+◌, ◌<◌, List, [], take, length, Option, None, Some, Result, Ok, Err, IfSome}
+use Rattle.std.specs.Prelude.{◌≡◌, ◌⊎◌, ℕ, suc, ◌+◌, ◌<◌, List, take, length, Option, None, Some, Result, Ok, Err, IfSome}
 use Rattle.papy_io.specs.Files.{Files, told_bytes}
 use Rattle.script_lexer.specs.declared.fault.LexRule.{LexRule}
 use Rattle.script_lexer.specs.declared.line.Lines.{Lines}

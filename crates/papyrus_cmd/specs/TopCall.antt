@@ -1,5 +1,5 @@
 -- What the status of the top call says of its words, its devices and what was written.
-use Rattle.std.specs.Prelude.{◌≡◌, ◌≢◌, ◌⊎◌, ℕ, List, take, drop, Option, Some, Result, Ok, Err, IfSome, Contains}
+use Rattle.std.specs.Prelude.{◌≡◌, ◌≢◌, ◌⊎◌, ℕ, Bool, true, false, List, take, drop, Option, None, Some, Result, Ok, Err, IfSome, Contains}
 use Rattle.papy_io.specs.declared.fault.IoFault.{IoFault}
 use Rattle.papy_io.specs.declared.fault.IoFault.TheVariants as io
 use Rattle.papy_io.specs.Count.{HasRisen, CountsFaults}
@@ -10,8 +10,9 @@ use Rattle.papyrus_cmd.specs.declared.ending.Ending.TheVariants.{Done, OutOfMemo
 use Rattle.papyrus_cmd.specs.Answers.{Answers, IsPart}
 use Rattle.papyrus_cmd.specs.declared.command.Command.{Command}
 use Rattle.papyrus_cmd.specs.declared.command.Command.TheVariants as command
-use Rattle.papyrus_cmd.specs.Asm.{AsmLeaves}
+use Rattle.papyrus_cmd.specs.Asm.{AsmLeaves, MayWrite}
 use Rattle.papyrus_cmd.specs.Command.{command_of, files_read}
+use Rattle.papyrus_cmd.specs.Compile.{CompileLeaves, MayCompile}
 use Rattle.papyrus_cmd.specs.Ending.{status_of, note_of, cannot_read, out_of_memory, word_at}
 use Rattle.papyrus_cmd.specs.Refusal.{rule_status}
 
@@ -29,13 +30,47 @@ pub record IsAnswer (status : ℕ) : Type 0 where
 abbrev pub WasCut : ℕ → Type 0
 WasCut status = (status ≡ 1) ⊎ (status ≡ 4)
 
--- what the files are by the way that a command ended which writes one
-abbrev pub FilesLeft : List (List ℕ) → Ending → Option Files → Option Files → Type 0
-FilesLeft words ending holds left = command_of words ≡ Some command.Asm → AsmLeaves (word_at (drop 1 words) 1) ending holds left
+-- what the files are by the way that a command on these words ended
+abbrev pub CommandLeaves : Option Command → List (List ℕ) → Ending → Option Files → Option Files → Type 0
+CommandLeaves (Some command.Asm) names ending holds left = AsmLeaves (word_at names 1) ending holds left
+CommandLeaves (Some command.Compile) names ending holds left = CompileLeaves names ending holds left
+CommandLeaves (Some command.Help) names ending holds left = left ≡ holds
+CommandLeaves (Some command.Version) names ending holds left = left ≡ holds
+CommandLeaves (Some command.Once) names ending holds left = left ≡ holds
+CommandLeaves (Some command.Check) names ending holds left = left ≡ holds
+CommandLeaves (Some command.Show) names ending holds left = left ≡ holds
+CommandLeaves None names ending holds left = left ≡ holds
 
--- all commands but one write no file
+abbrev pub FilesLeft : List (List ℕ) → Ending → Option Files → Option Files → Type 0
+FilesLeft words ending holds left = CommandLeaves (command_of words) (drop 1 words) ending holds left
+
+-- what the files may be where a command was cut short
+abbrev pub CommandCut : Option Command → List (List ℕ) → Option Files → Option Files → Type 0
+CommandCut (Some command.Asm) names holds left = MayWrite (word_at names 1) holds left
+CommandCut (Some command.Compile) names holds left = MayCompile names holds left
+CommandCut (Some command.Help) names holds left = left ≡ holds
+CommandCut (Some command.Version) names holds left = left ≡ holds
+CommandCut (Some command.Once) names holds left = left ≡ holds
+CommandCut (Some command.Check) names holds left = left ≡ holds
+CommandCut (Some command.Show) names holds left = left ≡ holds
+CommandCut None names holds left = left ≡ holds
+
+abbrev pub FilesCut : List (List ℕ) → Option Files → Option Files → Type 0
+FilesCut words holds left = CommandCut (command_of words) (drop 1 words) holds left
+
+-- the commands that write files
+abbrev pub writes_files : Option Command → Bool
+writes_files (Some command.Asm) = true
+writes_files (Some command.Compile) = true
+writes_files (Some command.Help) = false
+writes_files (Some command.Version) = false
+writes_files (Some command.Once) = false
+writes_files (Some command.Check) = false
+writes_files (Some command.Show) = false
+writes_files None = false
+
 abbrev pub WritesNone : List (List ℕ) → Type 0
-WritesNone words = command_of words ≢ Some command.Asm
+WritesNone words = writes_files (command_of words) ≡ false
 
 -- the command ended so: with this status, all of its text on `out` and its line on `notes`
 pub record Answered (words : List (List ℕ)) (holds left : Option Files) (status : ℕ) (out_before out_now notes_before notes_now : Option (List ℕ)) : Type 0 where

@@ -23,7 +23,7 @@ pub enum Command {
     /// Runs scripts with one instance of the first and one call of its `OnInit`. Every word after
     /// the first names a script.
     Once,
-    /// Judges scripts as `once` does. Every word after the first names a script.
+    /// Writes the compiled files of scripts. Every word after the first names a script.
     Compile,
     /// Tells whether a compiled file breaks a rule. The word after the first names it.
     Check,

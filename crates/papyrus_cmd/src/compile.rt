@@ -1,30 +1,42 @@
-//! The command that compiles scripts, as far as it is built: it judges them.
+//! The command that compiles scripts to files.
 ghost use Rattle.std.specs.Prelude.{◌≡◌, ◌≢◌, ◌+◌, ◌≤◌, length, map};
 ghost use Rattle.std.specs.String.{string_bytes};
 ghost use Rattle.papy_io.specs.Activity.{Idle};
-ghost use Rattle.papyrus_cmd.specs.Answers.{CompileAnswersTo, SilentlyEnds};
-ghost use Rattle.papyrus_cmd.specs.Ending.{CountsReads, IsWordBelow, MissesScript};
+ghost use Rattle.papyrus_cmd.specs.Answers.{CompileAnswersTo, EndsUnprinted};
+ghost use Rattle.papyrus_cmd.specs.Compile.{CompileLeaves};
+ghost use Rattle.papyrus_cmd.specs.Ending.{CountsReads, CountsWrites, IsWordBelow, MissesScript};
 
+use crate::compiled::compile_set;
 use crate::ending::Ending;
-use crate::scripts::{accept, not_built};
+use crate::scripts::accept;
+use crate::written::write_each;
 use papy_io::Desk;
 use std::alloc::Global;
 
-/// Reads and judges the scripts. What follows for an accepted set isn't built yet.
+/// Reads and judges the scripts, and writes the compiled file of each under its name with `.pex` in the
+/// place of `.psc`, in their order. Nothing is written before all of them have their bytes.
 pub fn compile<D: Desk>(alloc: Global, scripts: &[String], desk: &mut D) -> Ending
     requires idle { D.busy desk.old ≡ Idle }
     requires few { length scripts.now ≤ 256 }
     ensures busy { D.busy desk.new ≡ Idle }
-    ensures holds { D.holds desk.new ≡ D.holds desk.old }
-    ensures write_faults { D.write_faults desk.new ≡ D.write_faults desk.old }
+    ensures holds { CompileLeaves (map string_bytes scripts.now) result (D.holds desk.old) (D.holds desk.new) }
+    ensures write_faults { CountsWrites result (D.write_faults desk.old) (D.write_faults desk.new) }
     ensures read_faults { CountsReads result (D.read_faults desk.old) (D.read_faults desk.new) }
     ensures missed { MissesScript (map string_bytes scripts.now) result (D.missed desk.new) }
     ensures never_usage { result ≢ Ending.Usage }
     ensures word { IsWordBelow (length scripts.now + 1) result }
-    ensures output { SilentlyEnds (CompileAnswersTo (map string_bytes scripts.now)) (D.holds desk.old) result }
+    ensures output { EndsUnprinted (CompileAnswersTo (map string_bytes scripts.now)) (D.holds desk.old) result }
 {
-    match accept(alloc, scripts, desk) {
-        Ok(set) => not_built(set),
-        Err(ending) => ending,
+    let set = match accept(alloc, scripts, desk) {
+        Ok(set) => set,
+        Err(ending) => return ending,
+    };
+    let compiled = match compile_set(alloc, &set) {
+        Ok(compiled) => compiled,
+        Err(fault) => return Ending::from(fault),
+    };
+    match write_each(alloc, desk, scripts, &compiled.files) {
+        Ok(()) => Ending::Done,
+        Err(fault) => Ending::from(fault),
     }
 }

@@ -5,7 +5,7 @@ ghost use Rattle.papy_io.specs.Activity.{Idle};
 ghost use Rattle.papyrus_cmd.specs.Answers.{Answers, Outputs, WritesOnly};
 ghost use Rattle.papyrus_cmd.specs.Command.{command_of};
 ghost use Rattle.papyrus_cmd.specs.Ending.{CountsBoth, CountsReads, CountsWrites, IsWordOf, MissesWord};
-ghost use Rattle.papyrus_cmd.specs.TopCall.{FilesLeft, WritesNone};
+ghost use Rattle.papyrus_cmd.specs.TopCall.{FilesLeft};
 
 use crate::asm::asm;
 use crate::check::check;
@@ -32,7 +32,6 @@ fn write_text<S: Sink>(out: &mut S, text: &[u8]) -> Ending
 pub fn run<D: Desk, S: Sink>(alloc: Global, words: &[String], desk: &mut D, out: &mut S) -> Ending
     requires { D.busy desk.old ≡ Idle }
     ensures busy { D.busy desk.new ≡ Idle }
-    ensures kept { WritesNone (map string_bytes words.now) → D.holds desk.new ≡ D.holds desk.old }
     ensures files { FilesLeft (map string_bytes words.now) result (D.holds desk.old) (D.holds desk.new) }
     ensures read_faults { CountsReads result (D.read_faults desk.old) (D.read_faults desk.new) }
     ensures missed { MissesWord (map string_bytes words.now) result (D.missed desk.new) }

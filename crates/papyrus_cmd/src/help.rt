@@ -5,7 +5,7 @@ ghost use Rattle.papyrus_cmd.specs.Help.{help_text, version_text};
 const HELP: &[u8] = b"papyrus: compiles Papyrus scripts and runs them under instance locks
 
   papyrus once SCRIPT..     runs the first script's OnInit and prints the report
-  papyrus compile SCRIPT..  tells whether scripts break a rule
+  papyrus compile SCRIPT..  writes the compiled files of scripts
   papyrus check PEX         tells whether a compiled file breaks a rule
   papyrus show PEX          prints the listing of a compiled file
   papyrus asm TEXT PEX      writes the compiled file of a listing

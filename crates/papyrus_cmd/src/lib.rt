@@ -5,6 +5,8 @@ mod asm;
 mod check;
 mod command;
 mod compile;
+mod compile_fault;
+mod compiled;
 mod dispatch;
 mod ending;
 mod file_fault;
@@ -19,8 +21,11 @@ mod scripts;
 mod show;
 mod text_file;
 mod top;
+mod written;
 
 pub use top::papyrus;
 
+#[cfg(test)]
+mod compile_tests;
 #[cfg(test)]
 mod tests;

@@ -171,7 +171,8 @@ fn type_ending(fault: TypeFault) -> Ending
 /// Links the files and elaborates their set. The rules of sets stand before those of types and names.
 fn core_set(alloc: Global, files: Vec<SourceFile>) -> Result<CoreSet, Ending>
     requires { vec_len files < 65530 }
-    ensures { IfErr result (EndsOnSet (vec_len files)) }
+    ensures ends { IfErr result (EndsOnSet (vec_len files)) }
+    ensures scripts { IfOk result (λ set. vec_len set.scripts ≡ vec_len files + 6) }
 {
     let set = match link(alloc, files) {
         Ok(set) => set,
@@ -183,7 +184,8 @@ fn core_set(alloc: Global, files: Vec<SourceFile>) -> Result<CoreSet, Ending>
     }
 }
 
-/// Reads the scripts and gives their core set, or how the command ends that names them.
+/// Reads the scripts and gives their core set, in which the prelude's six stand before them, or how the
+/// command ends that names them.
 ///
 /// Each file is read and then judged by its lexical form and its lines, in the order of the words;
 /// then the set is judged, and at last its types and names.
@@ -198,6 +200,7 @@ pub fn accept<D: Desk>(alloc: Global, scripts: &[String], desk: &mut D) -> Resul
     ensures never_usage { IfErr result (λ ending. ending ≢ Ending.Usage) }
     ensures word { IfErr result (IsWordBelow (length scripts.now + 1)) }
     ensures ends { Accepts (map string_bytes scripts.now) (D.holds desk.old) result }
+    ensures scripts { IfOk result (λ set. vec_len set.scripts ≡ length scripts.now + 6) }
 {
     let files = match read_sources(alloc, scripts, desk) {
         Ok(files) => files,

@@ -1,14 +1,11 @@
 //! The top call, which the program makes with its command line.
-ghost use Rattle.std.specs.Prelude.{◌≡◌, ◌⊎◌, ◌≤◌, None, Some, map, drop, vec_len};
+ghost use Rattle.std.specs.Prelude.{◌≡◌, ◌⊎◌, ◌≤◌, None, map, vec_len};
 ghost use Rattle.std.specs.String.{string_bytes};
 ghost use Rattle.latent_natives.specs.Devices.{SameKinds};
 ghost use Rattle.papy_io.specs.Activity.{Idle};
 ghost use Rattle.papy_io.specs.Count.{HasRisen};
 ghost use Rattle.papyrus_cmd.specs.Command.{command_of};
-ghost use Rattle.papyrus_cmd.specs.TopCall.{Answered, CutShort, IsAnswer, IsStatus, NotRead, WasCut, WritesNone};
-ghost use Rattle.papyrus_cmd.specs.declared.command.Command.TheVariants as Command;
-ghost use Rattle.papyrus_cmd.specs.Asm.{MayWrite};
-ghost use Rattle.papyrus_cmd.specs.Ending.{word_at};
+ghost use Rattle.papyrus_cmd.specs.TopCall.{Answered, CutShort, FilesCut, IsAnswer, IsStatus, NotRead, WasCut, WritesNone};
 
 use crate::dispatch::run;
 use crate::notes::tell;
@@ -20,8 +17,8 @@ use std::alloc::Global;
 /// `out` and, where it ends otherwise than well, one line to `notes`. Gives the status.
 ///
 /// `words` are the command line without the program's name. The statuses are 0 (done),
-/// 1 (out of memory), 2 (the words are no command), 3 (a file was not read), 4 (the output or the
-/// line was not written), 5 (a script was refused),
+/// 1 (out of memory), 2 (the words are no command), 3 (a file was not read), 4 (the output, a file
+/// or the line was not written), 5 (a script was refused),
 /// 6 (a compiled file was refused), 8 (a listing was refused) and 10 (the scripts need what isn't built yet).
 pub fn papyrus<D: Desk, S: Sink, E: Sink>(
     alloc: Global,
@@ -44,8 +41,7 @@ pub fn papyrus<D: Desk, S: Sink, E: Sink>(
     ensures cut_short { WasCut result → CutShort (map string_bytes words.now) (D.holds desk.old)
         (S.written out.old) (S.written out.new) (E.written notes.old) (E.written notes.new) }
     // After it a file may hold the first part of what was to be written.
-    ensures cut_file { WasCut result → command_of (map string_bytes words.now) ≡ Some Command.Asm →
-        MayWrite (word_at (drop 1 (map string_bytes words.now)) 1) (D.holds desk.old) (D.holds desk.new) }
+    ensures cut_file { WasCut result → FilesCut (map string_bytes words.now) (D.holds desk.old) (D.holds desk.new) }
     ensures quiet { ¬ WasCut result → (S.faults out.new ≡ S.faults out.old) × (E.faults notes.new ≡ E.faults notes.old) × (D.write_faults desk.new ≡ D.write_faults desk.old) }
 
     // The causes of 2, 3 and 4.

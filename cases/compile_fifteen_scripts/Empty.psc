@@ -1,0 +1,1 @@
+ScriptName Empty extends Quest

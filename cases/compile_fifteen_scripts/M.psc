@@ -1,0 +1,5 @@
+ScriptName M
+Event OnInit()
+Debug.Trace(0x80000000 / -1)
+Debug.Trace(1 / 0)
+EndEvent

@@ -1,0 +1,4 @@
+ScriptName B
+Function F()
+n = 1
+EndFunction

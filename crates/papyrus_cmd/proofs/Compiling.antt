@@ -1,0 +1,60 @@
+-- How `compile` ends.
+use Rattle.std.proofs.Common.{◌≡◌, ◌∙◌, inl, inr, ℕ, List, ap, sym, map, length, String, Global}
+use Rattle.std.specs.Prelude.{Option, Err}
+use Rattle.std.specs.String.{string_bytes}
+use Rattle.std.proofs.lemmas.List.{length-map}
+use Rattle.papy_io.specs.declared.fault.IoFault.{IoFault}
+use Rattle.papy_io.specs.declared.fault.IoFault.TheVariants as io
+use Rattle.papy_io.specs.Files.{Files}
+use Rattle.papyrus_cmd.specs.declared.compile_fault.CompileFault.{CompileFault}
+use Rattle.papyrus_cmd.specs.declared.compile_fault.CompileFault.TheVariants as compile
+use Rattle.papyrus_cmd.specs.declared.compiled.CompiledSet.{CompiledSet}
+use Rattle.papyrus_cmd.specs.declared.ending.Ending.{Ending}
+use Rattle.papyrus_cmd.specs.declared.ending.Ending.TheVariants.{Done, OutOfMemory, Usage, ReadFault, WriteFault, Refused, NotBuilt}
+use Rattle.papyrus_cmd.specs.Answers.{CompileAnswersTo, EndsUnprinted}
+use Rattle.papyrus_cmd.specs.Compile.{CompileLeaves, HaveFiles}
+use Rattle.papyrus_cmd.specs.Compiled.{HasFiles, bytes_of, spelled}
+use Rattle.papyrus_cmd.specs.Ending.{CountsWrites, compile_ending, write_ending}
+use Rattle.papyrus_cmd.specs.Scripts.{EndsOnScripts}
+use Rattle.papyrus_cmd.specs.Written.{WritesEach}
+
+-- on scripts that aren't accepted
+pub unaccepted_leaves : (names : List (List ℕ)) (holds : Option Files) (ending : Ending) (old new : Option Files) → EndsOnScripts names holds ending → new ≡ old → CompileLeaves names ending old new
+unaccepted_leaves names holds (Refused word place rule) old new ends same = same
+unaccepted_leaves names holds (ReadFault word) old new ends same = same
+unaccepted_leaves names holds OutOfMemory old new ends same = inl same
+unaccepted_leaves names holds Done old new ends same = absurd ends
+unaccepted_leaves names holds Usage old new ends same = absurd ends
+unaccepted_leaves names holds WriteFault old new ends same = absurd ends
+unaccepted_leaves names holds NotBuilt old new ends same = absurd ends
+
+pub unaccepted_counts : (names : List (List ℕ)) (holds : Option Files) (ending : Ending) (before now : ℕ) → EndsOnScripts names holds ending → now ≡ before → CountsWrites ending before now
+unaccepted_counts names holds (Refused word place rule) before now ends same = same
+unaccepted_counts names holds (ReadFault word) before now ends same = same
+unaccepted_counts names holds OutOfMemory before now ends same = same
+unaccepted_counts names holds Done before now ends same = absurd ends
+unaccepted_counts names holds Usage before now ends same = absurd ends
+unaccepted_counts names holds WriteFault before now ends same = absurd ends
+unaccepted_counts names holds NotBuilt before now ends same = absurd ends
+
+-- on a set without files
+pub unbuilt_leaves : (names : List (List ℕ)) (fault : CompileFault) (old new : Option Files) → new ≡ old → CompileLeaves names (compile_ending fault) old new
+unbuilt_leaves names compile.NotBuilt old new same = same
+unbuilt_leaves names compile.OutOfMemory old new same = inl same
+
+-- a file for each script
+pub have_files : (count : ℕ) (scripts : List (String Global)) (set : CompiledSet) → count ≡ length scripts → HasFiles count set → HaveFiles (map string_bytes scripts) (map bytes_of set.files.items)
+have_files count scripts set counted has = record {
+  values = set.loaded.files;
+  one_each = ap length has.files.bytes ∙ length-map set.loaded.files spelled ∙ has.number ∙ counted ∙ sym (length-map scripts string_bytes);
+  spelled = has.files;
+}
+
+-- on files that were not all written
+pub cut_leaves : (T : Type 0) (names files : List (List ℕ)) (fault : IoFault) (old new : Option Files) → HaveFiles names files → WritesEach {T = T} names files (Err fault) old new → CompileLeaves names (write_ending fault) old new
+cut_leaves T names files io.Failed old new have writes = inr (files, have, writes)
+cut_leaves T names files io.OutOfMemory old new have writes = inr (files, have, writes)
+
+pub cut_ends : (holds : Option Files) (names : List (List ℕ)) (fault : IoFault) → EndsUnprinted (CompileAnswersTo names) holds (write_ending fault)
+cut_ends holds names io.Failed = tt
+cut_ends holds names io.OutOfMemory = tt
