@@ -26,6 +26,3 @@ pub use notes::Notes;
 pub use rule::TypeRule;
 pub use scope::Scope;
 pub use typed::Typed;
-
-#[cfg(test)]
-mod tests;

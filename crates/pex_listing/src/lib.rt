@@ -21,6 +21,3 @@ mod tables;
 pub use assembling::assemble;
 pub use faults::{ListingFault, ListingRule, ShowFault};
 pub use showing::show;
-
-#[cfg(test)]
-mod tests;

@@ -21,6 +21,3 @@ pub use fault::{LinkFault, LinkRule};
 pub use linker::link;
 pub use name_table::{NameTable, fold_into, folded};
 pub use set::{FunctionRef, PropertyRef, ScriptSet, SourceFile};
-
-#[cfg(test)]
-mod tests;

@@ -27,6 +27,3 @@ mod world;
 pub use lines::append_escaped;
 pub use machine::Machine;
 pub use status::{Status, TurnEnd, TurnFault};
-
-#[cfg(test)]
-mod tests;

@@ -16,6 +16,3 @@ mod work;
 pub use elaboration::elaborate;
 pub use expression_rules::TypeRule;
 pub use fault::TypeFault;
-
-#[cfg(test)]
-mod tests;

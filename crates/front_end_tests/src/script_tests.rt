@@ -1,5 +1,4 @@
 // Sets are written as the texts of their files, parted by an empty line.
-use super::*;
 use core_tree::CoreSet;
 use papy_base::Text;
 use script_lexer::{Lines, lex};
@@ -8,6 +7,7 @@ use script_parser::parse_script;
 use std::alloc::Global;
 use std::process::Abort;
 use std::test::Fail;
+use type_rules::{TypeFault, TypeRule, elaborate};
 
 fn source_file(alloc: Global, rt: &impl Abort, text: &str) -> Result<SourceFile, Fail> {
     let lines = lex(alloc, text.as_bytes())?;

@@ -1,7 +1,7 @@
 // Sets are written as the texts of their files, parted by an empty line.
-use super::*;
 use papy_base::{Name, Text};
 use script_lexer::lex;
+use script_linker::{FunctionRef, LinkFault, LinkRule, PropertyRef, ScriptSet, SourceFile, link};
 use script_parser::parse_script;
 use std::alloc::Global;
 use std::process::Abort;

@@ -1,7 +1,7 @@
 // Each case is a line of a function of the script Here, and what it gives: its tree, or the rule that it
 // breaks.
-use super::*;
 use core_tree::{Core, CoreStatement};
+use expression_rules::{Notes, Scope, TypeRule};
 use papy_base::Text;
 use script_lexer::lex;
 use script_linker::{ScriptSet, SourceFile, link};

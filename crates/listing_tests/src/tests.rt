@@ -2,8 +2,8 @@ ghost use Rattle.std.specs.Prelude.{IfOk};
 ghost use Rattle.pex_values.specs.Plain.{plain};
 ghost use Rattle.pex_values.specs.Shape.{IsWellShaped};
 
-use super::*;
 use papy_io::MemorySink;
+use pex_listing::{ListingFault, ListingRule, ShowFault, assemble, show};
 use pex_values::{Pex, SizeForm};
 use std::alloc::{AllocError, Global};
 use std::test::Fail;
