@@ -7,10 +7,11 @@ use Rattle.std.specs.String.{string_bytes}
 use Rattle.std.proofs.lemmas.Bool.Decides.{nat_tests}
 use Rattle.std.proofs.lemmas.List.{length-map, length-take}
 use Rattle.papyrus_cmd.specs.declared.command.Command.TheVariants.{Help, Version, Once, Compile, Check, Show, Asm}
-use Rattle.papyrus_cmd.specs.declared.ending.Ending.{Ending}
-use Rattle.papyrus_cmd.specs.declared.ending.Ending.TheVariants.{Done, OutOfMemory, Usage, ReadFault, WriteFault, Refused, NotBuilt}
+use Rattle.command_files.specs.declared.ending.Ending.{Ending}
+use Rattle.command_files.specs.declared.ending.Ending.TheVariants.{Done, OutOfMemory, Usage, ReadFault, WriteFault, Refused, NotBuilt}
 use Rattle.papyrus_cmd.specs.Command.{command_of, files_of, files_read, are_file_words, are_script_words, is_file_word}
-use Rattle.papyrus_cmd.specs.Ending.{MissesScript, MissesWord, word_at}
+use Rattle.command_files.specs.Ending.{MissesScript, word_at}
+use Rattle.papyrus_cmd.specs.Missed.{MissesWord}
 use Rattle.papyrus_cmd.proofs.OutputsOf.{names_behind, names-behind}
 
 asm-found : (b1 b2 b3 b4 b5 : Bool) → (if b1 then Some Once else if b2 then Some Compile else if b3 then Some Check else if b4 then Some Show else if b5 then Some Asm else None) ≡ Some Asm → b5 ≡ true

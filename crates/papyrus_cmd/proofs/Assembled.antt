@@ -8,18 +8,19 @@ use Rattle.papy_io.specs.declared.fault.IoFault.TheVariants as io
 use Rattle.papy_io.specs.Files.{Files}
 use Rattle.papy_io.specs.WriteFile.{WritesFile}
 use Rattle.pex_listing.specs.declared.faults.ListingRule.TheVariants.{BadLine}
-use Rattle.papyrus_cmd.specs.declared.ending.Ending.TheVariants.{Done}
-use Rattle.papyrus_cmd.specs.declared.file_fault.FileFault.{FileFault}
-use Rattle.papyrus_cmd.specs.declared.file_fault.FileFault.TheVariants as file
-use Rattle.papyrus_cmd.specs.declared.refusal.Rule.TheVariants.{Listing}
-use Rattle.papyrus_cmd.specs.Answers.{AnswersTo, AsmAnswers, EndsUnprinted}
+use Rattle.command_files.specs.declared.ending.Ending.TheVariants.{Done}
+use Rattle.command_files.specs.declared.file_fault.FileFault.{FileFault}
+use Rattle.command_files.specs.declared.file_fault.FileFault.TheVariants as file
+use Rattle.command_files.specs.declared.refusal.Rule.TheVariants.{Listing}
+use Rattle.command_files.specs.Outputs.{AnswersTo, EndsUnprinted}
+use Rattle.papyrus_cmd.specs.Answers.{AsmAnswers}
 use Rattle.papyrus_cmd.specs.Asm.{AsmLeaves, Assembles, IsSpelling, ReadsListing}
-use Rattle.papyrus_cmd.specs.Ending.{write_ending}
-use Rattle.papyrus_cmd.specs.FileFault.{ending_at}
-use Rattle.papyrus_cmd.specs.TextFile.{ReadsText}
+use Rattle.command_files.specs.Ending.{write_ending}
+use Rattle.command_files.specs.FileFault.{ending_at}
+use Rattle.command_files.specs.TextFile.{ReadsText}
 
 abbrev pub ReadsListed : Option Files → List ℕ → Result (Vec ℕ Global) FileFault → Type 0
-ReadsListed holds name result = ReadsText holds name 134217728 (Listing BadLine) result
+ReadsListed holds name result = ReadsText holds name 134217728 (Line 0) (Listing BadLine) result
 
 -- a text that was not read, or is too large
 pub listing_unread : (holds : Option Files) (name : List ℕ) (fault : FileFault) → ReadsListed holds name (Err fault) → ReadsListing holds name (Err fault)

@@ -6,16 +6,17 @@ use Rattle.std.proofs.lemmas.List.{length-map}
 use Rattle.papy_io.specs.declared.fault.IoFault.{IoFault}
 use Rattle.papy_io.specs.declared.fault.IoFault.TheVariants as io
 use Rattle.papy_io.specs.Files.{Files}
-use Rattle.papyrus_cmd.specs.declared.compile_fault.CompileFault.{CompileFault}
-use Rattle.papyrus_cmd.specs.declared.compile_fault.CompileFault.TheVariants as compile
-use Rattle.papyrus_cmd.specs.declared.compiled.CompiledSet.{CompiledSet}
-use Rattle.papyrus_cmd.specs.declared.ending.Ending.{Ending}
-use Rattle.papyrus_cmd.specs.declared.ending.Ending.TheVariants.{Done, OutOfMemory, Usage, ReadFault, WriteFault, Refused, NotBuilt}
-use Rattle.papyrus_cmd.specs.Answers.{CompileAnswersTo, EndsUnprinted}
+use Rattle.command_files.specs.declared.compile_fault.CompileFault.{CompileFault}
+use Rattle.command_files.specs.declared.compile_fault.CompileFault.TheVariants as compile
+use Rattle.command_files.specs.declared.compiled.CompiledSet.{CompiledSet}
+use Rattle.command_files.specs.declared.ending.Ending.{Ending}
+use Rattle.command_files.specs.declared.ending.Ending.TheVariants.{Done, OutOfMemory, Usage, ReadFault, WriteFault, Refused, NotBuilt}
+use Rattle.command_files.specs.Outputs.{EndsUnprinted}
+use Rattle.papyrus_cmd.specs.Answers.{CompileAnswersTo}
 use Rattle.papyrus_cmd.specs.Compile.{CompileLeaves, HaveFiles}
-use Rattle.papyrus_cmd.specs.Compiled.{HasFiles, bytes_of, spelled}
-use Rattle.papyrus_cmd.specs.Ending.{CountsWrites, compile_ending, write_ending}
-use Rattle.papyrus_cmd.specs.Scripts.{EndsOnScripts}
+use Rattle.command_files.specs.Compiled.{HasFiles, bytes_of, spelled}
+use Rattle.command_files.specs.Ending.{CountsWrites, compile_ending, write_ending}
+use Rattle.command_files.specs.Scripts.{EndsOnScripts}
 use Rattle.papyrus_cmd.specs.Written.{WritesEach}
 
 -- on scripts that aren't accepted

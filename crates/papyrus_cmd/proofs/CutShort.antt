@@ -2,10 +2,11 @@
 use Rattle.std.proofs.Common.{arith, ◌≡◌, ◌≢◌, inl, inr, ℕ, List, [], refl}
 use Rattle.std.specs.Prelude.{Option, None, Some, IfSome}
 use Rattle.papy_io.specs.Files.{Files}
-use Rattle.papyrus_cmd.specs.declared.ending.Ending.{Ending}
-use Rattle.papyrus_cmd.specs.declared.ending.Ending.TheVariants.{Done, OutOfMemory, Usage, ReadFault, WriteFault, Refused, NotBuilt}
-use Rattle.papyrus_cmd.specs.Answers.{Answers, IsPart, Outputs}
-use Rattle.papyrus_cmd.specs.Ending.{note_of}
+use Rattle.command_files.specs.declared.ending.Ending.{Ending}
+use Rattle.command_files.specs.declared.ending.Ending.TheVariants.{Done, OutOfMemory, Usage, ReadFault, WriteFault, Refused, NotBuilt}
+use Rattle.command_files.specs.Outputs.{IsPart, Outputs}
+use Rattle.papyrus_cmd.specs.Answers.{Answers}
+use Rattle.command_files.specs.Ending.{note_of}
 use Rattle.papyrus_cmd.specs.TopCall.{CutShort, Told, Tried, WasCut}
 use Rattle.papyrus_cmd.proofs.NotedLines.{appended_nothing, tried_line}
 

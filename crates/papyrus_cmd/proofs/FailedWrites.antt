@@ -1,8 +1,8 @@
 -- Which count of failed writes rose.
 use Rattle.std.proofs.Common.{◌≡◌, inl, inr, ℕ}
-use Rattle.papyrus_cmd.specs.declared.ending.Ending.{Ending}
-use Rattle.papyrus_cmd.specs.declared.ending.Ending.TheVariants.{Done, OutOfMemory, Usage, ReadFault, WriteFault, Refused, NotBuilt}
-use Rattle.papyrus_cmd.specs.Ending.{CountsBoth, CountsWrites}
+use Rattle.command_files.specs.declared.ending.Ending.{Ending}
+use Rattle.command_files.specs.declared.ending.Ending.TheVariants.{Done, OutOfMemory, Usage, ReadFault, WriteFault, Refused, NotBuilt}
+use Rattle.command_files.specs.Ending.{CountsBoth, CountsWrites}
 
 pub out_counted : (ending : Ending) (before now files_before files_now : ℕ) → CountsWrites ending before now → files_now ≡ files_before → CountsBoth ending before now files_before files_now
 out_counted WriteFault before now files_before files_now counts same = inl (counts, same)

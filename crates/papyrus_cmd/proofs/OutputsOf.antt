@@ -5,9 +5,10 @@ use Rattle.std.specs.String.{string_bytes}
 use Rattle.std.proofs.lemmas.Grind.{common_steps}
 use Rattle.papy_io.specs.Files.{Files}
 use Rattle.papyrus_cmd.specs.declared.command.Command.{Command}
-use Rattle.papyrus_cmd.specs.declared.ending.Ending.{Ending}
-use Rattle.papyrus_cmd.specs.declared.ending.Ending.TheVariants.{Done, OutOfMemory, Usage, ReadFault, WriteFault, Refused, NotBuilt}
-use Rattle.papyrus_cmd.specs.Answers.{IsPart, Outputs, CommandOn, CommandAnswers, Answers, EndsUnprinted, SilentlyEnds}
+use Rattle.command_files.specs.declared.ending.Ending.{Ending}
+use Rattle.command_files.specs.declared.ending.Ending.TheVariants.{Done, OutOfMemory, Usage, ReadFault, WriteFault, Refused, NotBuilt}
+use Rattle.command_files.specs.Outputs.{IsPart, Outputs, EndsUnprinted}
+use Rattle.papyrus_cmd.specs.Answers.{CommandOn, CommandAnswers, Answers}
 use Rattle.papyrus_cmd.specs.Command.{command_of}
 use Rattle.papyrus_cmd.specs.TopCall.{CommandLeaves, FilesLeft}
 use Rattle.papyrus_cmd.proofs.NotedLines.{appended_nothing}

@@ -5,10 +5,10 @@ use Rattle.papy_io.specs.declared.fault.IoFault.{IoFault}
 use Rattle.papy_io.specs.declared.fault.IoFault.TheVariants as io
 use Rattle.papy_io.specs.Files.{Files}
 use Rattle.papy_io.specs.Sink.{Appended}
-use Rattle.papyrus_cmd.specs.declared.ending.Ending.{Ending}
-use Rattle.papyrus_cmd.specs.declared.ending.Ending.TheVariants.{Done}
-use Rattle.papyrus_cmd.specs.Answers.{Outputs}
-use Rattle.papyrus_cmd.specs.Ending.{write_ending}
+use Rattle.command_files.specs.declared.ending.Ending.{Ending}
+use Rattle.command_files.specs.declared.ending.Ending.TheVariants.{Done}
+use Rattle.command_files.specs.Outputs.{Outputs}
+use Rattle.command_files.specs.Ending.{write_ending}
 
 -- the first part of a text that a command would have written
 pub part_is_output : (Ends : Files → Ending → List ℕ → Type 0) (holds : Option Files) (text : List ℕ) (fault : IoFault) (before now : Option (List ℕ)) →

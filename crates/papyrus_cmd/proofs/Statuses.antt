@@ -7,17 +7,19 @@ use Rattle.papy_io.specs.Files.{Files}
 use Rattle.papy_io.specs.Sink.{Appended}
 use Rattle.papyrus_cmd.specs.declared.command.Command.{Command}
 use Rattle.papyrus_cmd.specs.declared.command.Command.TheVariants.{Help, Version, Once, Compile, Check, Show, Asm}
-use Rattle.papyrus_cmd.specs.declared.ending.Ending.{Ending}
-use Rattle.papyrus_cmd.specs.declared.ending.Ending.TheVariants.{Done, OutOfMemory, Usage, ReadFault, WriteFault, Refused, NotBuilt}
-use Rattle.papyrus_cmd.specs.declared.refusal.Place.{Place}
-use Rattle.papyrus_cmd.specs.declared.refusal.Rule.{Rule}
-use Rattle.papyrus_cmd.specs.declared.refusal.Rule.TheVariants.{Pex, Listing, Lexical, Grammar, Link, Typing}
-use Rattle.papyrus_cmd.specs.Answers.{Answers, Outputs}
+use Rattle.command_files.specs.declared.ending.Ending.{Ending}
+use Rattle.command_files.specs.declared.ending.Ending.TheVariants.{Done, OutOfMemory, Usage, ReadFault, WriteFault, Refused, NotBuilt}
+use Rattle.command_files.specs.declared.refusal.Place.{Place}
+use Rattle.command_files.specs.declared.refusal.Rule.{Rule}
+use Rattle.command_files.specs.declared.refusal.Rule.TheVariants.{Pex, Listing, Lexical, Grammar, Link, Typing}
+use Rattle.command_files.specs.Outputs.{Outputs}
+use Rattle.papyrus_cmd.specs.Answers.{Answers}
 use Rattle.papyrus_cmd.specs.Asm.{AsmLeaves, MayWrite}
 use Rattle.papyrus_cmd.specs.Command.{command_of}
 use Rattle.papyrus_cmd.specs.Compile.{CompileLeaves, MayCompile}
-use Rattle.papyrus_cmd.specs.Ending.{CountsBoth, CountsReads, MissesWord, word_at}
-use Rattle.papyrus_cmd.specs.Refusal.{rule_status}
+use Rattle.command_files.specs.Ending.{CountsBoth, CountsReads, word_at}
+use Rattle.papyrus_cmd.specs.Missed.{MissesWord}
+use Rattle.command_files.specs.Refusal.{rule_status}
 use Rattle.papyrus_cmd.specs.TopCall.{Answered, CommandCut, CommandLeaves, FilesCut, FilesLeft, IsAnswer, Noted, NotRead, Told, WasCut, WritesNone, writes_files}
 use Rattle.papyrus_cmd.proofs.NotedLines.{appended_nothing}
 

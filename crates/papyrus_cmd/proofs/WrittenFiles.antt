@@ -6,7 +6,7 @@ use Rattle.std.specs.declared.vec.Vec.{Vec}
 use Rattle.papy_io.specs.declared.fault.IoFault.{IoFault}
 use Rattle.papy_io.specs.Files.{Files, ChangesTold}
 use Rattle.papy_io.specs.WriteFile.{HoldsNow, MayHold, WritesFile}
-use Rattle.papyrus_cmd.specs.Compiled.{bytes_of}
+use Rattle.command_files.specs.Compiled.{bytes_of}
 use Rattle.papyrus_cmd.specs.Written.{item, Written, WritesSome, pex_name}
 
 -- nothing was written

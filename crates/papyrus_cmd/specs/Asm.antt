@@ -8,14 +8,14 @@ use Rattle.pex_codec.specs.Spells.{Spells}
 use Rattle.pex_values.specs.Plain.{PlainPex}
 use Rattle.pex_listing.specs.declared.faults.ListingRule.{ListingRule}
 use Rattle.pex_listing.specs.declared.faults.ListingRule.TheVariants.{BadLine}
-use Rattle.papyrus_cmd.specs.declared.ending.Ending.{Ending}
-use Rattle.papyrus_cmd.specs.declared.ending.Ending.TheVariants as ending
-use Rattle.papyrus_cmd.specs.declared.file_fault.FileFault.{FileFault}
-use Rattle.papyrus_cmd.specs.declared.file_fault.FileFault.TheVariants.{ReadFault, OutOfMemory, Refused}
-use Rattle.papyrus_cmd.specs.declared.refusal.Place.{Place}
-use Rattle.papyrus_cmd.specs.declared.refusal.Place.TheVariants.{Line}
-use Rattle.papyrus_cmd.specs.declared.refusal.Rule.{Rule}
-use Rattle.papyrus_cmd.specs.declared.refusal.Rule.TheVariants.{Listing}
+use Rattle.command_files.specs.declared.ending.Ending.{Ending}
+use Rattle.command_files.specs.declared.ending.Ending.TheVariants as ending
+use Rattle.command_files.specs.declared.file_fault.FileFault.{FileFault}
+use Rattle.command_files.specs.declared.file_fault.FileFault.TheVariants.{ReadFault, OutOfMemory, Refused}
+use Rattle.command_files.specs.declared.refusal.Place.{Place}
+use Rattle.command_files.specs.declared.refusal.Place.TheVariants.{Line}
+use Rattle.command_files.specs.declared.refusal.Rule.{Rule}
+use Rattle.command_files.specs.declared.refusal.Rule.TheVariants.{Listing}
 
 -- the most bytes of a listing
 abbrev pub limit : ℕ

@@ -2,9 +2,9 @@
 use Rattle.std.specs.Prelude.{◌≡◌, ◌⊎◌, ℕ, List, length, Option}
 use Rattle.papy_io.specs.Files.{Files}
 use Rattle.pex_values.specs.declared.values.Pex.{Pex}
-use Rattle.papyrus_cmd.specs.declared.ending.Ending.{Ending}
-use Rattle.papyrus_cmd.specs.declared.ending.Ending.TheVariants as ending
-use Rattle.papyrus_cmd.specs.Compiled.{AreFilesOf}
+use Rattle.command_files.specs.declared.ending.Ending.{Ending}
+use Rattle.command_files.specs.declared.ending.Ending.TheVariants as ending
+use Rattle.command_files.specs.Compiled.{AreFilesOf}
 use Rattle.papyrus_cmd.specs.Written.{Written, WritesSome}
 
 -- a file for each script, with the bytes that spell its value

@@ -5,16 +5,17 @@ use Rattle.papy_io.specs.declared.fault.IoFault.TheVariants as io
 use Rattle.papy_io.specs.Count.{HasRisen, CountsFaults}
 use Rattle.papy_io.specs.Files.{Files}
 use Rattle.papy_io.specs.Sink.{Appended, SinkWrites}
-use Rattle.papyrus_cmd.specs.declared.ending.Ending.{Ending}
-use Rattle.papyrus_cmd.specs.declared.ending.Ending.TheVariants.{Done, OutOfMemory, Usage, ReadFault, WriteFault, Refused, NotBuilt}
-use Rattle.papyrus_cmd.specs.Answers.{Answers, IsPart}
+use Rattle.command_files.specs.declared.ending.Ending.{Ending}
+use Rattle.command_files.specs.declared.ending.Ending.TheVariants.{Done, OutOfMemory, Usage, ReadFault, WriteFault, Refused, NotBuilt}
+use Rattle.command_files.specs.Outputs.{IsPart}
+use Rattle.papyrus_cmd.specs.Answers.{Answers}
 use Rattle.papyrus_cmd.specs.declared.command.Command.{Command}
 use Rattle.papyrus_cmd.specs.declared.command.Command.TheVariants as command
 use Rattle.papyrus_cmd.specs.Asm.{AsmLeaves, MayWrite}
 use Rattle.papyrus_cmd.specs.Command.{command_of, files_read}
 use Rattle.papyrus_cmd.specs.Compile.{CompileLeaves, MayCompile}
-use Rattle.papyrus_cmd.specs.Ending.{status_of, note_of, cannot_read, out_of_memory, word_at}
-use Rattle.papyrus_cmd.specs.Refusal.{rule_status}
+use Rattle.command_files.specs.Ending.{status_of, note_of, cannot_read, out_of_memory, word_at}
+use Rattle.command_files.specs.Refusal.{rule_status}
 
 -- every status that there is
 abbrev pub IsStatus : ℕ → Type 0

@@ -6,15 +6,16 @@ ghost use Rattle.pex_codec.specs.Spells.{Spells};
 ghost use Rattle.pex_values.specs.Fit.{Fits};
 ghost use Rattle.pex_values.specs.Plain.{plain};
 ghost use Rattle.pex_values.specs.Shape.{IsWellShaped};
-ghost use Rattle.papyrus_cmd.specs.Answers.{AnswersTo, AsmAnswers, EndsUnprinted};
+ghost use Rattle.command_files.specs.Outputs.{AnswersTo, EndsUnprinted};
+ghost use Rattle.papyrus_cmd.specs.Answers.{AsmAnswers};
 ghost use Rattle.papyrus_cmd.specs.Asm.{AsmLeaves, Assembles, IsSpelling, ReadsListing};
-ghost use Rattle.papyrus_cmd.specs.Ending.{CountsReads, CountsWrites, IsWordBelow, MissesScript, word_at};
-ghost use Rattle.papyrus_cmd.specs.FileFault.{CountsFile, MissesFile};
+ghost use Rattle.command_files.specs.Ending.{CountsReads, CountsWrites, IsWordBelow, MissesScript, word_at};
+ghost use Rattle.command_files.specs.FileFault.{CountsFile, MissesFile};
 
-use crate::ending::Ending;
-use crate::file_fault::FileFault;
-use crate::refusal::{Place, Rule};
-use crate::text_file::read_text;
+use command_files::Ending;
+use command_files::FileFault;
+use command_files::{Place, Rule};
+use command_files::read_text;
 use papy_base::OutOfMemory;
 use papy_io::{Desk, write_file};
 use pex_codec::{EncodeFault, encode};
@@ -79,6 +80,7 @@ fn read_listing<D: Desk>(alloc: Global, desk: &mut D, name: &[u8]) -> Result<Vec
         desk,
         name,
         LISTING_LIMIT,
+        Place::Line(0),
         Rule::Listing(ListingRule::BadLine),
     ) {
         Ok(text) => text,

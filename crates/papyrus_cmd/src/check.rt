@@ -3,13 +3,14 @@ ghost use Rattle.std.specs.Prelude.{◌≡◌, ◌≢◌, ◌<◌, length, map, 
 ghost use Rattle.std.specs.String.{string_bytes};
 ghost use Rattle.papy_io.specs.Activity.{Idle};
 ghost use Rattle.papy_io.specs.Count.{CountsFaults};
-ghost use Rattle.papyrus_cmd.specs.Answers.{AnswersTo, CheckAnswers, Outputs};
+ghost use Rattle.command_files.specs.Outputs.{AnswersTo, Outputs};
+ghost use Rattle.papyrus_cmd.specs.Answers.{CheckAnswers};
 ghost use Rattle.papyrus_cmd.specs.Check.{accepted_line};
-ghost use Rattle.papyrus_cmd.specs.Ending.{CountsReads, CountsWrites, IsWordBelow, MissesScript, word_at};
+ghost use Rattle.command_files.specs.Ending.{CountsReads, CountsWrites, IsWordBelow, MissesScript, word_at};
 ghost use Rattle.papyrus_cmd.specs.WritesText.{WritesText};
 
-use crate::ending::Ending;
-use crate::pex_file::read_pex;
+use command_files::Ending;
+use command_files::read_pex;
 use papy_base::OutOfMemory;
 use papy_io::{Desk, IoFault, Sink};
 use std::alloc::Global;

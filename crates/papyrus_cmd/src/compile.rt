@@ -2,13 +2,14 @@
 ghost use Rattle.std.specs.Prelude.{◌≡◌, ◌≢◌, ◌+◌, ◌≤◌, length, map};
 ghost use Rattle.std.specs.String.{string_bytes};
 ghost use Rattle.papy_io.specs.Activity.{Idle};
-ghost use Rattle.papyrus_cmd.specs.Answers.{CompileAnswersTo, EndsUnprinted};
+ghost use Rattle.command_files.specs.Outputs.{EndsUnprinted};
+ghost use Rattle.papyrus_cmd.specs.Answers.{CompileAnswersTo};
 ghost use Rattle.papyrus_cmd.specs.Compile.{CompileLeaves};
-ghost use Rattle.papyrus_cmd.specs.Ending.{CountsReads, CountsWrites, IsWordBelow, MissesScript};
+ghost use Rattle.command_files.specs.Ending.{CountsReads, CountsWrites, IsWordBelow, MissesScript};
 
-use crate::compiled::compile_set;
-use crate::ending::Ending;
-use crate::scripts::accept;
+use command_files::compile_set;
+use command_files::Ending;
+use command_files::accept;
 use crate::written::write_each;
 use papy_io::Desk;
 use std::alloc::Global;

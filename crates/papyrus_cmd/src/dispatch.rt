@@ -2,16 +2,18 @@
 ghost use Rattle.std.specs.Prelude.{◌≡◌, ◌↔◌, ◌∷◌, map, None};
 ghost use Rattle.std.specs.String.{string_bytes};
 ghost use Rattle.papy_io.specs.Activity.{Idle};
-ghost use Rattle.papyrus_cmd.specs.Answers.{Answers, Outputs, WritesOnly};
+ghost use Rattle.command_files.specs.Outputs.{Outputs, WritesOnly};
+ghost use Rattle.papyrus_cmd.specs.Answers.{Answers};
 ghost use Rattle.papyrus_cmd.specs.Command.{command_of};
-ghost use Rattle.papyrus_cmd.specs.Ending.{CountsBoth, CountsReads, CountsWrites, IsWordOf, MissesWord};
+ghost use Rattle.command_files.specs.Ending.{CountsBoth, CountsReads, CountsWrites, IsWordOf};
+ghost use Rattle.papyrus_cmd.specs.Missed.{MissesWord};
 ghost use Rattle.papyrus_cmd.specs.TopCall.{FilesLeft};
 
 use crate::asm::asm;
 use crate::check::check;
 use crate::command::{Command, command_of};
 use crate::compile::compile;
-use crate::ending::Ending;
+use command_files::Ending;
 use crate::help::{help, version};
 use crate::once::once;
 use crate::show::show;

@@ -3,12 +3,12 @@ ghost use Rattle.std.specs.Prelude.{◌≡◌, IfOk, OnErr, map};
 ghost use Rattle.std.specs.String.{string_bytes};
 ghost use Rattle.papy_io.specs.Count.{CountsFaults};
 ghost use Rattle.papy_io.specs.Sink.{SinkWrites};
-ghost use Rattle.papyrus_cmd.specs.Ending.{cannot_read, out_of_memory, IsWordOf};
-ghost use Rattle.papyrus_cmd.specs.Refusal.{refusal_line, rule_status};
+ghost use Rattle.command_files.specs.Ending.{cannot_read, out_of_memory, IsWordOf};
+ghost use Rattle.command_files.specs.Refusal.{refusal_line, rule_status};
 ghost use Rattle.papyrus_cmd.specs.TopCall.{Noted, Told, ToldOfFile, Tried, noted_status};
 
-use crate::ending::Ending;
-use crate::refusal::{Place, Rule, refusal_line};
+use command_files::Ending;
+use command_files::{Place, Rule, refusal_line};
 use papy_base::OutOfMemory;
 use papy_io::{IoFault, Sink};
 use std::alloc::Global;

@@ -2,11 +2,12 @@
 ghost use Rattle.std.specs.Prelude.{◌≡◌, ◌≢◌, ◌<◌, length, map};
 ghost use Rattle.std.specs.String.{string_bytes};
 ghost use Rattle.papy_io.specs.Activity.{Idle};
-ghost use Rattle.papyrus_cmd.specs.Answers.{AnswersTo, Outputs, ShowAnswers};
-ghost use Rattle.papyrus_cmd.specs.Ending.{CountsReads, CountsWrites, IsWordBelow, MissesScript, word_at};
+ghost use Rattle.command_files.specs.Outputs.{AnswersTo, Outputs};
+ghost use Rattle.papyrus_cmd.specs.Answers.{ShowAnswers};
+ghost use Rattle.command_files.specs.Ending.{CountsReads, CountsWrites, IsWordBelow, MissesScript, word_at};
 
-use crate::ending::Ending;
-use crate::pex_file::read_pex;
+use command_files::Ending;
+use command_files::read_pex;
 use papy_io::{Desk, Sink};
 use pex_listing::{ShowFault, show as write_listing};
 use std::alloc::Global;

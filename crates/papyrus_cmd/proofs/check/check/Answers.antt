@@ -1,10 +1,11 @@
 use Rattle.std.proofs.Common.{◌≡◌, ◌∙◌, sym, ap, map, []}
 use Rattle.std.specs.String.{string_bytes}
 use Rattle.std.proofs.lemmas.List.{get_or-map}
-use Rattle.papyrus_cmd.specs.Answers.{AnswersTo, CheckAnswers}
-use Rattle.papyrus_cmd.specs.Ending.{word_at}
+use Rattle.command_files.specs.Outputs.{AnswersTo}
+use Rattle.papyrus_cmd.specs.Answers.{CheckAnswers}
+use Rattle.command_files.specs.Ending.{word_at}
 use Rattle.papyrus_cmd.proofs.PartOutput.{part_is_output}
-use Rattle.papyrus_cmd.proofs.PexRead.{checked}
+use Rattle.papyrus_cmd.proofs.PexShown.{checked}
 use Rattle.papyrus_cmd.proofs.check.check.Goals as goal
 
 pub returns-in-Ok-write_accepted-clause-output : goal.returns-in-Ok-write_accepted-clause-output

@@ -1,8 +1,9 @@
 use Rattle.std.proofs.Common.{sym, ◌∙◌, ap, refl}
 use Rattle.std.specs.Prelude.{Some}
 use Rattle.papyrus_cmd.specs.declared.command.Command.TheVariants.{Once, Compile, Check, Show, Asm}
-use Rattle.papyrus_cmd.specs.Answers.{AnswersTo, AsmAnswers, CompileAnswersTo}
-use Rattle.papyrus_cmd.specs.Ending.{word_at}
+use Rattle.command_files.specs.Outputs.{AnswersTo}
+use Rattle.papyrus_cmd.specs.Answers.{AsmAnswers, CompileAnswersTo}
+use Rattle.command_files.specs.Ending.{word_at}
 use Rattle.papyrus_cmd.proofs.AsmWords.{asm_files, asm_misses}
 use Rattle.papyrus_cmd.proofs.FailedWrites.{file_counted, out_counted}
 use Rattle.papyrus_cmd.proofs.OutputsOf.{command_outputs, files_left, names_behind, unprinted_outputs}

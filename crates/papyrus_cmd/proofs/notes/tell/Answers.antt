@@ -1,7 +1,7 @@
 use Rattle.std.proofs.Common.{◌≡◌, ◌∙◌, sym, ap, map, []}
 use Rattle.std.specs.String.{string_bytes}
 use Rattle.std.proofs.lemmas.List.{get_or-map, length-map}
-use Rattle.papyrus_cmd.specs.Ending.{word_at}
+use Rattle.command_files.specs.Ending.{word_at}
 use Rattle.papyrus_cmd.proofs.notes.tell.Goals as goal
 
 pub returns-in-ReadFault : goal.returns-in-ReadFault

@@ -1,8 +1,8 @@
 use Rattle.std.proofs.Common.{◌≡◌, ◌∙◌, sym, ap, map, []}
 use Rattle.std.specs.String.{string_bytes}
 use Rattle.std.proofs.lemmas.List.{get_or-map}
-use Rattle.papyrus_cmd.specs.Ending.{word_at}
-use Rattle.papyrus_cmd.proofs.PexRead.{shown, partly_shown}
+use Rattle.command_files.specs.Ending.{word_at}
+use Rattle.papyrus_cmd.proofs.PexShown.{shown, partly_shown}
 use Rattle.papyrus_cmd.proofs.show.show.Goals as goal
 
 pub returns-in-Ok-write_listing-clause-output : goal.returns-in-Ok-write_listing-clause-output

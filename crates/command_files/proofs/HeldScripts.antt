@@ -1,0 +1,32 @@
+-- Names that are held, one after another.
+use Rattle.std.proofs.Common.{arith, ◌≡◌, ◌≤◌, ◌<◌, ◌+◌, ℕ, List, [], ◌∷◌, ◌++◌, refl, sym, ap, ◌∙◌, map, take, length, slice_index_or, String, Global}
+use Rattle.std.specs.String.{string_bytes}
+use Rattle.std.proofs.lemmas.List.{take_more, map-append}
+use Rattle.std.proofs.lemmas.Grind.{common_steps}
+use Rattle.std.specs.Prelude.{Option, None, Some, IfSome}
+use Rattle.papy_io.specs.Files.{Files, told_bytes}
+use Rattle.command_files.specs.Held.{Hold, IsHeld, AreHeld}
+
+hold-more : (files : Files) (names contents : List (List ℕ)) (name bytes : List ℕ) → Hold files names contents → told_bytes (Some files) name ≡ Some bytes →
+    Hold files (names ++ name ∷ []) (contents ++ bytes ∷ [])
+hold-more files [] [] name bytes hold held = (held, tt)
+hold-more files [] (c ∷ contents) name bytes hold held = absurd hold
+hold-more files (n ∷ names) [] name bytes hold held = absurd hold
+hold-more files (n ∷ names) (c ∷ contents) name bytes hold held = (hold.0, hold-more files names contents name bytes hold.1 held)
+
+pub held-more : (holds : Option Files) (names : List (List ℕ)) (name : List ℕ) → IfSome holds (AreHeld names) → IfSome holds (IsHeld name) →
+    IfSome holds (AreHeld (names ++ name ∷ []))
+held-more None names name are is = tt
+held-more (Some files) names name (contents, hold) (bytes, held) = (contents ++ bytes ∷ [], hold-more files names contents name bytes hold held)
+
+-- the names of one script more
+pub names-more : (scripts : List (String Global)) (place : ℕ) (script : String Global) → place < length scripts → script ≡ slice_index_or scripts place script →
+    map string_bytes (take (place + 1) scripts) ≡ map string_bytes (take place scripts) ++ string_bytes script ∷ []
+names-more scripts place script within is =
+    ap (map string_bytes) (take_more scripts place script within)
+    ∙ map-append string_bytes (take place scripts) (slice_index_or scripts place script ∷ [])
+    ∙ ap (λ s. map string_bytes (take place scripts) ++ string_bytes s ∷ []) (sym is)
+
+pub names-all : (scripts : List (String Global)) (place : ℕ) → place ≤ length scripts → length scripts ≤ place →
+    map string_bytes (take place scripts) ≡ map string_bytes scripts
+names-all scripts place within past = ap (map string_bytes) (grind (arith, common_steps))

@@ -1,0 +1,175 @@
+-- Which rule a script breaks, and where, by what the layers answered.
+use Rattle.std.proofs.Common.{arith, ◌≡◌, ◌∙◌, inl, inr, ℕ, suc, ◌+◌, ◌<◌, ◌≤◌, ◌^◌, ◌==◌, Bool, true, false, List, [], ◌∷◌, length, take, map, refl, sym, ap, subst, slice_index_or, String, Global, length-drop}
+use Rattle.std.specs.Prelude.{Option, None, Some, Result, Ok, Err, IfSome, if◌then◌else◌}
+use Rattle.std.specs.String.{string_bytes}
+use Rattle.std.specs.declared.vec.Vec.{Vec}
+use Rattle.std.proofs.lemmas.List.{get_or-map, length-map, take-map}
+use Rattle.papy_io.specs.Files.{Files}
+use Rattle.script_lexer.specs.declared.fault.LexRule.TheVariants.{TooLarge}
+use Rattle.script_lexer.specs.Lines.{LogicalLine, Lexes, physical_lines, text_of, mark_len}
+use Rattle.core_tree.specs.declared.script.CoreScript.{CoreScript}
+use Rattle.script_linker.specs.Link.{AreFilesOf, IsFaultOf}
+use Rattle.script_linker.specs.declared.fault.LinkFault.{LinkFault}
+use Rattle.script_linker.specs.declared.fault.LinkFault.TheVariants as link
+use Rattle.script_linker.specs.declared.set.SourceFile.{SourceFile}
+use Rattle.type_rules.specs.Faults.{IsFaultBelow}
+use Rattle.type_rules.specs.Heads.{core_script_head, script_head}
+use Rattle.type_rules.specs.declared.fault.TypeFault.{TypeFault}
+use Rattle.type_rules.specs.declared.fault.TypeFault.TheVariants as typing
+use Rattle.command_files.specs.declared.ending.Ending.{Ending}
+use Rattle.command_files.specs.declared.ending.Ending.TheVariants as ending
+use Rattle.command_files.specs.declared.file_fault.FileFault.{FileFault}
+use Rattle.command_files.specs.declared.file_fault.FileFault.TheVariants.{ReadFault, OutOfMemory, Refused}
+use Rattle.command_files.specs.declared.refusal.Place.{Place}
+use Rattle.command_files.specs.declared.refusal.Place.TheVariants.{Line}
+use Rattle.command_files.specs.declared.refusal.Rule.{Rule}
+use Rattle.command_files.specs.declared.refusal.Rule.TheVariants.{Lexical}
+use Rattle.command_files.specs.Ending.{CountsReads, IsWordBelow, MissesScript, word_at}
+use Rattle.command_files.specs.FileFault.{MissesFile, ending_at}
+use Rattle.command_files.specs.Held.{AreHeld, IsHeld}
+use Rattle.command_files.specs.Scripts.{EndsOnScripts, EndsOnSet, HoldsRefused, ParsesScript, ReadsScript, RefusesScript, RefusesSet, link_ending, type_ending}
+use Rattle.command_files.specs.TextFile.{ReadsText}
+
+-- ---- lines
+
+one-more : (t : Bool) (n m : ℕ) → n ≤ m → (if t then 1 else 0) + n ≤ suc m
+one-more true n m small = omega arith
+one-more false n m small = omega arith
+
+few-physical : (text : List ℕ) → physical_lines text ≤ length text
+few-physical [] = omega arith
+few-physical (b ∷ []) = omega arith
+few-physical (b ∷ c ∷ bytes) = one-more (b == 10) (physical_lines (c ∷ bytes)) (length (c ∷ bytes)) (few-physical (c ∷ bytes))
+
+-- a text of at most 1 MiB has few lines
+pub few_lines : (text : List ℕ) (lines : List LogicalLine) (last : ℕ) → Lexes text lines last → length text ≤ 1048576 → last + 1 < 2 ^ 32
+few_lines text lines last lexes small =
+    let counted : last ≡ physical_lines (text_of text) = lexes.as_last in
+    let few = few-physical (text_of text) in
+    let shorter = length-drop (mark_len text) text in
+    omega arith
+
+-- ---- one file
+
+too-large-breaks : (text : List ℕ) (place : Place) (rule : Rule) → 1048576 < length text → place ≡ Line 0 → rule ≡ Lexical TooLarge → RefusesScript text place rule
+too-large-breaks text place rule past place_is rule_is =
+    let broken : RefusesScript text place (Lexical TooLarge) = record { line = 0; place_is = place_is; broken = inl (past, refl, refl) } in
+    subst (λ r. RefusesScript text place r) (sym rule_is) broken
+
+abbrev pub ReadsSource : Option Files → List ℕ → Result (Vec ℕ Global) FileFault → Type 0
+ReadsSource holds name result = ReadsText holds name 1048576 (Line 0) (Lexical TooLarge) result
+
+-- a text that was not read, or is too large
+pub script_unread : (holds : Option Files) (name : List ℕ) (fault : FileFault) → ReadsSource holds name (Err fault) → ReadsScript {T = SourceFile} holds name (Err fault)
+script_unread None name fault read = tt
+script_unread (Some files) name (Refused place rule) (bytes, held, past, place_is, rule_is) = (bytes, held, too-large-breaks bytes place rule past place_is rule_is)
+script_unread (Some files) name ReadFault read = tt
+script_unread (Some files) name OutOfMemory read = tt
+
+-- a text that was read, and parsed or refused
+pub script_parsed : (holds : Option Files) (name : List ℕ) (text : Vec ℕ Global) (result : Result SourceFile FileFault) → ReadsSource holds name (Ok text) → ParsesScript text.items result → ReadsScript holds name result
+script_parsed None name text result read parses = tt
+script_parsed (Some files) name text (Ok file) read parses = (text.items, read.1)
+script_parsed (Some files) name text (Err (Refused place rule)) read parses = (text.items, read.1, parses)
+script_parsed (Some files) name text (Err OutOfMemory) read parses = tt
+script_parsed (Some files) name text (Err ReadFault) read parses = absurd parses
+
+pub script_is_held : (holds : Option Files) (name : List ℕ) (file : SourceFile) → ReadsScript {T = SourceFile} holds name (Ok file) → IfSome holds (IsHeld name)
+script_is_held None name file read = tt
+script_is_held (Some files) name file read = read
+
+-- ---- several files
+
+-- the name of the script at this place
+named : (scripts : List (String Global)) (place : ℕ) (script : String Global) → place < length scripts → script ≡ slice_index_or scripts place script →
+    word_at (map string_bytes scripts) place ≡ string_bytes script
+named scripts place script within is = get_or-map string_bytes scripts place script [] within ∙ ap string_bytes (sym is)
+
+-- the scripts before this one are held, and this one isn't accepted
+pub script_ends : (holds : Option Files) (scripts : List (String Global)) (place : ℕ) (script : String Global) (fault : FileFault) → place < length scripts → script ≡ slice_index_or scripts place script →
+    IfSome holds (AreHeld (map string_bytes (take place scripts))) → ReadsScript {T = SourceFile} holds (string_bytes script) (Err fault) →
+    EndsOnScripts (map string_bytes scripts) holds (ending_at (place + 1) fault)
+script_ends holds scripts place script ReadFault within is earlier read = tt
+script_ends holds scripts place script OutOfMemory within is earlier read = tt
+script_ends None scripts place script (Refused p rule) within is earlier read = tt
+script_ends (Some files) scripts place script (Refused p rule) within is earlier read =
+    let before : AreHeld (take place (map string_bytes scripts)) files = subst (λ names. AreHeld names files) (sym (take-map string_bytes place scripts)) earlier in
+    let here : HoldsRefused (word_at (map string_bytes scripts) place) files p rule = subst (λ name. HoldsRefused name files p rule) (sym (named scripts place script within is)) read in
+    let size : length (map string_bytes scripts) ≡ length scripts = length-map scripts string_bytes in
+    inl (record { at = place; word_is = omega arith; within = omega arith; earlier = before; refused = here })
+
+pub script_missed : (scripts : List (String Global)) (place : ℕ) (script : String Global) (fault : FileFault) (missed : Option (List ℕ)) → place < length scripts → script ≡ slice_index_or scripts place script →
+    (name : List ℕ) → name ≡ string_bytes script → MissesFile {T = SourceFile} name (Err fault) missed → MissesScript (map string_bytes scripts) (ending_at (place + 1) fault) missed
+script_missed scripts place script ReadFault missed within is name named_is misses =
+    let size : length (map string_bytes scripts) ≡ length scripts = length-map scripts string_bytes in
+    let word : place + 1 ≡ suc place = omega arith in
+    (place, word, omega arith, misses ∙ ap Some (named_is ∙ sym (named scripts place script within is)))
+script_missed scripts place script OutOfMemory missed within is name named_is misses = tt
+script_missed scripts place script (Refused p rule) missed within is name named_is misses = tt
+
+pub script_word : (count place : ℕ) (fault : FileFault) → place < count → IsWordBelow (count + 1) (ending_at (place + 1) fault)
+script_word count place ReadFault within = omega arith
+script_word count place OutOfMemory within = tt
+script_word count place (Refused p rule) within = omega arith
+
+-- ---- a set
+
+-- a set of scripts that is refused
+pub set_refused : (holds : Option Files) (names : List (List ℕ)) (count : ℕ) (found : Ending) → IfSome holds (AreHeld names) → count ≡ length names → EndsOnSet count found →
+    EndsOnScripts names holds found
+set_refused None names count (ending.Refused word place rule) held is ends = tt
+set_refused (Some files) names count (ending.Refused word place rule) held is ends =
+    inr (held, subst (λ n. RefusesSet n word place rule) is ends)
+set_refused holds names count ending.OutOfMemory held is ends = tt
+set_refused holds names count (ending.ReadFault word) held is ends = absurd ends
+set_refused holds names count ending.Done held is ends = absurd ends
+set_refused holds names count ending.Usage held is ends = absurd ends
+set_refused holds names count ending.WriteFault held is ends = absurd ends
+set_refused holds names count ending.NotBuilt held is ends = absurd ends
+
+pub set_word : (count : ℕ) (found : Ending) → EndsOnSet count found → IsWordBelow (count + 1) found
+set_word count (ending.Refused word place rule) ends = ends.within
+set_word count ending.OutOfMemory ends = tt
+set_word count (ending.ReadFault word) ends = absurd ends
+set_word count ending.Done ends = tt
+set_word count ending.Usage ends = tt
+set_word count ending.WriteFault ends = tt
+set_word count ending.NotBuilt ends = tt
+
+pub set_counts : (count : ℕ) (found : Ending) (before now : ℕ) → EndsOnSet count found → now ≡ before → CountsReads found before now
+set_counts count (ending.Refused word place rule) before now ends same = same
+set_counts count ending.OutOfMemory before now ends same = same
+set_counts count (ending.ReadFault word) before now ends same = absurd ends
+set_counts count ending.Done before now ends same = same
+set_counts count ending.Usage before now ends same = same
+set_counts count ending.WriteFault before now ends same = same
+set_counts count ending.NotBuilt before now ends same = same
+
+pub set_missed : (names : List (List ℕ)) (count : ℕ) (found : Ending) (missed : Option (List ℕ)) → EndsOnSet count found → MissesScript names found missed
+set_missed names count (ending.Refused word place rule) missed ends = tt
+set_missed names count ending.OutOfMemory missed ends = tt
+set_missed names count (ending.ReadFault word) missed ends = absurd ends
+set_missed names count ending.Done missed ends = tt
+set_missed names count ending.Usage missed ends = tt
+set_missed names count ending.WriteFault missed ends = tt
+set_missed names count ending.NotBuilt missed ends = tt
+
+-- ---- the answers of the two judges of a set
+
+pub link_ends : (files : List SourceFile) (fault : LinkFault) → IsFaultOf files fault → EndsOnSet (length files) (link_ending fault)
+link_ends files link.OutOfMemory of = tt
+link_ends files (link.Broken file line rule) (within, on) =
+    record { line = line; place_is = refl; rule_is = tt; above = omega arith; within = omega arith }
+
+pub type_ends : (count : ℕ) (fault : TypeFault) → IsFaultBelow (count + 6) fault → EndsOnSet count (type_ending fault)
+type_ends count typing.OutOfMemory below = tt
+type_ends count (typing.Broken file line rule) below =
+    record { line = line; place_is = refl; rule_is = tt; above = omega arith; within = omega arith }
+
+-- ---- an accepted set
+
+-- the prelude's six scripts and these
+pub set_counted : (made : List CoreScript) (set files : List SourceFile) → map core_script_head made ≡ map script_head set → AreFilesOf files set → length made ≡ length files + 6
+set_counted made set files heads are =
+    let counted : length (map core_script_head made) ≡ length (map script_head set) = ap length heads in
+    sym (length-map made core_script_head) ∙ counted ∙ length-map set script_head ∙ are.count

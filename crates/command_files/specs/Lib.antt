@@ -1,0 +1,10 @@
+pub mod Compiled
+pub mod Ending
+pub mod FileFault
+pub mod Held
+pub mod Outputs
+pub mod PexFile
+pub mod Refusal
+pub mod SceneFile
+pub mod Scripts
+pub mod TextFile

@@ -1,0 +1,33 @@
+-- What reading a scene file gives.
+use Rattle.std.specs.Prelude.{◌≡◌, ℕ, List, Option, None, Some, Result, Ok, Err}
+use Rattle.core_tree.specs.declared.scene_tree.SceneTree.{SceneTree}
+use Rattle.papy_io.specs.Files.{Files}
+use Rattle.scene_reader.specs.declared.fault.SceneFault.{SceneFault}
+use Rattle.scene_reader.specs.declared.fault.SceneFault.TheVariants as fault
+use Rattle.scene_reader.specs.declared.fault.SceneRule.{SceneRule}
+use Rattle.command_files.specs.declared.file_fault.FileFault.{FileFault}
+use Rattle.command_files.specs.declared.file_fault.FileFault.TheVariants.{ReadFault, OutOfMemory, Refused}
+use Rattle.command_files.specs.declared.refusal.Place.{Place}
+use Rattle.command_files.specs.declared.refusal.Place.TheVariants.{Whole}
+use Rattle.command_files.specs.declared.refusal.Rule.{Rule}
+use Rattle.command_files.specs.declared.refusal.Rule.TheVariants.{Scene}
+use Rattle.command_files.specs.Held.{IsHeld}
+
+-- the fault of a scene file, by the fault of its text
+abbrev pub scene_fault : SceneFault → FileFault
+scene_fault (fault.Broken rule) = Refused Whole (Scene rule)
+scene_fault fault.OutOfMemory = OutOfMemory
+
+-- a rule of scenes, told of the whole file
+pub record IsSceneRefusal (place : Place) (rule : Rule) : Type 0 where
+  pub broken : SceneRule
+  pub place_is : place ≡ Whole
+  pub rule_is : rule ≡ Scene broken
+
+-- the name is held where its scene was read or refused
+abbrev pub ReadsScene : {T : Type 0} → Option Files → List ℕ → Result T FileFault → Type 0
+ReadsScene None name result = Unit {0}
+ReadsScene (Some files) name (Ok _) = IsHeld name files
+ReadsScene (Some files) name (Err (Refused place rule)) = IsHeld name files × IsSceneRefusal place rule
+ReadsScene (Some files) name (Err ReadFault) = Unit {0}
+ReadsScene (Some files) name (Err OutOfMemory) = Unit {0}

@@ -1,0 +1,143 @@
+-- What reading, parsing, linking and elaborating scripts gives.
+use Rattle.std.specs.Prelude.{◌≡◌, ◌⊎◌, ℕ, suc, ◌+◌, ◌<◌, List, take, length, Option, None, Some, Result, Ok, Err, IfSome}
+use Rattle.papy_io.specs.Files.{Files, told_bytes}
+use Rattle.script_lexer.specs.declared.fault.LexRule.{LexRule}
+use Rattle.script_lexer.specs.declared.line.Lines.{Lines}
+use Rattle.script_lexer.specs.Lines.{LexBreak, Lexes, logical_lines}
+use Rattle.script_linker.specs.declared.fault.LinkFault.{LinkFault}
+use Rattle.script_linker.specs.declared.fault.LinkFault.TheVariants as link
+use Rattle.script_parser.specs.Faults.{IsLineOf}
+use Rattle.type_rules.specs.declared.fault.TypeFault.{TypeFault}
+use Rattle.type_rules.specs.declared.fault.TypeFault.TheVariants as typing
+use Rattle.command_files.specs.declared.ending.Ending.{Ending}
+use Rattle.command_files.specs.declared.ending.Ending.TheVariants as ending
+use Rattle.command_files.specs.declared.file_fault.FileFault.{FileFault}
+use Rattle.command_files.specs.declared.file_fault.FileFault.TheVariants.{ReadFault, OutOfMemory, Refused}
+use Rattle.command_files.specs.declared.refusal.Place.{Place}
+use Rattle.command_files.specs.declared.refusal.Place.TheVariants.{Line}
+use Rattle.command_files.specs.declared.refusal.Rule.{Rule}
+use Rattle.command_files.specs.declared.refusal.Rule.TheVariants.{Pex, Listing, Lexical, Grammar, Link, Typing, Scene, Verification}
+use Rattle.command_files.specs.Ending.{CountsReads, word_at}
+use Rattle.command_files.specs.Held.{AreHeld, IsHeld}
+
+-- the first rule that breaks the text's lexical form, at its line
+pub record BreaksForm (text : List ℕ) (place : Place) (rule : LexRule) : Type 0 where
+  pub line : ℕ
+  pub place_is : place ≡ Line line
+  pub broken : LexBreak text line rule
+
+-- a line of a text that is cut into lines, or the one after the last
+pub record StandsOnLine (text : List ℕ) (place : Place) : Type 0 where
+  pub line : ℕ
+  pub lines : Lines
+  pub place_is : place ≡ Line line
+  pub cut : Lexes text (logical_lines lines.lines.items) lines.last
+  pub line_of : IsLineOf lines line
+
+-- a script of this text is refused so
+abbrev pub RefusesScript : List ℕ → Place → Rule → Type 0
+RefusesScript text place (Lexical rule) = BreaksForm text place rule
+RefusesScript text place (Grammar rule) = StandsOnLine text place
+RefusesScript text place (Link rule) = ⊥
+RefusesScript text place (Typing rule) = ⊥
+RefusesScript text place (Pex rule) = ⊥
+RefusesScript text place (Listing rule) = ⊥
+RefusesScript text place (Scene rule) = ⊥
+RefusesScript text place (Verification rule) = ⊥
+
+-- lines, or the rule that the text breaks
+abbrev pub CutsLines : List ℕ → Result Lines FileFault → Type 0
+CutsLines text (Ok lines) = Lexes text (logical_lines lines.lines.items) lines.last
+CutsLines text (Err (Refused place rule)) = RefusesScript text place rule
+CutsLines text (Err OutOfMemory) = Unit {0}
+CutsLines text (Err ReadFault) = ⊥
+
+-- a script, or the rule that the text breaks
+abbrev pub ParsesScript : {T : Type 0} → List ℕ → Result T FileFault → Type 0
+ParsesScript text (Ok _) = Unit {0}
+ParsesScript text (Err (Refused place rule)) = RefusesScript text place rule
+ParsesScript text (Err OutOfMemory) = Unit {0}
+ParsesScript text (Err ReadFault) = ⊥
+
+-- the name holds a text that breaks the rule
+abbrev pub HoldsRefused : List ℕ → Files → Place → Rule → Type 0
+HoldsRefused name files place rule = (text : List ℕ) × (told_bytes (Some files) name ≡ Some text) × RefusesScript text place rule
+
+abbrev pub ReadsScript : {T : Type 0} → Option Files → List ℕ → Result T FileFault → Type 0
+ReadsScript None name result = Unit {0}
+ReadsScript (Some files) name (Ok _) = IsHeld name files
+ReadsScript (Some files) name (Err (Refused place rule)) = HoldsRefused name files place rule
+ReadsScript (Some files) name (Err ReadFault) = Unit {0}
+ReadsScript (Some files) name (Err OutOfMemory) = Unit {0}
+
+-- the scripts before this one are held, and this one breaks the rule
+pub record RefusesFile (names : List (List ℕ)) (files : Files) (word : ℕ) (place : Place) (rule : Rule) : Type 0 where
+  pub at : ℕ
+  pub word_is : word ≡ suc at
+  pub within : at < length names
+  pub earlier : AreHeld (take at names) files
+  pub refused : HoldsRefused (word_at names at) files place rule
+
+-- a rule of sets of scripts, or of the types and names in them
+abbrev pub IsRuleOfSets : Rule → Type 0
+IsRuleOfSets (Link rule) = Unit {0}
+IsRuleOfSets (Typing rule) = Unit {0}
+IsRuleOfSets (Lexical rule) = ⊥
+IsRuleOfSets (Grammar rule) = ⊥
+IsRuleOfSets (Pex rule) = ⊥
+IsRuleOfSets (Listing rule) = ⊥
+IsRuleOfSets (Scene rule) = ⊥
+IsRuleOfSets (Verification rule) = ⊥
+
+-- a rule of sets of so many scripts is broken in one of them
+pub record RefusesSet (count word : ℕ) (place : Place) (rule : Rule) : Type 0 where
+  pub line : ℕ
+  pub place_is : place ≡ Line line
+  pub rule_is : IsRuleOfSets rule
+  pub above : 0 < word
+  pub within : word < count + 1
+
+-- the scripts of these names are refused so
+abbrev pub RefusesScripts : List (List ℕ) → Files → ℕ → Place → Rule → Type 0
+RefusesScripts names files word place rule =
+    RefusesFile names files word place rule ⊎ (AreHeld names files × RefusesSet (length names) word place rule)
+
+-- how a command ends whose scripts' set is refused, whose words stand behind the command's name
+abbrev pub link_ending : LinkFault → Ending
+link_ending (link.Broken file line rule) = ending.Refused (file + 1) (Line line) (Link rule)
+link_ending link.OutOfMemory = ending.OutOfMemory
+
+-- the same where the types and names in the set are refused
+abbrev pub type_ending : TypeFault → Ending
+type_ending (typing.Broken file line rule) = ending.Refused (file + 1) (Line line) (Typing rule)
+type_ending typing.OutOfMemory = ending.OutOfMemory
+
+-- how a command ends whose set of so many scripts isn't accepted
+abbrev pub EndsOnSet : ℕ → Ending → Type 0
+EndsOnSet count (ending.Refused word place rule) = RefusesSet count word place rule
+EndsOnSet count ending.OutOfMemory = Unit {0}
+EndsOnSet count (ending.ReadFault word) = ⊥
+EndsOnSet count ending.Done = ⊥
+EndsOnSet count ending.Usage = ⊥
+EndsOnSet count ending.WriteFault = ⊥
+EndsOnSet count ending.NotBuilt = ⊥
+
+-- how a command ends whose scripts aren't accepted
+abbrev pub EndsOnScripts : List (List ℕ) → Option Files → Ending → Type 0
+EndsOnScripts names holds (ending.Refused word place rule) = IfSome holds (λ files. RefusesScripts names files word place rule)
+EndsOnScripts names holds (ending.ReadFault word) = Unit {0}
+EndsOnScripts names holds ending.OutOfMemory = Unit {0}
+EndsOnScripts names holds ending.Done = ⊥
+EndsOnScripts names holds ending.Usage = ⊥
+EndsOnScripts names holds ending.WriteFault = ⊥
+EndsOnScripts names holds ending.NotBuilt = ⊥
+
+-- the scripts of these names are held, or the command ends so
+abbrev pub Accepts : {T : Type 0} → List (List ℕ) → Option Files → Result T Ending → Type 0
+Accepts names holds (Ok _) = IfSome holds (AreHeld names)
+Accepts names holds (Err found) = EndsOnScripts names holds found
+
+-- the count of failed reads rises where a script was not read, and nowhere else
+abbrev pub CountsScripts : {T : Type 0} → Result T Ending → ℕ → ℕ → Type 0
+CountsScripts (Ok _) before now = now ≡ before
+CountsScripts (Err found) before now = CountsReads found before now

@@ -1,0 +1,132 @@
+//! Compiled files, read part by part.
+ghost use Rattle.std.specs.Prelude.{◌≡◌, ◌+◌, ℕ, length, IfOk, IfSome};
+ghost use Rattle.papy_io.specs.Activity.{Idle, IsReading};
+ghost use Rattle.papy_io.specs.Count.{CountsFailures, CountsFaults};
+ghost use Rattle.papy_io.specs.Desk.{MissesRead, MissesStart};
+ghost use Rattle.pex_codec.specs.Decoding.{IsDecoded};
+ghost use Rattle.command_files.specs.FileFault.{CountsFile, MissesFile};
+ghost use Rattle.command_files.specs.PexFile.{CountsHeld, CountsLeft, Decodes, HasGot, ReadsPex};
+
+use crate::file_fault::FileFault;
+use crate::refusal::{Place, Rule};
+use papy_io::{Desk, Failed, IoFault};
+use pex_codec::{Decoder, Fed, PexFault, PexRule};
+use pex_values::{FILE_LIMIT, Pex};
+use std::alloc::Global;
+
+/// How many bytes are asked for at once.
+const PART: usize = 4096;
+
+/// A compiled file that was read.
+#[derive(Debug, Drop)]
+pub struct PexFile {
+    /// What it spells.
+    pub value: Pex,
+    /// The number of its bytes.
+    pub size: usize,
+}
+
+/// Hands the next part of a file to its decoder, also what lies behind the value's end.
+fn feed_part(decoder: &mut Decoder, part: &[u8])
+    ensures { (n : ℕ) → HasGot n decoder.old → HasGot (n + length part.now) decoder.new }
+{
+    match decoder.feed(part) {
+        Ok(Fed::Done { taken }) => {
+            if taken < part.len() {
+                let _ = decoder.feed(&part[taken..]);
+            }
+        }
+        Ok(Fed::More) => {}
+        Err(_) => {}
+    }
+}
+
+/// Hands the rest of the file that is being read to the decoder, and gives the number of bytes, or
+/// None where they are more than a file may have. The desk goes on reading the same file.
+fn feed_left<D: Desk>(desk: &mut D, decoder: &mut Decoder) -> Result<Option<usize>, Failed>
+    requires reading { IsReading (D.busy desk.old) }
+    requires new_decoder { HasGot 0 decoder.old }
+    ensures holds { D.holds desk.new ≡ D.holds desk.old }
+    ensures left { CountsLeft (D.busy desk.old) result (D.busy desk.new) }
+    ensures fed { IfOk result (λ size. IfSome size (λ n. HasGot n decoder.new)) }
+    ensures read_faults { CountsFailures result (D.read_faults desk.old) (D.read_faults desk.new) }
+    ensures write_faults { D.write_faults desk.new ≡ D.write_faults desk.old }
+    ensures missed { MissesRead (D.busy desk.old) result (D.missed desk.old) (D.missed desk.new) }
+{
+    let mut size = 0;
+    let mut buffer = [0u8; PART];
+    loop {
+        let count = desk.read(&mut buffer)?;
+        if count == 0 {
+            return Ok(Some(size));
+        }
+        if count > FILE_LIMIT as usize - size {
+            return Ok(None);
+        }
+        feed_part(decoder, &buffer[..count]);
+        size += count;
+    }
+}
+
+/// Hands a whole file to the decoder, and gives the number of its bytes, or None where they are more
+/// than a file may have.
+fn feed_file<D: Desk>(
+    desk: &mut D,
+    decoder: &mut Decoder,
+    name: &[u8],
+) -> Result<Option<usize>, IoFault>
+    requires idle { D.busy desk.old ≡ Idle }
+    requires new_decoder { HasGot 0 decoder.old }
+    ensures holds { D.holds desk.new ≡ D.holds desk.old }
+    ensures busy { D.busy desk.new ≡ Idle }
+    ensures size { CountsHeld (D.holds desk.old) name.now result }
+    ensures fed { IfOk result (λ size. IfSome size (λ n. HasGot n decoder.new)) }
+    ensures read_faults { CountsFaults result (D.read_faults desk.old) (D.read_faults desk.new) }
+    ensures write_faults { D.write_faults desk.new ≡ D.write_faults desk.old }
+    ensures missed { MissesStart name.now result (D.missed desk.old) (D.missed desk.new) }
+{
+    desk.start_read(name)?;
+    let size = feed_left(desk, decoder);
+    desk.finish()?;
+    Ok(size?)
+}
+
+/// What a decoder that got so many bytes, a whole file, has read.
+fn decoded(decoder: Decoder, size: usize) -> Result<PexFile, FileFault>
+    requires { HasGot size decoder }
+    ensures { Decodes size result }
+{
+    match decoder.end() {
+        Ok(value) => Ok(PexFile { value, size }),
+        Err(PexFault::OutOfMemory) => Err(FileFault::OutOfMemory),
+        Err(PexFault::Broken { offset, rule }) => Err(FileFault::Refused {
+            place: Place::Offset(offset),
+            rule: Rule::Pex(rule),
+        }),
+    }
+}
+
+/// Reads a compiled file. One of more than 16 MiB breaks P12, whatever else it breaks.
+pub fn read_pex<D: Desk>(alloc: Global, desk: &mut D, name: &[u8]) -> Result<PexFile, FileFault>
+    requires { D.busy desk.old ≡ Idle }
+    ensures holds { D.holds desk.new ≡ D.holds desk.old }
+    ensures busy { D.busy desk.new ≡ Idle }
+    ensures write_faults { D.write_faults desk.new ≡ D.write_faults desk.old }
+    ensures read_faults { CountsFile result (D.read_faults desk.old) (D.read_faults desk.new) }
+    ensures missed { MissesFile name.now result (D.missed desk.new) }
+    ensures decoded { IfOk result (λ file. IsDecoded file.size file.value) }
+    ensures read { ReadsPex (D.holds desk.old) name.now result }
+{
+    let mut decoder = Decoder::new(alloc)?;
+    let size = match feed_file(desk, &mut decoder, name) {
+        Ok(size) => size,
+        Err(fault) => return Err(FileFault::from(fault)),
+    };
+    match size {
+        Some(count) => decoded(decoder, count),
+        None => Err(FileFault::Refused {
+            place: Place::Offset(FILE_LIMIT),
+            rule: Rule::Pex(PexRule::TooLarge),
+        }),
+    }
+}

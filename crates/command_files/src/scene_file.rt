@@ -1,0 +1,92 @@
+//! Scene files.
+ghost use Rattle.std.specs.Prelude.{◌≡◌, IfOk};
+ghost use Rattle.papy_io.specs.Activity.{Idle};
+ghost use Rattle.scene_reader.specs.Limits.{KeepsLimits};
+ghost use Rattle.scene_reader.specs.declared.fault.SceneRule.TheVariants as SceneRule;
+ghost use Rattle.command_files.specs.FileFault.{CountsFile, MissesFile};
+ghost use Rattle.command_files.specs.SceneFile.{ReadsScene};
+ghost use Rattle.command_files.specs.TextFile.{ReadsText};
+ghost use Rattle.command_files.specs.declared.refusal.Place.TheVariants as Place;
+ghost use Rattle.command_files.specs.declared.refusal.Rule.TheVariants as Rule;
+
+use crate::file_fault::FileFault;
+use crate::refusal::{Place, Rule};
+use crate::text_file::read_text;
+use core_tree::SceneTree;
+use papy_io::Desk;
+use scene_reader::{SceneFault, SceneRule, read_scene};
+use std::alloc::Global;
+
+/// The most bytes of a scene.
+const SCENE_LIMIT: u32 = 1 << 24;
+
+impl From<SceneFault> for FileFault {
+    ghost use Rattle.command_files.specs.SceneFile.{scene_fault};
+
+    ghost from_gives = { λ fault found. found ≡ scene_fault fault };
+
+    fn from(fault: SceneFault) -> FileFault {
+        match fault {
+            SceneFault::Broken { rule } => FileFault::Refused {
+                place: Place::Whole,
+                rule: Rule::Scene(rule),
+            },
+            SceneFault::OutOfMemory => FileFault::OutOfMemory,
+        }
+    }
+}
+
+/// Reads the text of a scene file. One of more than 16 MiB breaks C3.
+///
+/// # Errors
+///
+/// `ReadFault` comes where the desk refused to read, `Refused` where the file is too large, and
+/// `OutOfMemory` where there is no room for it.
+pub fn read_scene_text<D: Desk>(
+    alloc: Global,
+    desk: &mut D,
+    name: &[u8],
+) -> Result<Vec<u8>, FileFault>
+    requires { D.busy desk.old ≡ Idle }
+    ensures holds { D.holds desk.new ≡ D.holds desk.old }
+    ensures busy { D.busy desk.new ≡ Idle }
+    ensures write_faults { D.write_faults desk.new ≡ D.write_faults desk.old }
+    ensures read_faults { CountsFile result (D.read_faults desk.old) (D.read_faults desk.new) }
+    ensures missed { MissesFile name.now result (D.missed desk.new) }
+    ensures read { ReadsText (D.holds desk.old) name.now 16777216 Place.Whole (Rule.Scene SceneRule.Limit) result }
+{
+    read_text(
+        alloc,
+        desk,
+        name,
+        SCENE_LIMIT,
+        Place::Whole,
+        Rule::Scene(SceneRule::Limit),
+    )
+}
+
+/// Reads a scene file. The first of the rules C1 to C3 that it breaks is told.
+///
+/// # Errors
+///
+/// `ReadFault` comes where the desk refused to read, `Refused` where a rule is broken, and
+/// `OutOfMemory` where there is no room.
+pub fn load_scene<D: Desk>(alloc: Global, desk: &mut D, name: &[u8]) -> Result<SceneTree, FileFault>
+    requires { D.busy desk.old ≡ Idle }
+    ensures holds { D.holds desk.new ≡ D.holds desk.old }
+    ensures busy { D.busy desk.new ≡ Idle }
+    ensures write_faults { D.write_faults desk.new ≡ D.write_faults desk.old }
+    ensures read_faults { CountsFile result (D.read_faults desk.old) (D.read_faults desk.new) }
+    ensures missed { MissesFile name.now result (D.missed desk.new) }
+    ensures limits { IfOk result KeepsLimits }
+    ensures read { ReadsScene (D.holds desk.old) name.now result }
+{
+    let text = match read_scene_text(alloc, desk, name) {
+        Ok(text) => text,
+        Err(fault) => return Err(fault),
+    };
+    match read_scene(alloc, &text) {
+        Ok(tree) => Ok(tree),
+        Err(fault) => Err(FileFault::from(fault)),
+    }
+}

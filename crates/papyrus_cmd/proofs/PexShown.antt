@@ -1,0 +1,33 @@
+-- What `check` and `show` answer, by what reading their file gave.
+use Rattle.std.proofs.Common.{arith, ◌≡◌, ℕ, List, ap, subst, take, length, inr}
+use Rattle.std.specs.Prelude.{Option, None, Some, Ok, IfSome}
+use Rattle.std.proofs.lemmas.Grind.{common_steps}
+use Rattle.papy_io.specs.Files.{Files}
+use Rattle.pex_codec.specs.Decoding.{IsDecoded}
+use Rattle.command_files.specs.declared.ending.Ending.TheVariants.{Done}
+use Rattle.command_files.specs.declared.pex_file.PexFile.{PexFile}
+use Rattle.command_files.specs.Outputs.{AnswersTo, IsPart}
+use Rattle.command_files.specs.PexFile.{ReadsPex}
+use Rattle.papyrus_cmd.specs.Answers.{CheckAnswers, ShowAnswers, IsPex}
+use Rattle.papyrus_cmd.specs.Check.{accepted_line}
+
+is-pex : (pex : PexFile) (bytes : List ℕ) → pex.size ≡ length bytes → IsDecoded pex.size pex.value → IsPex bytes
+is-pex pex bytes is decoded = (pex.value, subst (λ n. IsDecoded n pex.value) is decoded)
+
+pub checked : (holds : Option Files) (name : List ℕ) (pex : PexFile) → ReadsPex holds name (Ok pex) → IsDecoded pex.size pex.value →
+    IfSome holds (λ files. AnswersTo CheckAnswers name files Done (accepted_line pex.size))
+checked None name pex read decoded = tt
+checked (Some files) name pex (bytes, held, is) decoded = (bytes, held, (is-pex pex bytes is decoded, ap accepted_line is))
+
+pub shown : (holds : Option Files) (name : List ℕ) (pex : PexFile) (text : List ℕ) → ReadsPex holds name (Ok pex) → IsDecoded pex.size pex.value →
+    IfSome holds (λ files. AnswersTo ShowAnswers name files Done text)
+shown None name pex text read decoded = tt
+shown (Some files) name pex text (bytes, held, is) decoded = (bytes, held, is-pex pex bytes is decoded)
+
+-- what was shown before the output failed
+pub partly_shown : (holds : Option Files) (name : List ℕ) (pex : PexFile) (text : List ℕ) → ReadsPex holds name (Ok pex) → IsDecoded pex.size pex.value →
+    IfSome holds (λ files. IsPart (AnswersTo ShowAnswers name files) text)
+partly_shown None name pex text read decoded = tt
+partly_shown (Some files) name pex text (bytes, held, is) decoded =
+    let whole : text ≡ take (length text) text = grind (arith, common_steps) in
+    inr (text, length text, (bytes, held, is-pex pex bytes is decoded), whole)

@@ -1,5 +1,0 @@
-use Rattle.papyrus_cmd.proofs.ScriptFaults.{few_lines}
-use Rattle.papyrus_cmd.proofs.scripts.lines_of.Goals as goal
-
-pub returns-in-Ok-clause-few : goal.returns-in-Ok-clause-few
-returns-in-Ok-clause-few c = few_lines c.args.text.now _ c.in-Ok.lines.last c.in-Ok.ensures.cut c.in-Ok.ensures.small
