@@ -7,4 +7,5 @@ pub mod PexFile
 pub mod Refusal
 pub mod SceneFile
 pub mod Scripts
+pub mod SourceTexts
 pub mod TextFile

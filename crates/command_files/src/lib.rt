@@ -10,6 +10,7 @@ mod pex_file;
 mod refusal;
 mod scene_file;
 mod scripts;
+mod source_texts;
 mod text_file;
 
 pub use compile_fault::CompileFault;
@@ -20,4 +21,5 @@ pub use pex_file::{PexFile, read_pex};
 pub use refusal::{Place, Rule, refusal_line};
 pub use scene_file::{load_scene, read_scene_text};
 pub use scripts::accept;
+pub use source_texts::{NamedText, accept_texts};
 pub use text_file::read_text;

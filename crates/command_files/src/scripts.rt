@@ -59,7 +59,7 @@ fn script_of(alloc: Global, text: &[u8]) -> Result<Script, FileFault>
 
 /// The script that a file of this name holds. The first rule that breaks its lexical form is told,
 /// and where none does the first that breaks its lines and blocks.
-fn source_of(alloc: Global, name: &[u8], text: &[u8]) -> Result<SourceFile, FileFault>
+pub(crate) fn source_of(alloc: Global, name: &[u8], text: &[u8]) -> Result<SourceFile, FileFault>
     ensures { ParsesScript text.now result }
 {
     let name = match Text::try_from_bytes(alloc, name) {
@@ -171,7 +171,7 @@ fn type_ending(fault: TypeFault) -> Ending
 }
 
 /// Links the files and elaborates their set. The rules of sets stand before those of types and names.
-fn core_set(alloc: Global, files: Vec<SourceFile>) -> Result<CoreSet, Ending>
+pub(crate) fn core_set(alloc: Global, files: Vec<SourceFile>) -> Result<CoreSet, Ending>
     requires { vec_len files < 65530 }
     ensures ends { IfErr result (EndsOnSet (vec_len files)) }
     ensures scripts { IfOk result (λ set. vec_len set.scripts ≡ vec_len files + 6) }
