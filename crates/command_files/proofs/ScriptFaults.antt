@@ -28,6 +28,8 @@ use Rattle.command_files.specs.Ending.{CountsReads, IsWordBelow, MissesScript, w
 use Rattle.command_files.specs.FileFault.{MissesFile, ending_at}
 use Rattle.command_files.specs.Held.{AreHeld, IsHeld}
 use Rattle.command_files.specs.Scripts.{EndsOnScripts, EndsOnSet, HoldsRefused, ParsesScript, ReadsScript, RefusesScript, RefusesSet, link_ending, type_ending}
+use Rattle.command_files.specs.SourceTexts.{EndsOnTexts, text_of as bytes_in}
+use Rattle.command_files.specs.declared.source_texts.NamedText.{NamedText}
 use Rattle.command_files.specs.TextFile.{ReadsText}
 
 -- ---- lines
@@ -153,6 +155,15 @@ set_missed names count ending.Done missed ends = tt
 set_missed names count ending.Usage missed ends = tt
 set_missed names count ending.WriteFault missed ends = tt
 set_missed names count ending.NotBuilt missed ends = tt
+
+-- a text of a list that is in memory breaks a rule
+pub text_ends : (T : Type 0) (texts : List NamedText) (place : ℕ) (bytes : List ℕ) (fault : FileFault) → place < length texts →
+    slice_index_or (map bytes_in texts) place [] ≡ bytes → ParsesScript {T = T} bytes (Err fault) → EndsOnTexts (map bytes_in texts) (ending_at (place + 1) fault)
+text_ends T texts place bytes (Refused found rule) within is broken =
+    let counted : length (map bytes_in texts) ≡ length texts = length-map texts bytes_in in
+    inl record { at = place; word_is = omega arith; within = omega arith; refused = subst (λ text. RefusesScript text found rule) (sym is) broken }
+text_ends T texts place bytes OutOfMemory within is broken = tt
+text_ends T texts place bytes ReadFault within is broken = absurd broken
 
 -- ---- the answers of the two judges of a set
 

@@ -233,11 +233,7 @@ fn append_member(line: &mut Vec<u8>, member: &Option<Text>) -> Result<(), OutOfM
     Ok(())
 }
 
-fn append_instruction(
-    alloc: Global,
-    line: &mut Vec<u8>,
-    at: Option<u16>,
-) -> Result<(), OutOfMemory>
+fn append_instruction(alloc: Global, line: &mut Vec<u8>, at: Option<u16>) -> Result<(), OutOfMemory>
     ensures { IfOk result (λ _. line.new.items ≡ line.old.items ++ at_text at) }
 {
     if let Some(number) = at {
