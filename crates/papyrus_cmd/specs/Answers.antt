@@ -3,6 +3,10 @@ use Rattle.std.specs.Prelude.{◌≡◌, ◌⊎◌, ℕ, List, [], ◌∷◌, le
 use Rattle.papy_io.specs.Files.{Files, told_bytes}
 use Rattle.papyrus_cmd.specs.declared.command.Command.{Command}
 use Rattle.papyrus_cmd.specs.declared.command.Command.TheVariants as command
+use Rattle.papyrus_cmd.specs.declared.command.FileCommand.{FileCommand}
+use Rattle.papyrus_cmd.specs.declared.command.FileCommand.TheVariants as files
+use Rattle.papyrus_cmd.specs.declared.command.PlayCommand.{PlayCommand}
+use Rattle.papyrus_cmd.specs.declared.command.PlayCommand.TheVariants as play
 use Rattle.command_files.specs.declared.ending.Ending.{Ending}
 use Rattle.command_files.specs.declared.ending.Ending.TheVariants.{Done, OutOfMemory, Usage, ReadFault, WriteFault, Refused, NotBuilt}
 use Rattle.pex_codec.specs.Decoding.{IsDecoded}
@@ -13,6 +17,8 @@ use Rattle.papyrus_cmd.specs.Command.{command_of}
 use Rattle.command_files.specs.Ending.{word_at}
 use Rattle.command_files.specs.Held.{AreHeld}
 use Rattle.papyrus_cmd.specs.Help.{help_text, version_text}
+use Rattle.papyrus_cmd.specs.Upgrade.{RefusesText}
+use Rattle.run_commands.specs.Answers.{ExecAnswers, OnceAnswers, RunAnswers, SampleAnswers}
 use Rattle.command_files.specs.Outputs.{AnswersTo}
 use Rattle.command_files.specs.PexFile.{RefusesPex}
 use Rattle.command_files.specs.Scripts.{RefusesScripts}
@@ -61,19 +67,41 @@ AsmAnswers listing Usage text = ⊥
 AsmAnswers listing (ReadFault word) text = ⊥
 AsmAnswers listing WriteFault text = ⊥
 
+-- how `upgrade` ends on a scene; it writes nothing to `out`
+abbrev pub UpgradeAnswers : List ℕ → Ending → List ℕ → Type 0
+UpgradeAnswers scene Done text = text ≡ []
+UpgradeAnswers scene (Refused word place rule) text = (word ≡ 1) × RefusesText scene place rule × (text ≡ [])
+UpgradeAnswers scene NotBuilt text = ⊥
+UpgradeAnswers scene OutOfMemory text = ⊥
+UpgradeAnswers scene Usage text = ⊥
+UpgradeAnswers scene (ReadFault word) text = ⊥
+UpgradeAnswers scene WriteFault text = ⊥
+
+-- how a command that works on files ends on the words behind it
+abbrev pub FileCommandOn : FileCommand → List (List ℕ) → Files → Ending → List ℕ → Type 0
+FileCommandOn files.Compile names held ending text = CompileAnswersTo names held ending text
+FileCommandOn files.Check names held ending text = AnswersTo CheckAnswers (word_at names 0) held ending text
+FileCommandOn files.Show names held ending text = AnswersTo ShowAnswers (word_at names 0) held ending text
+FileCommandOn files.Asm names held ending text = AnswersTo AsmAnswers (word_at names 0) held ending text
+FileCommandOn files.Upgrade names held ending text = AnswersTo UpgradeAnswers (word_at names 0) held ending text
+
+-- how a command that runs scripts ends on the words behind it
+abbrev pub PlayCommandOn : PlayCommand → List (List ℕ) → Files → Ending → List ℕ → Type 0
+PlayCommandOn play.Once names held ending text = OnceAnswers names held ending text
+PlayCommandOn play.Run names held ending text = RunAnswers names held ending text
+PlayCommandOn play.Exec names held ending text = ExecAnswers names held ending text
+PlayCommandOn (play.Sample workers) names held ending text = SampleAnswers workers ending text
+
 -- how a command ends on the words behind it
 abbrev pub CommandOn : Command → List (List ℕ) → Files → Ending → List ℕ → Type 0
-CommandOn command.Help names files ending text = (ending ≡ Done) × (text ≡ help_text)
-CommandOn command.Version names files ending text = (ending ≡ Done) × (text ≡ version_text)
-CommandOn command.Once names files ending text = OnceAnswersTo names files ending text
-CommandOn command.Compile names files ending text = CompileAnswersTo names files ending text
-CommandOn command.Check names files ending text = AnswersTo CheckAnswers (word_at names 0) files ending text
-CommandOn command.Show names files ending text = AnswersTo ShowAnswers (word_at names 0) files ending text
-CommandOn command.Asm names files ending text = AnswersTo AsmAnswers (word_at names 0) files ending text
+CommandOn command.Help names held ending text = (ending ≡ Done) × (text ≡ help_text)
+CommandOn command.Version names held ending text = (ending ≡ Done) × (text ≡ version_text)
+CommandOn (command.Files work) names held ending text = FileCommandOn work names held ending text
+CommandOn (command.Play work) names held ending text = PlayCommandOn work names held ending text
 
 abbrev pub CommandAnswers : Option Command → List (List ℕ) → Files → Ending → List ℕ → Type 0
-CommandAnswers None words files ending text = (ending ≡ Usage) × (text ≡ [])
-CommandAnswers (Some command) words files ending text = CommandOn command (drop 1 words) files ending text
+CommandAnswers None words held ending text = (ending ≡ Usage) × (text ≡ [])
+CommandAnswers (Some command) words held ending text = CommandOn command (drop 1 words) held ending text
 
 -- how the command that the words are ends, where these files are held and no device fails, and what it writes
 abbrev pub Answers : List (List ℕ) → Files → Ending → List ℕ → Type 0

@@ -1,9 +1,13 @@
 -- Which words are a command, and which files it reads.
-use Rattle.std.specs.Prelude.{ℕ, Bool, ◌&&◌, List, [], ◌∷◌, length, take, drop, Option, Some, None, nat_lt, nat_le, nat_eq, codes, if◌then◌else◌}
+use Rattle.std.specs.Prelude.{ℕ, Bool, true, false, ◌+◌, ◌-◌, ◌*◌, ◌&&◌, List, [], ◌∷◌, length, take, drop, Option, Some, None, nat_lt, nat_le, nat_eq, codes, if◌then◌else◌}
 use Rattle.std.specs.List.{ends_with, list_all}
-use Rattle.std.specs.Str.{bytes_eq}
+use Rattle.std.specs.Str.{all_ascii_digits, bytes_eq}
 use Rattle.papyrus_cmd.specs.declared.command.Command.{Command}
-use Rattle.papyrus_cmd.specs.declared.command.Command.TheVariants.{Help, Version, Once, Compile, Check, Show, Asm}
+use Rattle.papyrus_cmd.specs.declared.command.Command.TheVariants.{Help, Version, Files, Play}
+use Rattle.papyrus_cmd.specs.declared.command.FileCommand.{FileCommand}
+use Rattle.papyrus_cmd.specs.declared.command.FileCommand.TheVariants.{Compile, Check, Show, Asm, Upgrade}
+use Rattle.papyrus_cmd.specs.declared.command.PlayCommand.{PlayCommand}
+use Rattle.papyrus_cmd.specs.declared.command.PlayCommand.TheVariants.{Once, Run, Exec, Sample}
 
 -- one byte or more, followed by `.psc`, and at most 4,096 bytes in all
 abbrev pub is_script_word : List ℕ → Bool
@@ -17,9 +21,65 @@ are_script_words words = nat_lt 0 (length words) && (nat_le (length words) 256 &
 abbrev pub is_file_word : List ℕ → Bool
 is_file_word word = nat_lt 0 (length word) && nat_le (length word) 4096
 
+-- 1 to 256 compiled files
+abbrev pub are_pex_words : List (List ℕ) → Bool
+are_pex_words words = nat_lt 0 (length words) && (nat_le (length words) 256 && list_all is_file_word words)
+
 -- so many files
 abbrev pub are_file_words : ℕ → List (List ℕ) → Bool
 are_file_words count words = nat_eq (length words) count && list_all is_file_word words
+
+-- a file, with such words behind it
+abbrev pub stand_behind_file : (List (List ℕ) → Bool) → List (List ℕ) → Bool
+stand_behind_file are [] = false
+stand_behind_file are (file ∷ words) = is_file_word file && are words
+
+-- the number that decimal digits write, behind those of this number
+abbrev pub read_on : ℕ → List ℕ → ℕ
+read_on number [] = number
+read_on number (digit ∷ digits) = read_on (10 * number + (digit - 48)) digits
+
+-- decimal digits without zeros in front, of a number of at most 200
+abbrev pub writes_count : List ℕ → Bool
+writes_count [] = false
+writes_count (digit ∷ digits) = nat_lt 48 digit && (all_ascii_digits (digit ∷ digits) && nat_le (read_on 0 (digit ∷ digits)) 200)
+
+abbrev pub worker_count : List ℕ → Option ℕ
+worker_count word = if writes_count word then Some (read_on 0 word) else None
+
+abbrev pub sample_of : Option ℕ → Option PlayCommand
+sample_of None = None
+sample_of (Some workers) = Some (Sample workers)
+
+-- the number of workers, and no word behind it
+abbrev pub sample_command : List (List ℕ) → Option PlayCommand
+sample_command [] = None
+sample_command (word ∷ []) = sample_of (worker_count word)
+sample_command (word ∷ next ∷ words) = None
+
+-- a word with those behind it, as a command that runs scripts
+abbrev pub play_command : List ℕ → List (List ℕ) → Option PlayCommand
+play_command name words =
+    if bytes_eq name (codes "once") && are_script_words words then Some Once
+    else if bytes_eq name (codes "run") && stand_behind_file are_script_words words then Some Run
+    else if bytes_eq name (codes "exec") && stand_behind_file are_pex_words words then Some Exec
+    else if bytes_eq name (codes "sample") then sample_command words
+    else None
+
+-- the same as a command that works on files
+abbrev pub file_command : List ℕ → List (List ℕ) → Option FileCommand
+file_command name words =
+    if bytes_eq name (codes "compile") && are_script_words words then Some Compile
+    else if bytes_eq name (codes "check") && are_file_words 1 words then Some Check
+    else if bytes_eq name (codes "show") && are_file_words 1 words then Some Show
+    else if bytes_eq name (codes "asm") && are_file_words 2 words then Some Asm
+    else if bytes_eq name (codes "upgrade") && are_file_words 2 words then Some Upgrade
+    else None
+
+abbrev pub either_command : Option PlayCommand → Option FileCommand → Option Command
+either_command (Some play) file = Some (Play play)
+either_command None (Some file) = Some (Files file)
+either_command None None = None
 
 -- a word that stands alone
 abbrev pub lone_command : List ℕ → Option Command
@@ -28,28 +88,30 @@ lone_command name =
     else if bytes_eq name (codes "--version") then Some Version
     else None
 
--- a word with those behind it
-abbrev pub command_on : List ℕ → List (List ℕ) → Option Command
-command_on name words =
-    if bytes_eq name (codes "once") && are_script_words words then Some Once
-    else if bytes_eq name (codes "compile") && are_script_words words then Some Compile
-    else if bytes_eq name (codes "check") && are_file_words 1 words then Some Check
-    else if bytes_eq name (codes "show") && are_file_words 1 words then Some Show
-    else if bytes_eq name (codes "asm") && are_file_words 2 words then Some Asm
-    else None
-
 abbrev pub command_of : List (List ℕ) → Option Command
 command_of [] = None
 command_of (name ∷ []) = lone_command name
-command_of (name ∷ word ∷ words) = command_on name (word ∷ words)
+command_of (name ∷ word ∷ words) = either_command (play_command name (word ∷ words)) (file_command name (word ∷ words))
+
+-- of the words behind a command that runs scripts, those that name a file which it reads
+abbrev pub files_played : PlayCommand → List (List ℕ) → List (List ℕ)
+files_played Once names = names
+files_played Run names = names
+files_played Exec names = names
+files_played (Sample workers) names = []
+
+-- the same of a command that works on files
+abbrev pub files_used : FileCommand → List (List ℕ) → List (List ℕ)
+files_used Compile names = names
+files_used Check names = names
+files_used Show names = names
+files_used Asm names = take 1 names
+files_used Upgrade names = take 1 names
 
 -- the words that name a file which the command reads
 abbrev pub files_of : List (List ℕ) → Option Command → List (List ℕ)
-files_of words (Some Once) = drop 1 words
-files_of words (Some Compile) = drop 1 words
-files_of words (Some Check) = drop 1 words
-files_of words (Some Show) = drop 1 words
-files_of words (Some Asm) = take 1 (drop 1 words)
+files_of words (Some (Play command)) = files_played command (drop 1 words)
+files_of words (Some (Files command)) = files_used command (drop 1 words)
 files_of words (Some Help) = []
 files_of words (Some Version) = []
 files_of words None = []

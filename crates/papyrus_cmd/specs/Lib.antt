@@ -3,8 +3,10 @@ pub mod Asm
 pub mod Check
 pub mod Command
 pub mod Compile
+pub mod Dispatch
 pub mod Help
 pub mod Missed
 pub mod TopCall
+pub mod Upgrade
 pub mod WritesText
 pub mod Written

@@ -11,15 +11,18 @@ use Rattle.command_files.specs.Outputs.{IsPart}
 use Rattle.papyrus_cmd.specs.Answers.{Answers}
 use Rattle.papyrus_cmd.specs.declared.command.Command.{Command}
 use Rattle.papyrus_cmd.specs.declared.command.Command.TheVariants as command
+use Rattle.papyrus_cmd.specs.declared.command.FileCommand.{FileCommand}
+use Rattle.papyrus_cmd.specs.declared.command.FileCommand.TheVariants as files
 use Rattle.papyrus_cmd.specs.Asm.{AsmLeaves, MayWrite}
 use Rattle.papyrus_cmd.specs.Command.{command_of, files_read}
 use Rattle.papyrus_cmd.specs.Compile.{CompileLeaves, MayCompile}
+use Rattle.papyrus_cmd.specs.Upgrade.{MayUpgrade, UpgradeLeaves}
 use Rattle.command_files.specs.Ending.{status_of, note_of, cannot_read, out_of_memory, word_at}
 use Rattle.command_files.specs.Refusal.{rule_status}
 
 -- every status that there is
 abbrev pub IsStatus : ℕ → Type 0
-IsStatus status = (status ≡ 0) ⊎ (status ≡ 1) ⊎ (status ≡ 2) ⊎ (status ≡ 3) ⊎ (status ≡ 4) ⊎ (status ≡ 5) ⊎ (status ≡ 6) ⊎ (status ≡ 8) ⊎ (status ≡ 10)
+IsStatus status = (status ≡ 0) ⊎ (status ≡ 1) ⊎ (status ≡ 2) ⊎ (status ≡ 3) ⊎ (status ≡ 4) ⊎ (status ≡ 5) ⊎ (status ≡ 6) ⊎ (status ≡ 7) ⊎ (status ≡ 8) ⊎ (status ≡ 9) ⊎ (status ≡ 10)
 
 -- memory was found, and no device failed
 pub record IsAnswer (status : ℕ) : Type 0 where
@@ -31,43 +34,57 @@ pub record IsAnswer (status : ℕ) : Type 0 where
 abbrev pub WasCut : ℕ → Type 0
 WasCut status = (status ≡ 1) ⊎ (status ≡ 4)
 
+-- what the files are by the way that a command on files of these names ended
+abbrev pub FileCommandLeaves : FileCommand → List (List ℕ) → Ending → Option Files → Option Files → Type 0
+FileCommandLeaves files.Compile names ending holds left = CompileLeaves names ending holds left
+FileCommandLeaves files.Check names ending holds left = left ≡ holds
+FileCommandLeaves files.Show names ending holds left = left ≡ holds
+FileCommandLeaves files.Asm names ending holds left = AsmLeaves (word_at names 1) ending holds left
+FileCommandLeaves files.Upgrade names ending holds left = UpgradeLeaves (word_at names 1) ending holds left
+
 -- what the files are by the way that a command on these words ended
 abbrev pub CommandLeaves : Option Command → List (List ℕ) → Ending → Option Files → Option Files → Type 0
-CommandLeaves (Some command.Asm) names ending holds left = AsmLeaves (word_at names 1) ending holds left
-CommandLeaves (Some command.Compile) names ending holds left = CompileLeaves names ending holds left
+CommandLeaves (Some (command.Files work)) names ending holds left = FileCommandLeaves work names ending holds left
+CommandLeaves (Some (command.Play work)) names ending holds left = left ≡ holds
 CommandLeaves (Some command.Help) names ending holds left = left ≡ holds
 CommandLeaves (Some command.Version) names ending holds left = left ≡ holds
-CommandLeaves (Some command.Once) names ending holds left = left ≡ holds
-CommandLeaves (Some command.Check) names ending holds left = left ≡ holds
-CommandLeaves (Some command.Show) names ending holds left = left ≡ holds
 CommandLeaves None names ending holds left = left ≡ holds
 
 abbrev pub FilesLeft : List (List ℕ) → Ending → Option Files → Option Files → Type 0
 FilesLeft words ending holds left = CommandLeaves (command_of words) (drop 1 words) ending holds left
 
+-- what the files may be where a command on files of these names was cut short
+abbrev pub FileCommandCut : FileCommand → List (List ℕ) → Option Files → Option Files → Type 0
+FileCommandCut files.Compile names holds left = MayCompile names holds left
+FileCommandCut files.Check names holds left = left ≡ holds
+FileCommandCut files.Show names holds left = left ≡ holds
+FileCommandCut files.Asm names holds left = MayWrite (word_at names 1) holds left
+FileCommandCut files.Upgrade names holds left = MayUpgrade (word_at names 1) holds left
+
 -- what the files may be where a command was cut short
 abbrev pub CommandCut : Option Command → List (List ℕ) → Option Files → Option Files → Type 0
-CommandCut (Some command.Asm) names holds left = MayWrite (word_at names 1) holds left
-CommandCut (Some command.Compile) names holds left = MayCompile names holds left
+CommandCut (Some (command.Files work)) names holds left = FileCommandCut work names holds left
+CommandCut (Some (command.Play work)) names holds left = left ≡ holds
 CommandCut (Some command.Help) names holds left = left ≡ holds
 CommandCut (Some command.Version) names holds left = left ≡ holds
-CommandCut (Some command.Once) names holds left = left ≡ holds
-CommandCut (Some command.Check) names holds left = left ≡ holds
-CommandCut (Some command.Show) names holds left = left ≡ holds
 CommandCut None names holds left = left ≡ holds
 
 abbrev pub FilesCut : List (List ℕ) → Option Files → Option Files → Type 0
 FilesCut words holds left = CommandCut (command_of words) (drop 1 words) holds left
 
 -- the commands that write files
+abbrev pub file_command_writes : FileCommand → Bool
+file_command_writes files.Compile = true
+file_command_writes files.Check = false
+file_command_writes files.Show = false
+file_command_writes files.Asm = true
+file_command_writes files.Upgrade = true
+
 abbrev pub writes_files : Option Command → Bool
-writes_files (Some command.Asm) = true
-writes_files (Some command.Compile) = true
+writes_files (Some (command.Files work)) = file_command_writes work
+writes_files (Some (command.Play work)) = false
 writes_files (Some command.Help) = false
 writes_files (Some command.Version) = false
-writes_files (Some command.Once) = false
-writes_files (Some command.Check) = false
-writes_files (Some command.Show) = false
 writes_files None = false
 
 abbrev pub WritesNone : List (List ℕ) → Type 0

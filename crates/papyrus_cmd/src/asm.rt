@@ -12,10 +12,7 @@ ghost use Rattle.papyrus_cmd.specs.Asm.{AsmLeaves, Assembles, IsSpelling, ReadsL
 ghost use Rattle.command_files.specs.Ending.{CountsReads, CountsWrites, IsWordBelow, MissesScript, word_at};
 ghost use Rattle.command_files.specs.FileFault.{CountsFile, MissesFile};
 
-use command_files::Ending;
-use command_files::FileFault;
-use command_files::{Place, Rule};
-use command_files::read_text;
+use command_files::{Ending, FileFault, Place, Rule, read_text};
 use papy_base::OutOfMemory;
 use papy_io::{Desk, write_file};
 use pex_codec::{EncodeFault, encode};

@@ -9,8 +9,7 @@ ghost use Rattle.papyrus_cmd.specs.Check.{accepted_line};
 ghost use Rattle.command_files.specs.Ending.{CountsReads, CountsWrites, IsWordBelow, MissesScript, word_at};
 ghost use Rattle.papyrus_cmd.specs.WritesText.{WritesText};
 
-use command_files::Ending;
-use command_files::read_pex;
+use command_files::{Ending, read_pex};
 use papy_base::OutOfMemory;
 use papy_io::{Desk, IoFault, Sink};
 use std::alloc::Global;

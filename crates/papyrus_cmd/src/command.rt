@@ -1,14 +1,17 @@
 //! Which command the words of a command line are.
-ghost use Rattle.std.specs.Prelude.{◌≡◌, ◌↔◌, IsTrue, map};
+ghost use Rattle.std.specs.Prelude.{◌≡◌, map};
 ghost use Rattle.std.specs.List.{list_all};
 ghost use Rattle.std.specs.String.{string_bytes};
-ghost use Rattle.papyrus_cmd.specs.Command.{command_of, is_script_word, are_script_words, are_file_words, is_file_word};
+ghost use Rattle.papyrus_cmd.specs.Command.{are_file_words, are_pex_words, are_script_words, command_of, file_command, is_file_word, is_script_word, lone_command, play_command, sample_command, stand_behind_file, worker_count};
 
 /// The most bytes that a word may have.
 const WORD_LIMIT: usize = 4096;
 
-/// The most scripts that a command takes.
-const SCRIPT_COUNT_LIMIT: usize = 256;
+/// The most scripts or compiled files that a command takes.
+const FILE_COUNT_LIMIT: usize = 256;
+
+/// The most workers of a sample.
+const WORKER_LIMIT: u8 = 200;
 
 /// What a script's name ends with.
 const SCRIPT_ENDING: &[u8] = b".psc";
@@ -20,9 +23,15 @@ pub enum Command {
     Help,
     /// Tells the version.
     Version,
-    /// Runs scripts with one instance of the first and one call of its `OnInit`. Every word after
-    /// the first names a script.
-    Once,
+    /// Works on files, and runs nothing.
+    Files(FileCommand),
+    /// Runs scripts.
+    Play(PlayCommand),
+}
+
+/// A command that works on files, and runs nothing.
+#[derive(Clone, Copy, Debug, PartialEq, Eq)]
+pub enum FileCommand {
     /// Writes the compiled files of scripts. Every word after the first names a script.
     Compile,
     /// Tells whether a compiled file breaks a rule. The word after the first names it.
@@ -32,6 +41,24 @@ pub enum Command {
     /// Writes the compiled file of a listing. The word after the first names the listing, and the next
     /// one the file.
     Asm,
+    /// Writes a scene in the current version. The word after the first names the scene, and the next one
+    /// the file.
+    Upgrade,
+}
+
+/// A command that runs scripts.
+#[derive(Clone, Copy, Debug, PartialEq, Eq)]
+pub enum PlayCommand {
+    /// Runs scripts with one instance of the first and one call of its `OnInit`. Every word after
+    /// the first names a script.
+    Once,
+    /// Runs scripts on a scene. The word after the first names the scene, and each after that a script.
+    Run,
+    /// Runs compiled files on a scene. The word after the first names the scene, and each after that a
+    /// compiled file.
+    Exec,
+    /// Runs a sample with so many workers, 1 to 200. The word after the first is their number.
+    Sample(u8),
 }
 
 /// The command that the words are, if they are one.
@@ -39,30 +66,99 @@ pub fn command_of(words: &[String]) -> Option<Command>
     ensures { result ≡ command_of (map string_bytes words.now) }
 {
     let (first, rest) = words.split_first()?;
-    let name = first.as_str();
-    if name == "--help" && rest.is_empty() {
+    if rest.is_empty() {
+        return lone_command(first);
+    }
+    if let Some(command) = play_command(first, rest) {
+        return Some(Command::Play(command));
+    }
+    match file_command(first, rest) {
+        Some(command) => Some(Command::Files(command)),
+        None => None,
+    }
+}
+
+// The command that a word is which stands alone.
+fn lone_command(word: &String) -> Option<Command>
+    ensures { result ≡ lone_command (string_bytes word.now) }
+{
+    let name = word.as_str();
+    if name == "--help" {
         Some(Command::Help)
-    } else if name == "--version" && rest.is_empty() {
+    } else if name == "--version" {
         Some(Command::Version)
-    } else if name == "once" && are_script_words(rest) {
-        Some(Command::Once)
-    } else if name == "compile" && are_script_words(rest) {
-        Some(Command::Compile)
-    } else if name == "check" && are_file_words(1, rest) {
-        Some(Command::Check)
-    } else if name == "show" && are_file_words(1, rest) {
-        Some(Command::Show)
-    } else if name == "asm" && are_file_words(2, rest) {
-        Some(Command::Asm)
     } else {
         None
+    }
+}
+
+// The command that runs scripts which a word is with those behind it.
+fn play_command(word: &String, rest: &[String]) -> Option<PlayCommand>
+    ensures { result ≡ play_command (string_bytes word.now) (map string_bytes rest.now) }
+{
+    let name = word.as_str();
+    if name == "once" && are_script_words(rest) {
+        Some(PlayCommand::Once)
+    } else if name == "run" && are_scene_and_scripts(rest) {
+        Some(PlayCommand::Run)
+    } else if name == "exec" && are_scene_and_pex_files(rest) {
+        Some(PlayCommand::Exec)
+    } else if name == "sample" {
+        sample_command(rest)
+    } else {
+        None
+    }
+}
+
+// The command that works on files which a word is with those behind it.
+fn file_command(word: &String, rest: &[String]) -> Option<FileCommand>
+    ensures { result ≡ file_command (string_bytes word.now) (map string_bytes rest.now) }
+{
+    let name = word.as_str();
+    if name == "compile" && are_script_words(rest) {
+        Some(FileCommand::Compile)
+    } else if name == "check" && are_file_words(1, rest) {
+        Some(FileCommand::Check)
+    } else if name == "show" && are_file_words(1, rest) {
+        Some(FileCommand::Show)
+    } else if name == "asm" && are_file_words(2, rest) {
+        Some(FileCommand::Asm)
+    } else if name == "upgrade" && are_file_words(2, rest) {
+        Some(FileCommand::Upgrade)
+    } else {
+        None
+    }
+}
+
+fn sample_command(words: &[String]) -> Option<PlayCommand>
+    ensures { result ≡ sample_command (map string_bytes words.now) }
+{
+    let (first, rest) = words.split_first()?;
+    if !rest.is_empty() {
+        return None;
+    }
+    Some(PlayCommand::Sample(worker_count(first)?))
+}
+
+// The number from 1 to 200 that a word writes in decimal digits, without zeros in front.
+fn worker_count(word: &String) -> Option<u8>
+    ensures { result ≡ worker_count (string_bytes word.now) }
+{
+    let text = word.as_str();
+    let first = *text.as_bytes().first()?;
+    if !matches!(first, b'1'..=b'9') {
+        return None;
+    }
+    match text.parse::<u8>() {
+        Ok(count) if count <= WORKER_LIMIT => Some(count),
+        _ => None,
     }
 }
 
 fn are_script_words(words: &[String]) -> bool
     ensures { result ≡ are_script_words (map string_bytes words.now) }
 {
-    if words.is_empty() || words.len() > SCRIPT_COUNT_LIMIT {
+    if words.is_empty() || words.len() > FILE_COUNT_LIMIT {
         return false;
     }
     each_is_script_word(words)
@@ -78,6 +174,35 @@ fn is_script_word(word: &[u8]) -> bool
     ensures { result ≡ is_script_word word.now }
 {
     word.len() > SCRIPT_ENDING.len() && word.len() <= WORD_LIMIT && word.ends_with(SCRIPT_ENDING)
+}
+
+// A file, and scripts behind it.
+fn are_scene_and_scripts(words: &[String]) -> bool
+    ensures { result ≡ stand_behind_file are_script_words (map string_bytes words.now) }
+{
+    match words.split_first() {
+        Some((scene, scripts)) => is_file_word(scene.as_bytes()) && are_script_words(scripts),
+        None => false,
+    }
+}
+
+// A file, and compiled files behind it.
+fn are_scene_and_pex_files(words: &[String]) -> bool
+    ensures { result ≡ stand_behind_file are_pex_words (map string_bytes words.now) }
+{
+    match words.split_first() {
+        Some((scene, files)) => is_file_word(scene.as_bytes()) && are_pex_words(files),
+        None => false,
+    }
+}
+
+fn are_pex_words(words: &[String]) -> bool
+    ensures { result ≡ are_pex_words (map string_bytes words.now) }
+{
+    if words.is_empty() || words.len() > FILE_COUNT_LIMIT {
+        return false;
+    }
+    each_is_file_word(words)
 }
 
 // So many words that each name a file.

@@ -7,9 +7,7 @@ ghost use Rattle.papyrus_cmd.specs.Answers.{CompileAnswersTo};
 ghost use Rattle.papyrus_cmd.specs.Compile.{CompileLeaves};
 ghost use Rattle.command_files.specs.Ending.{CountsReads, CountsWrites, IsWordBelow, MissesScript};
 
-use command_files::compile_set;
-use command_files::Ending;
-use command_files::accept;
+use command_files::{Ending, accept, compile_set};
 use crate::written::write_each;
 use papy_io::Desk;
 use std::alloc::Global;

@@ -7,8 +7,7 @@ ghost use Rattle.command_files.specs.Ending.{cannot_read, out_of_memory, IsWordO
 ghost use Rattle.command_files.specs.Refusal.{refusal_line, rule_status};
 ghost use Rattle.papyrus_cmd.specs.TopCall.{Noted, Told, ToldOfFile, Tried, noted_status};
 
-use command_files::Ending;
-use command_files::{Place, Rule, refusal_line};
+use command_files::{Ending, Place, Rule, refusal_line};
 use papy_base::OutOfMemory;
 use papy_io::{IoFault, Sink};
 use std::alloc::Global;
@@ -75,8 +74,8 @@ fn tell_unread<E: Sink>(alloc: Global, file: &[u8], notes: &mut E) -> u8
 }
 
 /// Tells which rule a file breaks, and gives the status.
-fn tell_refused<E: Sink>(alloc: Global, file: &[u8], place: Place, rule: Rule, notes: &mut E) -> u8
-    ensures { ToldOfFile (refusal_line file.now place rule) (rule_status rule) result (E.written notes.old) (E.written notes.new) (E.faults notes.old) (E.faults notes.new) }
+fn tell_refused<E: Sink>(alloc: Global, file: &[u8], place: &Place, rule: Rule, notes: &mut E) -> u8
+    ensures { ToldOfFile (refusal_line file.now place.now rule) (rule_status rule) result (E.written notes.old) (E.written notes.new) (E.faults notes.old) (E.faults notes.new) }
 {
     let line = refusal_line(alloc, file, place, rule);
     note_of_file(line, rule.status(), notes)
@@ -101,7 +100,7 @@ pub fn tell<E: Sink>(alloc: Global, words: &[String], ending: Ending, notes: &mu
         Ending::NotBuilt => note(notes, NOT_BUILT, 10),
         Ending::ReadFault { word } => tell_unread(alloc, words[word].as_bytes(), notes),
         Ending::Refused { word, place, rule } => {
-            tell_refused(alloc, words[word].as_bytes(), place, rule, notes)
+            tell_refused(alloc, words[word].as_bytes(), &place, rule, notes)
         }
     }
 }

@@ -6,8 +6,7 @@ ghost use Rattle.command_files.specs.Outputs.{AnswersTo, Outputs};
 ghost use Rattle.papyrus_cmd.specs.Answers.{ShowAnswers};
 ghost use Rattle.command_files.specs.Ending.{CountsReads, CountsWrites, IsWordBelow, MissesScript, word_at};
 
-use command_files::Ending;
-use command_files::read_pex;
+use command_files::{Ending, read_pex};
 use papy_io::{Desk, Sink};
 use pex_listing::{ShowFault, show as write_listing};
 use std::alloc::Global;

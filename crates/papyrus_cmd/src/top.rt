@@ -14,12 +14,14 @@ use papy_io::{Desk, Sink};
 use std::alloc::Global;
 
 /// Runs the command that the words are, reads its files from the desk, writes what it writes to
-/// `out` and, where it ends otherwise than well, one line to `notes`. Gives the status.
+/// `out` and, where it ends otherwise than well, one line to `notes`. Scripts that it runs act on the
+/// devices. Gives the status.
 ///
 /// `words` are the command line without the program's name. The statuses are 0 (done),
 /// 1 (out of memory), 2 (the words are no command), 3 (a file was not read), 4 (the output, a file
-/// or the line was not written), 5 (a script was refused),
-/// 6 (a compiled file was refused), 8 (a listing was refused) and 10 (the scripts need what isn't built yet).
+/// or the line was not written), 5 (a script was refused), 6 (a compiled file was refused), 7 (a scene was
+/// refused), 8 (a listing was refused), 9 (compiled files can't run together) and 10 (accepted scripts have no
+/// compiled files; no scripts are known that have none).
 pub fn papyrus<D: Desk, S: Sink, E: Sink>(
     alloc: Global,
     words: &[String],
@@ -55,6 +57,6 @@ pub fn papyrus<D: Desk, S: Sink, E: Sink>(
         HasRisen (S.faults out.old) (S.faults out.new) ⊎ HasRisen (E.faults notes.old) (E.faults notes.new)
         ⊎ HasRisen (D.write_faults desk.old) (D.write_faults desk.new) }
 {
-    let ending = run(alloc, words, desk, out);
+    let ending = run(alloc, words, desk, out, devices);
     tell(alloc, words, ending, notes)
 }
