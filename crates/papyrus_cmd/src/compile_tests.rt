@@ -1,9 +1,8 @@
 ghost use Rattle.std.specs.Prelude.{◌≡◌, IfOk};
 ghost use Rattle.papy_io.specs.Activity.{Idle};
 
-use crate::papyrus;
-use latent_natives::Device;
-use papy_io::{MemoryDesk, MemorySink};
+use crate::test_calls::{Answer, call, words_of};
+use papy_io::MemoryDesk;
 use std::alloc::{AllocError, Global};
 use std::test::Fail;
 
@@ -24,33 +23,6 @@ fn desk_with(alloc: Global, sources: &[Source<'_>], failing: &[u32]) -> Result<M
     Ok(desk)
 }
 
-/// What a command wrote, and its status.
-#[derive(Drop)]
-struct Written {
-    status: u8,
-    out: MemorySink,
-    notes: MemorySink,
-}
-
-fn call(alloc: Global, desk: &mut MemoryDesk, words: &[String]) -> Result<Written, AllocError>
-    requires { desk.old.busy ≡ Idle }
-    ensures { desk.new.busy ≡ Idle }
-{
-    let mut out = MemorySink::new(alloc, Vec::new(alloc));
-    let mut notes = MemorySink::new(alloc, Vec::new(alloc));
-    let mut devices: Vec<Box<dyn Device>> = Vec::new(alloc);
-    let status = papyrus(alloc, words, desk, &mut out, &mut notes, &mut devices);
-    Ok(Written { status, out, notes })
-}
-
-fn words_of(alloc: Global, words: &[&str]) -> Result<Vec<String>, AllocError> {
-    let mut owned = Vec::new(alloc);
-    for word in words {
-        owned.push(String::from_str(alloc, word)?)?;
-    }
-    Ok(owned)
-}
-
 /// The words that compile these scripts.
 fn compile_words(alloc: Global, sources: &[Source<'_>]) -> Result<Vec<String>, AllocError> {
     let mut words = words_of(alloc, &["compile"])?;
@@ -65,7 +37,7 @@ fn compile(
     alloc: Global,
     sources: &[Source<'_>],
     failing: &[u32],
-) -> Result<(Written, MemoryDesk), Fail> {
+) -> Result<(Answer, MemoryDesk), Fail> {
     let mut desk = desk_with(alloc, sources, failing)?;
     let words = compile_words(alloc, sources)?;
     let written = call(alloc, &mut desk, words.as_slice())?;

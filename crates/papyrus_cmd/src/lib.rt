@@ -18,4 +18,6 @@ pub use top::papyrus;
 #[cfg(test)]
 mod compile_tests;
 #[cfg(test)]
+mod test_calls;
+#[cfg(test)]
 mod tests;

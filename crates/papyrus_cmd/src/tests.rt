@@ -1,33 +1,29 @@
 ghost use Rattle.std.specs.Prelude.{◌≡◌, IfOk};
 ghost use Rattle.papy_io.specs.Activity.{Idle};
 
-use crate::papyrus;
-use latent_natives::Device;
-use papy_io::{MemoryDesk, MemorySink};
-use std::alloc::{AllocError, Global};
+use crate::test_calls::{Answer, call, call_failing, words_of};
+use papy_io::MemoryDesk;
+use std::alloc::Global;
 use std::test::Fail;
 
 const SCRIPT: &[u8] = b"ScriptName A\nEvent OnInit()\nDebug.Trace(\"a\")\nEndEvent\n";
 
-/// A desk that holds the one script, with these failing calls.
+/// A scene with one instance of the script.
+const SCENE: &[u8] = b"{\"version\":1,\"instances\":[{\"name\":\"a\",\"script\":\"A\"}],\
+    \"calls\":[{\"turn\":0,\"instance\":\"a\",\"function\":\"OnInit\"}],\"order\":\"round\",\"turns\":9}";
+
+/// The same in the current version.
+const UPGRADED: &[u8] = b"{\"calls\":[{\"function\":\"OnInit\",\"instance\":\"a\",\"turn\":0}],\
+    \"instances\":[{\"name\":\"a\",\"script\":\"A\"}],\"order\":\"round\",\"turns\":9,\"version\":2}";
+
+/// A desk that holds the one script and the scene, with these failing calls.
 fn desk_with(alloc: Global, script: &[u8], failing: &[u32]) -> Result<MemoryDesk, Fail>
     ensures { IfOk result (λ desk. desk.busy ≡ Idle) }
 {
     let mut desk = MemoryDesk::new(alloc, Vec::from_slice(alloc, failing)?);
     desk.put(b"A.psc", script)?;
+    desk.put(b"S.json", SCENE)?;
     Ok(desk)
-}
-
-fn words_of(alloc: Global, words: &[&str]) -> Result<Vec<String>, AllocError> {
-    let mut owned = Vec::new(alloc);
-    for word in words {
-        owned.push(String::from_str(alloc, word)?)?;
-    }
-    Ok(owned)
-}
-
-fn sink(alloc: Global, failing: &[u32]) -> Result<MemorySink, AllocError> {
-    Ok(MemorySink::new(alloc, Vec::from_slice(alloc, failing)?))
 }
 
 /// What is asked: words, a script, and the numbers of the calls that fail on the desk, `out` and `notes`.
@@ -40,74 +36,37 @@ struct Asked<'a> {
     notes: &'a [u32],
 }
 
-/// What is answered: the status and what was written.
-#[derive(Drop)]
-struct Answer {
-    status: u8,
-    out: MemorySink,
-    notes: MemorySink,
-}
-
-fn call(alloc: Global, asked: &Asked) -> Result<Answer, Fail> {
+fn answer(alloc: Global, asked: &Asked) -> Result<Answer, Fail> {
     let words = words_of(alloc, asked.words)?;
     let mut desk = desk_with(alloc, asked.script, asked.desk)?;
-    let mut out = sink(alloc, asked.out)?;
-    let mut notes = sink(alloc, asked.notes)?;
-    let mut devices: Vec<Box<dyn Device>> = Vec::new(alloc);
-    let status = papyrus(
-        alloc,
-        words.as_slice(),
-        &mut desk,
-        &mut out,
-        &mut notes,
-        &mut devices,
-    );
-    Ok(Answer { status, out, notes })
+    call_failing(alloc, &mut desk, words.as_slice(), asked.out, asked.notes)
 }
 
 #[test]
 fn each_answer_has_its_status_and_its_line(rt: HostRuntime) -> Result<(), Fail> {
-    let other: &[u8] = b"ScriptName A\nInt N\n";
-    let report: &[u8] = b"#0 a\nturns 2\nit : A @\nstack 0 done\n";
+    let idle: &[u8] = b"ScriptName A\nInt N\n";
     let faulty: &[u8] = b"ScriptName A\nFunction F()\nn = 1\nEndFunction\n";
-    let cases: [(&[&str], &[u8], u8, &[u8], &[u8]); 11] = [
-        (&["once", "A.psc"], SCRIPT, 0, report, b""),
-        (&["--version"], SCRIPT, 0, b"papyrus 0.1.0\n", b""),
-        (&["once", "A.psc"], other, 10, b"", b"papyrus: not built\n"),
-        (
-            &["once", "A.psc", "A.psc"],
-            SCRIPT,
-            5,
-            b"",
-            b"A.psc:1: N1 DuplicateScript\n",
-        ),
-        (
-            &["once", "A.psc"],
-            faulty,
-            5,
-            b"",
-            b"A.psc:3: K1 UnknownName\n",
-        ),
-        (
-            &["compile", "A.psc"],
-            faulty,
-            5,
-            b"",
-            b"A.psc:3: K1 UnknownName\n",
-        ),
-        (
-            &["once", "A.psc", "B.psc"],
-            SCRIPT,
-            3,
-            b"",
-            b"papyrus: cannot read B.psc\n",
-        ),
-        (&[], SCRIPT, 2, b"", b"papyrus: usage\n"),
-        (&["once"], SCRIPT, 2, b"", b"papyrus: usage\n"),
-        (&["once", ".psc"], SCRIPT, 2, b"", b"papyrus: usage\n"),
-        (&["once", "A.txt"], SCRIPT, 2, b"", b"papyrus: usage\n"),
+    let refused: &[u8] = b"A.psc:3: K1 UnknownName\n";
+    let usage: &[u8] = b"papyrus: usage\n";
+    let cases: [(&[&str], &[u8], u8, &[u8]); 16] = [
+        (&["once", "A.psc"], idle, 7, b"once: C6 NoFunction\n"),
+        (&["once", "A.psc", "A.psc"], SCRIPT, 5, b"A.psc:1: N1 DuplicateScript\n"),
+        (&["once", "A.psc"], faulty, 5, refused),
+        (&["run", "S.json", "A.psc"], faulty, 5, refused),
+        (&["compile", "A.psc"], faulty, 5, refused),
+        (&["exec", "S.json", "A.psc"], SCRIPT, 6, b"A.psc@0: P1 BadMagic\n"),
+        (&["run", "A.psc", "A.psc"], SCRIPT, 7, b"A.psc: C1 NotJson\n"),
+        (&["once", "A.psc", "B.psc"], SCRIPT, 3, b"papyrus: cannot read B.psc\n"),
+        (&["upgrade", "A.psc", "B"], SCRIPT, 7, b"A.psc: C1 NotJson\n"),
+        (&[], SCRIPT, 2, usage),
+        (&["once"], SCRIPT, 2, usage),
+        (&["once", ".psc"], SCRIPT, 2, usage),
+        (&["run", "S.json", "A.txt"], SCRIPT, 2, usage),
+        (&["exec", "S.json"], SCRIPT, 2, usage),
+        (&["sample", "01"], SCRIPT, 2, usage),
+        (&["sample", "201"], SCRIPT, 2, usage),
     ];
-    for (words, script, status, out, notes) in cases {
+    for (words, script, status, notes) in cases {
         let asked = Asked {
             words,
             script,
@@ -115,39 +74,58 @@ fn each_answer_has_its_status_and_its_line(rt: HostRuntime) -> Result<(), Fail> 
             out: &[],
             notes: &[],
         };
-        let found = call(rt.alloc(), &asked)?;
+        let found = answer(rt.alloc(), &asked)?;
         assert_eq!(rt; found.status, status);
-        assert!(rt; found.out.bytes() == out);
+        assert!(rt; found.out.bytes().is_empty());
         assert!(rt; found.notes.bytes() == notes);
     }
     Ok(())
 }
 
 #[test]
+fn scripts_and_their_files_run_on_a_scene(rt: HostRuntime) -> Result<(), Fail> {
+    let alloc = rt.alloc();
+    let report: &[u8] = b"#0 a\nturns 2\na : A @\nstack 0 done\n";
+    let twice: &[u8] = b"A.pex: A V5 DuplicateName\n";
+    let cases: [(&[&str], u8, &[u8], &[u8]); 5] = [
+        (&["run", "S.json", "A.psc"], 0, report, b""),
+        (&["compile", "A.psc"], 0, b"", b""),
+        (&["exec", "S.json", "A.pex", "A.pex"], 9, b"", twice),
+        (&["upgrade", "S.json", "T.json"], 0, b"", b""),
+        (&["exec", "T.json", "A.pex"], 0, report, b""),
+    ];
+    let mut desk = desk_with(alloc, SCRIPT, &[])?;
+    for (words, status, out, notes) in cases {
+        let words = words_of(alloc, words)?;
+        let found = call(alloc, &mut desk, words.as_slice())?;
+        assert_eq!(rt; found.status, status);
+        assert!(rt; found.out.bytes() == out);
+        assert!(rt; found.notes.bytes() == notes);
+    }
+    assert!(rt; desk.bytes_of(b"T.json") == Some(UPGRADED));
+    Ok(())
+}
+
+#[test]
 fn a_failed_call_of_the_desk_is_a_file_that_cannot_be_read(rt: HostRuntime) -> Result<(), Fail> {
-    let words: &[&str] = &["once", "A.psc"];
-    for number in 0..4u32 {
+    let lines: [&[u8]; 2] = [
+        b"papyrus: cannot read S.json\n",
+        b"papyrus: cannot read A.psc\n",
+    ];
+    for number in 0..8u32 {
         let failing = [number];
         let asked = Asked {
-            words,
+            words: &["run", "S.json", "A.psc"],
             script: SCRIPT,
             desk: &failing,
             out: &[],
             notes: &[],
         };
-        let found = call(rt.alloc(), &asked)?;
+        let found = answer(rt.alloc(), &asked)?;
         assert_eq!(rt; found.status, 3);
         assert!(rt; found.out.bytes().is_empty());
-        assert!(rt; found.notes.bytes() == b"papyrus: cannot read A.psc\n".as_slice());
+        assert!(rt; found.notes.bytes() == lines[number as usize / 4]);
     }
-    let asked = Asked {
-        words,
-        script: SCRIPT,
-        desk: &[4],
-        out: &[],
-        notes: &[],
-    };
-    assert_eq!(rt; call(rt.alloc(), &asked)?.status, 0);
     Ok(())
 }
 
@@ -169,7 +147,7 @@ fn a_failed_line_of_the_report_leaves_the_lines_before_it(rt: HostRuntime) -> Re
             out: &failing,
             notes: &[],
         };
-        let found = call(rt.alloc(), &asked)?;
+        let found = answer(rt.alloc(), &asked)?;
         assert_eq!(rt; found.status, 4);
         assert!(rt; found.out.bytes() == *out);
         assert!(rt; found.notes.bytes() == b"papyrus: cannot write\n".as_slice());
@@ -181,7 +159,7 @@ fn a_failed_line_of_the_report_leaves_the_lines_before_it(rt: HostRuntime) -> Re
         out: &[4],
         notes: &[],
     };
-    assert_eq!(rt; call(rt.alloc(), &asked)?.status, 0);
+    assert_eq!(rt; answer(rt.alloc(), &asked)?.status, 0);
     Ok(())
 }
 
@@ -194,7 +172,7 @@ fn a_line_that_cannot_be_written_is_a_failed_write(rt: HostRuntime) -> Result<()
         out: &[],
         notes: &[0],
     };
-    let found = call(rt.alloc(), &asked)?;
+    let found = answer(rt.alloc(), &asked)?;
     assert_eq!(rt; found.status, 4);
     assert!(rt; found.notes.bytes().is_empty());
     Ok(())
@@ -219,7 +197,7 @@ fn each_failed_call_while_a_compiled_file_is_read_names_it(rt: HostRuntime) -> R
             out: &[],
             notes: &[],
         };
-        let found = call(rt.alloc(), &asked)?;
+        let found = answer(rt.alloc(), &asked)?;
         if number < 4 {
             assert_eq!(rt; found.status, 3);
             assert!(rt; found.notes.bytes() == unread);
@@ -242,7 +220,7 @@ fn a_compiled_file_that_ends_early_is_truncated_at_its_length(rt: HostRuntime) -
             out: &[],
             notes: &[],
         };
-        let found = call(alloc, &asked)?;
+        let found = answer(alloc, &asked)?;
         let line = format!(in alloc; "A.psc@{size}: P10 Truncated\n")?;
         assert_eq!(rt; found.status, 6);
         assert!(rt; found.notes.bytes() == line.as_bytes());
@@ -262,7 +240,7 @@ fn asm_fails_at_reading_before_it_fails_at_writing(rt: HostRuntime) -> Result<()
             out: &[],
             notes: &[],
         };
-        let found = call(rt.alloc(), &asked)?;
+        let found = answer(rt.alloc(), &asked)?;
         let wanted = match number {
             0..=3 => 3,
             4..=6 => 4,
