@@ -39,11 +39,16 @@ abbrev pub read_on : ℕ → List ℕ → ℕ
 read_on number [] = number
 read_on number (digit ∷ digits) = read_on (10 * number + (digit - 48)) digits
 
+-- the first byte stands behind `0` in the order of bytes
+abbrev pub begins_above_zero : List ℕ → Bool
+begins_above_zero [] = false
+begins_above_zero (byte ∷ bytes) = nat_lt 48 byte
+
 -- decimal digits without zeros in front, of a number of at most 200
 abbrev pub writes_count : List ℕ → Bool
-writes_count [] = false
-writes_count (digit ∷ digits) = nat_lt 48 digit && (all_ascii_digits (digit ∷ digits) && nat_le (read_on 0 (digit ∷ digits)) 200)
+writes_count word = begins_above_zero word && (all_ascii_digits word && nat_le (read_on 0 word) 200)
 
+-- the number that a word writes so
 abbrev pub worker_count : List ℕ → Option ℕ
 worker_count word = if writes_count word then Some (read_on 0 word) else None
 

@@ -2,7 +2,7 @@
 ghost use Rattle.std.specs.Prelude.{◌≡◌, map};
 ghost use Rattle.std.specs.List.{list_all};
 ghost use Rattle.std.specs.String.{string_bytes};
-ghost use Rattle.papyrus_cmd.specs.Command.{are_file_words, are_pex_words, are_script_words, command_of, file_command, is_file_word, is_script_word, lone_command, play_command, sample_command, stand_behind_file, worker_count};
+ghost use Rattle.papyrus_cmd.specs.Command.{are_file_words, are_pex_words, are_script_words, begins_above_zero, command_of, file_command, is_file_word, is_script_word, lone_command, play_command, sample_command, stand_behind_file, worker_count};
 
 /// The most bytes that a word may have.
 const WORD_LIMIT: usize = 4096;
@@ -145,13 +145,22 @@ fn worker_count(word: &String) -> Option<u8>
     ensures { result ≡ worker_count (string_bytes word.now) }
 {
     let text = word.as_str();
-    let first = *text.as_bytes().first()?;
-    if !matches!(first, b'1'..=b'9') {
+    if !begins_above_zero(text.as_bytes()) {
         return None;
     }
     match text.parse::<u8>() {
         Ok(count) if count <= WORKER_LIMIT => Some(count),
         _ => None,
+    }
+}
+
+// No sign and no zero stands in front of decimal digits.
+fn begins_above_zero(text: &[u8]) -> bool
+    ensures { result ≡ begins_above_zero text.now }
+{
+    match text {
+        [first, ..] => *first > b'0',
+        [] => false,
     }
 }
 
