@@ -11,6 +11,7 @@ use Rattle.pex_listing.specs.declared.faults.ListingRule.TheVariants.{BadLine}
 use Rattle.command_files.specs.declared.ending.Ending.TheVariants.{Done}
 use Rattle.command_files.specs.declared.file_fault.FileFault.{FileFault}
 use Rattle.command_files.specs.declared.file_fault.FileFault.TheVariants as file
+use Rattle.command_files.specs.declared.refusal.Place.TheVariants.{Line}
 use Rattle.command_files.specs.declared.refusal.Rule.TheVariants.{Listing}
 use Rattle.command_files.specs.Outputs.{AnswersTo, EndsUnprinted}
 use Rattle.papyrus_cmd.specs.Answers.{AsmAnswers}

@@ -1,4 +1,3 @@
-pub mod AsmWords
 pub mod Assembled
 pub mod Compiling
 pub mod CutShort
@@ -9,3 +8,4 @@ pub mod PartOutput
 pub mod PexShown
 pub mod Statuses
 pub mod WrittenFiles
+pub mod Words

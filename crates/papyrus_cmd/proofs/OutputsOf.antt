@@ -72,16 +72,6 @@ nothing-yet : (Ends : Files → Ending → List ℕ → Type 0) (holds : Option 
 nothing-yet Ends None = tt
 nothing-yet Ends (Some files) = inl refl
 
--- a command that leaves `out` as it was
-pub silently_outputs : (Ends : Files → Ending → List ℕ → Type 0) (holds : Option Files) (ending : Ending) (out : Option (List ℕ)) → SilentlyEnds Ends holds ending → Outputs Ends holds ending out out
-silently_outputs Ends holds NotBuilt out ends = (refl, ends)
-silently_outputs Ends holds (Refused word place rule) out ends = (refl, ends)
-silently_outputs Ends holds (ReadFault word) out ends = refl
-silently_outputs Ends holds OutOfMemory out ends = ([], appended_nothing out out refl, nothing-yet Ends holds)
-silently_outputs Ends holds Done out ends = absurd ends
-silently_outputs Ends holds Usage out ends = absurd ends
-silently_outputs Ends holds WriteFault out ends = absurd ends
-
 -- a command that writes nothing to `out`
 pub unprinted_outputs : (Ends : Files → Ending → List ℕ → Type 0) (holds : Option Files) (ending : Ending) (out : Option (List ℕ)) → EndsUnprinted Ends holds ending → Outputs Ends holds ending out out
 unprinted_outputs Ends holds Done out ends = ([], appended_nothing out out refl, ends)

@@ -6,21 +6,24 @@ use Rattle.papy_io.specs.Count.{HasRisen}
 use Rattle.papy_io.specs.Files.{Files}
 use Rattle.papy_io.specs.Sink.{Appended}
 use Rattle.papyrus_cmd.specs.declared.command.Command.{Command}
-use Rattle.papyrus_cmd.specs.declared.command.Command.TheVariants.{Help, Version, Once, Compile, Check, Show, Asm}
+use Rattle.papyrus_cmd.specs.declared.command.Command.TheVariants as command
+use Rattle.papyrus_cmd.specs.declared.command.FileCommand.{FileCommand}
+use Rattle.papyrus_cmd.specs.declared.command.FileCommand.TheVariants.{Compile, Check, Show, Asm, Upgrade}
 use Rattle.command_files.specs.declared.ending.Ending.{Ending}
 use Rattle.command_files.specs.declared.ending.Ending.TheVariants.{Done, OutOfMemory, Usage, ReadFault, WriteFault, Refused, NotBuilt}
 use Rattle.command_files.specs.declared.refusal.Place.{Place}
 use Rattle.command_files.specs.declared.refusal.Rule.{Rule}
-use Rattle.command_files.specs.declared.refusal.Rule.TheVariants.{Pex, Listing, Lexical, Grammar, Link, Typing}
+use Rattle.command_files.specs.declared.refusal.Rule.TheVariants.{Pex, Listing, Lexical, Grammar, Link, Typing, Scene, Verification}
 use Rattle.command_files.specs.Outputs.{Outputs}
 use Rattle.papyrus_cmd.specs.Answers.{Answers}
 use Rattle.papyrus_cmd.specs.Asm.{AsmLeaves, MayWrite}
 use Rattle.papyrus_cmd.specs.Command.{command_of}
 use Rattle.papyrus_cmd.specs.Compile.{CompileLeaves, MayCompile}
+use Rattle.papyrus_cmd.specs.Upgrade.{MayUpgrade, UpgradeLeaves}
 use Rattle.command_files.specs.Ending.{CountsBoth, CountsReads, word_at}
 use Rattle.papyrus_cmd.specs.Missed.{MissesWord}
 use Rattle.command_files.specs.Refusal.{rule_status}
-use Rattle.papyrus_cmd.specs.TopCall.{Answered, CommandCut, CommandLeaves, FilesCut, FilesLeft, IsAnswer, Noted, NotRead, Told, WasCut, WritesNone, writes_files}
+use Rattle.papyrus_cmd.specs.TopCall.{Answered, CommandCut, CommandLeaves, FileCommandCut, FileCommandLeaves, FilesCut, FilesLeft, IsAnswer, Noted, NotRead, Told, WasCut, WritesNone, file_command_writes, writes_files}
 use Rattle.papyrus_cmd.proofs.NotedLines.{appended_nothing}
 
 -- the line was written where its status tells neither want of memory nor a failed write
@@ -57,6 +60,8 @@ not-three (Lexical rule) = λ is. absurd (omega arith)
 not-three (Grammar rule) = λ is. absurd (omega arith)
 not-three (Link rule) = λ is. absurd (omega arith)
 not-three (Typing rule) = λ is. absurd (omega arith)
+not-three (Scene rule) = λ is. absurd (omega arith)
+not-three (Verification rule) = λ is. absurd (omega arith)
 
 -- a status that tells of a line
 told-wanted : (line : List ℕ) (wanted status : ℕ) (before now : Option (List ℕ)) (f f' : ℕ) → Noted line wanted status before now f f' → status ≡ 3 → (wanted ≡ 3) × Appended line before now
@@ -101,19 +106,25 @@ unread-left L Same unread refused usage unbuilt words NotBuilt status notes note
 unread-left L Same unread refused usage unbuilt words (ReadFault word) status notes notes' f f' told three leaves = unread word leaves
 unread-left L Same unread refused usage unbuilt words (Refused word place rule) status notes notes' f f' told three leaves = refused word place rule leaves
 
--- the files that a command leaves which read none of them
+-- the files that a command on files leaves which read none of them
+unread-work : (work : FileCommand) (names words : List (List ℕ)) (ending : Ending) (status : ℕ) (old new : Option Files) (notes notes' : Option (List ℕ)) (f f' : ℕ) → Told words ending status notes notes' f f' → status ≡ 3 →
+    FileCommandLeaves work names ending old new → new ≡ old
+unread-work Asm names words ending status old new notes notes' f f' told three leaves =
+    unread-left (λ e. AsmLeaves (word_at names 1) e old new) (new ≡ old) (λ word same. same) (λ word place rule same. same) (λ none. absurd none) (λ none. absurd none) words ending status notes notes' f f' told three leaves
+unread-work Upgrade names words ending status old new notes notes' f f' told three leaves =
+    unread-left (λ e. UpgradeLeaves (word_at names 1) e old new) (new ≡ old) (λ word same. same) (λ word place rule same. same) (λ none. absurd none) (λ none. absurd none) words ending status notes notes' f f' told three leaves
+unread-work Compile names words ending status old new notes notes' f f' told three leaves =
+    unread-left (λ e. CompileLeaves names e old new) (new ≡ old) (λ word same. same) (λ word place rule same. same) (λ none. absurd none) (λ same. same) words ending status notes notes' f f' told three leaves
+unread-work Check names words ending status old new notes notes' f f' told three leaves = leaves
+unread-work Show names words ending status old new notes notes' f f' told three leaves = leaves
+
 unread-by : (found : Option Command) (names words : List (List ℕ)) (ending : Ending) (status : ℕ) (old new : Option Files) (notes notes' : Option (List ℕ)) (f f' : ℕ) → Told words ending status notes notes' f f' → status ≡ 3 →
     CommandLeaves found names ending old new → new ≡ old
-unread-by (Some Asm) names words ending status old new notes notes' f f' told three leaves =
-    unread-left (λ e. AsmLeaves (word_at names 1) e old new) (new ≡ old) (λ word same. same) (λ word place rule same. same) (λ none. absurd none) (λ none. absurd none) words ending status notes notes' f f' told three leaves
-unread-by (Some Compile) names words ending status old new notes notes' f f' told three leaves =
-    unread-left (λ e. CompileLeaves names e old new) (new ≡ old) (λ word same. same) (λ word place rule same. same) (λ none. absurd none) (λ same. same) words ending status notes notes' f f' told three leaves
+unread-by (Some (command.Files work)) names words ending status old new notes notes' f f' told three leaves = unread-work work names words ending status old new notes notes' f f' told three leaves
+unread-by (Some (command.Play work)) names words ending status old new notes notes' f f' told three leaves = leaves
+unread-by (Some command.Help) names words ending status old new notes notes' f f' told three leaves = leaves
+unread-by (Some command.Version) names words ending status old new notes notes' f f' told three leaves = leaves
 unread-by None names words ending status old new notes notes' f f' told three leaves = leaves
-unread-by (Some Help) names words ending status old new notes notes' f f' told three leaves = leaves
-unread-by (Some Version) names words ending status old new notes notes' f f' told three leaves = leaves
-unread-by (Some Once) names words ending status old new notes notes' f f' told three leaves = leaves
-unread-by (Some Check) names words ending status old new notes notes' f f' told three leaves = leaves
-unread-by (Some Show) names words ending status old new notes notes' f f' told three leaves = leaves
 
 -- a file that was not read leaves all files as they were
 pub unread_kept : (words : List (List ℕ)) (ending : Ending) (status : ℕ) (old new : Option Files) (notes notes' : Option (List ℕ)) (f f' : ℕ) → Told words ending status notes notes' f f' → status ≡ 3 →
@@ -121,15 +132,19 @@ pub unread_kept : (words : List (List ℕ)) (ending : Ending) (status : ℕ) (ol
 unread_kept words ending status old new notes notes' f f' told three left = unread-by (command_of words) (drop 1 words) words ending status old new notes notes' f f' told three left
 
 -- the files of a command that writes none
+work-kept : (work : FileCommand) (names : List (List ℕ)) (ending : Ending) (old new : Option Files) → FileCommandLeaves work names ending old new → file_command_writes work ≡ false → new ≡ old
+work-kept Check names ending old new leaves none = leaves
+work-kept Show names ending old new leaves none = leaves
+work-kept Asm names ending old new leaves none = absurd (cc)
+work-kept Upgrade names ending old new leaves none = absurd (cc)
+work-kept Compile names ending old new leaves none = absurd (cc)
+
 kept-by : (found : Option Command) (names : List (List ℕ)) (ending : Ending) (old new : Option Files) → CommandLeaves found names ending old new → writes_files found ≡ false → new ≡ old
+kept-by (Some (command.Files work)) names ending old new leaves none = work-kept work names ending old new leaves none
+kept-by (Some (command.Play work)) names ending old new leaves none = leaves
+kept-by (Some command.Help) names ending old new leaves none = leaves
+kept-by (Some command.Version) names ending old new leaves none = leaves
 kept-by None names ending old new leaves none = leaves
-kept-by (Some Help) names ending old new leaves none = leaves
-kept-by (Some Version) names ending old new leaves none = leaves
-kept-by (Some Once) names ending old new leaves none = leaves
-kept-by (Some Check) names ending old new leaves none = leaves
-kept-by (Some Show) names ending old new leaves none = leaves
-kept-by (Some Asm) names ending old new leaves none = absurd (cc)
-kept-by (Some Compile) names ending old new leaves none = absurd (cc)
 
 pub files_kept : (words : List (List ℕ)) (ending : Ending) (old new : Option Files) → FilesLeft words ending old new → WritesNone words → new ≡ old
 files_kept words ending old new left none = kept-by (command_of words) (drop 1 words) ending old new left none
@@ -146,18 +161,24 @@ cut-left L Cut memory write usage unbuilt unread refused words NotBuilt status n
 cut-left L Cut memory write usage unbuilt unread refused words (ReadFault word) status notes notes' f f' told cut leaves = unread word leaves
 cut-left L Cut memory write usage unbuilt unread refused words (Refused word place rule) status notes notes' f f' told cut leaves = refused word place rule leaves
 
+cut-work : (work : FileCommand) (names words : List (List ℕ)) (ending : Ending) (status : ℕ) (old new : Option Files) (notes notes' : Option (List ℕ)) (f f' : ℕ) → Told words ending status notes notes' f f' → WasCut status →
+    FileCommandLeaves work names ending old new → FileCommandCut work names old new
+cut-work Asm names words ending status old new notes notes' f f' told cut leaves =
+    cut-left (λ e. AsmLeaves (word_at names 1) e old new) (MayWrite (word_at names 1) old new) (λ may. may) (λ may. may) (λ none. absurd none) (λ none. absurd none) (λ word same. inl same) (λ word place rule same. inl same) words ending status notes notes' f f' told cut leaves
+cut-work Upgrade names words ending status old new notes notes' f f' told cut leaves =
+    cut-left (λ e. UpgradeLeaves (word_at names 1) e old new) (MayUpgrade (word_at names 1) old new) (λ may. may) (λ may. may) (λ none. absurd none) (λ none. absurd none) (λ word same. inl same) (λ word place rule same. inl same) words ending status notes notes' f f' told cut leaves
+cut-work Compile names words ending status old new notes notes' f f' told cut leaves =
+    cut-left (λ e. CompileLeaves names e old new) (MayCompile names old new) (λ may. may) (λ may. may) (λ none. absurd none) (λ same. inl same) (λ word same. inl same) (λ word place rule same. inl same) words ending status notes notes' f f' told cut leaves
+cut-work Check names words ending status old new notes notes' f f' told cut leaves = leaves
+cut-work Show names words ending status old new notes notes' f f' told cut leaves = leaves
+
 cut-by : (found : Option Command) (names words : List (List ℕ)) (ending : Ending) (status : ℕ) (old new : Option Files) (notes notes' : Option (List ℕ)) (f f' : ℕ) → Told words ending status notes notes' f f' → WasCut status →
     CommandLeaves found names ending old new → CommandCut found names old new
-cut-by (Some Asm) names words ending status old new notes notes' f f' told cut leaves =
-    cut-left (λ e. AsmLeaves (word_at names 1) e old new) (MayWrite (word_at names 1) old new) (λ may. may) (λ may. may) (λ none. absurd none) (λ none. absurd none) (λ word same. inl same) (λ word place rule same. inl same) words ending status notes notes' f f' told cut leaves
-cut-by (Some Compile) names words ending status old new notes notes' f f' told cut leaves =
-    cut-left (λ e. CompileLeaves names e old new) (MayCompile names old new) (λ may. may) (λ may. may) (λ none. absurd none) (λ same. inl same) (λ word same. inl same) (λ word place rule same. inl same) words ending status notes notes' f f' told cut leaves
+cut-by (Some (command.Files work)) names words ending status old new notes notes' f f' told cut leaves = cut-work work names words ending status old new notes notes' f f' told cut leaves
+cut-by (Some (command.Play work)) names words ending status old new notes notes' f f' told cut leaves = leaves
+cut-by (Some command.Help) names words ending status old new notes notes' f f' told cut leaves = leaves
+cut-by (Some command.Version) names words ending status old new notes notes' f f' told cut leaves = leaves
 cut-by None names words ending status old new notes notes' f f' told cut leaves = leaves
-cut-by (Some Help) names words ending status old new notes notes' f f' told cut leaves = leaves
-cut-by (Some Version) names words ending status old new notes notes' f f' told cut leaves = leaves
-cut-by (Some Once) names words ending status old new notes notes' f f' told cut leaves = leaves
-cut-by (Some Check) names words ending status old new notes notes' f f' told cut leaves = leaves
-cut-by (Some Show) names words ending status old new notes notes' f f' told cut leaves = leaves
 
 -- a command that was cut short may have written the first part of a file
 pub cut_file : (words : List (List ℕ)) (ending : Ending) (status : ℕ) (old new : Option Files) (notes notes' : Option (List ℕ)) (f f' : ℕ) → Told words ending status notes notes' f f' → WasCut status →
@@ -179,6 +200,8 @@ not-four (Lexical rule) = λ is. absurd (omega arith)
 not-four (Grammar rule) = λ is. absurd (omega arith)
 not-four (Link rule) = λ is. absurd (omega arith)
 not-four (Typing rule) = λ is. absurd (omega arith)
+not-four (Scene rule) = λ is. absurd (omega arith)
+not-four (Verification rule) = λ is. absurd (omega arith)
 
 abbrev Risen : ℕ → ℕ → ℕ → ℕ → ℕ → ℕ → Type 0
 Risen s s' f f' d d' = HasRisen s s' ⊎ HasRisen f f' ⊎ HasRisen d d'

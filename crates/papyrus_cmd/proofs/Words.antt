@@ -1,0 +1,232 @@
+-- The words behind a command: how many there are, and which of them was missed.
+use Rattle.std.proofs.Common.{arith, ◌≡◌, ◌∙◌, ◌<◌, ◌≤◌, ◌+◌, ◌-◌, ◌*◌, ℕ, suc, Bool, true, false, List, [], ◌∷◌, refl, sym, ap, subst, take, drop, map, length, slice_index_or, nat_eq, nat_lt, nat_le, String, Global}
+use Rattle.std.specs.Prelude.{Option, None, Some, Contains, codes, ◌&&◌, if◌then◌else◌}
+use Rattle.std.specs.List.{list_all}
+use Rattle.std.specs.Str.{all_ascii_digits, bytes_eq}
+use Rattle.std.specs.String.{string_bytes}
+use Rattle.std.proofs.lemmas.Bool.Decides.{nat_tests}
+use Rattle.std.proofs.lemmas.Grind.{common_steps}
+use Rattle.std.proofs.lemmas.List.{length-map}
+use Rattle.papyrus_cmd.specs.declared.command.Command.{Command}
+use Rattle.papyrus_cmd.specs.declared.command.Command.TheVariants.{Help, Version, Files, Play}
+use Rattle.papyrus_cmd.specs.declared.command.FileCommand.{FileCommand}
+use Rattle.papyrus_cmd.specs.declared.command.FileCommand.TheVariants.{Compile, Check, Show, Asm, Upgrade}
+use Rattle.papyrus_cmd.specs.declared.command.PlayCommand.{PlayCommand}
+use Rattle.papyrus_cmd.specs.declared.command.PlayCommand.TheVariants.{Once, Run, Exec, Sample}
+use Rattle.command_files.specs.declared.ending.Ending.{Ending}
+use Rattle.command_files.specs.declared.ending.Ending.TheVariants.{Done, OutOfMemory, Usage, ReadFault, WriteFault, Refused, NotBuilt}
+use Rattle.command_files.specs.Ending.{MissesScript, word_at}
+use Rattle.papyrus_cmd.specs.Command.{are_file_words, are_pex_words, are_script_words, begins_above_zero, command_of, either_command, file_command, files_of, files_played, files_read, files_used, is_file_word, is_script_word, play_command, read_on, sample_command, stand_behind_file, worker_count}
+use Rattle.papyrus_cmd.specs.Dispatch.{IsBetween, SuitsFiles, SuitsPlay}
+use Rattle.papyrus_cmd.specs.Missed.{MissesWord}
+use Rattle.papyrus_cmd.proofs.OutputsOf.{names_behind, names-behind}
+
+-- ---- how many
+
+first-true : (a b : Bool) → (a && b) ≡ true → a ≡ true
+first-true true b is = refl
+first-true false b is = absurd (cc)
+
+both-true : (a b : Bool) → (a && b) ≡ true → b ≡ true
+both-true true b is = is
+both-true false b is = absurd (cc)
+
+-- words within two limits that each pass a test
+limited : (size : ℕ) (all : Bool) → (nat_lt 0 size && (nat_le size 256 && all)) ≡ true → IsBetween 1 256 size
+limited size all is =
+    let some : nat_lt 0 size ≡ true = first-true (nat_lt 0 size) (nat_le size 256 && all) is in
+    let few : nat_le size 256 ≡ true = first-true (nat_le size 256) all (both-true (nat_lt 0 size) (nat_le size 256 && all) is) in
+    record { some = grind (arith, nat_tests); few = grind (arith, nat_tests) }
+
+script-words : (words : List (List ℕ)) → are_script_words words ≡ true → IsBetween 1 256 (length words)
+script-words words is = limited (length words) (list_all is_script_word words) is
+
+pex-words : (words : List (List ℕ)) → are_pex_words words ≡ true → IsBetween 1 256 (length words)
+pex-words words is = limited (length words) (list_all is_file_word words) is
+
+file-words : (count : ℕ) (words : List (List ℕ)) → are_file_words count words ≡ true → IsBetween count count (length words)
+file-words count words is =
+    let counted : nat_eq (length words) count ≡ true = first-true (nat_eq (length words) count) (list_all is_file_word words) is in
+    record { some = grind (arith, nat_tests); few = grind (arith, nat_tests) }
+
+-- one word more stands in front
+behind-file : (are : List (List ℕ) → Bool) → ((words : List (List ℕ)) → are words ≡ true → IsBetween 1 256 (length words)) → (words : List (List ℕ)) → stand_behind_file are words ≡ true → IsBetween 2 257 (length words)
+behind-file are between [] is = absurd (cc)
+behind-file are between (file ∷ words) is =
+    let within = between words (both-true (is_file_word file) (are words) is) in
+    record { some = omega (arith, within.some); few = omega (arith, within.few) }
+
+-- digits read on never make a number smaller
+read-more : (number : ℕ) (digits : List ℕ) → number ≤ read_on number digits
+read-more number [] = omega arith
+read-more number (digit ∷ digits) = let more = read-more (10 * number + (digit - 48)) digits in omega arith
+
+above-zero : (word : List ℕ) → begins_above_zero word ≡ true → 1 ≤ read_on 0 word
+above-zero [] is = absurd (cc)
+above-zero (byte ∷ bytes) is =
+    let above : 48 < byte = grind (arith, nat_tests) in
+    let more = read-more (10 * 0 + (byte - 48)) bytes in omega arith
+
+counted : (above digits : Bool) (number workers : ℕ) → (above ≡ true → 1 ≤ number) → (if above && (digits && nat_le number 200) then Some number else None) ≡ Some workers → IsBetween 1 200 workers
+counted false digits number workers some is = absurd (cc)
+counted true false number workers some is = absurd (cc)
+counted true true number workers some is = within (nat_le number 200) refl is
+  where
+    within : (few : Bool) → few ≡ nat_le number 200 → (if few then Some number else None) ≡ Some workers → IsBetween 1 200 workers
+    within false same found = absurd (cc)
+    within true same found =
+        let e : number ≡ workers = cc in
+        let one = some refl in
+        let most : number ≤ 200 = grind (arith, nat_tests) in
+        record { some = omega arith; few = omega arith }
+
+worker-words : (word : List ℕ) (workers : ℕ) → worker_count word ≡ Some workers → IsBetween 1 200 workers
+worker-words word workers is = counted (begins_above_zero word) (all_ascii_digits word) (read_on 0 word) workers (above-zero word) is
+
+sampled : (found : Option ℕ) (command : PlayCommand) (count : ℕ) → ((workers : ℕ) → found ≡ Some workers → IsBetween 1 200 workers) → Rattle.papyrus_cmd.specs.Command.sample_of found ≡ Some command → SuitsPlay command count
+sampled None command count between is = absurd (cc)
+sampled (Some workers) command count between is =
+    let e : Sample workers ≡ command = cc in subst (λ c. SuitsPlay c count) e (between workers refl)
+
+sample-words : (words : List (List ℕ)) (command : PlayCommand) (count : ℕ) → sample_command words ≡ Some command → SuitsPlay command count
+sample-words [] command count is = absurd (cc)
+sample-words (word ∷ []) command count is = sampled (worker_count word) command count (worker-words word) is
+sample-words (word ∷ next ∷ words) command count is = absurd (cc)
+
+-- ---- by the command
+
+play-found : (b1 b2 b3 b4 : Bool) (last : Option PlayCommand) (command : PlayCommand) (count : ℕ) → (b1 ≡ true → SuitsPlay Once count) → (b2 ≡ true → SuitsPlay Run count) → (b3 ≡ true → SuitsPlay Exec count) → (last ≡ Some command → SuitsPlay command count) →
+    (if b1 then Some Once else if b2 then Some Run else if b3 then Some Exec else if b4 then last else None) ≡ Some command → SuitsPlay command count
+play-found true b2 b3 b4 last command count once run exec sample is = let e : Once ≡ command = cc in subst (λ c. SuitsPlay c count) e (once refl)
+play-found false true b3 b4 last command count once run exec sample is = let e : Run ≡ command = cc in subst (λ c. SuitsPlay c count) e (run refl)
+play-found false false true b4 last command count once run exec sample is = let e : Exec ≡ command = cc in subst (λ c. SuitsPlay c count) e (exec refl)
+play-found false false false true last command count once run exec sample is = sample is
+play-found false false false false last command count once run exec sample is = absurd (cc)
+
+play-suits : (name : List ℕ) (words : List (List ℕ)) (command : PlayCommand) → play_command name words ≡ Some command → SuitsPlay command (length words)
+play-suits name words command is =
+    play-found (bytes_eq name (codes "once") && are_script_words words) (bytes_eq name (codes "run") && stand_behind_file are_script_words words) (bytes_eq name (codes "exec") && stand_behind_file are_pex_words words) (bytes_eq name (codes "sample")) (sample_command words) command (length words)
+    (λ b. script-words words (both-true (bytes_eq name (codes "once")) (are_script_words words) b))
+    (λ b. behind-file are_script_words script-words words (both-true (bytes_eq name (codes "run")) (stand_behind_file are_script_words words) b))
+    (λ b. behind-file are_pex_words pex-words words (both-true (bytes_eq name (codes "exec")) (stand_behind_file are_pex_words words) b))
+    (sample-words words command (length words)) is
+
+files-found : (b1 b2 b3 b4 b5 : Bool) (command : FileCommand) (count : ℕ) → (b1 ≡ true → SuitsFiles Compile count) → (b2 ≡ true → SuitsFiles Check count) → (b3 ≡ true → SuitsFiles Show count) → (b4 ≡ true → SuitsFiles Asm count) → (b5 ≡ true → SuitsFiles Upgrade count) →
+    (if b1 then Some Compile else if b2 then Some Check else if b3 then Some Show else if b4 then Some Asm else if b5 then Some Upgrade else None) ≡ Some command → SuitsFiles command count
+files-found true b2 b3 b4 b5 command count compile check show asm upgrade is = let e : Compile ≡ command = cc in subst (λ c. SuitsFiles c count) e (compile refl)
+files-found false true b3 b4 b5 command count compile check show asm upgrade is = let e : Check ≡ command = cc in subst (λ c. SuitsFiles c count) e (check refl)
+files-found false false true b4 b5 command count compile check show asm upgrade is = let e : Show ≡ command = cc in subst (λ c. SuitsFiles c count) e (show refl)
+files-found false false false true b5 command count compile check show asm upgrade is = let e : Asm ≡ command = cc in subst (λ c. SuitsFiles c count) e (asm refl)
+files-found false false false false true command count compile check show asm upgrade is = let e : Upgrade ≡ command = cc in subst (λ c. SuitsFiles c count) e (upgrade refl)
+files-found false false false false false command count compile check show asm upgrade is = absurd (cc)
+
+files-suit : (name : List ℕ) (words : List (List ℕ)) (command : FileCommand) → file_command name words ≡ Some command → SuitsFiles command (length words)
+files-suit name words command is =
+    files-found (bytes_eq name (codes "compile") && are_script_words words) (bytes_eq name (codes "check") && are_file_words 1 words) (bytes_eq name (codes "show") && are_file_words 1 words) (bytes_eq name (codes "asm") && are_file_words 2 words) (bytes_eq name (codes "upgrade") && are_file_words 2 words) command (length words)
+    (λ b. script-words words (both-true (bytes_eq name (codes "compile")) (are_script_words words) b))
+    (λ b. file-words 1 words (both-true (bytes_eq name (codes "check")) (are_file_words 1 words) b))
+    (λ b. file-words 1 words (both-true (bytes_eq name (codes "show")) (are_file_words 1 words) b))
+    (λ b. file-words 2 words (both-true (bytes_eq name (codes "asm")) (are_file_words 2 words) b))
+    (λ b. file-words 2 words (both-true (bytes_eq name (codes "upgrade")) (are_file_words 2 words) b)) is
+
+either-play : (play : Option PlayCommand) (files : Option FileCommand) (command : PlayCommand) → either_command play files ≡ Some (Play command) → play ≡ Some command
+either-play (Some play) files command is = let e : play ≡ command = cc in ap Some e
+either-play None (Some files) command is = absurd (cc)
+either-play None None command is = absurd (cc)
+
+either-files : (play : Option PlayCommand) (files : Option FileCommand) (command : FileCommand) → either_command play files ≡ Some (Files command) → files ≡ Some command
+either-files (Some play) files command is = absurd (cc)
+either-files None (Some files) command is = let e : files ≡ command = cc in ap Some e
+either-files None None command is = absurd (cc)
+
+-- a word that stands alone
+lone-play : (b1 b2 : Bool) (command : PlayCommand) → (if b1 then Some Help else if b2 then Some Version else None) ≡ Some (Play command) → ⊥
+lone-play true b2 command is = cc
+lone-play false true command is = cc
+lone-play false false command is = cc
+
+lone-files : (b1 b2 : Bool) (command : FileCommand) → (if b1 then Some Help else if b2 then Some Version else None) ≡ Some (Files command) → ⊥
+lone-files true b2 command is = cc
+lone-files false true command is = cc
+lone-files false false command is = cc
+
+play-behind : (words : List (List ℕ)) (command : PlayCommand) → command_of words ≡ Some (Play command) → SuitsPlay command (length (drop 1 words))
+play-behind [] command is = absurd (cc)
+play-behind (name ∷ []) command is = absurd (lone-play (bytes_eq name (codes "--help")) (bytes_eq name (codes "--version")) command is)
+play-behind (name ∷ word ∷ words) command is =
+    play-suits name (word ∷ words) command (either-play (play_command name (word ∷ words)) (file_command name (word ∷ words)) command is)
+
+files-behind : (words : List (List ℕ)) (command : FileCommand) → command_of words ≡ Some (Files command) → SuitsFiles command (length (drop 1 words))
+files-behind [] command is = absurd (cc)
+files-behind (name ∷ []) command is = absurd (lone-files (bytes_eq name (codes "--help")) (bytes_eq name (codes "--version")) command is)
+files-behind (name ∷ word ∷ words) command is =
+    files-suit name (word ∷ words) command (either-files (play_command name (word ∷ words)) (file_command name (word ∷ words)) command is)
+
+count-behind : (words : List (String Global)) → length (take (length words - 1) (drop 1 words)) ≡ length (drop 1 (map string_bytes words))
+count-behind words = sym (length-map (take (length words - 1) (drop 1 words)) string_bytes) ∙ ap length (names-behind words)
+
+pub play_suits : (words : List (String Global)) (command : PlayCommand) → command_of (map string_bytes words) ≡ Some (Play command) → SuitsPlay command (length (take (length words - 1) (drop 1 words)))
+play_suits words command is = subst (SuitsPlay command) (sym (count-behind words)) (play-behind (map string_bytes words) command is)
+
+pub files_suit : (words : List (String Global)) (command : FileCommand) → command_of (map string_bytes words) ≡ Some (Files command) → SuitsFiles command (length (take (length words - 1) (drop 1 words)))
+files_suit words command is = subst (SuitsFiles command) (sym (count-behind words)) (files-behind (map string_bytes words) command is)
+
+-- ---- which was missed
+
+-- a word of the first ones behind a command
+behind : (d : List ℕ) (n : ℕ) (words : List (List ℕ)) (place : ℕ) → place < length (take n (drop 1 words)) → slice_index_or (take n (drop 1 words)) place d ≡ slice_index_or words (suc place) d
+behind d n [] place within = grind (arith, common_steps)
+behind d n (name ∷ words) place within = grind (arith, common_steps)
+
+-- any default serves where there is a word
+any-default : (words : List (List ℕ)) (place : ℕ) (d e : List ℕ) → place < length words → slice_index_or words place d ≡ slice_index_or words place e
+any-default words place d e within = grind (arith, common_steps)
+
+missed-first : (n : ℕ) (words : List (List ℕ)) (ending : Ending) (missed : Option (List ℕ)) → files_read words ≡ take n (drop 1 words) → MissesScript (take n (drop 1 words)) ending missed → MissesWord words ending missed
+missed-first n words (ReadFault word) missed reads (place, word_is, within, missed_is) =
+    let there : suc place < length words = grind (arith, common_steps) in
+    let same : word_at (take n (drop 1 words)) place ≡ word_at words (suc place) = behind [] n words place within in
+    let here : word_at words word ≡ word_at words (suc place) = ap (word_at words) word_is in
+    let found : slice_index_or (take n (drop 1 words)) place (word_at words word) ≡ word_at words word =
+    any-default (take n (drop 1 words)) place (word_at words word) [] within ∙ same ∙ sym here in
+    record {
+      within = omega (arith, word_is, there);
+      read = subst (λ xs. Contains xs (word_at words word)) (sym reads) (place, within, found);
+      missed_is = missed_is ∙ ap Some (same ∙ sym here);
+    }
+missed-first n words Done missed reads misses = tt
+missed-first n words OutOfMemory missed reads misses = tt
+missed-first n words Usage missed reads misses = tt
+missed-first n words WriteFault missed reads misses = tt
+missed-first n words (Refused word place rule) missed reads misses = tt
+missed-first n words NotBuilt missed reads misses = tt
+
+whole : (names : List (List ℕ)) → names ≡ take (length names) names
+whole names = grind (arith, common_steps)
+
+played-first : (command : PlayCommand) (names : List (List ℕ)) → (n : ℕ) × (files_played command names ≡ take n names)
+played-first Once names = (length names, whole names)
+played-first Run names = (length names, whole names)
+played-first Exec names = (length names, whole names)
+played-first (Sample workers) names = (0, refl)
+
+used-first : (command : FileCommand) (names : List (List ℕ)) → (n : ℕ) × (files_used command names ≡ take n names)
+used-first Compile names = (length names, whole names)
+used-first Check names = (length names, whole names)
+used-first Show names = (length names, whole names)
+used-first Asm names = (1, refl)
+used-first Upgrade names = (1, refl)
+
+pub play_misses : (words : List (String Global)) (command : PlayCommand) (ending : Ending) (missed : Option (List ℕ)) → command_of (map string_bytes words) ≡ Some (Play command) → MissesScript (files_played command (names_behind words)) ending missed → MissesWord (map string_bytes words) ending missed
+play_misses words command ending missed is misses =
+    let all = map string_bytes words in
+    let first = played-first command (drop 1 all) in
+    let reads : files_read all ≡ take first.0 (drop 1 all) = ap (files_of all) is ∙ first.1 in
+    missed-first first.0 all ending missed reads (subst (λ names. MissesScript names ending missed) (ap (files_played command) (names-behind words) ∙ first.1) misses)
+
+pub files_missed : (words : List (String Global)) (command : FileCommand) (ending : Ending) (missed : Option (List ℕ)) → command_of (map string_bytes words) ≡ Some (Files command) → MissesScript (files_used command (names_behind words)) ending missed → MissesWord (map string_bytes words) ending missed
+files_missed words command ending missed is misses =
+    let all = map string_bytes words in
+    let first = used-first command (drop 1 all) in
+    let reads : files_read all ≡ take first.0 (drop 1 all) = ap (files_of all) is ∙ first.1 in
+    missed-first first.0 all ending missed reads (subst (λ names. MissesScript names ending missed) (ap (files_used command) (names-behind words) ∙ first.1) misses)
