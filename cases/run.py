@@ -23,8 +23,12 @@ import tempfile
 
 CASES = pathlib.Path(__file__).resolve().parent
 PROGRAM = CASES.parent / "crates" / "papyrus" / "out" / "papyrus"
-EXPECTED = {"args", "status", "out", "notes", "after", "listed", "made", "judge", "closed", "generate"}
+EXPECTED = {"args", "status", "out", "notes", "after", "listed", "made", "judge", "closed", "room", "generate", "earlier"}
 SECONDS = 60
+# Runs the words behind the first one, whose files may have so many bytes as the first one says.
+WITH_ROOM = """import os, resource, sys
+resource.setrlimit(resource.RLIMIT_FSIZE, (int(sys.argv[1]), int(sys.argv[1])))
+os.execv(sys.argv[2], sys.argv[2:])"""
 
 
 def words_of(case):
@@ -92,31 +96,58 @@ def wrong_files(case, before, room):
     return wrong
 
 
+def lay(case, room):
+    """Lays the case's files into the folder of its run, and tells what is wrong with that."""
+    for path in case.iterdir():
+        if path.name not in EXPECTED:
+            name, content = laid(path.name, path.read_bytes())
+            (room / name).write_bytes(content)
+    if (case / "generate").exists():
+        subprocess.run([sys.executable, str(case / "generate")], cwd=room, check=True)
+    for line in expected_of(case, "earlier").decode().splitlines():
+        ran = subprocess.run([str(PROGRAM), *line.split()], cwd=room, capture_output=True, timeout=SECONDS)
+        if ran.returncode != 0:
+            return [f"{line}: status {ran.returncode}"] + ran.stderr.decode("utf-8", "backslashreplace").splitlines()
+    return []
+
+
+def command_of(case):
+    """The command line of a case."""
+    words = [str(PROGRAM), *words_of(case)]
+    if (case / "room").exists():
+        return [sys.executable, "-c", WITH_ROOM, expected_of(case, "room").strip(), *words]
+    return words
+
+
+def answer_of(case, room):
+    """The status of a run, and what it wrote to its two streams."""
+    closed = expected_of(case, "closed").split()
+    with open("/dev/full", "wb") as full, tempfile.TemporaryFile() as out:
+        ran = subprocess.run(
+            command_of(case), cwd=room, stdin=subprocess.DEVNULL, timeout=SECONDS,
+            stdout=full if b"out" in closed else out,
+            stderr=full if b"notes" in closed else subprocess.PIPE,
+        )
+        out.seek(0)
+        return ran.returncode, out.read(), ran.stderr or b""
+
+
 def run(case):
     """Returns what is wrong with a case, as lines, none where it passes."""
     with tempfile.TemporaryDirectory(prefix="papyrus-case-") as room:
         room = pathlib.Path(room)
-        for path in case.iterdir():
-            if path.name not in EXPECTED:
-                name, content = laid(path.name, path.read_bytes())
-                (room / name).write_bytes(content)
-        if (case / "generate").exists():
-            subprocess.run([sys.executable, str(case / "generate")], cwd=room, check=True)
-        before = files_in(room)
-        closed = expected_of(case, "closed").split()
-        with open("/dev/full", "wb") as full:
-            try:
-                ran = subprocess.run(
-                    [str(PROGRAM), *words_of(case)], cwd=room, stdin=subprocess.DEVNULL, timeout=SECONDS,
-                    stdout=full if b"out" in closed else subprocess.PIPE,
-                    stderr=full if b"notes" in closed else subprocess.PIPE,
-                )
-            except subprocess.TimeoutExpired:
-                return [f"no end within {SECONDS} seconds"]
-        status = (expected_of(case, "status") or b"0").strip().decode()
-        wrong = [] if str(ran.returncode) == status else [f"status {ran.returncode}, and {status} is expected"]
-        wrong += difference("out", expected_of(case, "out"), ran.stdout or b"")
-        wrong += difference("notes", expected_of(case, "notes"), ran.stderr or b"")
+        try:
+            wrong = lay(case, room)
+            if wrong:
+                return wrong
+            before = files_in(room)
+            status, out, notes = answer_of(case, room)
+        except subprocess.TimeoutExpired:
+            return [f"no end within {SECONDS} seconds"]
+        wanted = (expected_of(case, "status") or b"0").strip().decode()
+        wrong = [] if str(status) == wanted else [f"status {status}, and {wanted} is expected"]
+        wrong += difference("out", expected_of(case, "out"), out)
+        wrong += difference("notes", expected_of(case, "notes"), notes)
         wrong += wrong_files(case, before, room)
         return wrong or judged(case, room)
 
