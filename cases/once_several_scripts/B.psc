@@ -1,4 +1,4 @@
 ScriptName B
 Event OnInit()
-Debug.Trace("a")
+Debug.Trace("b")
 EndEvent

@@ -1,0 +1,5 @@
+ScriptName A
+Event OnInit()
+While True
+EndWhile
+EndEvent

@@ -1,0 +1,7 @@
+ScriptName Deep
+Function F()
+F()
+EndFunction
+Event OnInit()
+F()
+EndEvent

@@ -1,0 +1,4 @@
+ScriptName A
+Int Function ReadKey() Global Native
+Event OnInit()
+EndEvent

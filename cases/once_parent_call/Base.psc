@@ -1,0 +1,4 @@
+ScriptName Base
+Int Function F(Int n)
+Return n + 1
+EndFunction

@@ -1,0 +1,2 @@
+ScriptName Kid extends Base
+Int Property Own = 1 Auto

@@ -1,0 +1,9 @@
+ScriptName Kid extends Base
+Function F()
+Debug.Trace("kid")
+EndFunction
+Event OnInit()
+F()
+GotoState("")
+F()
+EndEvent

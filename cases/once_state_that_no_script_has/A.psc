@@ -1,0 +1,13 @@
+ScriptName A
+Function F()
+Debug.Trace("no state")
+EndFunction
+Event OnInit()
+GotoState("Opne")
+F()
+EndEvent
+State Open
+Function F()
+Debug.Trace("open")
+EndFunction
+EndState
