@@ -1,0 +1,2 @@
+ScriptName A
+String Property T Auto

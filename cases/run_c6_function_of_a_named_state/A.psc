@@ -1,0 +1,5 @@
+ScriptName A
+State S
+  Event OnEndState()
+  EndEvent
+EndState

@@ -1,0 +1,4 @@
+ScriptName A
+Int Property N Auto
+Event OnInit()
+EndEvent

@@ -1,0 +1,2 @@
+ScriptName A
+A[] Property All Auto

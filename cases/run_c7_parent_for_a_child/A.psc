@@ -1,0 +1,2 @@
+ScriptName A extends B
+A Property Child Auto

@@ -1,0 +1,2 @@
+ScriptName A
+Function H(Int n, Int m) Global Native

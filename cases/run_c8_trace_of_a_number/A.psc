@@ -1,0 +1,2 @@
+ScriptName A
+Function H(Int n, String s) Global Native

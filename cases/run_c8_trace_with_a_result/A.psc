@@ -1,0 +1,2 @@
+ScriptName A
+Bool Function H(String s) Global Native

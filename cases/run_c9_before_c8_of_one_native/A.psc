@@ -1,0 +1,2 @@
+ScriptName A
+String Function H() Global Native

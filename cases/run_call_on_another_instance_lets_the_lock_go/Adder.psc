@@ -1,0 +1,4 @@
+ScriptName Adder
+Int Function Next(Int n)
+  Return n + 1
+EndFunction

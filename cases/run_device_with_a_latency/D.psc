@@ -1,0 +1,5 @@
+ScriptName D
+Int Function Read() Global Native
+Event OnInit()
+  Debug.Trace(Read())
+EndEvent

@@ -1,0 +1,4 @@
+ScriptName C
+Function Say(String text)
+  Debug.Trace(text)
+EndFunction

@@ -1,0 +1,2 @@
+ScriptName A
+Int Property N = 2 Auto

@@ -1,0 +1,4 @@
+ScriptName A
+Event OnInit()
+n = 1
+EndEvent

@@ -1,0 +1,4 @@
+ScriptName A
+String Property T Auto
+Event OnInit()
+EndEvent

@@ -1,0 +1,4 @@
+ScriptName B
+Function Ping(A who)
+  who.Pong()
+EndFunction
