@@ -1,0 +1,1 @@
+../../examples/gate/Gate.psc

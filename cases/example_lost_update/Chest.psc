@@ -1,0 +1,1 @@
+../../examples/lost_update/Chest.psc

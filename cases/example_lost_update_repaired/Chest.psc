@@ -1,0 +1,1 @@
+../../examples/lost_update/repaired/Chest.psc
