@@ -1,0 +1,3 @@
+ScriptName Base
+Function F(Int n = 1)
+EndFunction

@@ -1,0 +1,9 @@
+ScriptName Base
+Function F()
+Debug.Trace("base")
+EndFunction
+State S
+Function F()
+Debug.Trace("base S")
+EndFunction
+EndState
