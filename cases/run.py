@@ -3,11 +3,24 @@
 
 A case is a folder here. `args` holds the words, one a line; a word may have escapes such as \\xff for bytes that aren't text.
 Its other files but those named below are copied into a folder of their own, in which the program runs. A file NAME.hex holds
-hexadecimal digits, with comments from `#` to the line's end, and NAME is laid there with these bytes. `status`, `out` and
-`notes` are what is expected of the exit status, of standard output and of standard error (0 and nothing where there is no such
-file), and the folder `after`, where there is one, holds the files that are there afterwards beside those that were. The file
-`closed` names the streams (out, notes) that refuse every write, and `generate` is a Python program that makes large inputs in
-that folder before the run. Expected files are written by hand: this program never writes one.
+hexadecimal digits, with comments from `#` to the line's end, and NAME is laid there with these bytes.
+
+What is done before the run, and to it:
+  generate   a Python program that makes large inputs in that folder
+  earlier    commands, one a line with a blank between words, which the program runs before and which must do well: so a compiled
+             file can stand in a case as its listing
+  closed     names the streams (out, notes) that refuse every write
+  room       the most bytes that standard output, and each file that is written, can take
+
+What is expected:
+  status     the exit status, 0 where there is no such file
+  out, notes standard output and standard error, nothing where there is no such file
+  after      a folder of the files that are there afterwards beside those that were; no others may be
+  listed     a folder of the listings of compiled files that are there afterwards
+  made       the names of files that are there afterwards, whatever they hold
+  judge      a Python program that looks at that folder afterwards, and fails where something is wrong
+
+Expected files are written by hand: this program never writes one.
 
   run.py            every case
   run.py NAME..     these cases
