@@ -1,0 +1,172 @@
+#!/usr/bin/env python3
+"""Runs the examples of these pages and of README.md with the built program, and prints where a page says something else.
+
+  check_examples.py                   every page
+  check_examples.py PAGE..            these pages
+  check_examples.py --program PATH    another program than crates/papyrus/out/papyrus
+
+What is run is in the fences of a page, in their order. Under each heading of the second level a new folder begins.
+
+  papyrus A.psc, json s.json,     the file of this name
+  listing J.txt
+  hex A.pex                       the file with these bytes
+  papyrus                         A.psc, whose OnInit has these lines; or, where they begin with ScriptName, A.psc itself
+  listing                         J.txt, these lines behind those of the page's last fence `listing J.txt`
+  console                         commands behind `$ `, each with what it prints; `..` stands for lines that are left out
+  (nothing)                       where it is one line of a refusal: what a command tells of the files since the last heading
+"""
+import argparse
+import os
+import pathlib
+import re
+import subprocess
+import sys
+import tempfile
+
+DOCS = pathlib.Path(__file__).resolve().parent
+PROGRAM = DOCS.parent / "crates" / "papyrus" / "out" / "papyrus"
+REFUSAL = re.compile(r"[^ ]+: (?:[^ ]+ )?([LSNKPGVC])\d+ [A-Za-z]+")
+SECONDS = 60
+
+
+def fences(text):
+    """The fences of a page with their first words, and None for each heading: (line, kind, name, lines)."""
+    lines = text.splitlines()
+    at = 0
+    while at < len(lines):
+        heading = re.match(r"(#+) ", lines[at])
+        if heading:
+            yield at + 1, "heading", heading.group(1), []
+        elif lines[at].startswith("```"):
+            end = lines.index("```", at + 1)
+            kind, _, name = lines[at][3:].partition(" ")
+            yield at + 1, kind, name, lines[at + 1 : end]
+            at = end
+        at += 1
+
+
+def agrees(wanted, found):
+    """Whether the found lines are the wanted ones, where `..` stands for any lines."""
+    if not wanted:
+        return not found
+    if wanted[0] == "..":
+        return any(agrees(wanted[1:], found[at:]) for at in range(len(found) + 1))
+    return bool(found) and wanted[0] == found[0] and agrees(wanted[1:], found[1:])
+
+
+class Page:
+    """One page while its fences are gone through."""
+
+    def __init__(self, path, program):
+        self.path = path
+        self.program = program
+        self.room = None
+        self.base = []
+        self.names = []
+        self.wrong = []
+        self.count = 0
+
+    def lay(self, name, content):
+        (self.room / name).parent.mkdir(parents=True, exist_ok=True)
+        (self.room / name).write_bytes(content)
+        if name not in self.names:
+            self.names.append(name)
+
+    def shell(self, command):
+        ran = subprocess.run(
+            ["sh", "-c", 'papyrus() { "$PROGRAM" "$@"; }\n' + command],
+            cwd=self.room, stdout=subprocess.PIPE, stderr=subprocess.STDOUT, stdin=subprocess.DEVNULL, timeout=SECONDS,
+            env={**os.environ, "PROGRAM": str(self.program)},
+        )
+        return ran.stdout.decode("utf-8", "backslashreplace").splitlines()
+
+    def compare(self, line, command, wanted):
+        self.count += 1
+        found = self.shell(command)
+        if not agrees(wanted, found):
+            self.wrong.append(f"{self.path}:{line}: {command}")
+            self.wrong += [f"  page  {text}" for text in wanted] + [f"  found {text}" for text in found[:20]]
+
+    def console(self, line, lines):
+        command, wanted = None, []
+        for text in [*lines, "$ "]:
+            if not text.startswith("$ "):
+                wanted.append(text)
+                continue
+            if command is not None:
+                self.compare(line, command, wanted)
+            command, wanted = text[2:], []
+
+    def refusal(self, line, text, letter):
+        ending = {"P": ".pex", "G": ".txt", "V": ".txt"}.get(letter, ".psc")
+        files = [name for name in self.names if name.endswith(ending)]
+        if letter == "P":
+            command = f"papyrus check {files[-1]}"
+        elif letter == "G":
+            command = f"papyrus asm {files[-1]} new.pex"
+        elif letter == "C":
+            command = " ".join(["papyrus run", *(name for name in self.names if name.endswith(".json")), *files])
+        elif letter == "V":
+            values = [name.replace(".txt", ".pex") for name in files]
+            scene = '{"version":1,"instances":[],"calls":[],"order":"round","turns":0}'
+            self.lay("scene.json", scene.encode())
+            steps = [f"papyrus asm {text} {value}" for text, value in zip(files, values)]
+            command = " && ".join([*steps, " ".join(["papyrus exec scene.json", *values])])
+        else:
+            command = " ".join(["papyrus compile", *files])
+        self.compare(line, command, [text])
+
+    def script(self, name, lines):
+        if not name and not lines[0].lower().startswith("scriptname"):
+            lines = ["ScriptName A", "Event OnInit()", *lines, "EndEvent"]
+        self.lay(name or "A.psc", "".join(text + "\n" for text in lines).encode())
+
+    def listing(self, name, lines):
+        if name == "J.txt":
+            self.base = lines
+        elif not name:
+            name, lines = "J.txt", [*self.base, *lines]
+        self.lay(name, "".join(text + "\n" for text in lines).encode())
+
+    def fence(self, line, kind, name, lines):
+        if kind == "papyrus":
+            self.script(name, lines)
+        elif kind == "listing":
+            self.listing(name, lines)
+        elif kind == "hex":
+            self.lay(name, bytes.fromhex("".join(text.split("#")[0] for text in lines)))
+        elif kind == "json" and name:
+            self.lay(name, "".join(text + "\n" for text in lines).encode())
+        elif kind == "console":
+            self.console(line, lines)
+        elif kind == "" and len(lines) == 1 and self.names and REFUSAL.fullmatch(lines[0]):
+            self.refusal(line, lines[0], REFUSAL.fullmatch(lines[0]).group(1))
+
+    def run(self):
+        with tempfile.TemporaryDirectory(prefix="papyrus-docs-") as top:
+            for line, kind, name, lines in fences(self.path.read_text()):
+                if self.room is None or (kind == "heading" and len(name) <= 2):
+                    self.room = pathlib.Path(tempfile.mkdtemp(dir=top))
+                if kind == "heading":
+                    self.names = []
+                else:
+                    self.fence(line, kind, name, lines)
+
+
+def main():
+    parser = argparse.ArgumentParser(description=__doc__, formatter_class=argparse.RawDescriptionHelpFormatter)
+    parser.add_argument("pages", nargs="*", type=pathlib.Path)
+    parser.add_argument("--program", type=pathlib.Path, default=PROGRAM)
+    words = parser.parse_args()
+    count, wrong = 0, []
+    for path in words.pages or [DOCS.parent / "README.md", *sorted(DOCS.glob("*.md"))]:
+        page = Page(path, words.program.resolve())
+        page.run()
+        count += page.count
+        wrong += page.wrong
+    print("\n".join([*wrong, f"{count} examples, {sum(not text.startswith('  ') for text in wrong)} wrong"]))
+    return 1 if wrong else 0
+
+
+if __name__ == "__main__":
+    sys.exit(main())
