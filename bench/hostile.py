@@ -1,294 +1,448 @@
 #!/usr/bin/env python3
 """Feeds each command of the built program random and spoiled input, and reports what it shouldn't do.
 
-  hostile.py                       2,000 rounds from seed 0, and the files at the limits
-  hostile.py --rounds N            N rounds; a round is one run of the program
+  hostile.py                       100,000 rounds from seed 0, and the files at the limits
+  hostile.py --rounds N            N rounds
   hostile.py --seed S              other rounds
   hostile.py --program PATH        another program than crates/papyrus/out/papyrus
-  hostile.py --no-limits           without the large files at the limits and one past them
+  hostile.py --corpus FOLDER..     other files to begin with than those of cases/ and examples/
+  hostile.py --no-limits           without the files at the limits and one past them
+  hostile.py --limits-only         nothing but these
   hostile.py -j N                  N rounds at a time
 
-Scripts, scenes, listings and PEX files come from cases/ and examples/. A round takes some of them, spoils one or more (bytes
-flipped, cut, doubled, put in, moved from another file), and asks one command. Reported are: an end by a signal, a run of over
-10 seconds, a status outside the table of docs/commands.md, and a status other than 0 whose notes aren't one line. It ends
-with status 1 where something was reported; the input of such a run is kept in a folder whose name is printed.
+A round takes the files and the words of a case or an example, spoils some of them, and asks a command or two: bytes flipped, cut,
+doubled, put in or moved from another file; numbers and keys of scenes changed; lines of listings and scripts swapped and mixed; other
+words; a text of tokens in any order. In some rounds the program has little memory, or no room for its output. `hostile_limits.py` has the
+files at every limit and one past it.
+
+Reported are: an end by a signal, over ten seconds of processor time, a status outside the table of docs/commands.md, notes that
+aren't the line of the status, and output or files where a command was refused. It ends with status 1 where something was reported; the input
+of such a run is kept in a folder whose name is printed.
 """
 import argparse
+import collections
 import concurrent.futures
+import itertools
 import json
 import os
 import pathlib
 import random
+import re
+import resource
 import shutil
 import subprocess
 import sys
 import tempfile
 
+import hostile_limits
+
 ROOT = pathlib.Path(__file__).resolve().parent.parent
-STATUSES = set(range(11))
 SECONDS = 10
-LIMITED = ["prlimit", f"--cpu={SECONDS}"] if shutil.which("prlimit") else []
+PARTS = 200
+NOT_FILES = {"args", "status", "out", "notes", "after", "listed", "made", "judge", "closed", "generate", "README.md", "report"}
+COMMANDS = ("once", "run", "compile", "exec", "check", "show", "asm", "upgrade", "sample")
+NUMBERS = (0, 1, 2, 3, 9, 127, 128, 129, 255, 256, 1000, 1001, 65535, 65536, 1000000, 1000001, 2**31 - 1, 2**31, 2**32, 2**63, 2**64, -1, -(2**31), -(2**63), -(2**64))
+NOTES = {
+    1: rb"papyrus: out of memory\n",
+    2: rb"papyrus: usage\n",
+    3: rb"papyrus: cannot read [^\n]+\n",
+    4: rb"papyrus: cannot write\n",
+    5: rb"[^\n]+:\d+: [LSNK]\d+ [A-Za-z]+\n",
+    6: rb"[^\n]+@\d+: P\d+ [A-Za-z]+\n",
+    7: rb"[^\n]+: C\d+ [A-Za-z0-9]+\n",
+    8: rb"[^\n]+:\d+: G\d [A-Za-z]+\n",
+    9: rb"(?s).+: .* V\d+ [A-Za-z]+\n",
+    10: rb"papyrus: not built\n",
+}
 
 
-def corpus():
-    """The files of cases/ and examples/ by kind."""
-    scene = b'{"version":1,"instances":[{"name":"a","script":"A"}],"calls":[],"order":"round","turns":9}\n'
-    found = {"psc": [], "json": [scene], "txt": [], "pex": []}
-    for top in (ROOT / "cases", ROOT / "examples"):
-        for path in sorted(top.rglob("*")):
-            name = path.name.removesuffix(".hex")
-            kind = name.rsplit(".", 1)[-1]
-            if not path.is_file() or kind not in found or path.stat().st_size > 100_000:
-                continue
-            content = path.read_bytes()
-            if path.name.endswith(".hex"):
-                content = bytes.fromhex("".join(line.split("#")[0] for line in content.decode().splitlines()))
-            found[kind].append(content)
+# ---- what a round begins with
+
+
+class Corpus:
+    """The sets of files of cases and examples with their words, those of them that end with status 0, and all files by kind."""
+
+    def __init__(self, folders):
+        self.sets = []
+        self.good = []
+        self.kinds = collections.defaultdict(list)
+        self.kinds["json"].append(b'{"version":1,"instances":[{"name":"a","script":"A"}],"calls":[],"order":"round","turns":9}\n')
+        for folder in folders:
+            for inner in sorted(path for path in folder.iterdir() if path.is_dir()):
+                self.take(inner)
+
+    def take(self, folder):
+        files = dict(laid(path) for path in sorted(folder.iterdir()) if path.is_file() and path.name not in NOT_FILES and path.stat().st_size < 100_000)
+        args = folder / "args"
+        words = args.read_text(errors="replace").splitlines() if args.exists() else []
+        if files:
+            self.sets.append((words, files))
+        for name, content in files.items():
+            self.kinds[kind_of(name)].append(content)
+
+
+def laid(path):
+    """The name and the bytes of a file; NAME.hex holds hexadecimal digits."""
+    if path.suffix != ".hex":
+        return path.name, path.read_bytes()
+    digits = "".join(line.split("#")[0] for line in path.read_text().splitlines())
+    return path.name.removesuffix(".hex"), bytes.fromhex(digits)
+
+
+def kind_of(name):
+    return name.rsplit(".", 1)[-1].lower()
+
+
+def compiled(program, corpus):
+    """Finds the good sets, and adds the compiled files and the listings that the program makes of the corpus to it."""
+    for words, files in list(corpus.sets):
+        with tempfile.TemporaryDirectory() as room:
+            for name, content in files.items():
+                (pathlib.Path(room) / name).write_bytes(content)
+            if words and subprocess.run([str(program), *words], cwd=room, capture_output=True).returncode == 0:
+                corpus.good.append((words, files))
+            add_compiled(program, corpus, pathlib.Path(room), files)
+
+
+def add_compiled(program, corpus, room, files):
+    scripts = [name for name in files if name.endswith(".psc")]
+    scenes = [name for name in files if name.endswith(".json")]
+    if not scripts or subprocess.run([str(program), "compile", *scripts], cwd=room, capture_output=True).returncode:
+        return
+    made = {}
+    for name in scripts:
+        value = name.removesuffix(".psc") + ".pex"
+        made[value] = (room / value).read_bytes()
+        corpus.kinds["pex"].append(made[value])
+        corpus.kinds["txt"].append(subprocess.run([str(program), "show", value], cwd=room, capture_output=True).stdout)
+    if scenes:
+        corpus.good.append((["exec", scenes[0], *made], {**made, scenes[0]: files[scenes[0]]}))
+        corpus.good.append((["run", scenes[0], *scripts], files))
+
+
+# ---- spoiling
+
+
+def changed_bytes(chance, data, others):
+    at = chance.randrange(len(data) + 1)
+    change = chance.randrange(7)
+    if change == 0 and at < len(data):
+        data[at] ^= 1 << chance.randrange(8)
+    elif change == 1 and at < len(data):
+        data[at] = chance.randrange(256)
+    elif change == 2:
+        del data[at : at + chance.choice((1, 2, 4, 40))]
+    elif change == 3:
+        data[at:at] = chance.randbytes(chance.choice((1, 2, 8)))
+    elif change == 4:
+        data[at:at] = data[at : at + chance.choice((1, 10, 200))] * chance.choice((1, 2, 30))
+    elif change == 5:
+        other = chance.choice(others)
+        start = chance.randrange(len(other) + 1)
+        data[at:at] = other[start : start + chance.choice((4, 30, 300))]
+    elif change == 6 and len(data) > 3:
+        data[at : at + 4] = chance.choice(NUMBERS).to_bytes(9, "big", signed=True)[-4:]
+    return data
+
+
+def changed_lines(chance, data, others):
+    lines = bytes(data).split(b"\n")
+    first, second = chance.randrange(len(lines)), chance.randrange(len(lines))
+    change = chance.randrange(5)
+    if change == 0:
+        lines[first], lines[second] = lines[second], lines[first]
+    elif change == 1:
+        lines.insert(first, lines[second])
+    elif change == 2:
+        del lines[first]
+    elif change == 3:
+        lines.insert(first, chance.choice(chance.choice(others).split(b"\n")))
+    else:
+        words = lines[first].split(b" ")
+        words[chance.randrange(len(words))] = chance.choice(chance.choice(lines).split(b" ") + [str(chance.choice(NUMBERS)).encode()])
+        lines[first] = b" ".join(words)
+    return bytearray(b"\n".join(lines))
+
+
+def places_of(tree):
+    """Each array or object of a JSON text with each of its keys."""
+    found, open_parts = [], [tree]
+    while open_parts:
+        part = open_parts.pop()
+        keys = part.keys() if isinstance(part, dict) else range(len(part)) if isinstance(part, list) else ()
+        for key in keys:
+            found.append((part, key))
+            open_parts.append(part[key])
     return found
 
 
-def spoiled(random_source, content, others):
-    """The content with a few changes."""
+def changed_scene(chance, data, others):
+    """A scene with a key taken out, doubled in another case or moved, or another value."""
+    try:
+        tree = json.loads(bytes(data))
+    except (ValueError, RecursionError):
+        return changed_bytes(chance, data, others)
+    places = places_of(tree)
+    if not places:
+        return changed_bytes(chance, data, others)
+    part, key = chance.choice(places)
+    change = chance.randrange(5)
+    other_part, other_key = chance.choice(places)
+    if change == 0:
+        del part[key]
+    elif change == 1:
+        part[key] = chance.choice((chance.choice(NUMBERS), chance.randrange(10)))
+    elif change == 2:
+        part[key] = chance.choice((None, True, "", "round", 1.5, [], {}, {"instance": "a"}, "x" * 1025, [[]] * 3))
+    elif change == 3:
+        part[key] = json.loads(json.dumps(other_part[other_key]))
+    elif isinstance(part, dict):
+        part[chance.choice((key.upper(), key.swapcase(), "quantum", "prompt", "latency", "set"))] = part[key]
+    return bytearray(json.dumps(tree).encode())
+
+
+def soup(chance):
+    """A script of tokens in any order, in blocks that may fit."""
+    words = ("Int", "Bool", "String", "A", "n", "F", "(", ")", "[", "]", ",", ".", "=", "==", "+", "-", "*", "/", "&&", "||", "!", "+=", "If", "ElseIf", "Else", "EndIf",
+             "While", "EndWhile", "Return", "Function", "EndFunction", "Event", "EndEvent", "State", "EndState", "Property", "EndProperty", "Auto", "AutoReadOnly",
+             "Global", "Native", "New", "As", "Self", "Parent", "None", "True", "Length", "1", "0x80000000", '"a"', "{d}", "Import", "Debug", "Trace", "\\\n", ";/ /;")
+    lines = [" ".join(chance.choice(words) for _ in range(chance.randrange(9))) for _ in range(chance.randrange(30))]
+    return "\n".join(["ScriptName A", *chance.choice(([], ["Event OnInit()"])), *lines, *chance.choice(([], ["EndEvent", ""]))]).encode()
+
+
+def spoiled(chance, name, content, corpus):
+    """The content of a file with a few changes."""
+    kind = kind_of(name)
+    others = corpus.kinds[kind] or [content]
+    if chance.random() < 0.02:
+        return chance.randbytes(chance.choice((0, 1, 30, 3000)))
+    if kind == "psc" and chance.random() < 0.1:
+        return soup(chance)
     data = bytearray(content)
-    for _ in range(random_source.choice((1, 1, 1, 2, 3, 8))):
-        at = random_source.randrange(len(data) + 1)
-        change = random_source.randrange(7)
-        if change == 0 and at < len(data):
-            data[at] ^= 1 << random_source.randrange(8)
-        elif change == 1 and at < len(data):
-            data[at] = random_source.randrange(256)
-        elif change == 2:
-            del data[at : at + random_source.choice((1, 2, 4, 40))]
-        elif change == 3:
-            data[at:at] = random_source.randbytes(random_source.choice((1, 2, 8)))
-        elif change == 4:
-            data[at:at] = data[at : at + random_source.choice((1, 10, 200))] * random_source.choice((1, 2, 30))
-        elif change == 5:
-            other = random_source.choice(others)
-            start = random_source.randrange(len(other) + 1)
-            data[at:at] = other[start : start + random_source.choice((4, 30, 300))]
-        elif change == 6:
-            lines = bytes(data).split(b"\n")
-            first, second = random_source.randrange(len(lines)), random_source.randrange(len(lines))
-            lines[first], lines[second] = lines[second], lines[first]
-            data = bytearray(b"\n".join(lines))
+    for _ in range(chance.choice((1, 1, 1, 2, 3, 8))):
+        way = chance.random()
+        if kind == "json" and way < 0.7:
+            data = changed_scene(chance, data, others)
+        elif kind in ("txt", "psc") and way < 0.6:
+            data = changed_lines(chance, data, others)
+        else:
+            data = changed_bytes(chance, data, others)
     return bytes(data)
 
 
-def script_name(content, number):
-    """The name that a script gives itself, so that the set has a chance to be accepted."""
-    for line in content.splitlines():
-        words = line.split()
-        if len(words) > 1 and words[0].lower() == b"scriptname" and words[1].isalnum() and len(words[1]) < 100:
-            return words[1].decode("ascii", "replace")
-    return f"S{number}"
+# ---- rounds
 
 
 class Round:
-    """One run of the program: its words and its files."""
+    """Some runs of the program in one folder: their words, and the files."""
 
-    def __init__(self, seed, number, files):
-        self.random = random.Random(f"{seed}/{number}")
-        self.files = {}
-        self.words = []
-        getattr(self, self.random.choice(COMMANDS))(files)
+    def __init__(self, seed, number, corpus):
+        chance = self.chance = random.Random(f"{seed}/{number}")
+        self.corpus = corpus
+        words, files = chance.choice(corpus.good if chance.random() < 0.6 else corpus.sets)
+        self.files = dict(files)
+        self.spoil(chance.choice((0, 1, 1, 1, 2, 3)))
+        getattr(self, chance.choice(("same", "same", "ordered", "ordered", "other", "other", "relisted", "loose", "loose", "any_words")))(words)
+        self.memory = chance.choice((6, 7, 8, 10, 16, 40)) << 20 if chance.random() < 0.03 else None
+        self.full = chance.random() < 0.01
 
-    def some(self, files, kind, least=0.3):
-        content = self.random.choice(files[kind])
-        chance = self.random.random()
-        if chance < least:
-            return content
-        if chance > 0.97:
-            return self.random.randbytes(self.random.choice((0, 1, 30, 3000)))
-        return spoiled(self.random, content, files[kind])
+    def spoil(self, count):
+        for name in self.chance.sample(sorted(self.files), min(count, len(self.files))):
+            if not name.endswith(".json") or self.chance.random() < 0.4:
+                self.files[name] = spoiled(self.chance, name, self.files[name], self.corpus)
 
-    def scripts(self, files):
-        words = []
-        for number in range(self.random.choice((1, 1, 2, 2, 3, 5))):
-            content = self.some(files, "psc", 0.5)
-            word = script_name(content, number) + ".psc"
-            self.files[word] = content
-            words.append(word)
-        return words
+    def named(self, ending):
+        return [name for name in self.files if name.endswith(ending)]
 
-    def scene(self, files):
-        self.files["scene.json"] = self.some(files, "json", 0.5)
-        return "scene.json"
+    def same(self, words):
+        """The case's own words."""
+        self.steps = [words] if words else [["once", *self.named(".psc")]]
 
-    def once(self, files):
-        self.words = ["once", *self.scripts(files)]
+    def ordered(self, words):
+        """The case's own words on a scene with another order, quantum and latency."""
+        chance = self.chance
+        for name in self.named(".json"):
+            try:
+                tree = json.loads(self.files[name])
+                tree.update(version=2, quantum=chance.choice((1, 2, 5, 1000)), order=chance.choice(("round", [chance.randrange(4) for _ in range(chance.randrange(90))])))
+                tree.setdefault("natives", {})["Debug.Trace"] = {"kind": "trace", **chance.choice(({}, {"latency": chance.randrange(5)}, {"prompt": True}))}
+                tree["calls"] += [{**chance.choice(tree["calls"]), "turn": chance.randrange(9)} for _ in range(chance.randrange(4))]
+                self.files[name] = json.dumps(tree).encode()
+            except (ValueError, TypeError, KeyError, AttributeError, IndexError, RecursionError):
+                continue
+        self.same(words)
 
-    def compile(self, files):
-        self.words = ["compile", *self.scripts(files)]
+    def other(self, words):
+        """Another command on the case's files."""
+        command = self.chance.choice(COMMANDS)
+        if "scene.json" not in self.files and not self.named(".json"):
+            self.files["scene.json"] = spoiled(self.chance, "scene.json", self.chance.choice(self.corpus.kinds["json"]), self.corpus)
+        scene = self.chance.choice(self.named(".json"))
+        files = {"once": self.named(".psc"), "compile": self.named(".psc"), "run": [scene, *self.named(".psc")], "exec": [scene, *self.named(".pex")],
+                 "check": self.named(".pex")[:1], "show": self.named(".pex")[:1], "asm": [*self.named(".txt")[:1], "New.pex"], "upgrade": [scene, "New.json"],
+                 "sample": [self.chance.choice(("0", "1", "2", "3", "200", "201", "01", "-1", "", "x", "1 ", "9" * 20))]}
+        self.steps = [[command, *files[command]]]
 
-    def run(self, files):
-        self.words = ["run", self.scene(files), *self.scripts(files)]
+    def relisted(self, words):
+        """A spoiled listing, assembled and then run beside the others of its set."""
+        listing = self.chance.choice(self.corpus.kinds["txt"] or [b""])
+        self.files["New.txt"] = spoiled(self.chance, "New.txt", listing, self.corpus)
+        self.files.setdefault("scene.json", self.chance.choice(self.corpus.kinds["json"]))
+        self.steps = [["asm", "New.txt", "New.pex"], ["check", "New.pex"], ["exec", "scene.json", "New.pex"]]
 
-    def exec(self, files):
-        words = []
-        for number in range(self.random.choice((1, 1, 2, 3))):
-            self.files[f"{number}.pex"] = self.some(files, "pex")
-            words.append(f"{number}.pex")
-        self.words = ["exec", self.scene(files), *words]
+    def loose(self, words):
+        """A spoiled file of one kind alone."""
+        kind, command = self.chance.choice((("pex", "check"), ("pex", "show"), ("txt", "asm"), ("json", "upgrade"), ("psc", "once"), ("psc", "compile"), ("pex", "exec")))
+        name = f"A.{kind}"
+        content = self.chance.choice(self.corpus.kinds[kind] or [b""])
+        self.files = {name: spoiled(self.chance, name, content, self.corpus)}
+        behind = {"asm": ["New.pex"], "upgrade": ["New.json"]}.get(command, [])
+        if command == "exec":
+            self.files["scene.json"] = self.chance.choice(self.corpus.kinds["json"])
+            self.steps = [[command, "scene.json", name]]
+        else:
+            self.steps = [[command, name, *behind]]
 
-    def check(self, files):
-        self.files["A.pex"] = self.some(files, "pex")
-        self.words = ["check", "A.pex"]
-
-    def show(self, files):
-        self.files["A.pex"] = self.some(files, "pex")
-        self.words = ["show", "A.pex"]
-
-    def asm(self, files):
-        self.files["A.txt"] = self.some(files, "txt")
-        self.words = ["asm", "A.txt", "B.pex"]
-
-    def upgrade(self, files):
-        self.words = ["upgrade", self.scene(files), "new.json"]
-
-    def sample(self, files):
-        number = self.random.choice(("0", "1", "2", "7", "200", "255", "256", "01", "-1", "", "x", "99999999999999999999"))
-        self.words = ["sample", number]
-
-    def words_only(self, files):
-        known = ("once", "run", "exec", "check", "show", "asm", "compile", "upgrade", "sample", "--help", "--version", "A.psc", "", "x" * 4096, "x" * 4097)
-        self.words = [self.random.choice(known) for _ in range(self.random.randrange(6))]
-
-
-COMMANDS = ("once", "once", "compile", "run", "run", "exec", "exec", "check", "show", "asm", "upgrade", "words_only", "sample")
+    def any_words(self, words):
+        known = (*COMMANDS, "--help", "--version", *self.files, "", "A.psc", ".psc", "a.psc/", "x" * 4096, "x" * 4097, "x" * 4092 + ".psc", "x" * 4093 + ".psc", "\udcff.psc", "1")
+        self.steps = [[self.chance.choice(known) for _ in range(self.chance.randrange(6))]]
 
 
-def asked(program, words, room):
-    """What is wrong with one run, or nothing."""
+def is_long(words, room):
+    """Whether the scene of a run asks for so much that it may take long."""
     try:
-        ran = subprocess.run([*LIMITED, str(program), *words], cwd=room, capture_output=True, timeout=30 * SECONDS)
-    except subprocess.TimeoutExpired:
-        return f"over {30 * SECONDS} seconds"
-    except ValueError:
-        return None
-    if ran.returncode not in STATUSES:
-        return f"status {ran.returncode}"
-    if ran.returncode != 0 and (ran.stderr.count(b"\n") != 1 or not ran.stderr.endswith(b"\n")):
-        return f"status {ran.returncode} with notes {ran.stderr[:200]!r}"
-    if ran.returncode == 0 and ran.stderr:
-        return f"status 0 with notes {ran.stderr[:200]!r}"
-    return None
+        scene = json.loads((pathlib.Path(room) / words[1]).read_bytes())
+        return scene["turns"] * scene.get("quantum", 1) > 1_000_000
+    except (OSError, ValueError, KeyError, IndexError, TypeError):
+        return False
+
+
+def judged(status, out, notes):
+    """What is wrong with the answer of a run, or nothing."""
+    if status not in range(len(NOTES) + 1):
+        return f"status {status}"
+    if status == 0:
+        return f"status 0 with notes {notes[:200]!r}" if notes else None
+    if not re.fullmatch(NOTES[status], notes):
+        return f"status {status} with notes {notes[:200]!r}"
+    return f"status {status} with output {out[:200]!r}" if out and status not in (1, 4) else None
+
+
+def asked(program, words, room, memory=None, full=False):
+    """The status of one run, and what is wrong with it or nothing. The status is None where the run couldn't begin."""
+    limited = ["prlimit", f"--as={memory}"] if memory else []
+    before = set(os.listdir(room))
+    with open("/dev/full" if full else os.devnull, "wb") as sink, tempfile.TemporaryFile() as out:
+        try:
+            ran = subprocess.Popen([*limited, str(program), *words], cwd=room, stdin=subprocess.DEVNULL, stdout=sink if full else out, stderr=subprocess.PIPE)
+        except ValueError:
+            return None, None
+        try:
+            resource.prlimit(ran.pid, resource.RLIMIT_CPU, (SECONDS, SECONDS + 1))
+        except ProcessLookupError:
+            pass
+        try:
+            notes = ran.communicate(timeout=60 * SECONDS)[1]
+        except subprocess.TimeoutExpired:
+            ran.kill()
+            ran.communicate()
+            return ran.returncode, f"no end within {60 * SECONDS} seconds"
+        out.seek(0)
+        what = judged(ran.returncode, out.read(1 << 20), notes)
+    if ran.returncode in (-24, -9) and is_long(words, room):
+        return "long", None
+    if what is None and ran.returncode not in (0, 1, 4) and set(os.listdir(room)) != before:
+        what = f"status {ran.returncode}, and a file was written"
+    return ran.returncode, what
 
 
 def kept(room, words, what):
     folder = pathlib.Path(tempfile.mkdtemp(prefix="hostile-"))
     shutil.copytree(room, folder / "files")
     (folder / "words").write_text("\n".join(words) + "\n" + what + "\n", errors="backslashreplace")
-    return f"{what}: papyrus {' '.join(words)[:120]} (kept in {folder})"
+    return f"{what}: papyrus {' '.join(words)[:120]!r} (kept in {folder})"
 
 
-def played(program, words, files):
-    with tempfile.TemporaryDirectory() as room:
+def steps_depend(steps):
+    """Whether later steps take what the first one writes."""
+    return len(steps) > 1 and steps[0][0] == "asm" and steps[0][-1] in steps[1]
+
+
+def played(program, steps, files, memory=None, full=False):
+    """How many runs ended with which status, and what is wrong."""
+    counts, wrong = collections.Counter(), []
+    with tempfile.TemporaryDirectory(dir="/dev/shm" if os.path.isdir("/dev/shm") else None) as room:
         for name, content in files.items():
             (pathlib.Path(room) / name).write_bytes(content)
-        what = asked(program, words, room)
-        return kept(room, words, what) if what else None
+        for words in steps:
+            status, what = asked(program, words, room, memory, full)
+            counts[f"{words[0] if words and words[0] in COMMANDS else 'other words'} {status}"] += 1
+            if what:
+                wrong.append(kept(room, words, what))
+            if status != 0 and steps_depend(steps):
+                break
+    return counts, wrong
 
 
-def one_round(program, seed, number, files):
-    made = Round(seed, number, files)
-    return played(program, made.words, made.files)
+def some_rounds(program, seed, numbers, folders):
+    """The rounds of these numbers, on a corpus that is made once for each process."""
+    if not hasattr(some_rounds, "corpus"):
+        some_rounds.corpus = Corpus(folders)
+        compiled(program, some_rounds.corpus)
+    counts, wrong = collections.Counter(), []
+    for number in numbers:
+        made = Round(seed, number, some_rounds.corpus)
+        found, bad = played(program, made.steps, made.files, made.memory, made.full)
+        counts += found
+        wrong += [f"round {number}: {text}" for text in bad]
+    return counts, wrong
 
 
-# ---- the largest files and one past them
-
-SCRIPT = 1 << 20
-PEX = SCENE = 1 << 24
-LISTING = 1 << 27
-
-
-def filled(start, unit, size, end=b""):
-    count = max(0, (size - len(start) - len(end)) // len(unit))
-    text = start + unit * count + end
-    return text + b" " * (size - len(text))
+def all_rounds(program, words):
+    """Each part's counts and faults, as it ends."""
+    if words.limits_only:
+        return
+    parts = [range(start, min(start + PARTS, words.rounds)) for start in range(0, words.rounds, PARTS)]
+    with concurrent.futures.ProcessPoolExecutor(words.j) as pool:
+        yield from pool.map(some_rounds, *zip(*((program, words.seed, part, words.corpus) for part in parts)))
 
 
-def at_limits():
-    """Words with their files, one input of each kind at its limit and one past it."""
-    head, event, end = b"ScriptName A\n", b"Event OnInit()\n", b"EndEvent\n"
-    for size in (SCRIPT, SCRIPT + 1):
-        yield ["once", "A.psc"], {"A.psc": filled(head, b"; a comment\n", size)}
-        yield ["once", "A.psc"], {"A.psc": filled(head + event, b"Debug.Trace(1 + 2)\n", size, end)}
-        yield ["once", "A.psc"], {"A.psc": filled(head + event + b"Debug.Trace(1", b"+1", size, b")\n" + end)}
-        yield ["once", "A.psc"], {"A.psc": b"\n" * size}
-        yield ["compile", "A.psc"], {"A.psc": filled(head, b"Int Property P Auto\n", size)}
-        yield ["once", "A.psc"], {"A.psc": b"(" * size}
-    for depth in (16, 63, 64, 65, 200, 20000):
-        yield ["once", "A.psc"], {"A.psc": head + event + b"Debug.Trace(" + b"(" * depth + b"1" + b")" * depth + b")\n" + end}
-        yield ["once", "A.psc"], {"A.psc": head + event + b"If True\n" * depth + b"EndIf\n" * depth + end}
-        yield ["once", "A.psc"], {"A.psc": head + event + b"Debug.Trace(" + b"!" * depth + b"True)\n" + end}
-        yield ["run", "s.json", "A.psc"], {"s.json": b"[" * depth + b"]" * depth, "A.psc": head}
-    for size in (PEX, PEX + 1):
-        yield ["check", "A.pex"], {"A.pex": bytes(size)}
-        yield ["show", "A.pex"], {"A.pex": bytes.fromhex("fa57c0de03010001") + b"\xff" * (size - 8)}
-    for size in (SCENE, SCENE + 1):
-        yield ["upgrade", "s.json", "n.json"], {"s.json": filled(b'{"version":1,"instances":[],"calls":[],"turns":1,"order":[', b"0,", size, b"0]}")}
-        yield ["run", "s.json", "A.psc"], {"s.json": b"[" + b"1," * (size // 2 - 1) + b"1]"[: 2], "A.psc": head}
-    for size in (LISTING, LISTING + 1):
-        yield ["asm", "A.txt", "B.pex"], {"A.txt": filled(b"pex 1 0\n", b'string "a"\n', size)}
-    for count in (256, 257):
-        names = [f"S{number}" for number in range(count)]
-        files = {f"{name}.psc": f"ScriptName {name}\nEvent OnInit()\nEndEvent\n".encode() for name in names}
-        yield ["once", *files], files
-        yield ["compile", *files], files
-        yield ["exec", "s.json", *(["A.pex"] * count)], {"s.json": b"{}", "A.pex": b""}
-    for size in (4096, 4097):
-        yield ["check", "a" * size], {}
-        yield ["once", "a" * (size - 4) + ".psc"], {}
-    chain = {f"S{number}.psc": (f"ScriptName S{number} extends S{number + 1}\n" if number < 255 else f"ScriptName S{number}\nEvent OnInit()\nEndEvent\n").encode() for number in range(256)}
-    yield ["once", *chain], chain
-    scene = {"version": 2, "instances": [{"name": f"i{n}", "script": "A"} for n in range(256)], "calls": [{"turn": 0, "instance": f"i{n % 256}", "function": "OnInit"} for n in range(1024)], "order": "round", "turns": 1_000_000, "quantum": 1000}
-    busy = head + event + b"While True\nScene.Sleep(1)\nEndWhile\n" + end
-    yield ["run", "s.json", "A.psc"], {"s.json": json.dumps(scene).encode(), "A.psc": busy}
-    deep = head + b"Function F()\nF()\nEndFunction\n" + event + b"F()\n" + end
-    yield ["run", "s.json", "A.psc"], {"s.json": json.dumps(scene).encode(), "A.psc": deep}
+def all_limits(program, words):
+    if words.no_limits:
+        return
+    for name, steps, files, expected in hostile_limits.all_inputs():
+        counts, wrong = played(program, steps, files)
+        ended = " ".join(sorted({key.split()[-1] for key in counts}))
+        if not wrong and expected not in (None, ended):
+            wrong = [f"status {ended}, and {expected} is expected: papyrus {' '.join(steps[0])[:80]}"]
+        yield counts, [f"{name}: {text}" for text in wrong]
 
 
-def compiled(program, files):
-    """PEX files that the program makes of the scripts, beside those of the corpus."""
-    made = []
-    for content in files["psc"]:
-        with tempfile.TemporaryDirectory() as room:
-            name = script_name(content, 0)
-            (pathlib.Path(room) / f"{name}.psc").write_bytes(content)
-            subprocess.run([str(program), "compile", f"{name}.psc"], cwd=room, capture_output=True)
-            path = pathlib.Path(room) / f"{name}.pex"
-            if path.exists():
-                made.append(path.read_bytes())
-    return made
+def parsed():
+    parser = argparse.ArgumentParser(description=__doc__, formatter_class=argparse.RawDescriptionHelpFormatter)
+    parser.add_argument("--rounds", type=int, default=100_000)
+    parser.add_argument("--seed", type=int, default=0)
+    parser.add_argument("--program", type=pathlib.Path, default=ROOT / "crates" / "papyrus" / "out" / "papyrus")
+    parser.add_argument("--corpus", type=pathlib.Path, nargs="+", default=[ROOT / "cases", ROOT / "examples"])
+    parser.add_argument("--no-limits", action="store_true")
+    parser.add_argument("--limits-only", action="store_true")
+    parser.add_argument("-j", type=int, default=os.cpu_count())
+    return parser.parse_args()
 
 
 def main():
-    parser = argparse.ArgumentParser(description=__doc__, formatter_class=argparse.RawDescriptionHelpFormatter)
-    parser.add_argument("--rounds", type=int, default=2000)
-    parser.add_argument("--seed", type=int, default=0)
-    parser.add_argument("--program", type=pathlib.Path, default=ROOT / "crates" / "papyrus" / "out" / "papyrus")
-    parser.add_argument("--no-limits", action="store_true")
-    parser.add_argument("-j", type=int, default=os.cpu_count())
-    words = parser.parse_args()
+    words = parsed()
     program = words.program.resolve()
-    files = corpus()
-    files["pex"] += compiled(program, files)
-    wrong = []
-    with concurrent.futures.ThreadPoolExecutor(words.j) as pool:
-        for found in pool.map(lambda number: one_round(program, words.seed, number, files), range(words.rounds)):
-            if found:
-                wrong.append(found)
-                print(found)
-    large = 0
-    for asked_words, asked_files in [] if words.no_limits else at_limits():
-        large += 1
-        found = played(program, asked_words, asked_files)
-        if found:
-            wrong.append(found)
-            print(found)
-    print(f"{words.rounds} rounds and {large} files at limits, {len(wrong)} wrong")
-    return 1 if wrong else 0
+    counts, faults = collections.Counter(), 0
+    for found, wrong in itertools.chain(all_rounds(program, words), all_limits(program, words)):
+        counts += found
+        faults += len(wrong)
+        for text in wrong:
+            print(text, flush=True)
+    for ending in sorted(counts):
+        print(f"{counts[ending]:8} {ending}")
+    print(f"{sum(counts.values())} runs, {faults} wrong")
+    return 1 if faults else 0
 
 
 if __name__ == "__main__":
