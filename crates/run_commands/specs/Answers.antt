@@ -1,6 +1,6 @@
 -- What the commands that run scripts answer to the files that are held. Of a report they say that it comes where
 -- every file is held, not what it is.
-use Rattle.std.specs.Prelude.{◌≡◌, ◌⊎◌, ℕ, suc, ◌+◌, ◌<◌, List, [], ◌∷◌, ◌++◌, length, Option, Some, codes}
+use Rattle.std.specs.Prelude.{◌≡◌, ◌⊎◌, ℕ, suc, ◌+◌, ◌<◌, List, [], ◌∷◌, ◌++◌, length, Some, codes}
 use Rattle.std.specs.Fmt.{decimal}
 use Rattle.papy_io.specs.Files.{Files, told_bytes}
 use Rattle.pex_verify.specs.declared.fault.VerifyRule.{VerifyRule}

@@ -1,5 +1,5 @@
 -- What reading and verifying the files of `exec` gives. Words are counted from the first compiled file, which is 1.
-use Rattle.std.specs.Prelude.{◌≡◌, ℕ, suc, ◌<◌, List, length, Option, None, Some, Result, Ok, Err, IfSome}
+use Rattle.std.specs.Prelude.{◌≡◌, ℕ, suc, ◌<◌, List, length, Option, Some, Result, Ok, Err, IfSome}
 use Rattle.papy_io.specs.Files.{Files, told_bytes}
 use Rattle.pex_verify.specs.declared.fault.VerifyRule.{VerifyRule}
 use Rattle.command_files.specs.declared.ending.Ending.{Ending}

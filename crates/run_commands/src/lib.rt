@@ -2,16 +2,16 @@
 //! scripts of `sample`.
 #![tactic(auto)]
 
-mod exec;
-mod once;
+mod exec_command;
+mod once_command;
 mod play;
-mod run;
-mod sample;
+mod run_command;
+mod sample_command;
 
-pub use exec::exec;
-pub use once::once;
-pub use run::run;
-pub use sample::sample;
+pub use exec_command::exec;
+pub use once_command::once;
+pub use run_command::run;
+pub use sample_command::sample;
 
 #[cfg(test)]
 mod tests;

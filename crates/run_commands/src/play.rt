@@ -2,7 +2,7 @@
 ghost use Rattle.std.specs.Prelude.{◌≡◌, ◌≤◌, map, vec_len};
 ghost use Rattle.command_files.specs.Ending.{CountsWrites};
 ghost use Rattle.latent_natives.specs.Devices.{SameKinds};
-ghost use Rattle.run_commands.specs.Play.{HasFewParts, Plays};
+ghost use Rattle.run_commands.specs.Play.{HasFewParts, Plays, turns_ending};
 
 use command_files::{Ending, FileFault};
 use core_tree::SceneTree;

@@ -7,7 +7,7 @@ ghost use Rattle.command_files.specs.Outputs.{Outputs};
 ghost use Rattle.latent_natives.specs.Devices.{SameKinds};
 ghost use Rattle.run_commands.specs.Answers.{OnceAnswers};
 
-use crate::run::run_set;
+use crate::run_command::run_set;
 use command_files::{Ending, accept};
 use latent_natives::Device;
 use papy_io::{Desk, Sink};

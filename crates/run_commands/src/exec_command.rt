@@ -58,13 +58,15 @@ fn load_values(alloc: Global, values: Vec<Pex>) -> Result<Loaded, Ending>
     match verify(alloc, values) {
         Ok(loaded) => Ok(loaded),
         Err(VerifyFault::OutOfMemory) => Err(Ending::OutOfMemory),
-        Err(VerifyFault::Broken {
-            file,
-            object,
-            member,
-            at,
-            rule,
-        }) => Err(Ending::Refused {
+        Err(
+            VerifyFault::Broken {
+                file,
+                object,
+                member,
+                at,
+                rule,
+            },
+        ) => Err(Ending::Refused {
             word: usize::from(file).min(last) + 1,
             place: Place::Member { object, member, at },
             rule: Rule::Verification(rule),

@@ -1,0 +1,5 @@
+pub mod BehindScene
+pub mod EarlyEnds
+pub mod RunEnds
+pub mod SceneParts
+pub mod ValuesRead
