@@ -14,10 +14,3 @@ mod upgrade;
 mod written;
 
 pub use top::papyrus;
-
-#[cfg(test)]
-mod compile_tests;
-#[cfg(test)]
-mod test_calls;
-#[cfg(test)]
-mod tests;

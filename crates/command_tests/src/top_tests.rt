@@ -1,7 +1,7 @@
 ghost use Rattle.std.specs.Prelude.{◌≡◌, IfOk};
 ghost use Rattle.papy_io.specs.Activity.{Idle};
 
-use crate::test_calls::{Answer, call, call_failing, words_of};
+use crate::calls::{Answer, call, call_failing, words_of};
 use papy_io::MemoryDesk;
 use std::alloc::Global;
 use std::test::Fail;

@@ -1,0 +1,10 @@
+//! Tests of the top call, on files in memory and with devices that the program has. They stand in a crate of their own, so that the
+//! proofs of the commands aren't made twice.
+#![tactic(auto)]
+
+#[cfg(test)]
+mod calls;
+#[cfg(test)]
+mod compile_tests;
+#[cfg(test)]
+mod top_tests;
