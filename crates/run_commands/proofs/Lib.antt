@@ -2,4 +2,6 @@ pub mod BehindScene
 pub mod EarlyEnds
 pub mod RunEnds
 pub mod SceneParts
+pub mod SampleParts
+pub mod SampleText
 pub mod ValuesRead

@@ -1,3 +1,4 @@
 pub mod Answers
 pub mod Exec
 pub mod Play
+pub mod Sample

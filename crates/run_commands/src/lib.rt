@@ -7,11 +7,15 @@ mod once_command;
 mod play;
 mod run_command;
 mod sample_command;
+mod sample_scene;
+mod sample_scripts;
 
 pub use exec_command::exec;
 pub use once_command::once;
 pub use run_command::run;
 pub use sample_command::sample;
 
+#[cfg(test)]
+mod sample_tests;
 #[cfg(test)]
 mod tests;

@@ -1,15 +1,180 @@
 //! The command that runs a sample of any size.
-ghost use Rattle.std.specs.Prelude.{◌≡◌, ◌≢◌, ◌<◌, ◌≤◌, Option, map, vec_len};
+ghost use Rattle.std.specs.Prelude.{◌≡◌, ◌≢◌, ◌+◌, ◌<◌, ◌≤◌, All, IfErr, IfOk, Option, length, map, vec_len};
+ghost use Rattle.std.specs.Io.BufRead.{drop_through, take_through};
+ghost use Rattle.std.specs.String.{string_bytes};
+ghost use Rattle.papy_io.specs.Count.{CountsFaults};
 ghost use Rattle.papy_io.specs.Files.{Files};
+ghost use Rattle.pex_codec.specs.Decoding.{IsDecoded};
+ghost use Rattle.pex_verify.specs.Files.{IsFile};
 ghost use Rattle.command_files.specs.Ending.{CountsWrites, IsWordBelow};
 ghost use Rattle.command_files.specs.Outputs.{Outputs};
 ghost use Rattle.latent_natives.specs.Devices.{SameKinds};
-ghost use Rattle.run_commands.specs.Answers.{ReadsNothing, SampleAnswers};
+ghost use Rattle.run_commands.specs.Answers.{ReadsNothing, SampleAnswers, scripts_line};
+ghost use Rattle.run_commands.specs.Sample.{EndsUnreported, WritesText, first_lines, sample_text};
 
-use command_files::Ending;
+use crate::play::play;
+use crate::sample_scene::sample_scene;
+use crate::sample_scripts::sample_scripts;
+use command_files::{CompileFault, Ending, accept_texts, compile_set};
 use latent_natives::Device;
-use papy_io::Sink;
+use papy_base::OutOfMemory;
+use papy_io::{IoFault, MemorySink, Sink};
+use pex_codec::{Decoder, Fed, PexFault};
+use pex_values::Pex;
+use pex_verify::{Loaded, verify};
 use std::alloc::Global;
+
+/// Why a sample's scripts have no compiled files, where they weren't accepted. No sample is known whose scripts
+/// break a rule.
+fn unaccepted(ending: Ending) -> CompileFault {
+    match ending {
+        Ending::OutOfMemory => CompileFault::OutOfMemory,
+        _ => CompileFault::NotBuilt,
+    }
+}
+
+/// The bytes of the compiled files of the sample's scripts.
+fn compiled_files(alloc: Global, workers: u8) -> Result<Vec<Vec<u8>>, CompileFault>
+    requires { workers ≤ 200 }
+    ensures { IfOk result (λ files. vec_len files ≡ workers + 1) }
+{
+    let scripts = match sample_scripts(alloc, workers) {
+        Ok(scripts) => scripts,
+        Err(_) => return Err(CompileFault::OutOfMemory),
+    };
+    match accept_texts(alloc, &scripts) {
+        Ok(set) => Ok(compile_set(alloc, &set)?.files),
+        Err(ending) => Err(unaccepted(ending)),
+    }
+}
+
+/// Why a sample's own bytes spell no value. None are known that don't.
+fn unread(fault: PexFault) -> CompileFault {
+    match fault {
+        PexFault::OutOfMemory => CompileFault::OutOfMemory,
+        PexFault::Broken { .. } => CompileFault::NotBuilt,
+    }
+}
+
+/// The value that all of these bytes spell.
+fn decoded(alloc: Global, bytes: &[u8]) -> Result<Pex, CompileFault>
+    ensures { IfOk result (IsDecoded (length bytes.now)) }
+{
+    let mut decoder = match Decoder::new(alloc) {
+        Ok(decoder) => decoder,
+        Err(_) => return Err(CompileFault::OutOfMemory),
+    };
+    match decoder.feed(bytes) {
+        Ok(Fed::Done { taken }) => {
+            if taken < bytes.len() {
+                return Err(CompileFault::NotBuilt);
+            }
+        }
+        Ok(Fed::More) => return Err(CompileFault::NotBuilt),
+        Err(fault) => return Err(unread(fault)),
+    }
+    match decoder.end() {
+        Ok(value) => Ok(value),
+        Err(fault) => Err(unread(fault)),
+    }
+}
+
+fn decode_each(alloc: Global, files: &[Vec<u8>]) -> Result<Vec<Pex>, CompileFault>
+    ensures count { IfOk result (λ values. vec_len values ≡ length files.now) }
+    ensures valid { IfOk result (λ values. All IsFile values.items) }
+{
+    let mut values = Vec::with_capacity(alloc, files.len())?;
+    for bytes in files {
+        let value = decoded(alloc, bytes)?;
+        values.push(value)?;
+    }
+    Ok(values)
+}
+
+/// The sample's compiled files, read from their own bytes and verified.
+fn load(alloc: Global, workers: u8) -> Result<Loaded, CompileFault>
+    requires { workers ≤ 200 }
+{
+    let files = compiled_files(alloc, workers)?;
+    let values = decode_each(alloc, &files)?;
+    Ok(verify(alloc, values)?)
+}
+
+/// The report of a sample's run, or how it ends without one.
+fn report_of(
+    alloc: Global,
+    workers: u8,
+    devices: &mut Vec<Box<dyn Device>>,
+) -> Result<MemorySink, Ending>
+    requires few { workers ≤ 200 }
+    requires few_devices { vec_len devices.old ≤ 65535 }
+    ensures ends { IfErr result EndsUnreported }
+    ensures kinds { SameKinds (map (λ d. device_state d) devices.old.items) (map (λ d. device_state d) devices.new.items) }
+{
+    let loaded = match load(alloc, workers) {
+        Ok(loaded) => loaded,
+        Err(fault) => return Err(Ending::from(fault)),
+    };
+    let tree = match sample_scene(alloc, workers) {
+        Ok(tree) => tree,
+        Err(_) => return Err(Ending::OutOfMemory),
+    };
+    let mut report = MemorySink::new(alloc, Vec::new(alloc));
+    match play(alloc, loaded, tree, 0, &mut report, devices) {
+        Ending::Done => Ok(report),
+        Ending::Refused { word, place, rule } => Err(Ending::Refused { word, place, rule }),
+        // A sink in memory that lists no call fails only for want of memory.
+        _ => Err(Ending::OutOfMemory),
+    }
+}
+
+fn scripts_line(alloc: Global, workers: u8) -> Result<String, OutOfMemory>
+    ensures { IfOk result (λ line. string_bytes line ≡ scripts_line workers) }
+{
+    let scripts = u32::from(workers) + 1;
+    Ok(format!(in alloc; "scripts {scripts}\n")?)
+}
+
+/// The first line of a text with its line break, and what is behind it.
+fn split_line(text: &[u8]) -> (&[u8], &[u8])
+    ensures line { result.0.now ≡ take_through 10 text.now }
+    ensures behind { result.1.now ≡ drop_through 10 text.now }
+{
+    for (place, byte) in text.iter().enumerate() {
+        if *byte == b'\n' {
+            return text.split_at(place + 1);
+        }
+    }
+    (text, &[])
+}
+
+/// Writes the first three lines of a report, each by one call of the sink: the turns, the hub, and its total.
+fn write_lines<S: Sink>(report: &[u8], out: &mut S) -> Result<(), IoFault>
+    ensures written { WritesText (first_lines 3 report.now) result (S.written out.old) (S.written out.new) }
+    ensures faults { CountsFaults result (S.faults out.old) (S.faults out.new) }
+{
+    let (turns, behind) = split_line(report);
+    out.write(turns)?;
+    let (hub, properties) = split_line(behind);
+    out.write(hub)?;
+    let (total, _) = split_line(properties);
+    out.write(total)
+}
+
+/// Writes the number of scripts and the first three lines of a report.
+fn write_sample<S: Sink>(
+    alloc: Global,
+    workers: u8,
+    report: &[u8],
+    out: &mut S,
+) -> Result<(), IoFault>
+    ensures written { WritesText (sample_text workers report.now) result (S.written out.old) (S.written out.new) }
+    ensures faults { CountsFaults result (S.faults out.old) (S.faults out.new) }
+{
+    let line = scripts_line(alloc, workers)?;
+    out.write(line.as_bytes())?;
+    write_lines(report, out)
+}
 
 /// Makes a hub and so many workers, each of which adds its number to the hub's total a thousand times, compiles
 /// them, runs their files, and writes the number of scripts and the first three lines of the report.
@@ -29,5 +194,12 @@ pub fn sample<S: Sink>(
     ensures output { (holds : Option Files) → Outputs (λ _. SampleAnswers workers) holds result (S.written out.old) (S.written out.new) }
     ensures kinds { SameKinds (map (λ d. device_state d) devices.old.items) (map (λ d. device_state d) devices.new.items) }
 {
-    Ending::OutOfMemory
+    let report = match report_of(alloc, workers, devices) {
+        Ok(report) => report,
+        Err(ending) => return ending,
+    };
+    match write_sample(alloc, workers, report.bytes(), out) {
+        Ok(()) => Ending::Done,
+        Err(fault) => Ending::from(fault),
+    }
 }
