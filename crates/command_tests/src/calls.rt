@@ -24,7 +24,8 @@ pub(crate) fn words_of(alloc: Global, words: &[&str]) -> Result<Vec<String>, All
     Ok(owned)
 }
 
-fn four_devices(alloc: Global) -> Result<Vec<Box<dyn Device>>, Fail>
+/// The devices of the program.
+pub(crate) fn four_devices(alloc: Global) -> Result<Vec<Box<dyn Device>>, Fail>
     ensures { IfOk result (λ devices. vec_len devices ≡ 4) }
 {
     let mut devices: Vec<Box<dyn Device>> = Vec::new(alloc);

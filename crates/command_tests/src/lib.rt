@@ -1,4 +1,4 @@
-//! Tests of the top call, on files in memory and with devices that the program has. They stand in a crate of their own, so that the
+//! Tests of the top call and of the commands that run scripts, on files in memory and with the devices that the program has. They stand in a crate of their own, so that the
 //! proofs of the commands aren't made twice.
 #![tactic(auto)]
 
@@ -6,5 +6,9 @@
 mod calls;
 #[cfg(test)]
 mod compile_tests;
+#[cfg(test)]
+mod run_tests;
+#[cfg(test)]
+mod sample_tests;
 #[cfg(test)]
 mod top_tests;

@@ -14,8 +14,3 @@ pub use exec_command::exec;
 pub use once_command::once;
 pub use run_command::run;
 pub use sample_command::sample;
-
-#[cfg(test)]
-mod sample_tests;
-#[cfg(test)]
-mod tests;

@@ -1,27 +1,15 @@
-use crate::sample;
+use crate::calls::four_devices;
 use command_files::{Ending, Place, Rule};
-use latent_natives::{Device, Dice, Latch, Sum, Tape};
+use latent_natives::Device;
 use papy_io::MemorySink;
-use scene_runner::SceneRule;
-use std::alloc::Global;
+use run_commands::sample;
+use scene_reader::SceneRule;
 use std::test::Fail;
-
-fn four_devices(alloc: Global) -> Result<Vec<Box<dyn Device>>, Fail> {
-    let mut devices: Vec<Box<dyn Device>> = Vec::new(alloc);
-    devices.push(Box::new(alloc, Tape::new(alloc)?)?)?;
-    devices.push(Box::new(alloc, Sum::new(alloc)?)?)?;
-    devices.push(Box::new(alloc, Latch::new(alloc)?)?)?;
-    devices.push(Box::new(alloc, Dice::new(alloc)?)?)?;
-    Ok(devices)
-}
 
 #[test]
 fn two_workers_add_a_thousand_to_the_total(rt: HostRuntime) -> Result<(), Fail> {
     let alloc = rt.alloc();
     let mut devices = four_devices(alloc)?;
-    if devices.len() > 9 {
-        return Err(Fail::from("four devices"));
-    }
     let mut out = MemorySink::new(alloc, Vec::new(alloc));
     let ending = sample(alloc, 2, &mut out, &mut devices);
     assert!(rt; matches!(&ending, Ending::Done));

@@ -1,10 +1,10 @@
 ghost use Rattle.std.specs.Prelude.{◌≡◌, IfOk, vec_len};
 ghost use Rattle.papy_io.specs.Activity.{Idle};
 
-use crate::{exec, once, run};
+use crate::calls::four_devices;
 use command_files::Ending;
-use latent_natives::Device;
 use papy_io::{MemoryDesk, MemorySink};
+use run_commands::{exec, once, run};
 use std::alloc::{AllocError, Global};
 use std::test::Fail;
 
@@ -57,7 +57,7 @@ fn a_trace_lets_the_other_call_in(rt: HostRuntime) -> Result<(), Fail> {
     let mut desk = desk_with(alloc, TWO_CALLS, b"C.psc", COUNTER)?;
     let words = scene_and(alloc, "C.psc")?;
     let mut out = MemorySink::new(alloc, Vec::new(alloc));
-    let mut devices: Vec<Box<dyn Device>> = Vec::new(alloc);
+    let mut devices = four_devices(alloc)?;
     let ending = run(alloc, words.as_slice(), &mut desk, &mut out, &mut devices);
     let report: &[u8] = b"#0 x\n#1 x\nturns 4\nc : C @\n  N = 1\nstack 0 done\nstack 1 done\n";
     assert!(rt; matches!(ending, Ending::Done));
@@ -71,7 +71,7 @@ fn a_failed_write_leaves_the_lines_before_it(rt: HostRuntime) -> Result<(), Fail
     let mut desk = desk_with(alloc, ONE_QUEST, b"F.pex", &EMPTY)?;
     let words = scene_and(alloc, "F.pex")?;
     let mut out = MemorySink::new(alloc, Vec::from_slice(alloc, &[1])?);
-    let mut devices: Vec<Box<dyn Device>> = Vec::new(alloc);
+    let mut devices = four_devices(alloc)?;
     let ending = exec(alloc, words.as_slice(), &mut desk, &mut out, &mut devices);
     assert!(rt; matches!(ending, Ending::WriteFault));
     assert!(rt; out.bytes() == b"turns 0\n".as_slice());
@@ -86,7 +86,7 @@ fn a_script_that_is_not_held_is_named_by_its_word(rt: HostRuntime) -> Result<(),
     let alloc = rt.alloc();
     let mut desk = desk_with(alloc, TWO_CALLS, b"C.psc", COUNTER)?;
     let mut out = MemorySink::new(alloc, Vec::new(alloc));
-    let mut devices: Vec<Box<dyn Device>> = Vec::new(alloc);
+    let mut devices = four_devices(alloc)?;
     let words = scene_and(alloc, "D.psc")?;
     let ending = run(alloc, words.as_slice(), &mut desk, &mut out, &mut devices);
     assert!(rt; matches!(ending, Ending::ReadFault { word: 2 }));
