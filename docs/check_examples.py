@@ -5,20 +5,23 @@
   check_examples.py PAGE..            these pages
   check_examples.py --program PATH    another program than crates/papyrus/out/papyrus
 
-What is run is in the fences of a page, in their order. Under each heading of the second level a new folder begins.
+What is run is in the fences of a page, in their order. Under each heading of the second level a new folder begins, with the
+launcher `papyrus` and the folder `examples` in it, unless the page has changed to another folder by `cd`.
 
   papyrus A.psc, json s.json,     the file of this name
   listing J.txt
   hex A.pex                       the file with these bytes
   papyrus                         A.psc, whose OnInit has these lines; or, where they begin with ScriptName, A.psc itself
   listing                         J.txt, these lines behind those of the page's last fence `listing J.txt`
-  console                         commands behind `$ `, each with what it prints; `..` stands for lines that are left out
+  console, and fences without     commands behind `$ `, each with what it prints; `..` stands for lines that are left out
+  a first word that begin so
   (nothing)                       where it is one line of a refusal: what a command tells of the files since the last heading
 """
 import argparse
 import os
 import pathlib
 import re
+import shutil
 import subprocess
 import sys
 import tempfile
@@ -61,10 +64,18 @@ class Page:
         self.path = path
         self.program = program
         self.room = None
+        self.place = None
         self.base = []
         self.names = []
         self.wrong = []
         self.count = 0
+
+    def enter(self, room):
+        """Begins a new folder."""
+        self.room = self.place = room
+        shutil.copytree(DOCS.parent / "examples", room / "examples")
+        (room / "papyrus").write_text(f'#!/bin/sh\nexec "{self.program}" "$@"\n')
+        (room / "papyrus").chmod(0o755)
 
     def lay(self, name, content):
         (self.room / name).parent.mkdir(parents=True, exist_ok=True)
@@ -75,12 +86,15 @@ class Page:
     def shell(self, command):
         ran = subprocess.run(
             ["sh", "-c", 'papyrus() { "$PROGRAM" "$@"; }\n' + command],
-            cwd=self.room, stdout=subprocess.PIPE, stderr=subprocess.STDOUT, stdin=subprocess.DEVNULL, timeout=SECONDS,
+            cwd=self.place, stdout=subprocess.PIPE, stderr=subprocess.STDOUT, stdin=subprocess.DEVNULL, timeout=SECONDS,
             env={**os.environ, "PROGRAM": str(self.program)},
         )
         return ran.stdout.decode("utf-8", "backslashreplace").splitlines()
 
     def compare(self, line, command, wanted):
+        if command.startswith("cd "):
+            self.place = (self.place / command[3:]).resolve()
+            return
         self.count += 1
         found = self.shell(command)
         if not agrees(wanted, found):
@@ -137,7 +151,7 @@ class Page:
             self.lay(name, bytes.fromhex("".join(text.split("#")[0] for text in lines)))
         elif kind == "json" and name:
             self.lay(name, "".join(text + "\n" for text in lines).encode())
-        elif kind == "console":
+        elif kind == "console" or (kind == "" and lines and lines[0].startswith("$ ")):
             self.console(line, lines)
         elif kind == "" and len(lines) == 1 and self.names and REFUSAL.fullmatch(lines[0]):
             self.refusal(line, lines[0], REFUSAL.fullmatch(lines[0]).group(1))
@@ -145,8 +159,8 @@ class Page:
     def run(self):
         with tempfile.TemporaryDirectory(prefix="papyrus-docs-") as top:
             for line, kind, name, lines in fences(self.path.read_text()):
-                if self.room is None or (kind == "heading" and len(name) <= 2):
-                    self.room = pathlib.Path(tempfile.mkdtemp(dir=top))
+                if self.room is None or (kind == "heading" and len(name) <= 2 and self.place == self.room):
+                    self.enter(pathlib.Path(tempfile.mkdtemp(dir=top)))
                 if kind == "heading":
                     self.names = []
                 else:
