@@ -13,8 +13,8 @@ launcher `papyrus` and the folder `examples` in it, unless the page has changed 
   hex A.pex                       the file with these bytes
   papyrus                         A.psc, whose OnInit has these lines; or, where they begin with ScriptName, A.psc itself
   listing                         J.txt, these lines behind those of the page's last fence `listing J.txt`
-  console, and fences without     commands behind `$ `, each with what it prints; `..` stands for lines that are left out
-  a first word that begin so
+  console                         commands behind `$ `, each with what it prints; `..` stands for lines that are left out
+  (nothing)                       where it begins with `$ `, the same, but that what isn't shown isn't compared
   (nothing)                       where it is one line of a refusal: what a command tells of the files since the last heading
 """
 import argparse
@@ -101,14 +101,14 @@ class Page:
             self.wrong.append(f"{self.path}:{line}: {command}")
             self.wrong += [f"  page  {text}" for text in wanted] + [f"  found {text}" for text in found[:20]]
 
-    def console(self, line, lines):
+    def console(self, line, lines, whole=True):
         command, wanted = None, []
         for text in [*lines, "$ "]:
             if not text.startswith("$ "):
                 wanted.append(text)
                 continue
             if command is not None:
-                self.compare(line, command, wanted)
+                self.compare(line, command, wanted if wanted or whole else [".."])
             command, wanted = text[2:], []
 
     def refusal(self, line, text, letter):
@@ -152,7 +152,7 @@ class Page:
         elif kind == "json" and name:
             self.lay(name, "".join(text + "\n" for text in lines).encode())
         elif kind == "console" or (kind == "" and lines and lines[0].startswith("$ ")):
-            self.console(line, lines)
+            self.console(line, lines, kind == "console")
         elif kind == "" and len(lines) == 1 and self.names and REFUSAL.fullmatch(lines[0]):
             self.refusal(line, lines[0], REFUSAL.fullmatch(lines[0]).group(1))
 
