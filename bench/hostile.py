@@ -24,6 +24,7 @@ import collections
 import concurrent.futures
 import itertools
 import json
+import multiprocessing
 import os
 import pathlib
 import random
@@ -62,11 +63,13 @@ NOTES = {
 class Corpus:
     """The sets of files of cases and examples with their words, those of them that end with status 0, and all files by kind."""
 
-    def __init__(self, folders):
+    def __init__(self):
         self.sets = []
         self.good = []
         self.kinds = collections.defaultdict(list)
         self.kinds["json"].append(b'{"version":1,"instances":[{"name":"a","script":"A"}],"calls":[],"order":"round","turns":9}\n')
+
+    def take_all(self, folders):
         for folder in folders:
             for inner in sorted(path for path in folder.iterdir() if path.is_dir()):
                 self.take(inner)
@@ -79,6 +82,9 @@ class Corpus:
             self.sets.append((words, files))
         for name, content in files.items():
             self.kinds[kind_of(name)].append(content)
+
+
+CORPUS = Corpus()
 
 
 def laid(path):
@@ -332,9 +338,9 @@ def asked(program, words, room, memory=None, full=False):
     """The status of one run, and what is wrong with it or nothing. The status is None where the run couldn't begin."""
     limited = ["prlimit", f"--as={memory}"] if memory else []
     before = set(os.listdir(room))
-    with open("/dev/full" if full else os.devnull, "wb") as sink, tempfile.TemporaryFile() as out:
+    with open("/dev/full", "wb") as sink:
         try:
-            ran = subprocess.Popen([*limited, str(program), *words], cwd=room, stdin=subprocess.DEVNULL, stdout=sink if full else out, stderr=subprocess.PIPE)
+            ran = subprocess.Popen([*limited, str(program), *words], cwd=room, stdin=subprocess.DEVNULL, stdout=sink if full else subprocess.PIPE, stderr=subprocess.PIPE)
         except ValueError:
             return None, None
         try:
@@ -342,13 +348,12 @@ def asked(program, words, room, memory=None, full=False):
         except ProcessLookupError:
             pass
         try:
-            notes = ran.communicate(timeout=60 * SECONDS)[1]
+            out, notes = ran.communicate(timeout=60 * SECONDS)
         except subprocess.TimeoutExpired:
             ran.kill()
             ran.communicate()
             return ran.returncode, f"no end within {60 * SECONDS} seconds"
-        out.seek(0)
-        what = judged(ran.returncode, out.read(1 << 20), notes)
+        what = judged(ran.returncode, out, notes)
     if ran.returncode in (-24, -9) and is_long(words, room):
         return "long", None
     if what is None and ran.returncode not in (0, 1, 4) and set(os.listdir(room)) != before:
@@ -384,14 +389,11 @@ def played(program, steps, files, memory=None, full=False):
     return counts, wrong
 
 
-def some_rounds(program, seed, numbers, folders):
-    """The rounds of these numbers, on a corpus that is made once for each process."""
-    if not hasattr(some_rounds, "corpus"):
-        some_rounds.corpus = Corpus(folders)
-        compiled(program, some_rounds.corpus)
+def some_rounds(program, seed, numbers):
+    """The rounds of these numbers. The corpus is that of the process which began this one."""
     counts, wrong = collections.Counter(), []
     for number in numbers:
-        made = Round(seed, number, some_rounds.corpus)
+        made = Round(seed, number, CORPUS)
         found, bad = played(program, made.steps, made.files, made.memory, made.full)
         counts += found
         wrong += [f"round {number}: {text}" for text in bad]
@@ -402,9 +404,11 @@ def all_rounds(program, words):
     """Each part's counts and faults, as it ends."""
     if words.limits_only:
         return
+    CORPUS.take_all(words.corpus)
+    compiled(program, CORPUS)
     parts = [range(start, min(start + PARTS, words.rounds)) for start in range(0, words.rounds, PARTS)]
-    with concurrent.futures.ProcessPoolExecutor(words.j) as pool:
-        yield from pool.map(some_rounds, *zip(*((program, words.seed, part, words.corpus) for part in parts)))
+    with concurrent.futures.ProcessPoolExecutor(words.j, multiprocessing.get_context("fork")) as pool:
+        yield from pool.map(some_rounds, *zip(*((program, words.seed, part) for part in parts)))
 
 
 def all_limits(program, words):
