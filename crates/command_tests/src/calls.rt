@@ -59,11 +59,7 @@ pub(crate) fn call_failing(
 }
 
 /// Runs the command of these words.
-pub(crate) fn call(
-    alloc: Global,
-    desk: &mut MemoryDesk,
-    words: &[String],
-) -> Result<Answer, Fail>
+pub(crate) fn call(alloc: Global, desk: &mut MemoryDesk, words: &[String]) -> Result<Answer, Fail>
     requires { desk.old.busy ≡ Idle }
     ensures { desk.new.busy ≡ Idle }
 {

@@ -1,6 +1,6 @@
 -- What a command answers to its words and to the files that are held.
-use Rattle.std.specs.Prelude.{◌≡◌, ◌⊎◌, ℕ, List, [], ◌∷◌, length, take, drop, Option, Some, None, IfSome}
-use Rattle.papy_io.specs.Files.{Files, told_bytes}
+use Rattle.std.specs.Prelude.{◌≡◌, ℕ, List, [], length, drop, Option, Some, None}
+use Rattle.papy_io.specs.Files.{Files}
 use Rattle.papyrus_cmd.specs.declared.command.Command.{Command}
 use Rattle.papyrus_cmd.specs.declared.command.Command.TheVariants as command
 use Rattle.papyrus_cmd.specs.declared.command.FileCommand.{FileCommand}

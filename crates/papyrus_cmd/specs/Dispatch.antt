@@ -1,5 +1,5 @@
 -- How many words a command may have behind it.
-use Rattle.std.specs.Prelude.{ℕ, ◌<◌, ◌≤◌}
+use Rattle.std.specs.Prelude.{ℕ, ◌≤◌}
 use Rattle.papyrus_cmd.specs.declared.command.FileCommand.{FileCommand}
 use Rattle.papyrus_cmd.specs.declared.command.FileCommand.TheVariants.{Compile, Check, Show, Asm, Upgrade}
 use Rattle.papyrus_cmd.specs.declared.command.PlayCommand.{PlayCommand}

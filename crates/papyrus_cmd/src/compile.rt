@@ -7,8 +7,8 @@ ghost use Rattle.papyrus_cmd.specs.Answers.{CompileAnswersTo};
 ghost use Rattle.papyrus_cmd.specs.Compile.{CompileLeaves};
 ghost use Rattle.command_files.specs.Ending.{CountsReads, CountsWrites, IsWordBelow, MissesScript};
 
-use command_files::{Ending, accept, compile_set};
 use crate::written::write_each;
+use command_files::{Ending, accept, compile_set};
 use papy_io::Desk;
 use std::alloc::Global;
 

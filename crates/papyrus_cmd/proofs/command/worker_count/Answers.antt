@@ -1,5 +1,5 @@
-use Rattle.std.proofs.Common.{arith, rules, ◌≡◌, ◌≢◌, ◌∙◌, sym, ap, ℕ, Bool, true, false, ◌<◌, ◌≤◌, ◌^◌, length, get_or, List, [], ◌∷◌, refl, nat_le, nat_lt, if◌then◌else◌, ◌&&◌}
-use Rattle.std.specs.Prelude.{Option, Some, None, Result, Ok, Err}
+use Rattle.std.proofs.Common.{arith, rules, ◌≡◌, ◌≢◌, ◌∙◌, sym, ℕ, Bool, true, false, ◌<◌, ◌≤◌, ◌^◌, length, get_or, List, [], ◌∷◌, refl, nat_le, if◌then◌else◌, ◌&&◌}
+use Rattle.std.specs.Prelude.{Some, None, Result, Ok, Err}
 use Rattle.std.specs.Str.{all_ascii_digits}
 use Rattle.std.specs.String.{string_bytes}
 use Rattle.std.specs.Str.Parse.{ParsesUnsigned}

@@ -1,4 +1,4 @@
-use Rattle.std.proofs.Common.{◌≡◌, sym, ◌∙◌, ap}
+use Rattle.std.proofs.Common.{sym, ◌∙◌, ap}
 use Rattle.std.specs.Prelude.{Some}
 use Rattle.papyrus_cmd.specs.declared.command.Command.TheVariants.{Files, Play}
 use Rattle.papyrus_cmd.proofs.OutputsOf.{command_outputs}
