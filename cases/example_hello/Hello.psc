@@ -1,1 +1,5 @@
-../../examples/hello/Hello.psc
+ScriptName Hello
+Event OnInit()
+Debug.Trace("hello")
+Debug.Trace("from a script")
+EndEvent
