@@ -66,6 +66,7 @@ class Corpus:
     def __init__(self):
         self.sets = []
         self.good = []
+        self.least_memory = 0
         self.kinds = collections.defaultdict(list)
         self.kinds["json"].append(b'{"version":1,"instances":[{"name":"a","script":"A"}],"calls":[],"order":"round","turns":9}\n')
 
@@ -108,6 +109,12 @@ def compiled(program, corpus):
             if words and subprocess.run([str(program), *words], cwd=room, capture_output=True).returncode == 0:
                 corpus.good.append((words, files))
             add_compiled(program, corpus, pathlib.Path(room), files)
+
+
+def least_memory(program):
+    """The bytes of memory with which the program begins, and a few more."""
+    step = 1 << 16
+    return next(size * step for size in itertools.count(32) if not subprocess.run(["prlimit", f"--as={size * step}", str(program), "--version"], capture_output=True).returncode) + step
 
 
 def add_compiled(program, corpus, room, files):
@@ -249,7 +256,7 @@ class Round:
         self.files = dict(files)
         self.spoil(chance.choice((0, 1, 1, 1, 2, 3)))
         getattr(self, chance.choice(("same", "same", "ordered", "ordered", "other", "other", "relisted", "loose", "loose", "any_words")))(words)
-        self.memory = chance.choice((6, 7, 8, 10, 16, 40)) << 20 if chance.random() < 0.03 else None
+        self.memory = corpus.least_memory + chance.randrange(chance.choice((1 << 18, 1 << 20, 1 << 24))) if chance.random() < 0.1 else None
         self.full = chance.random() < 0.01
 
     def spoil(self, count):
@@ -406,6 +413,7 @@ def all_rounds(program, words):
         return
     CORPUS.take_all(words.corpus)
     compiled(program, CORPUS)
+    CORPUS.least_memory = least_memory(program)
     parts = [range(start, min(start + PARTS, words.rounds)) for start in range(0, words.rounds, PARTS)]
     with concurrent.futures.ProcessPoolExecutor(words.j, multiprocessing.get_context("fork")) as pool:
         yield from pool.map(some_rounds, *zip(*((program, words.seed, part) for part in parts)))

@@ -54,6 +54,21 @@ def script_sizes():
         yield one_script("functions", filled(HEAD, b"Function F()\nEndFunction\n", size), "5")
 
 
+def expression_of(tokens):
+    """An expression of so many tokens, and of far fewer parts."""
+    count, rest = divmod(tokens - 9, 10)
+    return b"- " * (rest % 2) + b"((((1))))" + b" + ((((1))))" * count + b" + 1" * (rest // 2)
+
+
+def default_texts(count, size):
+    """Calls of functions that write out so many texts."""
+    places = range(count)
+    functions = b"".join(b'Function F%d(String a = "%s")\nEndFunction\n' % (place, b"%04d" % place + b"t" * (size - 4)) for place in places)
+    starts = range(0, count, 1000)
+    calls = b"".join(b"Function G%d()\n" % start + b"".join(b"F%d()\n" % place for place in places[start : start + 1000]) + b"EndFunction\n" for start in starts)
+    return HEAD + functions + calls + EVENT + END
+
+
 def script_limits():
     yield from pairs(65535, lambda n: HEAD + EVENT + END + b"\n" * (n - 3), "lines")
     yield from pairs(255, lambda n: event(b"Int " + b"a" * n), "bytes of a name")
@@ -62,15 +77,14 @@ def script_limits():
     yield from pairs(64, lambda n: event(b"Int i = " + b"(" * n + b"1" + b")" * n), "brackets")
     yield from pairs(64, lambda n: event(*[b"If True"] * n, *[b"EndIf"] * n), "If blocks")
     yield from pairs(64, lambda n: event(*[b"While False"] * n, *[b"EndWhile"] * n), "While blocks")
-    yield from pairs(8000, lambda n: event(b"1" + b" + 1" * ((n - 1) // 2) + (b"" if n % 2 else b" ;")[:0] + (b" )" if n % 2 == 0 else b"")), "tokens", "5")
+    yield from pairs(8000, lambda n: event(b"Int i = " + expression_of(n - 3)), "tokens")
     yield from pairs(20000, lambda n: b"ScriptName A\n" + b"".join(b"Int v%d\n" % number for number in range(n - 2)) + EVENT + END, "words")
     yield from pairs(128, lambda n: event(b"Int[] a = New Int[%d]" % n), "elements of an array")
     yield from pairs(4000, lambda n: event(*[b"Return"] * n), "parts of a function")
     functions = b"".join(b"Function F%d()\n" % number + b"1\n" * 2000 + b"EndFunction\n" for number in range(49))
     yield from pairs(200000 - 49 * 4000, lambda n: event(*[b"Return"] * (n - 14), head=HEAD + functions), "parts of a script", None, None)
-    many = b"".join(b'Function F%d(String a = "t%d")\nEndFunction\n' % (number, number) for number in range(8193))
-    yield from pairs(8192, lambda n: HEAD + many + b"".join(
-        b"Function G%d()\n" % first + b"".join(b"F%d()\n" % number for number in range(first, min(first + 1000, n))) + b"EndFunction\n" for first in range(0, n, 1000)) + EVENT + END, "default texts")
+    yield from pairs(8192, lambda n: default_texts(n, 5), "default texts")
+    yield from pairs(512, lambda n: default_texts(n, 1024), "default texts of 1,024 bytes")
 
 
 def nested_scripts():
@@ -80,6 +94,9 @@ def nested_scripts():
         yield one_script(f"calls {depth}", event(b"F(" * depth + b"1" + b")" * depth, head=HEAD + b"Int Function F(Int a)\nReturn a\nEndFunction\n"), None)
         yield one_script(f"indexes {depth}", event(b"Int[] a = New Int[1]", b"Int i = " + b"a[" * depth + b"0" + b"]" * depth), None)
         yield one_script(f"right sides {depth}", event(b"Bool b = " + b"True || (" * depth + b"True" + b")" * depth), None)
+        deepest = b"0 || 1 && 1 == 1 + 1 * -F(" * depth + b"True" + b")" * depth
+        yield one_script(f"all right sides {depth}", event(b"Bool b = " + deepest, head=HEAD + b"Int Function F(Bool b)\nReturn b as Int\nEndFunction\n"), None)
+        yield one_script(f"all right sides in blocks {depth}", event(*[b"If " + deepest] * min(depth, 64), *[b"EndIf"] * min(depth, 64), head=HEAD + b"Int Function F(Bool b)\nReturn b as Int\nEndFunction\n"), None)
         yield one_script(f"while and if {depth}", event(*[b"While True", b"If True"] * (depth // 2), *[b"EndIf", b"EndWhile"] * (depth // 2)), None)
     for count in (1000, 2600, 3999, 4001):
         for name, unit in (("plus", b" + 1"), ("equal", b" == 1"), ("and", b" && 1"), ("or", b" || 1"), ("times", b" * 1")):
@@ -97,7 +114,8 @@ def script_sets():
         files["s.json"] = json.dumps(scene()).replace('"A"', '"S0"').encode()
         status = "0" if count == 256 else "2"
         scripts = [name for name in files if name.endswith(".psc")]
-        yield f"{count} scripts", [["once", *scripts], ["compile", *scripts], ["run", "s.json", *scripts]], files, status
+        values = [f"{name}.pex" for name in names]
+        yield f"{count} scripts", [["once", *scripts], ["compile", *scripts], ["run", "s.json", *scripts], ["exec", "s.json", *values]], files, status
         yield f"{count} compiled files", [["exec", "s.json", *(["A.pex"] * count)]], {"s.json": b"{}", "A.pex": b""}, "7" if count == 256 else "2"
     chain = {f"S{number}.psc": (f"ScriptName S{number} extends S{number + 1}\n" if number < 255 else f"ScriptName S{number}\nEvent OnInit()\nEndEvent\n").encode() for number in range(256)}
     yield "a chain of 256 parents", [["once", *chain], ["compile", *chain]], chain, "0"
