@@ -112,9 +112,9 @@ def compiled(program, corpus):
 
 
 def least_memory(program):
-    """The bytes of memory with which the program begins, and a few more."""
-    step = 1 << 16
-    return next(size * step for size in itertools.count(32) if not subprocess.run(["prlimit", f"--as={size * step}", str(program), "--version"], capture_output=True).returncode) + step
+    """The bytes of data with which the program begins, and a few more. A limit of all memory would count the stack too, which can't tell that it may not grow."""
+    step = 1 << 14
+    return next(size * step for size in itertools.count(1) if not subprocess.run(["prlimit", f"--data={size * step}", str(program), "--version"], capture_output=True).returncode) + step
 
 
 def add_compiled(program, corpus, room, files):
@@ -256,7 +256,7 @@ class Round:
         self.files = dict(files)
         self.spoil(chance.choice((0, 1, 1, 1, 2, 3)))
         getattr(self, chance.choice(("same", "same", "ordered", "ordered", "other", "other", "relisted", "loose", "loose", "any_words")))(words)
-        self.memory = corpus.least_memory + chance.randrange(chance.choice((1 << 18, 1 << 20, 1 << 24))) if chance.random() < 0.1 else None
+        self.memory = corpus.least_memory + chance.randrange(chance.choice((1 << 16, 1 << 18, 1 << 20))) if chance.random() < 0.1 else None
         self.full = chance.random() < 0.01
 
     def spoil(self, count):
@@ -343,7 +343,7 @@ def judged(status, out, notes):
 
 def asked(program, words, room, memory=None, full=False):
     """The status of one run, and what is wrong with it or nothing. The status is None where the run couldn't begin."""
-    limited = ["prlimit", f"--as={memory}"] if memory else []
+    limited = ["prlimit", f"--data={memory}"] if memory else []
     before = set(os.listdir(room))
     with open("/dev/full", "wb") as sink:
         try:
