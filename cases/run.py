@@ -30,7 +30,6 @@ import concurrent.futures
 import difflib
 import os
 import pathlib
-import resource
 import subprocess
 import sys
 import tempfile
@@ -39,8 +38,6 @@ CASES = pathlib.Path(__file__).resolve().parent
 PROGRAM = CASES.parent / "crates" / "papyrus" / "out" / "papyrus"
 EXPECTED = {"args", "status", "out", "notes", "after", "listed", "made", "judge", "closed", "room", "generate", "earlier"}
 SECONDS = 60
-# As much stack as the launcher gives the program.
-STACK = 64 << 20
 # Runs the words behind the first one, whose files may have so many bytes as the first one says.
 WITH_ROOM = """import os, resource, sys
 resource.setrlimit(resource.RLIMIT_FSIZE, (int(sys.argv[1]), int(sys.argv[1])))
@@ -168,16 +165,7 @@ def run(case):
         return wrong or judged(case, room)
 
 
-def give_stack():
-    """Gives this process, and so the programs that it runs, as much stack as the launcher gives."""
-    soft, hard = resource.getrlimit(resource.RLIMIT_STACK)
-    wanted = STACK if hard == resource.RLIM_INFINITY else min(STACK, hard)
-    if soft != resource.RLIM_INFINITY and soft < wanted:
-        resource.setrlimit(resource.RLIMIT_STACK, (wanted, hard))
-
-
 def main():
-    give_stack()
     words = sys.argv[1:]
     jobs = os.cpu_count() or 1
     if "-j" in words:
