@@ -23,8 +23,3 @@ mod writer;
 
 pub use emitter::{PRELUDE_COUNT, emit};
 pub use faults::EmitFault;
-
-#[cfg(test)]
-mod test_sets;
-#[cfg(test)]
-mod tests;

@@ -14,6 +14,3 @@ mod tree;
 pub use fault::{LineFault, LineRule};
 pub use form::parse_line;
 pub use tree::{Argument, Constant, Expr, Heading, LineForm, LineTree, Parameter, TypeName};
-
-#[cfg(test)]
-mod tests;

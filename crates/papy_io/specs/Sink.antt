@@ -13,3 +13,8 @@ abbrev pub SinkWrites : {T : Type 0} → Result T IoFault → List ℕ → Optio
 SinkWrites (Ok _) bytes before now = Appended bytes before now
 SinkWrites (Err Failed) bytes before now = (n : ℕ) × Appended (take n bytes) before now
 SinkWrites (Err OutOfMemory) bytes before now = now ≡ before
+
+-- some bytes were appended, or none
+pub record AppendsSome (before now : Option (List ℕ)) : Type 0 where
+  pub bytes : List ℕ
+  pub appended : Appended bytes before now

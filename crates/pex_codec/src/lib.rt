@@ -23,6 +23,3 @@ pub use encoding::encode;
 pub use faults::{EncodeFault, PexFault, PexRule};
 pub use laws::one_spelling;
 pub use progress::Fed;
-
-#[cfg(test)]
-mod tests;

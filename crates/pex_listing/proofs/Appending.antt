@@ -3,8 +3,7 @@ use Rattle.std.proofs.Common.{◌≡◌, ℕ, List, [], ◌++◌, append_assoc, 
 use Rattle.std.specs.Prelude.{Option, None, Some, Result, Ok, Err}
 use Rattle.papy_io.specs.declared.fault.IoFault.{IoFault}
 use Rattle.papy_io.specs.declared.fault.IoFault.TheVariants.{Failed, OutOfMemory}
-use Rattle.papy_io.specs.Sink.{Appended, SinkWrites}
-use Rattle.pex_listing.specs.Showing.{AppendsSome}
+use Rattle.papy_io.specs.Sink.{Appended, SinkWrites, AppendsSome}
 
 pub appends_nothing : (before now : Option (List ℕ)) → now ≡ before → AppendsSome before now
 appends_nothing None now same = record { bytes = []; appended = same }

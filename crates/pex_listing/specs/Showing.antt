@@ -1,7 +1,6 @@
 -- When writing a listing fails, and what is written of it.
 use Rattle.std.specs.Prelude.{◌≡◌, ℕ, List, Option, Result, Ok, Err}
 use Rattle.papy_io.specs.Count.{HasRisen}
-use Rattle.papy_io.specs.Sink.{Appended}
 use Rattle.pex_listing.specs.declared.faults.ShowFault.{ShowFault}
 use Rattle.pex_listing.specs.declared.faults.ShowFault.TheVariants.{WriteFault, OutOfMemory}
 
@@ -10,8 +9,3 @@ abbrev pub Shows : {T S : Type 0} → (S → ℕ) → Result T ShowFault → S �
 Shows faults (Ok _) old new = faults new ≡ faults old
 Shows faults (Err WriteFault) old new = HasRisen (faults old) (faults new)
 Shows faults (Err OutOfMemory) old new = faults new ≡ faults old
-
--- some bytes were appended, or none
-pub record AppendsSome (before now : Option (List ℕ)) : Type 0 where
-  pub bytes : List ℕ
-  pub appended : Appended bytes before now

@@ -2,7 +2,8 @@
 
 ghost use Rattle.pex_values.specs.Plain.{plain};
 ghost use Rattle.pex_values.specs.Shape.{IsWellShaped};
-ghost use Rattle.pex_listing.specs.Showing.{AppendsSome, Shows};
+ghost use Rattle.pex_listing.specs.Showing.{Shows};
+ghost use Rattle.papy_io.specs.Sink.{AppendsSome};
 
 use crate::faults::ShowFault;
 use crate::names::{Names, spelled_names};

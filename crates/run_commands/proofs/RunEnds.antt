@@ -12,7 +12,8 @@ use Rattle.command_files.specs.declared.refusal.Rule.{Rule}
 use Rattle.command_files.specs.Ending.{CountsReads, CountsWrites, IsWordBelow, MissesScript, compile_ending}
 use Rattle.command_files.specs.Outputs.{Outputs}
 use Rattle.scene_runner.proofs.Appending.{appends_nothing}
-use Rattle.stack_machine.specs.Machine.{AppendsSome, CountsFault}
+use Rattle.stack_machine.specs.Machine.{CountsFault}
+use Rattle.papy_io.specs.Sink.{AppendsSome}
 use Rattle.stack_machine.specs.declared.status.TurnFault.{TurnFault}
 use Rattle.stack_machine.specs.declared.status.TurnFault.TheVariants as turn
 use Rattle.run_commands.specs.Play.{Plays, PlaysSet, RefusesScene, turns_ending}

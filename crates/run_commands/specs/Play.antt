@@ -1,7 +1,7 @@
 -- How a command ends that runs a scene.
 use Rattle.std.specs.Prelude.{◌≡◌, ℕ, ◌≤◌, List, length, Option}
 use Rattle.core_tree.specs.declared.scene_tree.SceneTree.{SceneTree}
-use Rattle.stack_machine.specs.Machine.{AppendsSome}
+use Rattle.papy_io.specs.Sink.{AppendsSome}
 use Rattle.stack_machine.specs.declared.status.TurnFault.{TurnFault}
 use Rattle.stack_machine.specs.declared.status.TurnFault.TheVariants as turn
 use Rattle.command_files.specs.declared.ending.Ending.{Ending}

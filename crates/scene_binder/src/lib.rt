@@ -13,6 +13,3 @@ mod sets;
 mod values;
 
 pub use binder::bind;
-
-#[cfg(test)]
-mod tests;

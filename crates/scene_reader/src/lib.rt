@@ -19,6 +19,3 @@ mod value;
 pub use defaults::default_scene;
 pub use fault::{SceneFault, SceneRule};
 pub use reader::{read_scene, upgrade_scene};
-
-#[cfg(test)]
-mod tests;

@@ -1,7 +1,8 @@
 //! The closing report of a run.
 
 ghost use Rattle.std.specs.Prelude.{◌≡◌, ◌<◌, None, vec_len};
-ghost use Rattle.stack_machine.specs.Machine.{AppendsSome, CountsTurn};
+ghost use Rattle.stack_machine.specs.Machine.{CountsTurn};
+ghost use Rattle.papy_io.specs.Sink.{AppendsSome};
 
 use crate::lines::{instance_line, property_line, stack_line, turns_line};
 use core_tree::OutlineProperty;

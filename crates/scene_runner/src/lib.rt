@@ -10,6 +10,3 @@ pub use closing::write_closing;
 pub use runner::run_scene;
 pub use scene_binder::bind;
 pub use scene_reader::{SceneFault, SceneRule, default_scene, read_scene, upgrade_scene};
-
-#[cfg(test)]
-mod tests;

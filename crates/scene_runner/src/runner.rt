@@ -2,7 +2,8 @@
 
 ghost use Rattle.std.specs.Prelude.{◌≡◌, Err, None, IfOk, IfSome, map, vec_len};
 ghost use Rattle.latent_natives.specs.Devices.{SameKinds};
-ghost use Rattle.stack_machine.specs.Machine.{AppendsSome, CountsTurn};
+ghost use Rattle.stack_machine.specs.Machine.{CountsTurn};
+ghost use Rattle.papy_io.specs.Sink.{AppendsSome};
 
 use crate::closing::write_closing;
 use latent_natives::Device;

@@ -27,6 +27,3 @@ pub use lexer::lex;
 pub use line::{Line, Lines};
 pub use sign::Sign;
 pub use token::{Spanned, Token};
-
-#[cfg(test)]
-mod tests;

@@ -15,6 +15,3 @@ pub use parser::parse_script;
 pub use script::{
     Body, Function, Property, PropertyForm, Script, State, Statement, StatementForm, Variable,
 };
-
-#[cfg(test)]
-mod tests;

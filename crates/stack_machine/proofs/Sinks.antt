@@ -3,9 +3,9 @@ use Rattle.std.proofs.Common.{◌≡◌, ℕ, List, [], ◌++◌, Option, None, 
 use Rattle.std.specs.Option.{option_map}
 use Rattle.papy_io.specs.declared.fault.IoFault.{IoFault}
 use Rattle.papy_io.specs.declared.fault.IoFault.TheVariants.{Failed, OutOfMemory}
-use Rattle.papy_io.specs.Sink.{Appended, SinkWrites}
+use Rattle.papy_io.specs.Sink.{Appended, SinkWrites, AppendsSome}
 use Rattle.stack_machine.specs.declared.status.TurnFault.{TurnFault}
-use Rattle.stack_machine.specs.Machine.{AppendsSome, CountsFault, CountsTurn}
+use Rattle.stack_machine.specs.Machine.{CountsFault, CountsTurn}
 
 pub appended_none : (now : Option (List ℕ)) → Appended [] now now
 appended_none None = refl

@@ -3,7 +3,6 @@ use Rattle.std.specs.Prelude.{◌≡◌, ℕ, ◌+◌, List, Option, Some, Resul
 use Rattle.core_tree.specs.declared.outline.OutlineScript.{OutlineScript}
 use Rattle.core_tree.specs.declared.scene.Scene.{Scene}
 use Rattle.papy_io.specs.Count.{HasRisen}
-use Rattle.papy_io.specs.Sink.{Appended}
 use Rattle.stack_machine.specs.declared.status.TurnEnd.{TurnEnd}
 use Rattle.stack_machine.specs.declared.status.TurnEnd.TheVariants.{Ran, Idle, Ended}
 use Rattle.stack_machine.specs.declared.status.TurnFault.{TurnFault}
@@ -40,8 +39,3 @@ CountsFault OutOfMemory before now = now ≡ before
 abbrev pub CountsTurn : {T : Type 0} → Result T TurnFault → ℕ → ℕ → Type 0
 CountsTurn (Ok value) before now = now ≡ before
 CountsTurn (Err fault) before now = CountsFault fault before now
-
--- some bytes were appended, or none
-pub record AppendsSome (before now : Option (List ℕ)) : Type 0 where
-  pub bytes : List ℕ
-  pub appended : Appended bytes before now

@@ -4,7 +4,8 @@
 ghost use Rattle.std.specs.Prelude.{◌≡◌, ℕ, ◌+◌, ◌<◌, ◌≤◌, ◌^◌, false, true, Ok, Err, None, IfOk, IfSome, MatchOption, map, vec_len};
 ghost use Rattle.latent_natives.specs.Devices.{SameKinds};
 ghost use Rattle.stack_machine.specs.Casts.{IsTextOf};
-ghost use Rattle.stack_machine.specs.Machine.{turns_after, fault_after, CountsTurn, AppendsSome};
+ghost use Rattle.stack_machine.specs.Machine.{turns_after, fault_after, CountsTurn};
+ghost use Rattle.papy_io.specs.Sink.{AppendsSome};
 
 use crate::casts::text_of;
 use crate::plan::Plan;

@@ -3,7 +3,8 @@
 
 ghost use Rattle.std.specs.Prelude.{◌+◌, ◌<◌, ◌^◌, IfOk, map};
 ghost use Rattle.latent_natives.specs.Devices.{SameKinds};
-ghost use Rattle.stack_machine.specs.Machine.{CountsTurn, AppendsSome};
+ghost use Rattle.stack_machine.specs.Machine.{CountsTurn};
+ghost use Rattle.papy_io.specs.Sink.{AppendsSome};
 ghost use Rattle.stack_machine.specs.Runs.{LeadsAhead};
 
 use crate::frame::{Call, Running};

@@ -1,5 +1,5 @@
 use Rattle.std.proofs.Common.{◌≡◌}
-use Rattle.pex_listing.specs.Showing.{AppendsSome}
+use Rattle.papy_io.specs.Sink.{AppendsSome}
 use Rattle.pex_listing.proofs.showing.show_objects.Given as goal
 
 abbrev pub invariant-loop-object : goal.invariant-loop-object

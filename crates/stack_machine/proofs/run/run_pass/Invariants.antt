@@ -1,6 +1,6 @@
 use Rattle.std.proofs.Common.{◌≡◌, ◌-◌, length, map}
 use Rattle.latent_natives.specs.Devices.{SameKinds}
-use Rattle.stack_machine.specs.Machine.{AppendsSome}
+use Rattle.papy_io.specs.Sink.{AppendsSome}
 use Rattle.stack_machine.proofs.run.run_pass.Given as goal
 
 abbrev pub invariant-loop-place : goal.invariant-loop-place
