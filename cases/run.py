@@ -124,20 +124,20 @@ def lay(case, room):
     return []
 
 
-def command_of(case):
-    """The command line of a case."""
-    words = [str(PROGRAM), *words_of(case)]
+def command_of(case, through=()):
+    """The command line of a case, behind the words through which the program is run."""
+    words = [*through, str(PROGRAM), *words_of(case)]
     if (case / "room").exists():
         return [sys.executable, "-c", WITH_ROOM, expected_of(case, "room").strip(), *words]
     return words
 
 
-def answer_of(case, room):
+def answer_of(case, room, through=()):
     """The status of a run, and what it wrote to its two streams."""
     closed = expected_of(case, "closed").split()
     with open("/dev/full", "wb") as full, tempfile.TemporaryFile() as out:
         ran = subprocess.run(
-            command_of(case), cwd=room, stdin=subprocess.DEVNULL, timeout=SECONDS,
+            command_of(case, through), cwd=room, stdin=subprocess.DEVNULL, timeout=SECONDS,
             stdout=full if b"out" in closed else out,
             stderr=full if b"notes" in closed else subprocess.PIPE,
         )
