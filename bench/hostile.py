@@ -40,7 +40,7 @@ import hostile_limits
 ROOT = pathlib.Path(__file__).resolve().parent.parent
 SECONDS = 10
 PARTS = 200
-NOT_FILES = {"args", "status", "out", "notes", "after", "listed", "made", "judge", "closed", "generate", "README.md", "report"}
+NOT_FILES = {"args", "status", "out", "notes", "after", "listed", "made", "judge", "closed", "room", "memory", "generate", "earlier", "README.md", "report"}
 COMMANDS = ("once", "run", "compile", "exec", "check", "show", "asm", "upgrade", "sample")
 NUMBERS = (0, 1, 2, 3, 9, 127, 128, 129, 255, 256, 1000, 1001, 65535, 65536, 1000000, 1000001, 2**31 - 1, 2**31, 2**32, 2**63, 2**64, -1, -(2**31), -(2**63), -(2**64))
 NOTES = {

@@ -11,6 +11,7 @@ What is done before the run, and to it:
              file can stand in a case as its listing
   closed     names the streams (out, notes) that refuse every write
   room       the most bytes that standard output, and each file that is written, can take
+  memory     the most bytes of data that the program can have
 
 What is expected:
   status     the exit status, 0 where there is no such file
@@ -36,12 +37,13 @@ import tempfile
 
 CASES = pathlib.Path(__file__).resolve().parent
 PROGRAM = CASES.parent / "crates" / "papyrus" / "out" / "papyrus"
-EXPECTED = {"args", "status", "out", "notes", "after", "listed", "made", "judge", "closed", "room", "generate", "earlier"}
+EXPECTED = {"args", "status", "out", "notes", "after", "listed", "made", "judge", "closed", "room", "memory", "generate", "earlier"}
 SECONDS = 60
-# Runs the words behind the first one, whose files may have so many bytes as the first one says.
-WITH_ROOM = """import os, resource, sys
-resource.setrlimit(resource.RLIMIT_FSIZE, (int(sys.argv[1]), int(sys.argv[1])))
-os.execv(sys.argv[2], sys.argv[2:])"""
+LIMITS = {"room": "RLIMIT_FSIZE", "memory": "RLIMIT_DATA"}
+# Runs the words behind the first two, with the limit that these give.
+WITH_LIMIT = """import os, resource, sys
+resource.setrlimit(getattr(resource, sys.argv[1]), (int(sys.argv[2]), int(sys.argv[2])))
+os.execv(sys.argv[3], sys.argv[3:])"""
 
 
 def words_of(case):
@@ -127,8 +129,9 @@ def lay(case, room):
 def command_of(case, through=()):
     """The command line of a case, behind the words through which the program is run."""
     words = [*through, str(PROGRAM), *words_of(case)]
-    if (case / "room").exists():
-        return [sys.executable, "-c", WITH_ROOM, expected_of(case, "room").strip(), *words]
+    for name, limit in LIMITS.items():
+        if (case / name).exists():
+            return [sys.executable, "-c", WITH_LIMIT, limit, expected_of(case, name).strip(), *words]
     return words
 
 
