@@ -8,7 +8,6 @@ pub mod Lines
 pub mod Machine
 pub mod Natives
 pub mod Operands
-pub mod Runs
 pub mod Settings
 pub mod Stores
 pub mod Threads

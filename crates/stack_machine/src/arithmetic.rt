@@ -10,7 +10,7 @@ ghost use Rattle.stack_machine.specs.Operands.{worth_at, StoresAt};
 ghost use Rattle.stack_machine.specs.Values.{is_true};
 
 use crate::operands::Work;
-use crate::values::{are_equal, counts_as_true, number_of};
+use crate::values::are_equal;
 use core_tree::Value;
 use papy_base::{JoinFault, OutOfMemory, StackFault, Text, add, div, mul, neg, rem, sub};
 use pex_verify::LoadedInstruction;
@@ -38,8 +38,8 @@ impl Work<'_> {
     ) -> Result<Option<StackFault>, OutOfMemory>
         ensures { IfOk result (StoresComputed self.old self.new instruction.now (computed instruction.now.opcode (number_at self.old instruction.now 1) (number_at self.old instruction.now 2))) }
     {
-        let left = number_of(&self.value(instruction, 1)?);
-        let right = number_of(&self.value(instruction, 2)?);
+        let left = self.number(instruction, 1)?;
+        let right = self.number(instruction, 2)?;
         match compute(instruction.opcode, left, right) {
             Some(number) => {
                 self.write(instruction, 0, Value::Int(number))?;
@@ -56,8 +56,8 @@ impl Work<'_> {
     pub fn compare(&mut self, instruction: &LoadedInstruction) -> Result<(), OutOfMemory>
         ensures { OnOk result (StoresAt self.old self.new instruction.now 0 (values.Bool (is_ordered instruction.now.opcode (number_at self.old instruction.now 1) (number_at self.old instruction.now 2)))) }
     {
-        let left = number_of(&self.value(instruction, 1)?);
-        let right = number_of(&self.value(instruction, 2)?);
+        let left = self.number(instruction, 1)?;
+        let right = self.number(instruction, 2)?;
         let truth = is_in_order(instruction.opcode, left, right);
         self.write(instruction, 0, Value::Bool(truth))
     }
@@ -75,7 +75,7 @@ impl Work<'_> {
     pub fn invert(&mut self, instruction: &LoadedInstruction) -> Result<(), OutOfMemory>
         ensures { OnOk result (StoresAt self.old self.new instruction.now 0 (values.Bool (not (is_true (worth_at self.old instruction.now 1))))) }
     {
-        let truth = counts_as_true(&self.value(instruction, 1)?);
+        let truth = self.truth(instruction, 1)?;
         self.write(instruction, 0, Value::Bool(!truth))
     }
 
@@ -83,7 +83,7 @@ impl Work<'_> {
     pub fn negate(&mut self, instruction: &LoadedInstruction) -> Result<(), OutOfMemory>
         ensures { OnOk result (StoresAt self.old self.new instruction.now 0 (values.Int (int_wrap w32 (neg_ℤ (number_at self.old instruction.now 1))))) }
     {
-        let number = number_of(&self.value(instruction, 1)?);
+        let number = self.number(instruction, 1)?;
         self.write(instruction, 0, Value::Int(neg(number)))
     }
 

@@ -11,7 +11,6 @@ ghost use Rattle.stack_machine.specs.Operands.{worth_at};
 ghost use Rattle.stack_machine.specs.Stores.{array_in};
 
 use crate::operands::Work;
-use crate::values::number_of;
 use core_tree::{CoreType, Value};
 use instance_store::StoreFault;
 use papy_base::{OutOfMemory, StackFault};
@@ -64,7 +63,7 @@ impl Work<'_> {
         ensures { let arrays = self.old.store.now.arrays in IfOk result (StoresValue self.old self.new instruction.now (read arrays (array_in arrays (worth_at self.old instruction.now 1)) (number_at self.old instruction.now 2))) }
     {
         let value = self.value(instruction, 1)?;
-        let at = number_of(&self.value(instruction, 2)?);
+        let at = self.number(instruction, 2)?;
         let store = &*self.store;
         match store.arrays.get_at(store.array_of(&value), at) {
             Ok(value) => {
@@ -90,7 +89,7 @@ impl Work<'_> {
         ensures slots { self.new.slots.now.items ≡ self.old.slots.now.items }
     {
         let target = self.value(instruction, 0)?;
-        let at = number_of(&self.value(instruction, 1)?);
+        let at = self.number(instruction, 1)?;
         let value = self.value(instruction, 2)?;
         let store = &mut *self.store;
         let array = store.array_of(&target);
@@ -106,7 +105,7 @@ impl Work<'_> {
     {
         let target = self.value(instruction, 0)?;
         let value = self.value(instruction, 2)?;
-        let start = number_of(&self.value(instruction, 3)?);
+        let start = self.number(instruction, 3)?;
         let back = instruction.opcode == FIND_BACK;
         let store = &*self.store;
         let answer = store

@@ -6,7 +6,7 @@ ghost use Rattle.pex_verify.specs.Uses.{action_of as action_by};
 ghost use Rattle.stack_machine.specs.Calls.{reply_place};
 
 use crate::frame::{Call, Way};
-use crate::instruction::{Event, Step};
+use crate::instruction::Event;
 use crate::operands::Work;
 use core_tree::Value;
 use papy_base::{OutOfMemory, StackFault};
@@ -14,7 +14,7 @@ use pex_verify::{Action, LoadedInstruction, action_of};
 
 impl Work<'_> {
     /// callmethod: a name, an object, a result, and arguments.
-    pub fn call_method(&mut self, instruction: &LoadedInstruction) -> Result<Step, OutOfMemory> {
+    pub fn call_method(&mut self, instruction: &LoadedInstruction) -> Result<Event, OutOfMemory> {
         let Value::Instance(target) = self.value(instruction, 1)? else {
             return self.refuse(instruction, StackFault::NoneCall);
         };
@@ -33,7 +33,7 @@ impl Work<'_> {
     }
 
     /// callparent: a name, a result, and arguments.
-    pub fn call_parent(&mut self, instruction: &LoadedInstruction) -> Result<Step, OutOfMemory> {
+    pub fn call_parent(&mut self, instruction: &LoadedInstruction) -> Result<Event, OutOfMemory> {
         let Some(name) = instruction.name else {
             return self.refuse(instruction, StackFault::NoneCall);
         };
@@ -50,16 +50,13 @@ impl Work<'_> {
     }
 
     /// callstatic: a script, a name, a result, and arguments.
-    pub fn call_static(&mut self, instruction: &LoadedInstruction) -> Result<Step, OutOfMemory> {
+    pub fn call_static(&mut self, instruction: &LoadedInstruction) -> Result<Event, OutOfMemory> {
         let Some(at) = instruction.function else {
             return self.refuse(instruction, StackFault::NoneCall);
         };
         let arguments = self.arguments(instruction)?;
         match self.turn.setting.method(at) {
-            Some(function) if function.is_native => Ok(Step::Event(Event::Native {
-                at,
-                arguments,
-            })),
+            Some(function) if function.is_native => Ok(Event::Native { at, arguments }),
             _ => self.call(
                 instruction,
                 Call {
@@ -72,7 +69,7 @@ impl Work<'_> {
     }
 
     /// propget: a name, an object and a result.
-    pub fn get_property(&mut self, instruction: &LoadedInstruction) -> Result<Step, OutOfMemory> {
+    pub fn get_property(&mut self, instruction: &LoadedInstruction) -> Result<Event, OutOfMemory> {
         let Value::Instance(target) = self.value(instruction, 1)? else {
             return self.refuse(instruction, StackFault::NoneProperty);
         };
@@ -91,7 +88,7 @@ impl Work<'_> {
     }
 
     /// propset: a name, an object and a value.
-    pub fn set_property(&mut self, instruction: &LoadedInstruction) -> Result<Step, OutOfMemory> {
+    pub fn set_property(&mut self, instruction: &LoadedInstruction) -> Result<Event, OutOfMemory> {
         let Value::Instance(target) = self.value(instruction, 1)? else {
             return self.refuse(instruction, StackFault::NoneProperty);
         };
@@ -111,11 +108,11 @@ impl Work<'_> {
     }
 
     // The call, or a fault where its frame has no room.
-    fn call(&mut self, instruction: &LoadedInstruction, call: Call) -> Result<Step, OutOfMemory> {
+    fn call(&mut self, instruction: &LoadedInstruction, call: Call) -> Result<Event, OutOfMemory> {
         if !self.has_room {
             return self.refuse(instruction, StackFault::FrameLimit);
         }
-        Ok(Step::Event(Event::Called(call)))
+        Ok(Event::Called(call))
     }
 
     // A call that isn't made gives the default of its type, and the body goes on.
@@ -123,11 +120,11 @@ impl Work<'_> {
         &mut self,
         instruction: &LoadedInstruction,
         fault: StackFault,
-    ) -> Result<Step, OutOfMemory> {
+    ) -> Result<Event, OutOfMemory> {
         if let Some(place) = result_place(instruction) {
             self.write_default(instruction, place)?;
         }
-        Ok(Step::Done(Some(fault)))
+        Ok(Event::Refused(fault))
     }
 
     /// Stores the reply to a call.

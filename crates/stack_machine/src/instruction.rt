@@ -5,25 +5,28 @@ ghost use Rattle.stack_machine.specs.Operands.{worth_at, StoresAt};
 
 use crate::frame::Call;
 use crate::operands::Work;
-use crate::values::counts_as_true;
 use core_tree::Value;
 use papy_base::{OutOfMemory, StackFault};
 use pex_verify::{Action, LoadedInstruction, MethodPlace, action_of};
 
 /// What an instruction did.
-#[derive(Debug, Drop)]
+#[derive(Clone, Copy, Debug)]
 pub enum Step {
-    /// It is done, perhaps with a fault, and the next one follows.
-    Done(Option<StackFault>),
+    /// It is done, and the next one follows.
+    Done,
+    /// It is done with a fault, and the next one follows.
+    Faulted(StackFault),
     /// A jump leads to this place.
-    Jump(usize),
-    /// More than the body is needed.
-    Event(Event),
+    Jump(u16),
+    /// It did nothing yet, since it calls or returns.
+    Leaves,
 }
 
-/// What the machine does for a body.
+/// What an instruction that calls or returns asks for.
 #[derive(Debug, Drop)]
 pub enum Event {
+    /// No call can be made, and the next instruction follows.
+    Refused(StackFault),
     /// A call that needs a frame.
     Called(Call),
     /// A call of a global native.
@@ -39,22 +42,36 @@ pub enum Event {
 const JUMP_IF_TRUE: u8 = 0x15;
 
 impl Work<'_> {
-    /// Runs an instruction.
+    /// Runs an instruction, but for one that calls or returns.
     pub fn step(&mut self, instruction: &LoadedInstruction) -> Result<Step, OutOfMemory> {
+        let Some(action) = action_of(instruction.opcode) else {
+            return Ok(Step::Done);
+        };
+        match action {
+            Action::Jump => Ok(jump(instruction)),
+            Action::JumpIf => self.jump_if(instruction),
+            Action::CallMethod
+            | Action::CallParent
+            | Action::CallStatic
+            | Action::GetProperty
+            | Action::SetProperty
+            | Action::Return => Ok(Step::Leaves),
+            _ => match self.evaluate(action, instruction)? {
+                Some(fault) => Ok(Step::Faulted(fault)),
+                None => Ok(Step::Done),
+            },
+        }
+    }
+
+    /// What an instruction that calls or returns asks for. Every other one returns None.
+    pub fn leave(&mut self, instruction: &LoadedInstruction) -> Result<Event, OutOfMemory> {
         match action_of(instruction.opcode) {
-            Some(Action::Jump) => Ok(jump(instruction)),
-            Some(Action::JumpIf) => self.jump_if(instruction),
             Some(Action::CallMethod) => self.call_method(instruction),
             Some(Action::CallParent) => self.call_parent(instruction),
             Some(Action::CallStatic) => self.call_static(instruction),
             Some(Action::GetProperty) => self.get_property(instruction),
             Some(Action::SetProperty) => self.set_property(instruction),
-            Some(Action::Return) => {
-                let value = self.value(instruction, 0)?;
-                Ok(Step::Event(Event::Returned(value)))
-            }
-            Some(action) => Ok(Step::Done(self.evaluate(action, instruction)?)),
-            None => Ok(Step::Done(None)),
+            _ => Ok(Event::Returned(self.value(instruction, 0)?)),
         }
     }
 
@@ -93,17 +110,17 @@ impl Work<'_> {
 
     // jmpt, jmpf: a condition and an offset.
     fn jump_if(&mut self, instruction: &LoadedInstruction) -> Result<Step, OutOfMemory> {
-        let truth = counts_as_true(&self.value(instruction, 0)?);
+        let truth = self.truth(instruction, 0)?;
         if truth == (instruction.opcode == JUMP_IF_TRUE) {
             return Ok(jump(instruction));
         }
-        Ok(Step::Done(None))
+        Ok(Step::Done)
     }
 }
 
 fn jump(instruction: &LoadedInstruction) -> Step {
     match instruction.jump {
-        Some(landing) => Step::Jump(usize::from(landing)),
-        None => Step::Done(None),
+        Some(landing) => Step::Jump(landing),
+        None => Step::Done,
     }
 }

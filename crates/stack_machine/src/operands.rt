@@ -2,15 +2,22 @@
 
 ghost use Rattle.std.specs.Prelude.{◌≡◌, IfOk, OnOk, map, slice_index_or, slice_set};
 ghost use Rattle.core_tree.specs.declared.value.Value.TheVariants as values;
-ghost use Rattle.stack_machine.specs.Operands.{own_instance, state_in, state_with, type_at, variable_in, variable_with, worth, worth_at, Stores, StoresAt};
+ghost use Rattle.stack_machine.specs.Operands.{own_instance, state_in, state_with, type_at, variable_in, variable_with, worth, worth_at, Stores, StoresAt, StoresTyped};
+ghost use Rattle.stack_machine.specs.Instructions.{number_at};
 ghost use Rattle.stack_machine.specs.Stores.{default_in};
+ghost use Rattle.stack_machine.specs.Settings.{slot_type};
+ghost use Rattle.stack_machine.specs.Values.{is_true};
 
-use crate::setting::Setting;
+use crate::setting::{Setting, slot_type};
 use crate::store::{Store, default_of};
+use crate::values::{counts_as_true, number_of};
 use core_tree::{CoreType, Value};
 use papy_base::OutOfMemory;
 use pex_verify::{LoadedFunction, LoadedInstruction, Operand};
 use std::alloc::Global;
+
+// As many locals as most functions have. A frame puts its locals behind its arguments, so that it finds memory once.
+const USUAL_LOCALS: usize = 8;
 
 /// The turn of a stack.
 #[derive(Drop)]
@@ -35,6 +42,8 @@ pub struct Work<'a> {
     pub slots: &'a mut Vec<Value>,
     /// Whether a further frame may be pushed.
     pub has_room: bool,
+    /// The place of the instruction that comes next, or at which the body halts.
+    pub place: usize,
 }
 
 impl Work<'_> {
@@ -52,7 +61,8 @@ impl Work<'_> {
     pub fn arguments(&self, instruction: &LoadedInstruction) -> Result<Vec<Value>, OutOfMemory>
         ensures { IfOk result (λ values. values.items ≡ map (worth self.now) instruction.now.more.items) }
     {
-        let mut values = Vec::with_capacity(self.turn.alloc, instruction.more.len())?;
+        let room = instruction.more.len().saturating_add(USUAL_LOCALS);
+        let mut values = Vec::with_capacity(self.turn.alloc, room)?;
         for operand in &instruction.more {
             values.push(self.read(operand)?)?;
         }
@@ -75,6 +85,36 @@ impl Work<'_> {
         }
     }
 
+    /// The number that a fixed operand is worth.
+    pub fn number(&self, instruction: &LoadedInstruction, place: usize) -> Result<i32, OutOfMemory>
+        ensures { IfOk result (λ number. number ≡ number_at self.now instruction.now place) }
+    {
+        match instruction.fixed.get(place) {
+            Some(Operand::Int(number)) => Ok(*number),
+            Some(Operand::Slot(number)) => match self.slots.get(usize::from(*number)) {
+                Some(value) => Ok(number_of(value)),
+                None => Ok(0),
+            },
+            Some(operand) => Ok(number_of(&self.read(operand)?)),
+            None => Ok(0),
+        }
+    }
+
+    /// Whether what a fixed operand is worth counts as true.
+    pub fn truth(&self, instruction: &LoadedInstruction, place: usize) -> Result<bool, OutOfMemory>
+        ensures { IfOk result (λ truth. truth ≡ is_true (worth_at self.now instruction.now place)) }
+    {
+        match instruction.fixed.get(place) {
+            Some(Operand::Slot(number)) => match self.slots.get(usize::from(*number)) {
+                Some(value) => Ok(counts_as_true(value)),
+                None => Ok(false),
+            },
+            Some(operand) => Ok(counts_as_true(&self.read(operand)?)),
+            None => Ok(false),
+        }
+    }
+
+    #[inline(always)]
     fn read_slot(&self, number: usize) -> Result<Value, OutOfMemory>
         ensures { IfOk result (λ value. value ≡ slice_index_or self.now.slots.now.items number values.NoneValue) }
     {
@@ -136,6 +176,10 @@ impl Work<'_> {
         let Some(operand) = instruction.fixed.get(place) else {
             return Ok(());
         };
+        if let Operand::Slot(number) = operand {
+            self.keep_slot(usize::from(*number), value);
+            return Ok(());
+        }
         let setting = self.turn.setting;
         match setting.type_of(self.script, self.function, operand) {
             Some(_) => self.keep(operand, value),
@@ -143,6 +187,16 @@ impl Work<'_> {
         }
     }
 
+    // Stores a value in a parameter or local. A local of the type None drops it.
+    fn keep_slot(&mut self, number: usize, value: Value)
+        ensures { StoresTyped self.old self.new (slot_type self.old.function.now number) (Operand.Slot number) value }
+    {
+        if let Some(_) = slot_type(self.function, number) {
+            self.write_slot(number, value);
+        }
+    }
+
+    #[inline(always)]
     fn keep(&mut self, operand: &Operand, value: Value) -> Result<(), OutOfMemory>
         ensures { OnOk result (Stores self.old self.new operand.now value) }
     {
@@ -172,6 +226,7 @@ impl Work<'_> {
         self.write(instruction, place, value)
     }
 
+    #[inline(always)]
     fn write_slot(&mut self, number: usize, value: Value)
         ensures slots { self.new.slots.now.items ≡ slice_set self.old.slots.now.items number value }
         ensures instances { self.new.store.now.instances ≡ self.old.store.now.instances }

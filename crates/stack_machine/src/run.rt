@@ -1,11 +1,10 @@
 //! A body that runs, up to what ends its turn.
 #![tactic(auto, using(crate::proofs::Sinks::sinks))]
 
-ghost use Rattle.std.specs.Prelude.{◌+◌, ◌<◌, ◌^◌, IfOk, map};
+ghost use Rattle.std.specs.Prelude.{◌≡◌, ◌+◌, ◌<◌, ◌≤◌, ◌^◌, IfOk, length, map};
 ghost use Rattle.latent_natives.specs.Devices.{SameKinds};
 ghost use Rattle.stack_machine.specs.Machine.{CountsTurn};
 ghost use Rattle.papy_io.specs.Sink.{AppendsSome};
-ghost use Rattle.stack_machine.specs.Runs.{LeadsAhead};
 
 use crate::frame::{Call, Running};
 use crate::instruction::{Event, Step};
@@ -33,20 +32,24 @@ pub enum Ending {
     Returned(Value),
 }
 
-/// What ended a run of a body, and the place at which the body goes on or awaits a reply.
-#[derive(Debug, Drop)]
-pub struct Stop {
-    pub ending: Ending,
-    pub place: usize,
+// Why a row of instructions halts.
+#[derive(Clone, Copy, Debug)]
+enum Halt {
+    // The code has no more.
+    Ended,
+    // The instruction is done, with a fault.
+    Faulted(StackFault),
+    // The instruction leads to this place, which doesn't lie ahead.
+    Passed(u16),
+    // The instruction calls or returns.
+    Leaves,
 }
 
-/// What follows an instruction.
-#[derive(Debug, Drop)]
-pub enum Next {
-    /// The instruction at this place, which lies ahead.
-    At(usize),
-    /// The end of the run.
-    Stop(Stop),
+// Where a row of instructions halts, and why.
+#[derive(Clone, Copy, Debug)]
+struct Row {
+    place: usize,
+    halt: Halt,
 }
 
 /// Runs a frame's body up to the act that ends the turn: the reply that it awaited is stored, and it goes on
@@ -75,51 +78,45 @@ pub fn run_frame<S: Sink>(
         script: running.body.script(),
         slots: &mut running.slots,
         has_room,
+        place,
     };
-    let from = take_reply(&mut work, place, reply)?;
-    let stop = run_body(&mut work, sink, devices, from)?;
-    running.place = stop.place;
-    Ok(Some(stop.ending))
+    take_reply(&mut work, reply)?;
+    let ending = run_body(&mut work, sink, devices)?;
+    running.place = work.place;
+    Ok(Some(ending))
 }
 
-// Stores the reply that was awaited at a place, and gives the place at which the body goes on.
-fn take_reply(
-    work: &mut Work<'_>,
-    place: usize,
-    awaited: Option<Value>,
-) -> Result<usize, OutOfMemory> {
+// Stores the reply that was awaited, and goes on behind the act that awaited it.
+fn take_reply(work: &mut Work<'_>, awaited: Option<Value>) -> Result<(), OutOfMemory> {
     let Some(reply) = awaited else {
-        return Ok(place);
+        return Ok(());
     };
     let function = work.function;
-    if let Some(call) = function.code.get(place) {
+    if let Some(call) = function.code.get(work.place) {
         work.give(call, reply)?;
     }
-    Ok(place.saturating_add(1))
+    work.place = work.place.saturating_add(1);
+    Ok(())
 }
 
-// Runs a body from a place up to the act that ends its turn, which a loop pass does only as the last that the
-// turn may have.
+// Runs a body up to the act that ends its turn, which a loop pass does only as the last that the turn may have.
 fn run_body<S: Sink>(
     work: &mut Work<'_>,
     sink: &mut S,
     devices: &mut Vec<Box<dyn Device>>,
-    from: usize,
-) -> Result<Stop, TurnFault>
+) -> Result<Ending, TurnFault>
     ensures appended { AppendsSome (S.written sink.old) (S.written sink.new) }
     ensures count { CountsTurn result (S.faults sink.old) (S.faults sink.new) }
     ensures kinds { SameKinds (map (λ d. device_state d) devices.old.items) (map (λ d. device_state d) devices.new.items) }
 {
     let quantum = work.turn.setting.scene.quantum;
-    let mut place = from;
     for _ in 1..quantum {
-        let stop = run_pass(work, sink, devices, place)?;
-        match stop.ending {
-            Ending::Pass => place = stop.place,
-            _ => return Ok(stop),
+        match run_pass(work, sink, devices)? {
+            Ending::Pass => {}
+            ending => return Ok(ending),
         }
     }
-    run_pass(work, sink, devices, place)
+    run_pass(work, sink, devices)
 }
 
 // Runs a body up to the next act. Places only rise.
@@ -127,97 +124,133 @@ fn run_pass<S: Sink>(
     work: &mut Work<'_>,
     sink: &mut S,
     devices: &mut Vec<Box<dyn Device>>,
-    from: usize,
-) -> Result<Stop, TurnFault>
+) -> Result<Ending, TurnFault>
     ensures appended { AppendsSome (S.written sink.old) (S.written sink.new) }
     ensures count { CountsTurn result (S.faults sink.old) (S.faults sink.new) }
     ensures kinds { SameKinds (map (λ d. device_state d) devices.old.items) (map (λ d. device_state d) devices.new.items) }
 {
     let function = work.function;
     let code = function.code.as_slice();
+    let mut place = work.place;
+    while place < code.len() {
+        let row = run_row(work, code, place)?;
+        if let Some(ending) = follow(work, sink, devices, row)? {
+            return Ok(ending);
+        }
+        place = row.place + 1;
+    }
+    work.place = place;
+    Ok(returned(work)?)
+}
+
+// Runs instructions in a row, up to one after which more has to be done than going on ahead.
+fn run_row(work: &mut Work<'_>, code: &[LoadedInstruction], from: usize) -> Result<Row, OutOfMemory>
+    requires { from < length code.now }
+    ensures ahead { IfOk result (λ row. from ≤ row.place) }
+    ensures room { IfOk result (λ row. row.place + 1 < 2 ^ 64) }
+{
     let mut place = from;
     while place < code.len() {
-        match follow(work, sink, devices, &code[place], place)? {
-            Next::At(ahead) => place = ahead,
-            Next::Stop(stop) => return Ok(stop),
+        match work.step(&code[place])? {
+            Step::Done => place += 1,
+            Step::Jump(landing) if usize::from(landing) > place => place = usize::from(landing),
+            Step::Jump(landing) => return Ok(halted(place, Halt::Passed(landing))),
+            Step::Faulted(fault) => return Ok(halted(place, Halt::Faulted(fault))),
+            Step::Leaves => return Ok(halted(place, Halt::Leaves)),
         }
     }
-    let value = default_of(work.turn.alloc, function.result)?;
-    Ok(stopped(Ending::Returned(value), place))
+    Ok(halted(place, Halt::Ended))
 }
 
-fn stopped(ending: Ending, place: usize) -> Stop {
-    Stop { ending, place }
+fn halted(place: usize, halt: Halt) -> Row
+    ensures place { result.place ≡ place }
+    ensures halt { result.halt ≡ halt }
+{
+    Row { place, halt }
 }
 
-// Runs the instruction at a place. A jump that doesn't lead ahead is a loop pass.
+// A body that ends without a return gives the default of its type.
+fn returned(work: &Work<'_>) -> Result<Ending, OutOfMemory> {
+    let value = default_of(work.turn.alloc, work.function.result)?;
+    Ok(Ending::Returned(value))
+}
+
+// Does what follows a row of instructions, none where the next instruction does. A jump that doesn't lead ahead
+// is a loop pass.
 fn follow<S: Sink>(
     work: &mut Work<'_>,
     sink: &mut S,
     devices: &mut Vec<Box<dyn Device>>,
-    instruction: &LoadedInstruction,
-    place: usize,
-) -> Result<Next, TurnFault>
-    requires { place + 1 < 2 ^ 64 }
+    row: Row,
+) -> Result<Option<Ending>, TurnFault>
     ensures appended { AppendsSome (S.written sink.old) (S.written sink.new) }
     ensures count { CountsTurn result (S.faults sink.old) (S.faults sink.new) }
     ensures kinds { SameKinds (map (λ d. device_state d) devices.old.items) (map (λ d. device_state d) devices.new.items) }
-    ensures ahead { IfOk result (LeadsAhead place) }
 {
-    match work.step(instruction)? {
-        Step::Done(fault) => {
-            write_fault(work, sink, place, fault)?;
-            Ok(Next::At(place + 1))
+    work.place = row.place;
+    match row.halt {
+        Halt::Ended => Ok(Some(returned(work)?)),
+        Halt::Passed(landing) => {
+            work.place = usize::from(landing);
+            Ok(Some(Ending::Pass))
         }
-        Step::Jump(landing) if landing > place => Ok(Next::At(landing)),
-        Step::Jump(landing) => Ok(Next::Stop(stopped(Ending::Pass, landing))),
-        Step::Event(Event::Called(call)) => Ok(Next::Stop(stopped(Ending::Called(call), place))),
-        Step::Event(Event::Returned(value)) => {
-            Ok(Next::Stop(stopped(Ending::Returned(value), place)))
+        Halt::Faulted(fault) => {
+            write_fault(work, sink, fault)?;
+            Ok(None)
         }
-        Step::Event(Event::Native { at, arguments }) => {
+        Halt::Leaves => leave(work, sink, devices),
+    }
+}
+
+// Runs the instruction, which calls or returns.
+fn leave<S: Sink>(
+    work: &mut Work<'_>,
+    sink: &mut S,
+    devices: &mut Vec<Box<dyn Device>>,
+) -> Result<Option<Ending>, TurnFault>
+    ensures appended { AppendsSome (S.written sink.old) (S.written sink.new) }
+    ensures count { CountsTurn result (S.faults sink.old) (S.faults sink.new) }
+    ensures kinds { SameKinds (map (λ d. device_state d) devices.old.items) (map (λ d. device_state d) devices.new.items) }
+{
+    let function = work.function;
+    let Some(instruction) = function.code.get(work.place) else {
+        return Ok(Some(returned(work)?));
+    };
+    match work.leave(instruction)? {
+        Event::Refused(fault) => {
+            write_fault(work, sink, fault)?;
+            Ok(None)
+        }
+        Event::Called(call) => Ok(Some(Ending::Called(call))),
+        Event::Returned(value) => Ok(Some(Ending::Returned(value))),
+        Event::Native { at, arguments } => {
             let performed = perform(work.turn, at, arguments.as_slice(), sink, devices)?;
-            Ok(after_native(work, instruction, place, performed)?)
+            Ok(after_native(work, instruction, performed)?)
         }
     }
 }
 
-fn write_fault<S: Sink>(
-    work: &Work<'_>,
-    sink: &mut S,
-    place: usize,
-    fault: Option<StackFault>,
-) -> Result<(), TurnFault>
+fn write_fault<S: Sink>(work: &Work<'_>, sink: &mut S, fault: StackFault) -> Result<(), TurnFault>
     ensures appended { AppendsSome (S.written sink.old) (S.written sink.new) }
     ensures count { CountsTurn result (S.faults sink.old) (S.faults sink.new) }
 {
-    let Some(kind) = fault else {
-        return Ok(());
-    };
-    let line = fault_line(work, place, work.turn.stack, kind)?;
+    let line = fault_line(work, work.place, work.turn.stack, fault)?;
     sink.write(line.as_slice())?;
     Ok(())
 }
 
-// A prompt native is no act.
+// A prompt native is no act: its reply is stored, and the next instruction follows.
 fn after_native(
     work: &mut Work<'_>,
     instruction: &LoadedInstruction,
-    place: usize,
     performed: Performed,
-) -> Result<Next, OutOfMemory>
-    requires { place + 1 < 2 ^ 64 }
-    ensures ahead { IfOk result (LeadsAhead place) }
-{
+) -> Result<Option<Ending>, OutOfMemory> {
     let reply = performed.reply;
     match performed.rest {
-        Some(latency) => {
-            let ending = Ending::Performed { reply, latency };
-            Ok(Next::Stop(stopped(ending, place)))
-        }
+        Some(latency) => Ok(Some(Ending::Performed { reply, latency })),
         None => {
             work.give(instruction, reply)?;
-            Ok(Next::At(place + 1))
+            Ok(None)
         }
     }
 }

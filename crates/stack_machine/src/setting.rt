@@ -88,6 +88,7 @@ impl Setting {
     }
 
     /// The type of what is stored in an operand of a script's function, none where what is stored is dropped.
+    #[inline(always)]
     pub fn type_of(
         &self,
         script: u16,
@@ -109,8 +110,9 @@ impl Setting {
     }
 }
 
-// The type of a parameter or local.
-fn slot_type(function: &LoadedFunction, number: usize) -> Option<CoreType>
+/// The type of a parameter or local, none where what is stored in it is dropped.
+#[inline(always)]
+pub fn slot_type(function: &LoadedFunction, number: usize) -> Option<CoreType>
     ensures { result ≡ slot_type function.now number }
 {
     if let Some((_, kind)) = function.parameters.get(number) {

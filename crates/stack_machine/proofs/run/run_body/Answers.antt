@@ -2,21 +2,21 @@ use Rattle.std.proofs.Common.{◌∙◌}
 use Rattle.stack_machine.proofs.Sinks.{appends_more}
 use Rattle.stack_machine.proofs.run.run_body.Goals as goal
 
-pub returns-in_err-stop-clause-appended : goal.returns-in_err-stop-clause-appended
-returns-in_err-stop-clause-appended g c =
+pub returns-in_err-ending-clause-appended : goal.returns-in_err-ending-clause-appended
+returns-in_err-ending-clause-appended g c =
     appends_more _ _ _ c.loop.invariant.appended c.run_pass.ensures.appended
 
 pub returns-in_default : goal.returns-in_default
 returns-in_default g c = record {
   appended = appends_more _ _ _ c.loop.invariant.appended c.run_pass.ensures.appended;
-  count = c.in_ok-stop.ensures.count ∙ c.loop.invariant.count;
+  count = c.in_ok-ending.ensures.count ∙ c.loop.invariant.count;
   kinds = c.run_pass.ensures.kinds ∙ c.loop.invariant.kinds;
 }
 
 pub loop-preserved : goal.loop-preserved
 loop-preserved g c = record {
   appended = appends_more _ _ _ c.loop.invariant.appended c.run_pass.ensures.appended;
-  count = c.in_ok-stop.ensures.count ∙ c.loop.invariant.count;
+  count = c.in_ok-ending.ensures.count ∙ c.loop.invariant.count;
   kinds = c.run_pass.ensures.kinds ∙ c.loop.invariant.kinds;
 }
 
