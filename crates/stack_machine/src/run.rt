@@ -53,7 +53,7 @@ struct Row {
 }
 
 /// Runs a frame's body up to the act that ends the turn: the reply that it awaited is stored, and it goes on
-/// behind its act. It gives none where the frame has no body.
+/// behind its act. A frame without a body passes.
 pub fn run_frame<S: Sink>(
     turn: &Turn<'_>,
     store: &mut Store,
@@ -61,13 +61,13 @@ pub fn run_frame<S: Sink>(
     has_room: bool,
     sink: &mut S,
     devices: &mut Vec<Box<dyn Device>>,
-) -> Result<Option<Ending>, TurnFault>
+) -> Result<Ending, TurnFault>
     ensures appended { AppendsSome (S.written sink.old) (S.written sink.new) }
     ensures count { CountsTurn result (S.faults sink.old) (S.faults sink.new) }
     ensures kinds { SameKinds (map (λ d. device_state d) devices.old.items) (map (λ d. device_state d) devices.new.items) }
 {
     let Some(function) = turn.setting.function(running.body) else {
-        return Ok(None);
+        return Ok(Ending::Pass);
     };
     let (place, reply) = (running.place, running.reply.take());
     let mut work = Work {
@@ -83,7 +83,7 @@ pub fn run_frame<S: Sink>(
     take_reply(&mut work, reply)?;
     let ending = run_body(&mut work, sink, devices)?;
     running.place = work.place;
-    Ok(Some(ending))
+    Ok(ending)
 }
 
 // Stores the reply that was awaited, and goes on behind the act that awaited it.

@@ -108,9 +108,8 @@ impl World {
         ensures count { CountsTurn result (S.faults sink.old) (S.faults sink.new) }
         ensures kinds { SameKinds (map (λ d. device_state d) devices.old.items) (map (λ d. device_state d) devices.new.items) }
     {
-        if let Some(ending) = self.run_innermost(turn, sink, devices)? {
-            self.threads.act(turn.stack, turn.number, ending)?;
-        }
+        let ending = self.run_innermost(turn, sink, devices)?;
+        self.threads.act(turn.stack, turn.number, ending)?;
         Ok(())
     }
 
@@ -186,26 +185,26 @@ impl World {
         Ok(())
     }
 
-    // Runs the innermost frame's body.
+    // Runs the innermost frame's body. Where none runs, the stack passes.
     fn run_innermost<S: Sink>(
         &mut self,
         turn: &Turn<'_>,
         sink: &mut S,
         devices: &mut Vec<Box<dyn Device>>,
-    ) -> Result<Option<Ending>, TurnFault>
+    ) -> Result<Ending, TurnFault>
         ensures appended { AppendsSome (S.written sink.old) (S.written sink.new) }
         ensures count { CountsTurn result (S.faults sink.old) (S.faults sink.new) }
         ensures kinds { SameKinds (map (λ d. device_state d) devices.old.items) (map (λ d. device_state d) devices.new.items) }
     {
         let has_room = self.threads.has_room(turn.stack);
         let Some(stack) = self.threads.stack_mut(turn.stack) else {
-            return Ok(None);
+            return Ok(Ending::Pass);
         };
         match stack.innermost_mut() {
             Some(Frame::Running(running)) => {
                 run_frame(turn, &mut self.store, running, has_room, sink, devices)
             }
-            _ => Ok(None),
+            _ => Ok(Ending::Pass),
         }
     }
 }
