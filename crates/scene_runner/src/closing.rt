@@ -1,8 +1,9 @@
 //! The closing report of a run.
 
-ghost use Rattle.std.specs.Prelude.{◌≡◌, ◌<◌, None, vec_len};
+ghost use Rattle.std.specs.Prelude.{◌≡◌, ◌<◌, IfOk, None, vec_len};
 ghost use Rattle.stack_machine.specs.Machine.{CountsTurn};
-ghost use Rattle.papy_io.specs.Sink.{AppendsSome};
+ghost use Rattle.papy_io.specs.Sink.{Appended, AppendsSome};
+ghost use Rattle.scene_runner.specs.Report.{Closes};
 
 use crate::lines::{instance_line, property_line, stack_line, turns_line};
 use core_tree::OutlineProperty;
@@ -24,6 +25,7 @@ pub fn write_closing<S: Sink>(
     sink: &mut S,
 ) -> Result<(), TurnFault>
     requires { machine.now.fault ≡ None }
+    ensures closes { IfOk result (λ _. Closes machine.now.turns (S.written sink.old) (S.written sink.new)) }
     ensures count { CountsTurn result (S.faults sink.old) (S.faults sink.new) }
     ensures appended { AppendsSome (S.written sink.old) (S.written sink.new) }
 {
@@ -34,6 +36,7 @@ pub fn write_closing<S: Sink>(
 }
 
 fn write_line<S: Sink>(sink: &mut S, line: &[u8]) -> Result<(), TurnFault>
+    ensures written { IfOk result (λ _. Appended line.now (S.written sink.old) (S.written sink.new)) }
     ensures count { CountsTurn result (S.faults sink.old) (S.faults sink.new) }
     ensures appended { AppendsSome (S.written sink.old) (S.written sink.new) }
 {

@@ -1,6 +1,8 @@
 //! The lines of a closing report.
 
-ghost use Rattle.std.specs.Prelude.{◌<◌, vec_len};
+ghost use Rattle.std.specs.Prelude.{◌≡◌, ◌<◌, IfOk, vec_len};
+ghost use Rattle.std.specs.String.{string_bytes};
+ghost use Rattle.scene_runner.specs.Report.{turns_line};
 
 use core_tree::Value;
 use papy_base::{Name, OutOfMemory};
@@ -8,7 +10,9 @@ use stack_machine::{Machine, Status, append_escaped};
 use std::alloc::Global;
 
 /// The number of turns: `turns n`.
-pub fn turns_line(alloc: Global, turns: u32) -> Result<String, OutOfMemory> {
+pub fn turns_line(alloc: Global, turns: u32) -> Result<String, OutOfMemory>
+    ensures { IfOk result (λ line. string_bytes line ≡ turns_line turns) }
+{
     Ok(format!(in alloc; "turns {turns}\n")?)
 }
 

@@ -1,9 +1,10 @@
 //! A run from where a machine stands to its end.
 
-ghost use Rattle.std.specs.Prelude.{◌≡◌, Err, None, IfOk, IfSome, map, vec_len};
+ghost use Rattle.std.specs.Prelude.{◌≡◌, ◌≤◌, Err, None, IfOk, IfSome, map, vec_len};
 ghost use Rattle.latent_natives.specs.Devices.{SameKinds};
-ghost use Rattle.stack_machine.specs.Machine.{CountsTurn};
+ghost use Rattle.stack_machine.specs.Machine.{CountsTurn, HasEnded};
 ghost use Rattle.papy_io.specs.Sink.{AppendsSome};
+ghost use Rattle.scene_runner.specs.Report.{Reports};
 
 use crate::closing::write_closing;
 use latent_natives::Device;
@@ -26,6 +27,9 @@ pub fn run_scene<S: Sink>(
 ) -> Result<(), TurnFault>
     requires { vec_len devices.old ≡ machine.old.scene.devices }
     ensures fixed { (machine.new.outline ≡ machine.old.outline) × (machine.new.scene ≡ machine.old.scene) }
+    ensures ended { IfOk result (λ _. HasEnded machine.new) }
+    ensures within { IfOk result (λ _. machine.new.turns ≤ machine.new.scene.turns) }
+    ensures reports { IfOk result (λ _. Reports machine.new.turns (S.written sink.old) (S.written sink.new)) }
     ensures count { machine.old.fault ≡ None → CountsTurn result (S.faults sink.old) (S.faults sink.new) }
     ensures appended { AppendsSome (S.written sink.old) (S.written sink.new) }
     ensures kinds { SameKinds (map (λ d. device_state d) devices.old.items) (map (λ d. device_state d) devices.new.items) }
@@ -47,6 +51,8 @@ fn finish_turns<S: Sink>(
     requires { vec_len devices.old ≡ machine.old.scene.devices }
     ensures fixed { (machine.new.outline ≡ machine.old.outline) × (machine.new.scene ≡ machine.old.scene) }
     ensures no_fault { IfOk result (λ _. machine.new.fault ≡ None) }
+    ensures ended { IfOk result (λ _. HasEnded machine.new) }
+    ensures within { IfOk result (λ _. machine.new.turns ≤ machine.new.scene.turns) }
     ensures count { machine.old.fault ≡ None → CountsTurn result (S.faults sink.old) (S.faults sink.new) }
     ensures appended { AppendsSome (S.written sink.old) (S.written sink.new) }
     ensures kinds { SameKinds (map (λ d. device_state d) devices.old.items) (map (λ d. device_state d) devices.new.items) }
@@ -59,6 +65,7 @@ fn finish_turns<S: Sink>(
     turn_on(machine, sink, devices)
 }
 
+// Does turns until the run has ended.
 fn turn_on<S: Sink>(
     machine: &mut Machine,
     sink: &mut S,
@@ -67,14 +74,15 @@ fn turn_on<S: Sink>(
     requires { machine.old.fault ≡ None }
     ensures fixed { (machine.new.outline ≡ machine.old.outline) × (machine.new.scene ≡ machine.old.scene) }
     ensures no_fault { IfOk result (λ _. machine.new.fault ≡ None) }
+    ensures ended { IfOk result (λ _. HasEnded machine.new) }
+    ensures within { IfOk result (λ _. machine.new.turns ≤ machine.new.scene.turns) }
     ensures count { CountsTurn result (S.faults sink.old) (S.faults sink.new) }
     ensures appended { AppendsSome (S.written sink.old) (S.written sink.new) }
     ensures kinds { SameKinds (map (λ d. device_state d) devices.old.items) (map (λ d. device_state d) devices.new.items) }
 {
-    for _ in machine.turns_done()..machine.scene().turns {
+    loop {
         if machine.turn(sink, devices)? == TurnEnd::Ended {
-            break;
+            return Ok(());
         }
     }
-    Ok(())
 }

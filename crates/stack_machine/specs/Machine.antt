@@ -1,7 +1,8 @@
 -- What callers see of a machine, and what its turns leave.
-use Rattle.std.specs.Prelude.{◌≡◌, ℕ, ◌+◌, List, Option, Some, Result, Ok, Err}
+use Rattle.std.specs.Prelude.{◌≡◌, ◌⊎◌, ℕ, ◌+◌, ◌≤◌, List, Option, Some, Result, Ok, Err, vec_len}
 use Rattle.core_tree.specs.declared.outline.OutlineScript.{OutlineScript}
 use Rattle.core_tree.specs.declared.scene.Scene.{Scene}
+use Rattle.core_tree.specs.declared.scene_tree.TurnOrder.TheVariants as orders
 use Rattle.papy_io.specs.Count.{HasRisen}
 use Rattle.stack_machine.specs.declared.status.TurnEnd.{TurnEnd}
 use Rattle.stack_machine.specs.declared.status.TurnEnd.TheVariants.{Ran, Idle, Ended}
@@ -12,11 +13,22 @@ pub record MachineState : Type 0 where
   -- what no turn changes
   pub outline : List OutlineScript
   pub scene : Scene
-  -- how many turns are done, and how many stacks have started
+  -- how many turns are done, and how many stacks have started and are done
   pub turns : ℕ
   pub started : ℕ
+  pub done : ℕ
   -- the fault that it has answered
   pub fault : Option TurnFault
+
+-- in round order, where every stack that has started is done and no scene call is left
+pub record HasNothingLeft (machine : MachineState) : Type 0 where
+  pub order : machine.scene.order ≡ orders.Round
+  pub stacks : machine.done ≡ machine.started
+  pub calls : vec_len machine.scene.calls ≤ machine.started
+
+-- a run ends after the scene's turns, or earlier where nothing is left
+abbrev pub HasEnded : MachineState → Type 0
+HasEnded machine = (machine.scene.turns ≤ machine.turns) ⊎ HasNothingLeft machine
 
 -- how many turns are done after this answer
 abbrev pub turns_after : Result TurnEnd TurnFault → ℕ → ℕ

@@ -1,4 +1,4 @@
--- What is known of stacks: how many have started, and where each is.
+-- What is known of stacks: how many have started and are done, and where each is.
 use Rattle.std.specs.Prelude.{ℕ, ◌≡◌, ◌≤◌, ◌⊎◌, ◌++◌, ◌∷◌, [], ◌&&◌, List, Option, Some, None, is_none, min, ◌+◌, nat_lt, slice_index_or, slice_set, if◌then◌else◌}
 use Rattle.lock_queue.specs.declared.seat.Seat.{Seat}
 use Rattle.lock_queue.specs.declared.seat.Seat.TheVariants.{Resting, Free, Waits, Holds}
@@ -12,6 +12,8 @@ pub record ThreadTable : Type 0 where
   -- how many instances there are, and for how many stacks there is room
   pub instances : ℕ
   pub room : ℕ
+  -- how many of the stacks that have started are done
+  pub done : ℕ
 
 -- the same stacks have started, and there is room for as many
 pub record IsSameSize (old new : ThreadTable) : Type 0 where

@@ -1,10 +1,10 @@
 //! The machine.
 #![tactic(auto, using(crate::proofs::AsMany::as_many))]
 
-ghost use Rattle.std.specs.Prelude.{◌≡◌, ℕ, ◌+◌, ◌<◌, ◌≤◌, ◌^◌, false, true, Ok, Err, None, IfOk, IfSome, MatchOption, map, vec_len};
+ghost use Rattle.std.specs.Prelude.{◌≡◌, ◌↔◌, ℕ, ◌+◌, ◌<◌, ◌≤◌, ◌^◌, false, Ok, Err, None, IfOk, IfSome, IsTrue, MatchOption, map, vec_len};
 ghost use Rattle.latent_natives.specs.Devices.{SameKinds};
 ghost use Rattle.stack_machine.specs.Casts.{IsTextOf};
-ghost use Rattle.stack_machine.specs.Machine.{turns_after, fault_after, CountsTurn};
+ghost use Rattle.stack_machine.specs.Machine.{turns_after, fault_after, CountsTurn, HasEnded, HasNothingLeft};
 ghost use Rattle.papy_io.specs.Sink.{AppendsSome};
 
 use crate::casts::text_of;
@@ -37,15 +37,15 @@ pub struct Machine {
 }
 
 impl Model for Machine {
-    ghost use Rattle.std.specs.Prelude.{◌<◌, vec_len};
+    ghost use Rattle.std.specs.Prelude.{◌<◌, ◌≤◌, vec_len};
     ghost use Rattle.stack_machine.specs.Casts.{IsTextOf};
     ghost use Rattle.stack_machine.specs.Machine.{MachineState};
 
     ghost Value = { MachineState };
 
-    ghost view = { λ m. record { outline = m.setting.loaded.outline; scene = m.setting.scene; turns = m.turns; started = m.world.threads.started; fault = m.fault } };
+    ghost view = { λ m. record { outline = m.setting.loaded.outline; scene = m.setting.scene; turns = m.turns; started = m.world.threads.started; done = m.world.threads.done; fault = m.fault } };
 
-    ghost invariant = { λ m. (vec_len m.setting.scene.instances < 65536) × (vec_len m.setting.scene.calls < 65536) };
+    ghost invariant = { λ m. (vec_len m.setting.scene.instances < 65536) × (vec_len m.setting.scene.calls < 65536) × (m.turns ≤ m.setting.scene.turns) };
 }
 
 impl Machine {
@@ -66,7 +66,7 @@ impl Machine {
         requires instances { vec_len scene.instances < 65536 }
         requires calls { vec_len scene.calls < 65536 }
         ensures fixed { IfOk result (λ machine. (machine.outline ≡ loaded.outline) × (machine.scene ≡ scene)) }
-        ensures fresh { IfOk result (λ machine. (machine.turns ≡ 0) × (machine.started ≡ 0) × (machine.fault ≡ None)) }
+        ensures fresh { IfOk result (λ machine. (machine.turns ≡ 0) × (machine.started ≡ 0) × (machine.fault ≡ None) × (machine.done ≡ 0)) }
         ensures kinds { SameKinds (map (λ d. device_state d) devices.old.items) (map (λ d. device_state d) devices.new.items) }
     {
         let plan = Plan::of(alloc, &loaded, &scene)?;
@@ -110,9 +110,10 @@ impl Machine {
     ) -> Result<TurnEnd, TurnFault>
         ensures fixed { (self.new.outline ≡ self.old.outline) × (self.new.scene ≡ self.old.scene) }
         ensures turns { self.new.turns ≡ turns_after result self.old.turns }
+        ensures within { self.new.turns ≤ self.new.scene.turns }
         ensures fault { self.new.fault ≡ fault_after result self.old.fault }
         ensures ended { result ≡ Ok TurnEnd.Ended → self.new ≡ self.old }
-        ensures ends { self.old.fault ≡ None → self.old.scene.turns ≤ self.old.turns → result ≡ Ok TurnEnd.Ended }
+        ensures ends { self.old.fault ≡ None → (result ≡ Ok TurnEnd.Ended ↔ HasEnded self.old) }
         ensures count { self.old.fault ≡ None → CountsTurn result (S.faults sink.old) (S.faults sink.new) }
         ensures appended { AppendsSome (S.written sink.old) (S.written sink.new) }
         ensures kinds { SameKinds (map (λ d. device_state d) devices.old.items) (map (λ d. device_state d) devices.new.items) }
@@ -140,18 +141,20 @@ impl Machine {
         }
     }
 
-    // A run ends after its number of turns. In round order it also ends where every stack is done and no scene
-    // call is left.
+    // A run ends after its number of turns, or earlier where nothing is left.
     fn has_ended(&self) -> bool
+        ensures ended { IsTrue result ↔ HasEnded self.now }
         ensures goes_on { result ≡ false → self.now.turns < self.now.scene.turns }
         ensures room { result ≡ false → self.now.turns + 1 < 2 ^ 32 }
-        ensures ends { self.now.scene.turns ≤ self.now.turns → result ≡ true }
     {
-        let scene = &self.setting.scene;
-        if self.turns >= scene.turns {
-            return true;
-        }
-        let threads = &self.world.threads;
+        self.turns >= self.setting.scene.turns || self.has_nothing_left()
+    }
+
+    // In round order nothing is left where every stack is done and no scene call is to come.
+    fn has_nothing_left(&self) -> bool
+        ensures { IsTrue result ↔ HasNothingLeft self.now }
+    {
+        let (scene, threads) = (&self.setting.scene, &self.world.threads);
         matches!(scene.order, TurnOrder::Round)
             && threads.are_done()
             && usize::from(threads.count()) >= scene.calls.len()

@@ -41,7 +41,7 @@ impl Model for Threads {
 
     ghost Value = { ThreadTable };
 
-    ghost view = { λ t. record { started = vec_len t.stacks; locks = t.locks; sleepers = t.sleepers; instances = t.instances; room = t.room } };
+    ghost view = { λ t. record { started = vec_len t.stacks; locks = t.locks; sleepers = t.sleepers; instances = t.instances; room = t.room; done = t.done } };
 
     ghost invariant = { λ t. (vec_len t.stacks ≤ t.room) × (t.room < 65536) × (t.locks.instances ≡ t.instances) × (length t.locks.seats ≡ t.room) × (length t.sleepers ≡ t.room) };
 }
@@ -49,7 +49,7 @@ impl Model for Threads {
 impl Threads {
     /// No stacks, with room for so many.
     pub fn with_room(alloc: Global, instances: u16, stacks: u16) -> Result<Threads, OutOfMemory>
-        ensures fresh { IfOk result (λ threads. threads.started ≡ 0) }
+        ensures fresh { IfOk result (λ threads. (threads.started ≡ 0) × (threads.done ≡ 0)) }
         ensures sizes { IfOk result (λ threads. (threads.instances ≡ instances) × (threads.room ≡ stacks)) }
         ensures locks { IfOk result (λ threads. threads.locks ≡ record { seats = replicate stacks Resting; waiters = []; instances = instances }) }
         ensures sleepers { IfOk result (λ threads. threads.sleepers ≡ replicate stacks None) }
@@ -74,7 +74,9 @@ impl Threads {
     }
 
     /// Whether every stack that has started is done.
-    pub fn are_done(&self) -> bool {
+    pub fn are_done(&self) -> bool
+        ensures { IsTrue result ↔ (self.now.done ≡ self.now.started) }
+    {
         self.done == self.count()
     }
 

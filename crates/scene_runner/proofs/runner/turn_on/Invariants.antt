@@ -1,4 +1,4 @@
-use Rattle.std.proofs.Common.{◌≡◌, map}
+use Rattle.std.proofs.Common.{◌≡◌, ◌-◌, map}
 use Rattle.std.specs.Prelude.{None}
 use Rattle.latent_natives.specs.Devices.{SameKinds}
 use Rattle.papy_io.specs.Sink.{AppendsSome}
@@ -15,3 +15,6 @@ invariant-loop g l =
       count : sink.faults l.sink ≡ sink.faults l.fn.sink;
       kinds : SameKinds (map (λ d. (goal.Device-dyn g (d.vtable, d.value)).device_state d.value) l.fn.devices.items) (map (λ d. (goal.Device-dyn g (d.vtable, d.value)).device_state d.value) l.devices.items);
     }
+
+abbrev pub decreases-loop : goal.decreases-loop
+decreases-loop g l = l.machine.scene.turns - l.machine.turns
