@@ -1,7 +1,8 @@
 pub mod BehindScene
 pub mod EarlyEnds
 pub mod RunEnds
-pub mod SceneParts
+pub mod SampleEnds
 pub mod SampleParts
 pub mod SampleText
+pub mod SceneParts
 pub mod ValuesRead

@@ -45,10 +45,10 @@ default_has_few script tree default =
     record { few_instances = omega arith; few_calls = omega arith }
 
 -- a scene that can't be bound
-pub refused_plays : (named : ℕ) (fault : SceneFault) (written : Option (List ℕ)) → Plays named (ending_at named (scene_fault fault)) written written
-refused_plays named (Broken rule) written =
+pub refused_plays : (tree : SceneTree) (named : ℕ) (fault : SceneFault) (written : Option (List ℕ)) → Plays tree named (ending_at named (scene_fault fault)) written written
+refused_plays tree named (Broken rule) written =
     (record { word_is = refl; refusal = record { broken = rule; place_is = refl; rule_is = refl } }, refl)
-refused_plays named OutOfMemory written = appends_nothing written written refl
+refused_plays tree named OutOfMemory written = appends_nothing written written refl
 
 pub refused_writes : (named : ℕ) (fault : SceneFault) (count : ℕ) → CountsWrites (ending_at named (scene_fault fault)) count count
 refused_writes named (Broken rule) count = refl

@@ -88,8 +88,8 @@ pub together_ends_exec : (scene : List ℕ) (names : List (List ℕ)) (count : �
     EndsTogether count ending → EndsEarly (ExecAnswers (scene ∷ names)) holds (one_later ending)
 together_ends_exec scene names count None (Refused word place rule) is held behind ends = tt
 together_ends_exec scene names count (Some files) (Refused word place rule) is held behind ends =
-    let together : RefusesTogether names files (suc word) rule =
-    record { at = ends.at; broken = ends.broken; within = omega (arith, ends.within); word_is = omega (arith, ends.word_is); rule_is = ends.rule_is; held = behind } in
+    let together : RefusesTogether names files (suc word) place rule =
+    record { at = ends.at; object = ends.object; member = ends.member; instruction = ends.instruction; broken = ends.broken; within = omega (arith, ends.within); word_is = omega (arith, ends.word_is); place_is = ends.place_is; rule_is = ends.rule_is; held = behind } in
     (held, inr (inr together), refl)
 together_ends_exec scene names count holds OutOfMemory is held behind ends = tt
 together_ends_exec scene names count holds (ReadFault word) is held behind ends = absurd ends

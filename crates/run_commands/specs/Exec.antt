@@ -5,6 +5,7 @@ use Rattle.pex_verify.specs.declared.fault.VerifyRule.{VerifyRule}
 use Rattle.command_files.specs.declared.ending.Ending.{Ending}
 use Rattle.command_files.specs.declared.ending.Ending.TheVariants.{Done, OutOfMemory, Usage, ReadFault, WriteFault, Refused, NotBuilt}
 use Rattle.command_files.specs.declared.refusal.Place.{Place}
+use Rattle.command_files.specs.declared.refusal.Place.TheVariants.{Member}
 use Rattle.command_files.specs.declared.refusal.Rule.{Rule}
 use Rattle.command_files.specs.declared.refusal.Rule.TheVariants.{Verification}
 use Rattle.command_files.specs.Ending.{word_at}
@@ -34,16 +35,20 @@ abbrev pub ReadsValues : {T : Type 0} → List (List ℕ) → Option Files → R
 ReadsValues names holds (Ok _) = IfSome holds (AreHeld names)
 ReadsValues names holds (Err ending) = EndsOnValues names holds ending
 
--- one of so many files breaks a rule of files that run together
-pub record BreaksTogether (count word : ℕ) (rule : Rule) : Type 0 where
+-- one of so many files breaks a rule of files that run together, in an object or at a part of one
+pub record BreaksTogether (count word : ℕ) (place : Place) (rule : Rule) : Type 0 where
   pub at : ℕ
+  pub object : List ℕ
+  pub member : Option (List ℕ)
+  pub instruction : Option ℕ
   pub broken : VerifyRule
   pub within : at < count
   pub word_is : word ≡ suc at
+  pub place_is : place ≡ Member object member instruction
   pub rule_is : rule ≡ Verification broken
 
 abbrev pub EndsTogether : ℕ → Ending → Type 0
-EndsTogether count (Refused word place rule) = BreaksTogether count word rule
+EndsTogether count (Refused word place rule) = BreaksTogether count word place rule
 EndsTogether count OutOfMemory = Unit {0}
 EndsTogether count (ReadFault word) = ⊥
 EndsTogether count Done = ⊥

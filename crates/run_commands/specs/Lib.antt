@@ -1,4 +1,5 @@
 pub mod Answers
 pub mod Exec
 pub mod Play
+pub mod Report
 pub mod Sample

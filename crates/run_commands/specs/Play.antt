@@ -9,6 +9,7 @@ use Rattle.command_files.specs.declared.ending.Ending.TheVariants.{Done, OutOfMe
 use Rattle.command_files.specs.declared.refusal.Place.{Place}
 use Rattle.command_files.specs.declared.refusal.Rule.{Rule}
 use Rattle.command_files.specs.SceneFile.{IsSceneRefusal}
+use Rattle.run_commands.specs.Report.{WritesReport}
 
 -- as many instances and calls as a scene may have
 pub record HasFewParts (tree : SceneTree) : Type 0 where
@@ -25,22 +26,23 @@ pub record RefusesScene (named word : ℕ) (place : Place) (rule : Rule) : Type 
   pub word_is : word ≡ named
   pub refusal : IsSceneRefusal place rule
 
--- the scene that the word of this number names was run, or the run was cut short, or nothing was written as it is refused
-abbrev pub Plays : ℕ → Ending → Option (List ℕ) → Option (List ℕ) → Type 0
-Plays named Done before now = AppendsSome before now
-Plays named OutOfMemory before now = AppendsSome before now
-Plays named WriteFault before now = AppendsSome before now
-Plays named (Refused word place rule) before now = RefusesScene named word place rule × (now ≡ before)
-Plays named NotBuilt before now = ⊥
-Plays named Usage before now = ⊥
-Plays named (ReadFault word) before now = ⊥
+-- the scene that the word of this number names was run and its report was written, or the run was cut short, or nothing
+-- was written as it is refused
+abbrev pub Plays : SceneTree → ℕ → Ending → Option (List ℕ) → Option (List ℕ) → Type 0
+Plays tree named Done before now = WritesReport tree before now
+Plays tree named OutOfMemory before now = AppendsSome before now
+Plays tree named WriteFault before now = AppendsSome before now
+Plays tree named (Refused word place rule) before now = RefusesScene named word place rule × (now ≡ before)
+Plays tree named NotBuilt before now = ⊥
+Plays tree named Usage before now = ⊥
+Plays tree named (ReadFault word) before now = ⊥
 
 -- the same of a set of scripts, which may have no compiled files
-abbrev pub PlaysSet : ℕ → Ending → Option (List ℕ) → Option (List ℕ) → Type 0
-PlaysSet named Done before now = AppendsSome before now
-PlaysSet named OutOfMemory before now = AppendsSome before now
-PlaysSet named WriteFault before now = AppendsSome before now
-PlaysSet named (Refused word place rule) before now = RefusesScene named word place rule × (now ≡ before)
-PlaysSet named NotBuilt before now = now ≡ before
-PlaysSet named Usage before now = ⊥
-PlaysSet named (ReadFault word) before now = ⊥
+abbrev pub PlaysSet : SceneTree → ℕ → Ending → Option (List ℕ) → Option (List ℕ) → Type 0
+PlaysSet tree named Done before now = WritesReport tree before now
+PlaysSet tree named OutOfMemory before now = AppendsSome before now
+PlaysSet tree named WriteFault before now = AppendsSome before now
+PlaysSet tree named (Refused word place rule) before now = RefusesScene named word place rule × (now ≡ before)
+PlaysSet tree named NotBuilt before now = now ≡ before
+PlaysSet tree named Usage before now = ⊥
+PlaysSet tree named (ReadFault word) before now = ⊥

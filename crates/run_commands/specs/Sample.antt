@@ -1,7 +1,6 @@
 -- The scripts and the scene of a sample of so many workers, and what it writes.
-use Rattle.std.specs.Prelude.{◌≡◌, ℕ, zero, suc, List, [], ◌∷◌, ◌++◌, map, take, codes, Option, Result, Ok, Err}
+use Rattle.std.specs.Prelude.{◌≡◌, ℕ, List, [], ◌∷◌, ◌++◌, map, take, codes, Option, Result, Ok, Err}
 use Rattle.std.specs.Fmt.{decimal}
-use Rattle.std.specs.Io.BufRead.{drop_through, take_through}
 use Rattle.std.specs.List.{range_with_len}
 use Rattle.core_tree.specs.declared.scene_tree.SceneTree.{SceneTree}
 use Rattle.core_tree.specs.declared.scene_tree.SceneValue.TheVariants as values
@@ -11,7 +10,6 @@ use Rattle.papy_io.specs.Sink.{Appended}
 use Rattle.scene_reader.specs.Default.{CallPlan, InstancePlan, call_plan, instance_plan}
 use Rattle.command_files.specs.declared.ending.Ending.{Ending}
 use Rattle.command_files.specs.declared.ending.Ending.TheVariants.{Done, OutOfMemory, Usage, ReadFault, WriteFault, Refused, NotBuilt}
-use Rattle.run_commands.specs.Answers.{scripts_line}
 use Rattle.run_commands.specs.Play.{RefusesScene}
 
 abbrev line : List ℕ → List ℕ
@@ -86,15 +84,6 @@ EndsUnreported Done = ⊥
 EndsUnreported Usage = ⊥
 EndsUnreported (ReadFault word) = ⊥
 EndsUnreported WriteFault = ⊥
-
--- so many lines of a text, each with its line break, or all that there are
-abbrev pub first_lines : ℕ → List ℕ → List ℕ
-first_lines zero text = []
-first_lines (suc count) text = take_through 10 text ++ first_lines count (drop_through 10 text)
-
--- what is written of a report: the turns, the hub and its total
-abbrev pub sample_text : ℕ → List ℕ → List ℕ
-sample_text workers report = scripts_line workers ++ first_lines 3 report
 
 -- all of the text was written, or, after an error, the first bytes of it, as many as there may be
 abbrev pub WritesText : {T : Type 0} → List ℕ → Result T IoFault → Option (List ℕ) → Option (List ℕ) → Type 0

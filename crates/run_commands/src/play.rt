@@ -36,7 +36,7 @@ pub fn play<S: Sink>(
     requires few { HasFewParts tree }
     requires few_devices { vec_len devices.old ≤ 65535 }
     ensures faults { CountsWrites result (S.faults out.old) (S.faults out.new) }
-    ensures plays { Plays word result (S.written out.old) (S.written out.new) }
+    ensures plays { Plays tree word result (S.written out.old) (S.written out.new) }
     ensures kinds { SameKinds (map (λ d. device_state d) devices.old.items) (map (λ d. device_state d) devices.new.items) }
 {
     let scene = match bind(alloc, tree, loaded.outline(), devices.len() as u16) {

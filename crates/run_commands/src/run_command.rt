@@ -28,7 +28,7 @@ pub fn run_set<S: Sink>(
     requires few { HasFewParts tree }
     requires few_devices { vec_len devices.old ≤ 65535 }
     ensures faults { CountsWrites result (S.faults out.old) (S.faults out.new) }
-    ensures plays { PlaysSet word result (S.written out.old) (S.written out.new) }
+    ensures plays { PlaysSet tree word result (S.written out.old) (S.written out.new) }
     ensures kinds { SameKinds (map (λ d. device_state d) devices.old.items) (map (λ d. device_state d) devices.new.items) }
 {
     match compile_set(alloc, set) {

@@ -9,8 +9,9 @@ ghost use Rattle.pex_verify.specs.Files.{IsFile};
 ghost use Rattle.command_files.specs.Ending.{CountsWrites, IsWordBelow};
 ghost use Rattle.command_files.specs.Outputs.{Outputs};
 ghost use Rattle.latent_natives.specs.Devices.{SameKinds};
-ghost use Rattle.run_commands.specs.Answers.{ReadsNothing, SampleAnswers, scripts_line};
-ghost use Rattle.run_commands.specs.Sample.{EndsUnreported, WritesText, first_lines, sample_text};
+ghost use Rattle.run_commands.specs.Answers.{ReadsNothing, SampleAnswers};
+ghost use Rattle.run_commands.specs.Report.{IsReportWithin, first_lines, most_turns, sample_text, scripts_line};
+ghost use Rattle.run_commands.specs.Sample.{EndsUnreported, WritesText};
 
 use crate::play::play;
 use crate::sample_scene::sample_scene;
@@ -108,6 +109,7 @@ fn report_of(
 ) -> Result<MemorySink, Ending>
     requires few { workers ≤ 200 }
     requires few_devices { vec_len devices.old ≤ 65535 }
+    ensures report { IfOk result (λ report. IsReportWithin most_turns report.written) }
     ensures ends { IfErr result EndsUnreported }
     ensures kinds { SameKinds (map (λ d. device_state d) devices.old.items) (map (λ d. device_state d) devices.new.items) }
 {

@@ -3,6 +3,7 @@ use Rattle.std.specs.String.{string_bytes}
 use Rattle.command_files.specs.Ending.{one_later}
 use Rattle.command_files.specs.FileFault.{ending_at}
 use Rattle.run_commands.specs.Answers.{ExecAnswers}
+use Rattle.run_commands.specs.Report.{most_turns}
 use Rattle.run_commands.proofs.BehindScene.{behind_word, exec_answers_run, later_misses, names_behind, names_split, scene_ends_exec, scene_is_held, scene_missed, scene_reads, scene_word, word_fits}
 use Rattle.run_commands.proofs.EarlyEnds.{early_is_no_usage, early_outputs, early_writes, later_reads}
 use Rattle.run_commands.proofs.RunEnds.{play_outputs, run_is_no_usage, run_misses, run_reads, run_word, set_plays}
@@ -153,17 +154,17 @@ returns-in-Err-load_values-clause-output g c =
 
 pub returns-clause-read_faults : goal.returns-clause-read_faults
 returns-clause-read_faults g c =
-    let plays = set_plays 1 c.play.result _ _ c.play.ensures.plays in
-    run_reads 1 c.play.result _ _ _ _ plays (c.in-Ok-read_values.ensures.read_faults ∙ c.in-Ok.ensures.read_faults)
+    let plays = set_plays c.in-Ok.tree 1 c.play.result _ _ c.play.ensures.plays in
+    run_reads c.in-Ok.tree 1 c.play.result _ _ _ _ plays (c.in-Ok-read_values.ensures.read_faults ∙ c.in-Ok.ensures.read_faults)
 
 pub returns-clause-missed : goal.returns-clause-missed
-returns-clause-missed g c = run_misses _ 1 c.play.result _ _ _ (set_plays 1 c.play.result _ _ c.play.ensures.plays)
+returns-clause-missed g c = run_misses c.in-Ok.tree _ 1 c.play.result _ _ _ (set_plays c.in-Ok.tree 1 c.play.result _ _ c.play.ensures.plays)
 
 pub returns-clause-never_usage : goal.returns-clause-never_usage
-returns-clause-never_usage g c = run_is_no_usage 1 c.play.result _ _ (set_plays 1 c.play.result _ _ c.play.ensures.plays)
+returns-clause-never_usage g c = run_is_no_usage c.in-Ok.tree 1 c.play.result _ _ (set_plays c.in-Ok.tree 1 c.play.result _ _ c.play.ensures.plays)
 
 pub returns-clause-word : goal.returns-clause-word
-returns-clause-word g c = run_word (length c.args.files.now + 1) 1 c.play.result _ _ (omega (arith, c.requires.some)) (set_plays 1 c.play.result _ _ c.play.ensures.plays)
+returns-clause-word g c = run_word c.in-Ok.tree (length c.args.files.now + 1) 1 c.play.result _ _ (omega (arith, c.requires.some)) (set_plays c.in-Ok.tree 1 c.play.result _ _ c.play.ensures.plays)
 
 pub returns-clause-output : goal.returns-clause-output
 returns-clause-output g c =
@@ -174,4 +175,4 @@ returns-clause-output g c =
     let read = rw c.as_bytes.ensures.value at c.in-Ok.ensures.read in
     let held = scene_is_held holds scene c.in-Ok.tree read in
     let behind = rw c.in-Ok.ensures.holds at c.in-Ok-read_values.ensures.read in
-    rw split (play_outputs (ExecAnswers (scene ∷ names)) 1 holds c.play.result _ _ (exec_answers_run scene names holds held behind) c.play.ensures.plays)
+    rw split (play_outputs (ExecAnswers (scene ∷ names)) c.in-Ok.tree most_turns 1 holds c.play.result _ _ c.in-Ok.ensures.limits.turns (exec_answers_run scene names holds held behind) c.play.ensures.plays)

@@ -1,7 +1,7 @@
 use Rattle.std.proofs.Common.{arith, refl, ap, ◌∙◌}
 use Rattle.scene_runner.proofs.Appending.{appends_nothing}
 use Rattle.stack_machine.proofs.AsMany.{as_many}
-use Rattle.run_commands.proofs.RunEnds.{turns_count, turns_play}
+use Rattle.run_commands.proofs.RunEnds.{run_writes, turns_count, turns_play}
 use Rattle.run_commands.proofs.SceneParts.{few_instances, few_calls, refused_plays, refused_writes}
 use Rattle.run_commands.proofs.play.play.Goals as goal
 
@@ -23,13 +23,18 @@ pub returns-in-Err-clause-faults : goal.returns-in-Err-clause-faults
 returns-in-Err-clause-faults g c = rw (c.at_word.ensures, c.from.ensures) (refused_writes c.args.word c.in-Err.fault _)
 
 pub returns-in-Err-clause-plays : goal.returns-in-Err-clause-plays
-returns-in-Err-clause-plays g c = rw (c.at_word.ensures, c.from.ensures) (refused_plays c.args.word c.in-Err.fault _)
+returns-in-Err-clause-plays g c = rw (c.at_word.ensures, c.from.ensures) (refused_plays c.args.tree c.args.word c.in-Err.fault _)
 
 pub returns-in-Err-start-clause-plays : goal.returns-in-Err-start-clause-plays
 returns-in-Err-start-clause-plays g c = appends_nothing _ _ refl
 
 pub returns-in-Ok-run_scene-clause-faults : goal.returns-in-Ok-run_scene-clause-faults
 returns-in-Ok-run_scene-clause-faults g c = c.in-Ok-run_scene.ensures.count c.in-Ok-start.ensures.fresh.2
+
+pub returns-in-Ok-run_scene-clause-plays : goal.returns-in-Ok-run_scene-clause-plays
+returns-in-Ok-run_scene-clause-plays g c =
+    let ran = c.in-Ok-run_scene.ensures in
+    run_writes c.args.tree _ c.in-Ok.scene c.run_scene.new.machine _ _ c.in-Ok.ensures.kept (c.run_scene.ensures.fixed.1 ∙ c.in-Ok-start.ensures.fixed.1) ran.ended ran.within ran.reports
 
 pub returns-in-Ok-run_scene-clause-kinds : goal.returns-in-Ok-run_scene-clause-kinds
 returns-in-Ok-run_scene-clause-kinds g c = c.run_scene.ensures.kinds ∙ c.start.ensures.kinds
@@ -38,7 +43,7 @@ pub returns-clause-faults : goal.returns-clause-faults
 returns-clause-faults g c = rw c.turns_ending.ensures (turns_count c.in-Err-run_scene.fault _ _ (c.in-Err-run_scene.ensures.count c.in-Ok-start.ensures.fresh.2))
 
 pub returns-clause-plays : goal.returns-clause-plays
-returns-clause-plays g c = rw c.turns_ending.ensures (turns_play c.args.word c.in-Err-run_scene.fault _ _ c.run_scene.ensures.appended)
+returns-clause-plays g c = rw c.turns_ending.ensures (turns_play c.args.tree c.args.word c.in-Err-run_scene.fault _ _ c.run_scene.ensures.appended)
 
 pub returns-clause-kinds : goal.returns-clause-kinds
 returns-clause-kinds g c = c.run_scene.ensures.kinds ∙ c.start.ensures.kinds

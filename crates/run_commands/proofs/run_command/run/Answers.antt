@@ -3,6 +3,7 @@ use Rattle.std.specs.String.{string_bytes}
 use Rattle.command_files.specs.Ending.{one_later}
 use Rattle.command_files.specs.FileFault.{ending_at}
 use Rattle.run_commands.specs.Answers.{RunAnswers}
+use Rattle.run_commands.specs.Report.{most_turns}
 use Rattle.run_commands.proofs.BehindScene.{behind_word, later_misses, names_behind, names_split, run_answers_run, run_unbuilt, scene_ends_run, scene_is_held, scene_missed, scene_reads, scene_word, scripts_end_run, word_fits}
 use Rattle.run_commands.proofs.EarlyEnds.{early_is_no_usage, early_outputs, early_writes, later_reads}
 use Rattle.run_commands.proofs.RunEnds.{run_is_no_usage, run_misses, run_reads, run_word, set_outputs}
@@ -102,16 +103,16 @@ returns-in-Err-accept-clause-output g c =
 -- ---- the run
 
 pub returns-clause-read_faults : goal.returns-clause-read_faults
-returns-clause-read_faults g c = run_reads 1 c.run_set.result _ _ _ _ c.run_set.ensures.plays (c.in-Ok-accept.ensures.read_faults ∙ c.in-Ok.ensures.read_faults)
+returns-clause-read_faults g c = run_reads c.in-Ok.tree 1 c.run_set.result _ _ _ _ c.run_set.ensures.plays (c.in-Ok-accept.ensures.read_faults ∙ c.in-Ok.ensures.read_faults)
 
 pub returns-clause-missed : goal.returns-clause-missed
-returns-clause-missed g c = run_misses _ 1 c.run_set.result _ _ _ c.run_set.ensures.plays
+returns-clause-missed g c = run_misses c.in-Ok.tree _ 1 c.run_set.result _ _ _ c.run_set.ensures.plays
 
 pub returns-clause-never_usage : goal.returns-clause-never_usage
-returns-clause-never_usage g c = run_is_no_usage 1 c.run_set.result _ _ c.run_set.ensures.plays
+returns-clause-never_usage g c = run_is_no_usage c.in-Ok.tree 1 c.run_set.result _ _ c.run_set.ensures.plays
 
 pub returns-clause-word : goal.returns-clause-word
-returns-clause-word g c = run_word (length c.args.files.now + 1) 1 c.run_set.result _ _ (omega (arith, c.requires.some)) c.run_set.ensures.plays
+returns-clause-word g c = run_word c.in-Ok.tree (length c.args.files.now + 1) 1 c.run_set.result _ _ (omega (arith, c.requires.some)) c.run_set.ensures.plays
 
 pub returns-clause-output : goal.returns-clause-output
 returns-clause-output g c =
@@ -122,4 +123,4 @@ returns-clause-output g c =
     let read = rw c.as_bytes.ensures.value at c.in-Ok.ensures.read in
     let held = scene_is_held holds scene c.in-Ok.tree read in
     let behind = rw c.in-Ok.ensures.holds at c.in-Ok-accept.ensures.ends in
-    rw split (set_outputs (RunAnswers (scene ∷ names)) 1 holds c.run_set.result _ _ (run_answers_run scene names holds held behind) (run_unbuilt scene names holds held behind) c.run_set.ensures.plays)
+    rw split (set_outputs (RunAnswers (scene ∷ names)) c.in-Ok.tree most_turns 1 holds c.run_set.result _ _ c.in-Ok.ensures.limits.turns (run_answers_run scene names holds held behind) (run_unbuilt scene names holds held behind) c.run_set.ensures.plays)

@@ -1,7 +1,7 @@
 use Rattle.std.proofs.Common.{◌≡◌, ◌∙◌, ap, rules}
 use Rattle.std.specs.Io.BufRead.{drop_through, take_through}
 use Rattle.std.specs.Prelude.{IsErr}
-use Rattle.run_commands.specs.Sample.{first_lines}
+use Rattle.run_commands.specs.Report.{first_lines}
 use Rattle.run_commands.proofs.SampleText.{writes_first, writes_last, writes_then}
 use Rattle.run_commands.proofs.sample_command.write_lines.Goals as goal
 

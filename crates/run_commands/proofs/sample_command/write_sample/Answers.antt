@@ -1,7 +1,6 @@
 use Rattle.std.proofs.Common.{◌≡◌, ◌∙◌, rules}
 use Rattle.std.specs.Prelude.{IsErr}
-use Rattle.run_commands.specs.Answers.{scripts_line}
-use Rattle.run_commands.specs.Sample.{first_lines}
+use Rattle.run_commands.specs.Report.{first_lines, scripts_line}
 use Rattle.run_commands.proofs.SampleText.{writes_first, writes_then}
 use Rattle.run_commands.proofs.sample_command.write_sample.Goals as goal
 
