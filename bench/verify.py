@@ -1,29 +1,23 @@
 #!/usr/bin/env python3
-"""Measures `verify` on sets of a quarter, a half and the whole of three sizes.
+"""Measures the rules of sets of compiled files, on sets of a quarter, a half and the whole of three sizes.
 
-No command verifies compiled files yet, so this builds the small program of verify_set.rt.txt, in a folder of its own that is deleted
-afterwards: the crates are copied there, and proved as far as no check on this machine has proved them. The time is the program's
-processor time less that of the same program which only decodes the file; the memory is the peak of the whole program, behind that of
-decoding alone. No set has the double: it has at most 4,096 objects, and a function at most 8,192 parameters and locals and 65,535
-instructions.
+`papyrus exec` runs a scene without instances and turns on each set, and `papyrus check` reads the same file. The time is that of `exec` less
+that of `check`: so it is that of judging the set, and of starting a machine which does nothing. No set has the double: it has at most
+4,096 objects, and a function at most 8,192 parameters and locals and 65,535 instructions.
 
-  verify.py                  builds the program, and measures
-  verify.py --program PATH   measures with a program that was built before
-  verify.py --keep PATH      builds the program, and keeps it there
+  verify.py                  every set
   verify.py --runs COUNT     the best of so many runs counts, in place of seven
 """
 import argparse
 import pathlib
-import shutil
 import subprocess
-import sys
 import tempfile
 
 import measure
-from pex import file_of, function_of, integer, object_of, state_of, u16, u32, word
+from pex import file_of, function_of, integer, u16, u32, word
 
-CRATES = ("papy_base", "core_tree", "pex_values", "pex_codec", "pex_names", "pex_verify")
-ROW = "verify_set: papy_base pex_values pex_codec pex_verify"
+SCENE = '{"version": 1, "instances": [], "calls": [], "order": "round", "turns": 0}'
+REPORT = b"turns 0\n"
 
 
 class Strings:
@@ -118,64 +112,38 @@ SIZES = (
 )
 
 
-def build(folder):
-    """Builds the program in a folder, and gives its path."""
-    for name in CRATES:
-        for part in ("src", "specs", "proofs"):
-            source = measure.ROOT / "crates" / name / part
-            if source.exists():
-                shutil.copytree(source, folder / "crates" / name / part)
-    rows = [row for row in (measure.ROOT / "crates.txt").read_text().splitlines() if row.split(":")[0] in CRATES]
-    (folder / "crates.txt").write_text("\n".join(rows + [ROW]) + "\n")
-    shutil.copy(measure.ROOT / "HANDLES", folder)
-    crate = folder / "crates" / "verify_set"
-    (crate / "src").mkdir(parents=True)
-    shutil.copy(measure.ROOT / "bench" / "verify_set.rt.txt", crate / "src" / "main.rt")
-    small = file_of([b"", b"Small"], [object_of([], [], [])])
-    ran = subprocess.run(["rt", "run"], cwd=crate, input=small, stdout=subprocess.PIPE)
-    program = crate / "out" / "verify_set"
-    if ran.returncode != 0 or not program.exists():
-        raise SystemExit("the program was not built")
-    return program
+def least(words, folder, runs):
+    """The least time of some runs, and the peak memory."""
+    return measure.best(words, folder, runs=runs)[0], measure.peak_memory(words, folder)
 
 
-def least(words, path, runs):
-    """The least time of some runs on a file, and the peak memory."""
-    shell = ["sh", "-c", 'exec "$@" < "$0"', str(path), *words]
-    return measure.best(shell, path.parent, runs=runs)[0], measure.peak_memory(shell, path.parent)
-
-
-def measured(program, folder, runs):
-    """Prints a row for each size, with how many times as long it takes as the one before."""
+def measured(folder, runs):
+    """Prints rows for each size, with how many times as long it takes as the one before."""
+    program = measure.program()
+    check, run = [program, "check", "set.pex"], [program, "exec", "scene.json", "set.pex"]
     for make, what, counts in SIZES:
         before = None
         for count in counts:
-            path = folder / "set.pex"
-            path.write_bytes(make(count))
-            answer = subprocess.run([program], stdin=path.open("rb"), stdout=subprocess.PIPE, check=True).stdout
-            if answer != b"accepted\n":
+            size = folder.joinpath("set.pex").write_bytes(make(count))
+            answer = subprocess.run(run, cwd=folder, capture_output=True).stdout
+            if answer != REPORT:
                 raise SystemExit(f"{count} {what}: {answer}")
-            read, read_memory = least([str(program), "read"], path, runs)
-            whole, memory = least([str(program)], path, runs)
-            measure.row(f"{count} {what}, {path.stat().st_size} bytes: decoding", read, read_memory)
-            measure.row(f"{count} {what}, {path.stat().st_size} bytes", whole - read, memory, before)
+            read, read_memory = least(check, folder, runs)
+            whole, memory = least(run, folder, runs)
+            measure.row(f"{count} {what}, {size} bytes: check", read, read_memory)
+            measure.row(f"{count} {what}, {size} bytes", whole - read, memory, before)
             before = whole - read
 
 
 def main():
     arguments = argparse.ArgumentParser()
-    arguments.add_argument("--program", type=pathlib.Path)
-    arguments.add_argument("--keep", type=pathlib.Path)
     arguments.add_argument("--runs", type=int, default=7)
     given = arguments.parse_args()
     with tempfile.TemporaryDirectory() as made:
         folder = pathlib.Path(made)
-        program = given.program.resolve() if given.program else build(folder)
-        if given.keep:
-            shutil.copy(program, given.keep)
-        measured(program, folder, given.runs)
-    return 0
+        folder.joinpath("scene.json").write_text(SCENE)
+        measured(folder, given.runs)
 
 
 if __name__ == "__main__":
-    sys.exit(main())
+    main()
