@@ -3,7 +3,7 @@
 
   want_of_memory.py                   the cases named below: each command that runs scripts, and those that read and write files
   want_of_memory.py CASE..            these folders of cases/
-  want_of_memory.py --all             every case, but those whose output has little room
+  want_of_memory.py --all             every case, but those with a limit of their own
   want_of_memory.py --at-most N       at most N allocations of each case, evenly spread
   want_of_memory.py --program PATH    another program than crates/papyrus/out/papyrus
   want_of_memory.py -j N              N runs at a time, 2 where it isn't given
@@ -28,6 +28,7 @@ import sys
 import tempfile
 
 ROOT = pathlib.Path(__file__).resolve().parent.parent
+sys.dont_write_bytecode = True
 sys.path.insert(0, str(ROOT / "cases"))
 import run as black_box
 
@@ -194,7 +195,8 @@ def run_case(library, pool, case, most):
 
 def cases_of(words):
     if words.all:
-        return sorted(path.parent for path in black_box.CASES.glob("*/args") if not (path.parent / "room").exists())
+        every = sorted(path.parent for path in black_box.CASES.glob("*/args"))
+        return [case for case in every if not any((case / limit).exists() for limit in black_box.LIMITS)]
     return [black_box.CASES / name for name in words.cases]
 
 
