@@ -1,7 +1,6 @@
 pub mod BehindScene
 pub mod EarlyEnds
 pub mod RunEnds
-pub mod SampleEnds
 pub mod SampleParts
 pub mod SampleText
 pub mod SceneParts

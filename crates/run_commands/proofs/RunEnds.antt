@@ -118,8 +118,8 @@ told : (P Q : Files → Type 0) (holds : Option Files) → ((files : Files) → 
 told P Q None implies is = tt
 told P Q (Some files) implies is = implies files is
 
-pub report_within : (tree : SceneTree) (most : ℕ) (text : List ℕ) → tree.turns ≤ most → IsReportOf tree text → IsReportWithin most text
-report_within tree most text few report = record { turns = report.turns; within = omega (arith, report.within); report = report.report }
+report-within : (tree : SceneTree) (most : ℕ) (text : List ℕ) → tree.turns ≤ most → IsReportOf tree text → IsReportWithin most text
+report-within tree most text few report = record { turns = report.turns; within = omega (arith, report.within); report = report.report }
 
 -- bytes that any report may begin with
 report-behind : (most : ℕ) (bytes : List ℕ) → IsReportWithin most (bytes ++ turns_line 0)
@@ -134,7 +134,7 @@ part-of Ends most named files bytes ends =
 pub play_outputs : (Ends : Files → Ending → List ℕ → Type 0) (tree : SceneTree) (most named : ℕ) (holds : Option Files) (ending : Ending) (before now : Option (List ℕ)) → tree.turns ≤ most →
     IfSome holds (AnswersRun Ends most named) → Plays tree named ending before now → Outputs Ends holds ending before now
 play_outputs Ends tree most named holds Done before now few run plays =
-    (plays.text, plays.appended, told _ _ holds (λ files ends. ends.done plays.text (report_within tree most plays.text few plays.report)) run)
+    (plays.text, plays.appended, told _ _ holds (λ files ends. ends.done plays.text (report-within tree most plays.text few plays.report)) run)
 play_outputs Ends tree most named holds OutOfMemory before now few run plays =
     (plays.bytes, plays.appended, told _ _ holds (λ files ends. part-of Ends most named files plays.bytes ends) run)
 play_outputs Ends tree most named holds WriteFault before now few run plays =
