@@ -1,25 +1,33 @@
 ghost use Rattle.std.specs.Prelude.{◌≡◌, ◌↔◌, ℕ, List, IfOk, IsTrue};
-ghost use Rattle.std.specs.Rc.{rc_slice_items};
-ghost use Rattle.papy_base.specs.Case.{SameIgnoringCase};
+ghost use Rattle.papy_base.specs.Case.{SameIgnoringCase, folded};
 
 use crate::faults::OutOfMemory;
 use std::alloc::Global;
 use std::marker::Model;
-use std::rc::RcSlice;
+use std::rc::Rc;
+
+// A name's bytes as they were written, and with A to Z read as a to z.
+#[derive(Debug, Drop)]
+struct Spelling {
+    written: Vec<u8>,
+    folded: Vec<u8>,
+}
 
 /// The name of a script, a member, a variable or a state, as it was written.
 ///
-/// Names of Papyrus compare with the case of A to Z ignored, and print as they were declared. Equal names that
-/// were cloned share their bytes.
+/// Names of Papyrus compare with the case of A to Z ignored, and print as they were declared. A clone shares the bytes
+/// of its original.
 #[derive(Debug, Drop)]
 pub struct Name {
-    bytes: RcSlice<u8>,
+    spelling: Rc<Spelling>,
 }
 
 impl Model for Name {
     ghost Value = { List ℕ };
 
-    ghost view = { λ name. rc_slice_items name.bytes };
+    ghost view = { λ name. name.spelling.value.written.items };
+
+    ghost invariant = { λ name. name.spelling.value.folded.items ≡ folded name.spelling.value.written.items };
 }
 
 impl Name {
@@ -27,29 +35,39 @@ impl Name {
     pub fn from_bytes(alloc: Global, bytes: &[u8]) -> Result<Name, OutOfMemory>
         ensures { IfOk result (λ name. name ≡ bytes.now) }
     {
-        let bytes = RcSlice::from_slice(alloc, bytes)?;
-        Ok(Name { bytes })
+        let written = bytes.to_vec(alloc)?;
+        let mut folded = bytes.to_vec(alloc)?;
+        folded.as_mut_slice().make_ascii_lowercase();
+        let spelling = Rc::new(alloc, Spelling { written, folded })?;
+        Ok(Name { spelling })
     }
 
     /// The bytes of the name.
     pub fn as_bytes(&self) -> &[u8]
         ensures { result.now ≡ self.now }
     {
-        self.bytes.as_slice()
+        self.spelling.written.as_slice()
+    }
+
+    /// The bytes of the name with A to Z read as a to z, by which names are compared and looked up.
+    pub fn folded(&self) -> &[u8]
+        ensures { result.now ≡ folded self.now }
+    {
+        self.spelling.folded.as_slice()
     }
 
     /// Whether the two names are the same where A to Z are read as a to z.
     pub fn same(&self, other: &Name) -> bool
         ensures { IsTrue result ↔ SameIgnoringCase self.now other.now }
     {
-        self.as_bytes().eq_ignore_ascii_case(other.as_bytes())
+        self.folded() == other.folded()
     }
 
     /// An equal name, which shares the bytes of this one.
     pub fn try_clone(&self, _alloc: Global) -> Result<Name, OutOfMemory>
         ensures { IfOk result (λ name. name ≡ self.now) }
     {
-        let bytes = self.bytes.clone()?;
-        Ok(Name { bytes })
+        let spelling = self.spelling.clone()?;
+        Ok(Name { spelling })
     }
 }

@@ -76,3 +76,15 @@ fn names_and_texts_are_compared_without_case(rt: HostRuntime) -> Result<(), Fail
     assert!(rt; !text.same(&Text::try_from_bytes(alloc, b"Open ")?));
     Ok(())
 }
+
+#[test]
+fn a_pool_gives_names_of_the_bytes_that_it_is_asked_for(rt: HostRuntime) -> Result<(), Fail> {
+    let mut pool = NamePool::new(rt.alloc())?;
+    for bytes in [b"Gold".as_slice(), b"gold", b"", b"Gold"] {
+        let name = pool.name(bytes)?;
+        assert!(rt; name.as_bytes() == bytes);
+    }
+    let name = pool.name(b"Gold")?;
+    assert!(rt; name.folded() == b"gold".as_slice());
+    Ok(())
+}
