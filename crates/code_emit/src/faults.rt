@@ -5,7 +5,7 @@ use papy_base::OutOfMemory;
 use std::alloc::{AllocError, AllocFailed};
 use thiserror::Error;
 
-/// Why a set of scripts has no files. The sets of accepted scripts meet the last alone.
+/// Why a set of scripts has no files. No set of accepted scripts is known that meets any but the last.
 #[derive(Clone, Copy, Debug, PartialEq, Eq, Error)]
 pub enum EmitFault {
     /// A number names no script, function, variable, local or parameter, or a literal is an instance or an array.

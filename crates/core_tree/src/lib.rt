@@ -1,5 +1,5 @@
-//! The typed trees of scripts, the values they compute with, and the definitions of what running
-//! them means.
+//! The typed trees of scripts, the values they compute with, outlines and scenes, and the same as plain data, in which
+//! definitions speak of them.
 #![tactic(auto)]
 
 mod core_type;

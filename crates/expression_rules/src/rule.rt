@@ -2,40 +2,40 @@
 ghost use Rattle.std.specs.Prelude.{◌≡◌};
 ghost use Rattle.expression_rules.specs.Rules.{rule_number};
 
-/// A rule of types and names.
+/// The rules of types and names, in the order of their numbers, K1 to K16.
 #[derive(Clone, Copy, Debug, PartialEq, Eq)]
 pub enum TypeRule {
-    /// A word names nothing that is seen.
+    /// K1: a word names nothing that is seen.
     UnknownName,
-    /// The name of a type names none.
+    /// K2: the name of a type names none.
     UnknownType,
-    /// A call finds no function that may be called so.
+    /// K3: a call finds no function that may be called so.
     NoFunction,
-    /// A member is no property of the value's script, or `.Length` stands on no array.
+    /// K4: a member is no property of the value's script, or `.Length` stands on no array.
     NoProperty,
-    /// An argument is too many, named wrongly or twice, stands after a named one, or is missing.
+    /// K5: an argument is too many, named wrongly or twice, stands after a named one, or is missing.
     Arguments,
-    /// A value doesn't convert to the type that is needed.
+    /// K6: a value doesn't convert to the type that is needed.
     NoConversion,
-    /// An operator doesn't take operands of these types, or `[ ]` stands on no array.
+    /// K7: an operator doesn't take operands of these types, or `[ ]` stands on no array.
     Operand,
-    /// The target of an assignment can't be assigned to.
+    /// K8: the target of an assignment can't be assigned to.
     NotAssignable,
-    /// A Global function uses an instance.
+    /// K9: a Global function uses an instance.
     InstanceInGlobal,
-    /// `Return` has a value in a function without result, or none in one with.
+    /// K10: `Return` has a value in a function without result, or none in one with.
     ReturnValue,
-    /// A property is read or written that has no such direction.
+    /// K11: a property is read or written that has no such direction.
     PropertyDirection,
-    /// The size of a new array isn't in 1 to 128.
+    /// K12: the size of a new array isn't in 1 to 128.
     ArraySize,
-    /// `Parent` stands in a script without parent.
+    /// K13: `Parent` stands in a script without parent.
     NoParent,
-    /// A local or a parameter has the name of one that is still seen.
+    /// K14: a local or a parameter has the name of one that is still seen.
     DuplicateLocal,
-    /// A function or a script has too many nodes.
+    /// K15: a function or a script has too many nodes.
     FunctionTooLarge,
-    /// The result of a function without result is used.
+    /// K16: the result of a function without result is used.
     NoValue,
 }
 

@@ -27,18 +27,21 @@ impl Model for Instance {
 }
 
 impl Instance {
+    /// An instance in this state, with the variables of each of its scripts from its own upward.
     pub fn new(state: Text, scripts: Vec<ScriptVariables>) -> Instance
         ensures { result ≡ record { state = state; scripts = scripts.items } }
     {
         Instance { state, scripts }
     }
 
+    /// The name of its state, empty in the empty state.
     pub fn state(&self) -> &Text
         ensures { result.now ≡ self.now.state }
     {
         &self.state
     }
 
+    /// Takes it into the state of this name.
     pub fn set_state(&mut self, state: Text)
         ensures { self.new ≡ record self.old { state = state } }
     {

@@ -27,18 +27,21 @@ impl Model for ScriptVariables {
 }
 
 impl ScriptVariables {
+    /// The variables of the script of this number, with these values.
     pub fn new(script: u16, values: Vec<Value>) -> ScriptVariables
         ensures { result ≡ record { script = script; values = values.items } }
     {
         ScriptVariables { script, values }
     }
 
+    /// The number of the script that declares them.
     pub fn script(&self) -> u16
         ensures { result ≡ self.now.script }
     {
         self.script
     }
 
+    /// How many variables there are.
     pub fn count(&self) -> usize
         ensures { result ≡ length self.now.values }
     {

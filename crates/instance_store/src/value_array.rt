@@ -40,12 +40,14 @@ impl ValueArray {
         Ok(ValueArray { kind, items })
     }
 
+    /// The type of its elements.
     pub fn kind(&self) -> &CoreType
         ensures { result.now ≡ self.now.kind }
     {
         &self.kind
     }
 
+    /// How many elements it has, at most 128.
     pub fn length(&self) -> i32
         ensures { result ≡ pos (length self.now.items) }
     {

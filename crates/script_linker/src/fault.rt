@@ -22,7 +22,7 @@ pub enum LinkRule {
     DuplicateMember,
     /// N7: a second state is Auto.
     TwoAutoStates,
-    /// N8: no function of the empty state has the name of a state's function.
+    /// N8: no function of the empty state, of the script or of one above it, has the name of a state's function.
     StateFunctionAlone,
     /// N9: a function differs from the one that it replaces, or isn't what its place asks for.
     SignatureDiffers,
@@ -30,7 +30,7 @@ pub enum LinkRule {
     PropertyInParent,
     /// N11: a parameter without default follows one with a default.
     DefaultOrder,
-    /// N12: the set has over 256 files, or the file over 20,000 different words and texts.
+    /// N12: the file is behind the 256th, or it has over 20,000 different words, texts and documentation texts.
     Limit,
 }
 

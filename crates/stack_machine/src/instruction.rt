@@ -63,7 +63,7 @@ impl Work<'_> {
         }
     }
 
-    /// What an instruction that calls or returns asks for. Every other one returns None.
+    /// What an instruction that calls or returns asks for. Any other would return its first operand, and is never asked.
     pub fn leave(&mut self, instruction: &LoadedInstruction) -> Result<Event, OutOfMemory> {
         match action_of(instruction.opcode) {
             Some(Action::CallMethod) => self.call_method(instruction),

@@ -17,7 +17,7 @@ use pex_verify::{LoadedFunction, LoadedInstruction, Operand};
 use std::alloc::Global;
 
 // As many locals as most functions have. A frame puts its locals behind its arguments, so that it finds memory once.
-const USUAL_LOCALS: usize = 8;
+const USUAL_LOCALS: usize = 4;
 
 /// The turn of a stack.
 #[derive(Drop)]

@@ -97,10 +97,19 @@ fn bind_native(natives: &mut Vec<Vec<Option<Binding>>>, native: &BoundNative) {
     }
 }
 
+// For each script how many Auto properties those above it have. Each script is climbed over once, since what is known
+// ends a climb.
 fn counts_above(alloc: Global, outline: &Outline) -> Result<Vec<u32>, OutOfMemory> {
-    let mut above = Vec::with_capacity(alloc, outline.scripts.len())?;
-    for script in &outline.scripts {
-        above.push(count_from(outline, script.parent))?;
+    let mut known = vec![in alloc; None; outline.scripts.len()]?;
+    let mut climbed = Vec::new(alloc);
+    for script in 0..outline.scripts.len() {
+        let count = climb(outline, known.as_slice(), &mut climbed, script)?;
+        descend(outline, known.as_mut_slice(), climbed.as_slice(), count);
+        climbed.clear();
+    }
+    let mut above = Vec::with_capacity(alloc, known.len())?;
+    for count in known {
+        above.push(count.unwrap_or(0))?;
     }
     Ok(above)
 }
@@ -109,19 +118,38 @@ fn count_of(properties: &[OutlineProperty]) -> u32 {
     u32::try_from(properties.len()).unwrap_or(u32::MAX)
 }
 
-// How many Auto properties a script and those above it have.
-fn count_from(outline: &Outline, first: Option<u16>) -> u32 {
-    let mut count = 0u32;
+// Notes the scripts from this one upward whose counts aren't known, and gives how many Auto properties those above the last
+// of them have.
+fn climb(
+    outline: &Outline,
+    known: &[Option<u32>],
+    climbed: &mut Vec<usize>,
+    first: usize,
+) -> Result<u32, OutOfMemory> {
     let mut next = first;
     for _ in 0..outline.scripts.len() {
-        let Some(script) = next else {
+        let Some(script) = outline.scripts.get(next) else {
             break;
         };
-        let Some(found) = outline.scripts.get(usize::from(script)) else {
+        if let Some(Some(above)) = known.get(next) {
+            return Ok(above.saturating_add(count_of(&script.properties)));
+        }
+        climbed.push(next)?;
+        let Some(parent) = script.parent else {
             break;
         };
-        count = count.saturating_add(count_of(&found.properties));
-        next = found.parent;
+        next = usize::from(parent);
     }
-    count
+    Ok(0)
+}
+
+// Gives the scripts that were climbed over their counts, from the last one down.
+fn descend(outline: &Outline, known: &mut [Option<u32>], climbed: &[usize], count: u32) {
+    let mut above = count;
+    for number in climbed.iter().rev() {
+        if let (Some(script), Some(place)) = (outline.scripts.get(*number), known.get_mut(*number)) {
+            *place = Some(above);
+            above = above.saturating_add(count_of(&script.properties));
+        }
+    }
 }
