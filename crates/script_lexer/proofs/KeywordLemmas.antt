@@ -1,51 +1,59 @@
 -- Keywords.
-use Rattle.std.proofs.Common.{◌≡◌, ℕ, ◌<◌, Bool, true, false, List, [], ◌∷◌, get_or, length, Option, Some, refl, sym, ap, ◌∙◌, lit<}
+use Rattle.std.proofs.Common.{◌≡◌, ℕ, Bool, true, false, List, [], ◌∷◌, get_or, Option, Some, None, refl, sym, ap, ◌∙◌}
 use Rattle.std.specs.Prelude.{◌==◌, ◌&&◌}
 use Rattle.std.specs.List.{find}
 use Rattle.papy_base.specs.Case.{folded}
 use Rattle.script_lexer.specs.declared.keyword.Keyword.{Keyword}
 use Rattle.script_lexer.specs.declared.keyword.Keyword.TheVariants as keyword
-use Rattle.script_lexer.specs.Words.{keyword_spelling, keywords_of_length}
+use Rattle.script_lexer.specs.Words.{keyword_spelling, keyword_place}
 
 abbrev pub keywords : List Keyword
 keywords = keyword.As ∷ keyword.Auto ∷ keyword.AutoReadOnly ∷ keyword.Bool ∷ keyword.Else ∷ keyword.ElseIf ∷ keyword.EndEvent ∷ keyword.EndFunction ∷ keyword.EndIf ∷ keyword.EndProperty ∷ keyword.EndState ∷ keyword.EndWhile ∷ keyword.Event ∷ keyword.Extends ∷ keyword.False ∷ keyword.Float ∷ keyword.Function ∷ keyword.Global ∷ keyword.If ∷ keyword.Import ∷ keyword.Int ∷ keyword.Length ∷ keyword.Native ∷ keyword.New ∷ keyword.None ∷ keyword.Parent ∷ keyword.Property ∷ keyword.Return ∷ keyword.ScriptName ∷ keyword.SelfWord ∷ keyword.State ∷ keyword.String ∷ keyword.True ∷ keyword.While ∷ []
 
--- where a keyword stands among those of its length
-pub place_of : (k : Keyword) → (i : ℕ) × (i < length (keywords_of_length (length (keyword_spelling k)))) × ((d : Keyword) → get_or (keywords_of_length (length (keyword_spelling k))) i d ≡ k)
-place_of keyword.As = (0, lit< tt, λ d. refl)
-place_of keyword.Auto = (0, lit< tt, λ d. refl)
-place_of keyword.AutoReadOnly = (0, lit< tt, λ d. refl)
-place_of keyword.Bool = (1, lit< tt, λ d. refl)
-place_of keyword.Else = (2, lit< tt, λ d. refl)
-place_of keyword.ElseIf = (0, lit< tt, λ d. refl)
-place_of keyword.EndEvent = (0, lit< tt, λ d. refl)
-place_of keyword.EndFunction = (0, lit< tt, λ d. refl)
-place_of keyword.EndIf = (0, lit< tt, λ d. refl)
-place_of keyword.EndProperty = (1, lit< tt, λ d. refl)
-place_of keyword.EndState = (1, lit< tt, λ d. refl)
-place_of keyword.EndWhile = (2, lit< tt, λ d. refl)
-place_of keyword.Event = (1, lit< tt, λ d. refl)
-place_of keyword.Extends = (0, lit< tt, λ d. refl)
-place_of keyword.False = (2, lit< tt, λ d. refl)
-place_of keyword.Float = (3, lit< tt, λ d. refl)
-place_of keyword.Function = (3, lit< tt, λ d. refl)
-place_of keyword.Global = (1, lit< tt, λ d. refl)
-place_of keyword.If = (1, lit< tt, λ d. refl)
-place_of keyword.Import = (2, lit< tt, λ d. refl)
-place_of keyword.Int = (0, lit< tt, λ d. refl)
-place_of keyword.Length = (3, lit< tt, λ d. refl)
-place_of keyword.Native = (4, lit< tt, λ d. refl)
-place_of keyword.New = (1, lit< tt, λ d. refl)
-place_of keyword.None = (3, lit< tt, λ d. refl)
-place_of keyword.Parent = (5, lit< tt, λ d. refl)
-place_of keyword.Property = (4, lit< tt, λ d. refl)
-place_of keyword.Return = (6, lit< tt, λ d. refl)
-place_of keyword.ScriptName = (0, lit< tt, λ d. refl)
-place_of keyword.SelfWord = (4, lit< tt, λ d. refl)
-place_of keyword.State = (4, lit< tt, λ d. refl)
-place_of keyword.String = (7, lit< tt, λ d. refl)
-place_of keyword.True = (5, lit< tt, λ d. refl)
-place_of keyword.While = (5, lit< tt, λ d. refl)
+-- the keywords at their places
+abbrev pub candidates : List (Option Keyword)
+candidates = Some keyword.Return ∷ Some keyword.If ∷ None ∷ Some keyword.False ∷ None ∷ None ∷ Some keyword.As ∷ None ∷ Some keyword.Parent ∷ Some keyword.Property ∷ Some keyword.ScriptName ∷ None ∷ Some keyword.AutoReadOnly ∷ None ∷ None ∷ Some keyword.Native ∷ Some keyword.EndProperty ∷ Some keyword.True ∷ Some keyword.Float ∷ None ∷ None ∷ None ∷ Some keyword.Auto ∷ Some keyword.Int ∷ Some keyword.Function ∷ None ∷ Some keyword.Extends ∷ Some keyword.Import ∷ Some keyword.Else ∷ None ∷ Some keyword.Bool ∷ None ∷ Some keyword.EndState ∷ None ∷ None ∷ Some keyword.None ∷ None ∷ None ∷ None ∷ Some keyword.Event ∷ Some keyword.Length ∷ Some keyword.New ∷ Some keyword.While ∷ Some keyword.EndEvent ∷ None ∷ Some keyword.EndIf ∷ None ∷ None ∷ Some keyword.EndWhile ∷ Some keyword.ElseIf ∷ None ∷ None ∷ None ∷ None ∷ None ∷ Some keyword.SelfWord ∷ Some keyword.String ∷ Some keyword.Global ∷ None ∷ None ∷ None ∷ Some keyword.EndFunction ∷ Some keyword.State ∷ None ∷ []
+
+entry_of : (k : Keyword) (d : Option Keyword) → get_or candidates (keyword_place (keyword_spelling k)) d ≡ Some k
+entry_of keyword.As d = refl
+entry_of keyword.Auto d = refl
+entry_of keyword.AutoReadOnly d = refl
+entry_of keyword.Bool d = refl
+entry_of keyword.Else d = refl
+entry_of keyword.ElseIf d = refl
+entry_of keyword.EndEvent d = refl
+entry_of keyword.EndFunction d = refl
+entry_of keyword.EndIf d = refl
+entry_of keyword.EndProperty d = refl
+entry_of keyword.EndState d = refl
+entry_of keyword.EndWhile d = refl
+entry_of keyword.Event d = refl
+entry_of keyword.Extends d = refl
+entry_of keyword.False d = refl
+entry_of keyword.Float d = refl
+entry_of keyword.Function d = refl
+entry_of keyword.Global d = refl
+entry_of keyword.If d = refl
+entry_of keyword.Import d = refl
+entry_of keyword.Int d = refl
+entry_of keyword.Length d = refl
+entry_of keyword.Native d = refl
+entry_of keyword.New d = refl
+entry_of keyword.None d = refl
+entry_of keyword.Parent d = refl
+entry_of keyword.Property d = refl
+entry_of keyword.Return d = refl
+entry_of keyword.ScriptName d = refl
+entry_of keyword.SelfWord d = refl
+entry_of keyword.State d = refl
+entry_of keyword.String d = refl
+entry_of keyword.True d = refl
+entry_of keyword.While d = refl
+
+pub only_candidate : (entries : List (Option Keyword)) (word : List ℕ) (place : ℕ) (d : Option Keyword) (k : Keyword) → entries ≡ candidates → place ≡ keyword_place (folded word) → folded word ≡ keyword_spelling k → get_or entries place d ≡ Some k
+only_candidate entries word place d k table is_place is_word =
+    let there : place ≡ keyword_place (keyword_spelling k) = is_place ∙ ap keyword_place is_word in
+    ap (λ (t : List (Option Keyword)). get_or t place d) table ∙ ap (λ (n : ℕ). get_or candidates n d) there ∙ entry_of k d
 
 -- a spelling is in small letters
 pub folded_spelling : (k : Keyword) → folded (keyword_spelling k) ≡ keyword_spelling k

@@ -1,4 +1,5 @@
 pub mod BlankLemmas
+pub mod InLineLemmas
 pub mod Runs
 pub mod Standing
 pub mod KeywordLemmas

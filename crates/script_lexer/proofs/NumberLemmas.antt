@@ -24,11 +24,11 @@ use Rattle.script_lexer.specs.Rules.{IsFraction}
 use Rattle.script_lexer.specs.Answers.{is_hexadecimal_at}
 use Rattle.script_lexer.proofs.Runs.{whole_run, run_of_take, behind_front}
 
-hex_numeral : (b : ℕ) (bs : List ℕ) → is_hexadecimal b bs ≡ true
+pub hex_numeral : (b : ℕ) (bs : List ℕ) → is_hexadecimal b bs ≡ true
     → numeral b bs ≡ record { base = 16; digits = take (prefix_len is_ascii_hexdigit (drop 1 bs)) (drop 1 bs); after = drop (prefix_len is_ascii_hexdigit (drop 1 bs)) (drop 1 bs) }
 hex_numeral b bs e = rw e refl
 
-dec_numeral : (b : ℕ) (bs : List ℕ) → is_hexadecimal b bs ≡ false
+pub dec_numeral : (b : ℕ) (bs : List ℕ) → is_hexadecimal b bs ≡ false
     → numeral b bs ≡ record { base = 10; digits = b ∷ take (prefix_len is_ascii_digit bs) bs; after = drop (prefix_len is_ascii_digit bs) bs }
 dec_numeral b bs e = rw e refl
 
@@ -42,7 +42,7 @@ hexadecimal-append b [] back e = absurd cc
 hexadecimal-append b (x ∷ []) back e = absurd cc
 hexadecimal-append b (x ∷ h ∷ os) back e = e
 
-hex_letter : (b x : ℕ) (hs : List ℕ) → is_hexadecimal b (x ∷ hs) ≡ true → x ≡ 120
+pub hex_letter : (b x : ℕ) (hs : List ℕ) → is_hexadecimal b (x ∷ hs) ≡ true → x ≡ 120
 hex_letter b x [] e = absurd cc
 hex_letter b x (h ∷ hs) e = eqb-true x 120 (and_parts _ _ (and_parts _ _ e).1).0
 

@@ -321,7 +321,7 @@ read_all start text p lines last so_far is_closed is_last =
 
 -- ---- the number of physical lines
 
-line_ends_none : (b : ℕ) → is_line_end b ≡ false → ◌≡◌ {A = ℕ} (cond (is_line_end b) 1 0) 0
+pub line_ends_none : (b : ℕ) → is_line_end b ≡ false → ◌≡◌ {A = ℕ} (cond (is_line_end b) 1 0) 0
 line_ends_none b e = rw e refl
 
 pub ended_lines : (text : List ℕ) (k : ℕ) → suc k ≡ length text → get_or text k 0 ≡ 10 → physical_lines text ≡ line_ends text

@@ -1,5 +1,5 @@
 -- Classes of bytes, and what a byte opens.
-use Rattle.std.specs.Prelude.{ℕ, Bool, List, drop, not, ◌==◌, ◌||◌, if◌then◌else◌}
+use Rattle.std.specs.Prelude.{ℕ, Bool, true, false, List, drop, not, ◌==◌, ◌||◌, if◌then◌else◌}
 use Rattle.std.specs.List.{prefix_len, take_while, count_by}
 use Rattle.std.specs.Char.{is_ascii_digit, is_ascii_hexdigit, is_ascii_alphabetic}
 use Rattle.script_lexer.specs.declared.byte_class.ByteClass.{ByteClass}
@@ -57,6 +57,19 @@ opening_of b =
     else (if is_word_start b then opening.Word
     else (if is_sign_start b then opening.Sign
     else opening.Nothing))))))))
+
+-- Words, numbers and signs hold no line end.
+abbrev pub stays_in_line : Opening → Bool
+stays_in_line opening.Blank = false
+stays_in_line opening.LineEnd = false
+stays_in_line opening.Join = false
+stays_in_line opening.Comment = false
+stays_in_line opening.Documentation = false
+stays_in_line opening.Quote = false
+stays_in_line opening.Number = true
+stays_in_line opening.Word = true
+stays_in_line opening.Sign = true
+stays_in_line opening.Nothing = false
 
 -- the front of the bytes that pass a test, and what stands behind it
 abbrev pub front : (ℕ → Bool) → List ℕ → List ℕ

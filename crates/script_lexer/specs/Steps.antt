@@ -1,5 +1,5 @@
 -- One step of the lexer, and all of them.
-use Rattle.std.specs.Prelude.{◌≡◌, ℕ, ◌+◌, ◌-◌, ◌<◌, ◌≤◌, List, ◌++◌, length, take, ◌⊎◌, Result, Ok, Err, ⊤}
+use Rattle.std.specs.Prelude.{◌≡◌, ℕ, ◌+◌, ◌-◌, ◌<◌, ◌≤◌, List, ◌++◌, length, take, drop, ◌⊎◌, Result, Ok, Err, ⊤}
 use Rattle.std.specs.Borrow.{Bor}
 use Rattle.script_lexer.specs.declared.piece.Piece.{Piece}
 use Rattle.script_lexer.specs.declared.piece.PieceFault.{PieceFault}
@@ -10,7 +10,8 @@ use Rattle.script_lexer.specs.declared.fault.LexRule.{LexRule}
 use Rattle.script_lexer.specs.declared.fault.LexRule.TheVariants as rule
 use Rattle.script_lexer.specs.declared.fault.LexFault.{LexFault}
 use Rattle.script_lexer.specs.declared.fault.LexFault.TheVariants as fault
-use Rattle.script_lexer.specs.Bytes.{line_ends}
+use Rattle.std.specs.List.{prefix_len}
+use Rattle.script_lexer.specs.Bytes.{is_blank, line_ends}
 use Rattle.script_lexer.specs.Pieces.{IsLongest}
 use Rattle.script_lexer.specs.Rules.{Breaks}
 use Rattle.script_lexer.specs.Lines.{logical_lines, LexesFrom, IsUnbroken, FirstBreak, LexBreak}
@@ -39,6 +40,24 @@ pub record Steps (old new : Progress) (rest after : List ℕ) : Type 0 where
   pub here : StandsHere rest after bytes piece
   pub few : old.line + ends_before_last bytes ≤ 65535
   pub takes : Takes old new piece bytes
+
+-- the line ends of a piece that begins on this line and whose last byte stands within the limit
+pub record CountsWithin (line : ℕ) (bytes : List ℕ) (ends : ℕ) : Type 0 where
+  pub few : line + ends_before_last bytes ≤ 65535
+  pub counted : ends ≡ line_ends bytes
+  pub most : line + ends ≤ 65536
+
+-- Some blanks were passed, none of them past the last line, and nothing but the place is another.
+pub record PassesBlanks (old new : Progress) (rest after : List ℕ) : Type 0 where
+  pub count : ℕ
+  pub blank : count ≤ prefix_len is_blank rest
+  pub within : 0 < count → old.line ≤ 65535
+  pub behind : after ≡ drop count rest
+  pub at : new.at ≡ old.at + count
+  pub line : new.line ≡ old.line
+  pub begun : new.begun ≡ old.begun
+  pub tokens : new.tokens ≡ old.tokens
+  pub lines : new.lines ≡ old.lines
 
 -- a piece stands here, and its last byte stands past the last line
 pub record Exceeds (line : ℕ) (rest : List ℕ) : Type 0 where

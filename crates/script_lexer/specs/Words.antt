@@ -1,5 +1,5 @@
 -- How keywords and signs are spelled.
-use Rattle.std.specs.Prelude.{ℕ, List, [], ◌∷◌, Option, Some, None, ◌==◌, if◌then◌else◌}
+use Rattle.std.specs.Prelude.{ℕ, ◌+◌, ◌*◌, ◌-◌, ◌/◌, ◌%◌, List, [], ◌∷◌, length, get_or, Option, Some, None, ◌==◌, nat_lt, if◌then◌else◌}
 use Rattle.script_lexer.specs.declared.keyword.Keyword.{Keyword}
 use Rattle.script_lexer.specs.declared.keyword.Keyword.TheVariants as keyword
 use Rattle.script_lexer.specs.declared.sign.Sign.{Sign}
@@ -42,20 +42,11 @@ keyword_spelling keyword.String = 115 ∷ 116 ∷ 114 ∷ 105 ∷ 110 ∷ 103 �
 keyword_spelling keyword.True = 116 ∷ 114 ∷ 117 ∷ 101 ∷ []
 keyword_spelling keyword.While = 119 ∷ 104 ∷ 105 ∷ 108 ∷ 101 ∷ []
 
--- the keywords of this many letters
-abbrev pub keywords_of_length : ℕ → List Keyword
-keywords_of_length n =
-    if n == 2 then keyword.As ∷ keyword.If ∷ []
-    else (if n == 3 then keyword.Int ∷ keyword.New ∷ []
-    else (if n == 4 then keyword.Auto ∷ keyword.Bool ∷ keyword.Else ∷ keyword.None ∷ keyword.SelfWord ∷ keyword.True ∷ []
-    else (if n == 5 then keyword.EndIf ∷ keyword.Event ∷ keyword.False ∷ keyword.Float ∷ keyword.State ∷ keyword.While ∷ []
-    else (if n == 6 then keyword.ElseIf ∷ keyword.Global ∷ keyword.Import ∷ keyword.Length ∷ keyword.Native ∷ keyword.Parent ∷ keyword.Return ∷ keyword.String ∷ []
-    else (if n == 7 then keyword.Extends ∷ []
-    else (if n == 8 then keyword.EndEvent ∷ keyword.EndState ∷ keyword.EndWhile ∷ keyword.Function ∷ keyword.Property ∷ []
-    else (if n == 10 then keyword.ScriptName ∷ []
-    else (if n == 11 then keyword.EndFunction ∷ keyword.EndProperty ∷ []
-    else (if n == 12 then keyword.AutoReadOnly ∷ []
-    else [])))))))))
+-- the place of a word in small letters among the candidates
+abbrev pub keyword_place : List ℕ → ℕ
+keyword_place word =
+    if nat_lt (length word) 2 then 0
+    else (3 * get_or word 0 0 + 4 * get_or word (length word / 2) 0 + 13 * get_or word (length word - 1) 0) % 64
 
 abbrev pub sign_spelling : Sign → List ℕ
 sign_spelling sign.OpenParen = 40 ∷ []

@@ -1,7 +1,7 @@
-ghost use Rattle.std.specs.Prelude.{◌≡◌, ◌≢◌, MatchOption};
+ghost use Rattle.std.specs.Prelude.{◌≡◌, ◌≢◌, ◌<◌, Some, MatchOption};
 ghost use Rattle.papy_base.specs.Case.{folded};
 ghost use Rattle.script_lexer.specs.declared.keyword.Keyword.{Keyword};
-ghost use Rattle.script_lexer.specs.Words.{keyword_spelling, keywords_of_length};
+ghost use Rattle.script_lexer.specs.Words.{keyword_spelling, keyword_place};
 
 /// A word that Papyrus keeps for itself, in any case of its letters.
 #[derive(Clone, Copy, Debug, PartialEq, Eq)]
@@ -86,65 +86,51 @@ impl Keyword {
         }
     }
 
-    // The keywords of this many letters.
-    #[tactic(auto, unfolding(crate::specs::Words::keywords_of_length))]
-    fn of_length(len: usize) -> &'static [Keyword]
-        ensures { result.now ≡ keywords_of_length len }
-    {
-        match len {
-            2 => &[Keyword::As, Keyword::If],
-            3 => &[Keyword::Int, Keyword::New],
-            4 => &[
-                Keyword::Auto,
-                Keyword::Bool,
-                Keyword::Else,
-                Keyword::None,
-                Keyword::SelfWord,
-                Keyword::True,
-            ],
-            5 => &[
-                Keyword::EndIf,
-                Keyword::Event,
-                Keyword::False,
-                Keyword::Float,
-                Keyword::State,
-                Keyword::While,
-            ],
-            6 => &[
-                Keyword::ElseIf,
-                Keyword::Global,
-                Keyword::Import,
-                Keyword::Length,
-                Keyword::Native,
-                Keyword::Parent,
-                Keyword::Return,
-                Keyword::String,
-            ],
-            7 => &[Keyword::Extends],
-            8 => &[
-                Keyword::EndEvent,
-                Keyword::EndState,
-                Keyword::EndWhile,
-                Keyword::Function,
-                Keyword::Property,
-            ],
-            10 => &[Keyword::ScriptName],
-            11 => &[Keyword::EndFunction, Keyword::EndProperty],
-            12 => &[Keyword::AutoReadOnly],
-            _ => &[],
-        }
-    }
-
     /// The keyword that the word is in small letters.
     pub(crate) fn of(word: &[u8]) -> Option<Keyword>
         ensures { MatchOption result ((k : Keyword) → folded word.now ≢ keyword_spelling k) (λ k. folded word.now ≡ keyword_spelling k) }
     {
-        let candidates = Keyword::of_length(word.len());
-        for keyword in candidates {
-            if word.eq_ignore_ascii_case(keyword.spelling()) {
-                return Some(*keyword);
-            }
+        match candidate(word) {
+            Some(keyword) if word.eq_ignore_ascii_case(keyword.spelling()) => Some(keyword),
+            _ => None,
         }
-        None
     }
+}
+
+/// The keyword at each place, which is the only one that a word of that place can be.
+#[rattlefmt::skip]
+static CANDIDATES: [Option<Keyword>; 64] = [
+    Some(Keyword::Return), Some(Keyword::If), None, Some(Keyword::False), None, None,
+    Some(Keyword::As), None, Some(Keyword::Parent), Some(Keyword::Property),
+    Some(Keyword::ScriptName), None, Some(Keyword::AutoReadOnly), None, None, Some(Keyword::Native),
+    Some(Keyword::EndProperty), Some(Keyword::True), Some(Keyword::Float), None, None, None,
+    Some(Keyword::Auto), Some(Keyword::Int), Some(Keyword::Function), None, Some(Keyword::Extends),
+    Some(Keyword::Import), Some(Keyword::Else), None, Some(Keyword::Bool), None,
+    Some(Keyword::EndState), None, None, Some(Keyword::None), None, None, None,
+    Some(Keyword::Event), Some(Keyword::Length), Some(Keyword::New), Some(Keyword::While),
+    Some(Keyword::EndEvent), None, Some(Keyword::EndIf), None, None, Some(Keyword::EndWhile),
+    Some(Keyword::ElseIf), None, None, None, None, None, Some(Keyword::SelfWord),
+    Some(Keyword::String), Some(Keyword::Global), None, None, None, Some(Keyword::EndFunction),
+    Some(Keyword::State), None,
+];
+
+// The place of a word among the candidates, which its first, middle and last letters give in any case.
+fn place_of(word: &[u8]) -> usize
+    ensures value { result ≡ keyword_place (folded word.now) }
+    ensures within { result < 64 }
+{
+    if word.len() < 2 {
+        return 0;
+    }
+    let first = word[0].to_ascii_lowercase() as usize;
+    let middle = word[word.len() / 2].to_ascii_lowercase() as usize;
+    let last = word[word.len() - 1].to_ascii_lowercase() as usize;
+    (3 * first + 4 * middle + 13 * last) % 64
+}
+
+// The only keyword that the word can be, in any case.
+fn candidate(word: &[u8]) -> Option<Keyword>
+    ensures { (k : Keyword) → folded word.now ≡ keyword_spelling k → result ≡ Some k }
+{
+    CANDIDATES[place_of(word)]
 }

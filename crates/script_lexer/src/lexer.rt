@@ -1,18 +1,18 @@
-ghost use Rattle.std.specs.Prelude.{◌≡◌, ◌+◌, ◌<◌, ◌≤◌, ◌^◌, length, IfOk, IfErr, OnOk};
-ghost use Rattle.script_lexer.specs.Bytes.{line_ends};
+ghost use Rattle.std.specs.Prelude.{◌≡◌, ◌+◌, ◌<◌, ◌≤◌, ◌^◌, length, true, MatchOption, IfOk, IfErr, OnOk};
+ghost use Rattle.script_lexer.specs.Bytes.{line_ends, stays_in_line};
 ghost use Rattle.script_lexer.specs.Lines.{mark_len, physical_lines, logical_lines, text_of, IsUnbroken, Lexes};
 ghost use Rattle.script_lexer.specs.Progress.{IsReady};
 ghost use Rattle.script_lexer.specs.Spans.{LinesStand};
-ghost use Rattle.script_lexer.specs.declared.opening.Opening.TheVariants as opening;
-ghost use Rattle.script_lexer.specs.Answers.{Opens};
-ghost use Rattle.script_lexer.specs.Steps.{Steps, StepAnswer, TextAnswer, FileFault};
+ghost use Rattle.script_lexer.specs.Steps.{PassesBlanks, CountsWithin, ends_before_last, StepAnswer, TextAnswer, FileFault};
 
+use crate::byte_class::ByteClass;
 use crate::fault::{LexFault, LexRule};
 use crate::line::Lines;
-use crate::next_piece::{blank_stands, next_piece};
+use crate::next_piece::next_piece;
 use crate::opening::Opening;
 use crate::piece::Found;
 use crate::progress::Progress;
+use papy_base::NamePool;
 use std::alloc::Global;
 
 /// The most bytes of a file.
@@ -29,23 +29,48 @@ fn count_line_ends(bytes: &[u8]) -> usize
     bytes.iter().filter(|byte| **byte == b'\n').count()
 }
 
-// A blank, which makes no token: most pieces of a script are blanks.
-fn blank<'a>(progress: &mut Progress, rest: &'a [u8]) -> &'a [u8]
-    requires nonempty { 0 < length rest.now }
-    requires opens { Opens opening.Blank rest.now }
-    requires ready { IsReady progress.old }
-    requires room { progress.old.at + length rest.now < 2 ^ 31 }
-    requires within { progress.old.line ≤ 65535 }
-    ensures { Steps progress.old progress.new rest.now result.now }
+// Passes blanks, which make no tokens, up to the first byte that is none. Past the last line a blank breaks a rule.
+fn pass_blanks<'a>(progress: &mut Progress, rest: &'a [u8]) -> &'a [u8]
+    requires { progress.old.at + length rest.now < 2 ^ 31 }
+    ensures { PassesBlanks progress.old progress.new rest.now result.now }
 {
-    blank_stands(rest);
-    let (_, after) = rest.split_at(1);
-    progress.pass_blank();
+    if progress.line as usize > LINE_LIMIT {
+        return rest;
+    }
+    let len = ByteClass::Blank.run_len(rest);
+    let (_, after) = rest.split_at(len);
+    progress.at += len as u32;
     after
 }
 
+// How many physical lines end in the bytes of a piece that begins on this line, where its last byte stands on a line
+// within the limit. Words, numbers and signs, which are most pieces, hold no line end.
+fn line_ends_within(opening: Opening, line: u32, bytes: &[u8]) -> Option<u32>
+    requires some { 0 < length bytes.now }
+    requires small { length bytes.now < 2 ^ 31 }
+    requires within { line ≤ 65536 }
+    requires in_line { stays_in_line opening ≡ true → line_ends bytes.now ≡ 0 }
+    ensures { MatchOption result (65535 < line + ends_before_last bytes.now) (CountsWithin line bytes.now) }
+{
+    let line = line as usize;
+    if opening.stays_in_line() && line <= LINE_LIMIT {
+        return Some(0);
+    }
+    let (front, last) = bytes.split_at(bytes.len() - 1);
+    let before_last = count_line_ends(front);
+    if line + before_last > LINE_LIMIT {
+        return None;
+    }
+    Some((before_last + count_line_ends(last)) as u32)
+}
+
 // One piece more. Gives what is left behind it.
-fn step<'a>(alloc: Global, progress: &mut Progress, rest: &'a [u8]) -> Result<&'a [u8], LexFault>
+fn step<'a>(
+    alloc: Global,
+    names: &mut NamePool,
+    progress: &mut Progress,
+    rest: &'a [u8],
+) -> Result<&'a [u8], LexFault>
     requires nonempty { 0 < length rest.now }
     requires ready { IsReady progress.old }
     requires room { progress.old.at + length rest.now < 2 ^ 31 }
@@ -53,24 +78,19 @@ fn step<'a>(alloc: Global, progress: &mut Progress, rest: &'a [u8]) -> Result<&'
     ensures { StepAnswer progress.old progress.new rest.now result }
 {
     let line = progress.line;
-    if Opening::of(rest[0]) == Opening::Blank && line as usize <= LINE_LIMIT {
-        return Ok(blank(progress, rest));
-    }
-    let Found { piece, len } = match next_piece(alloc, rest) {
+    let opening = Opening::of(rest[0]);
+    let Found { piece, len } = match next_piece(alloc, names, opening, rest) {
         Ok(found) => found,
         Err(fault) => return Err(fault.at_line(line)),
     };
     let (bytes, after) = rest.split_at(len);
-    let (front, last) = bytes.split_at(len - 1);
-    let before_last = count_line_ends(front);
-    if line as usize + before_last > LINE_LIMIT {
+    let Some(ends) = line_ends_within(opening, line, bytes) else {
         return Err(LexFault::Broken {
             line: 65536,
             rule: LexRule::TooLarge,
         });
-    }
-    let ends = before_last + count_line_ends(last);
-    progress.take(alloc, piece, bytes, ends as u32)?;
+    };
+    progress.take(alloc, piece, bytes, ends)?;
     Ok(after)
 }
 
@@ -106,16 +126,17 @@ fn lex_text(alloc: Global, start: u32, text: &[u8]) -> Result<Lines, LexFault>
     requires { start + length text.now < 2 ^ 31 }
     ensures { TextAnswer start text.now result }
 {
+    let mut names = NamePool::new(alloc)?;
     let mut progress = Progress::new(alloc, start);
-    let mut rest = text;
+    let mut rest = pass_blanks(&mut progress, text);
     while !rest.is_empty() {
-        match step(alloc, &mut progress, rest) {
-            Ok(after) => rest = after,
+        match step(alloc, &mut names, &mut progress, rest) {
+            Ok(after) => rest = pass_blanks(&mut progress, after),
             Err(fault) => return Err(fault),
         }
     }
     let last = last_line(text, progress.line);
-    let lines = progress.finish()?;
+    let lines = progress.finish(alloc)?;
     Ok(Lines { lines, last })
 }
 

@@ -11,23 +11,21 @@ use crate::punctuation::sign;
 use crate::quoted::text;
 use crate::trivia::{comment, documentation, join};
 use crate::word::word;
+use papy_base::NamePool;
 use std::alloc::Global;
 
-/// A blank is a piece where it stands.
-pub fn blank_stands(rest: &[u8])
-    requires nonempty { 0 < length rest.now }
-    requires opens { Opens opening.Blank rest.now }
-    ensures { Stands rest.now piece.Blank 1 }
-{
-    let _first = rest[0];
-}
-
 /// The longest piece that stands here, or the lowest rule that is broken here.
-pub fn next_piece(alloc: Global, rest: &[u8]) -> Result<Found, PieceFault>
-    requires { 0 < length rest.now }
+pub fn next_piece(
+    alloc: Global,
+    names: &mut NamePool,
+    opening: Opening,
+    rest: &[u8],
+) -> Result<Found, PieceFault>
+    requires nonempty { 0 < length rest.now }
+    requires opens { Opens opening rest.now }
     ensures { Answers rest.now result }
 {
-    match Opening::of(rest[0]) {
+    match opening {
         Opening::Blank => Ok(Found {
             piece: Piece::Blank,
             len: 1,
@@ -41,7 +39,7 @@ pub fn next_piece(alloc: Global, rest: &[u8]) -> Result<Found, PieceFault>
         Opening::Documentation => documentation(alloc, rest),
         Opening::Quote => text(alloc, rest),
         Opening::Number => number(rest),
-        Opening::Word => word(alloc, rest),
+        Opening::Word => word(names, rest),
         Opening::Sign => sign(rest),
         Opening::Nothing => Err(PieceFault::Broken(LexRule::BadByte)),
     }

@@ -1,5 +1,7 @@
 ghost use Rattle.std.specs.Prelude.{◌≡◌};
-ghost use Rattle.script_lexer.specs.Bytes.{opening_of, is_sign_start};
+ghost use Rattle.script_lexer.specs.Bytes.{opening_of, is_sign_start, stays_in_line};
+
+use crate::byte_class::is_word_start;
 
 /// What the first byte of a piece opens.
 #[derive(Clone, Copy, Debug, PartialEq, Eq)]
@@ -26,6 +28,9 @@ impl Opening {
     pub fn of(byte: u8) -> Opening
         ensures { result ≡ opening_of byte }
     {
+        if is_word_start(byte) {
+            return Opening::Word;
+        }
         match byte {
             b' ' | b'\t' | b'\r' => Opening::Blank,
             b'\n' => Opening::LineEnd,
@@ -34,7 +39,6 @@ impl Opening {
             b'{' => Opening::Documentation,
             b'"' => Opening::Quote,
             b'0'..=b'9' => Opening::Number,
-            b'a'..=b'z' | b'A'..=b'Z' | b'_' => Opening::Word,
             b'('
             | b')'
             | b'['
@@ -54,5 +58,12 @@ impl Opening {
             | b'|' => Opening::Sign,
             _ => Opening::Nothing,
         }
+    }
+
+    /// Whether pieces that open so hold no line end. Other pieces may hold some.
+    pub fn stays_in_line(self) -> bool
+        ensures { result ≡ stays_in_line self }
+    {
+        matches!(self, Opening::Word | Opening::Number | Opening::Sign)
     }
 }

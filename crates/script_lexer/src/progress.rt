@@ -7,7 +7,6 @@ use crate::piece::Piece;
 use crate::token::Spanned;
 use papy_base::OutOfMemory;
 use std::alloc::Global;
-use std::mem;
 
 /// What was read so far.
 #[derive(Debug, Drop)]
@@ -24,18 +23,25 @@ pub struct Progress {
     pub lines: Vec<Line>,
 }
 
-// Ends a logical line, which counts where it has tokens.
-fn end_line(lines: &mut Vec<Line>, mut tokens: Vec<Spanned>, begun: u32) -> Result<(), OutOfMemory>
-    requires { 0 < length tokens.items → begun ≤ 65535 }
-    ensures { OnOk result (logical_lines lines.new.items ≡ logical_lines lines.old.items ++ nonempty begun tokens.items []) }
+// Ends a logical line, which counts where it has tokens. They move to a list of their length.
+fn end_line(
+    alloc: Global,
+    lines: &mut Vec<Line>,
+    tokens: &mut Vec<Spanned>,
+    begun: u32,
+) -> Result<(), OutOfMemory>
+    requires { 0 < length tokens.old.items → begun ≤ 65535 }
+    ensures ended { OnOk result (logical_lines lines.new.items ≡ logical_lines lines.old.items ++ nonempty begun tokens.old.items []) }
+    ensures empty { OnOk result (tokens.new.items ≡ []) }
 {
     if tokens.is_empty() {
         return Ok(());
     }
-    tokens.shrink_to_fit();
+    let mut own = Vec::with_capacity(alloc, tokens.len())?;
+    own.append(tokens)?;
     lines.push(Line {
         number: begun as u16,
-        tokens,
+        tokens: own,
     })?;
     Ok(())
 }
@@ -79,8 +85,7 @@ impl Progress {
         let line = self.line + ends;
         match piece {
             Piece::LineEnd => {
-                let tokens = mem::replace(&mut self.tokens, Vec::new(alloc));
-                end_line(&mut self.lines, tokens, self.begun)?;
+                end_line(alloc, &mut self.lines, &mut self.tokens, self.begun)?;
                 self.begun = line;
             }
             Piece::Token(token) => {
@@ -93,17 +98,8 @@ impl Progress {
         Ok(())
     }
 
-    /// One blank more.
-    pub fn pass_blank(&mut self)
-        requires ready { IsReady self.old }
-        requires room { self.old.at + 1 < 2 ^ 31 }
-        ensures { (bytes : List ℕ) → length bytes ≡ 1 → line_ends bytes ≡ 0 → Takes self.old self.new piece.Blank bytes }
-    {
-        self.at += 1;
-    }
-
     /// The logical lines, with the last one.
-    pub fn finish(self) -> Result<Vec<Line>, OutOfMemory>
+    pub fn finish(self, alloc: Global) -> Result<Vec<Line>, OutOfMemory>
         requires { IsReady self }
         ensures { IfOk result (λ lines. closed lines.items self) }
     {
@@ -111,10 +107,10 @@ impl Progress {
             at: _,
             line: _,
             begun,
-            tokens,
+            mut tokens,
             mut lines,
         } = self;
-        end_line(&mut lines, tokens, begun)?;
+        end_line(alloc, &mut lines, &mut tokens, begun)?;
         Ok(lines)
     }
 }

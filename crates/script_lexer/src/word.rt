@@ -9,14 +9,13 @@ use crate::fault::LexRule;
 use crate::keyword::Keyword;
 use crate::piece::{Found, Piece, PieceFault};
 use crate::token::Token;
-use papy_base::Name;
-use std::alloc::Global;
+use papy_base::NamePool;
 
 /// The most bytes of a name.
 pub const NAME_LIMIT: usize = 255;
 
 /// A word.
-pub fn word(alloc: Global, rest: &[u8]) -> Result<Found, PieceFault>
+pub fn word(names: &mut NamePool, rest: &[u8]) -> Result<Found, PieceFault>
     requires nonempty { 0 < length rest.now }
     requires opens { Opens opening.Word rest.now }
     ensures { Answers rest.now result }
@@ -36,7 +35,7 @@ pub fn word(alloc: Global, rest: &[u8]) -> Result<Found, PieceFault>
             }),
         },
         None => {
-            let name = Name::from_bytes(alloc, bytes)?;
+            let name = names.name(bytes)?;
             Ok(Found {
                 piece: Piece::Token(Token::Word(name)),
                 len,
