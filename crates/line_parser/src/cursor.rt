@@ -1,8 +1,10 @@
 // Reads the tokens of a line from left to right.
-ghost use Rattle.std.specs.Prelude.{◌≡◌, ◌+◌, ◌<◌, ◌≤◌, length, IsTrue, IsSome, OnSome, OnOk};
+ghost use Rattle.std.specs.Prelude.{◌≡◌, ◌+◌, ◌<◌, ◌≤◌, length, IsTrue, IsSome, IfSome, OnSome, OnOk};
+ghost use Rattle.line_parser.specs.Levels.{looseness};
 
 use crate::fault::FormFault;
 use crate::level::Level;
+use crate::type_words::TypeWords;
 use papy_base::Name;
 use script_lexer::{Keyword, Sign, Spanned, Token};
 use std::alloc::Global;
@@ -11,6 +13,7 @@ use std::alloc::Global;
 #[derive(Drop)]
 pub(crate) struct Cursor<'a> {
     pub(crate) alloc: Global,
+    pub(crate) types: &'a TypeWords,
     pub(crate) rest: &'a [Spanned],
 }
 
@@ -34,8 +37,12 @@ impl<'a> Cursor<'a> {
         }
     }
 
-    pub(crate) fn next_is_word(&self) -> bool {
-        is_word_at(self.rest, 0)
+    /// Whether the next token is `.` or `[`.
+    pub(crate) fn next_is_link(&self) -> bool {
+        match self.next_sign() {
+            Some(found) => matches!(found, Sign::Dot | Sign::OpenBracket),
+            None => false,
+        }
     }
 
     /// Whether the next tokens are `[` and `]`.
@@ -108,16 +115,25 @@ impl<'a> Cursor<'a> {
         }
     }
 
+    /// Takes the next token where it is a word.
+    pub(crate) fn take_word(&mut self) -> Option<&'a Name>
+        ensures shorter { OnSome result (length self.new.rest.now < length self.old.rest.now) }
+        ensures bound { length self.new.rest.now ≤ length self.old.rest.now }
+    {
+        let (first, others) = self.rest.split_first()?;
+        let name = word(&first.token)?;
+        self.rest = others;
+        Some(name)
+    }
+
     /// Takes the next token, which has to be a word.
     pub(crate) fn expect_word(&mut self) -> Result<Name, FormFault>
         ensures shorter { OnOk result (length self.new.rest.now < length self.old.rest.now) }
     {
-        let Some((first, others)) = self.rest.split_first() else {
-            return Err(FormFault::NoForm);
-        };
-        let name = word(self.alloc, &first.token)?;
-        self.rest = others;
-        Ok(name)
+        match self.take_word() {
+            Some(name) => Ok(name.try_clone(self.alloc)?),
+            None => Err(FormFault::NoForm),
+        }
     }
 
     /// Takes the next token, which has to be a number.
@@ -156,18 +172,20 @@ impl<'a> Cursor<'a> {
         Ok(Some(name))
     }
 
-    /// Takes a binary sign of this level where it is next.
-    pub(crate) fn take_binary(&mut self, level: Level) -> Option<Sign>
+    /// Takes a binary sign that binds no looser than this level where it is next, and gives its level.
+    pub(crate) fn take_binary(&mut self, loosest: Level) -> Option<(Sign, Level)>
         ensures shorter { OnSome result (length self.new.rest.now < length self.old.rest.now) }
         ensures bound { length self.new.rest.now ≤ length self.old.rest.now }
+        ensures level { IfSome result (λ found. 0 < looseness found.1) }
+        ensures tight { IfSome result (λ found. looseness found.1 ≤ looseness loosest) }
     {
-        match self.next_sign() {
-            Some(found) if level.holds(found) => {
-                self.skip();
-                Some(found)
-            }
-            _ => None,
+        let sign = self.next_sign()?;
+        let level = Level::of(sign)?;
+        if level.looseness() > loosest.looseness() {
+            return None;
         }
+        self.skip();
+        Some((sign, level))
     }
 
     /// Takes `-` or `!` where it is next.
@@ -237,10 +255,10 @@ fn keyword(token: &Token) -> Option<Keyword> {
     }
 }
 
-fn word(alloc: Global, token: &Token) -> Result<Name, FormFault> {
+fn word(token: &Token) -> Option<&Name> {
     match token {
-        Token::Word(name) => Ok(name.try_clone(alloc)?),
-        _ => Err(FormFault::NoForm),
+        Token::Word(name) => Some(name),
+        _ => None,
     }
 }
 

@@ -1,11 +1,12 @@
 // The grammar of expressions, one function for each production.
-ghost use Rattle.std.specs.Prelude.{◌≡◌, ◌+◌, ◌<◌, length, OnOk, IfOk};
+ghost use Rattle.std.specs.Prelude.{◌≡◌, ◌+◌, ◌<◌, ◌≤◌, length, OnOk, IfOk};
 
 use crate::cursor::Cursor;
 use crate::fault::FormFault;
 use crate::level::Level;
 use crate::simple::{leaf, type_name};
 use crate::tree::{Argument, Expr};
+use papy_base::Name;
 use script_lexer::{Keyword, Sign};
 use std::alloc::Global;
 
@@ -17,17 +18,15 @@ pub(crate) fn expression(cursor: &mut Cursor<'_>, depth: u8) -> Result<Expr, For
     binary(cursor, Level::Or, depth)
 }
 
-// Operands of a level with its signs between them, grouped to the left.
+// Operands with signs between them that bind no looser than this level. An operand behind a sign holds
+// only signs that bind tighter, so signs of one level group to the left.
 #[cycle(expression)]
-fn binary(cursor: &mut Cursor<'_>, level: Level, depth: u8) -> Result<Expr, FormFault>
+fn binary(cursor: &mut Cursor<'_>, loosest: Level, depth: u8) -> Result<Expr, FormFault>
     ensures shorter { OnOk result (length cursor.new.rest.now < length cursor.old.rest.now) }
 {
-    let Some(tighter) = level.tighter() else {
-        return unary(cursor, depth);
-    };
-    let mut left = binary(cursor, tighter, depth)?;
-    'signs: while let Some(sign) = cursor.take_binary(level) {
-        let right = binary(cursor, tighter, depth)?;
+    let mut left = unary(cursor, depth)?;
+    'signs: while let Some((sign, level)) = cursor.take_binary(loosest) {
+        let right = binary(cursor, level.tighter(), depth)?;
         left = Expr::Binary {
             sign,
             left: boxed(cursor.alloc, left)?,
@@ -42,15 +41,21 @@ fn unary(cursor: &mut Cursor<'_>, depth: u8) -> Result<Expr, FormFault>
     ensures shorter { OnOk result (length cursor.new.rest.now < length cursor.old.rest.now) }
 {
     match cursor.take_unary() {
-        Some(sign) => {
-            let of = cast(cursor, depth)?;
-            Ok(Expr::Unary {
-                sign,
-                of: boxed(cursor.alloc, of)?,
-            })
-        }
+        Some(sign) => signed(cursor, sign, depth),
         None => cast(cursor, depth),
     }
+}
+
+// The operand of a unary sign; the sign is taken.
+#[cycle(expression)]
+fn signed(cursor: &mut Cursor<'_>, sign: Sign, depth: u8) -> Result<Expr, FormFault>
+    ensures shorter { OnOk result (length cursor.new.rest.now < length cursor.old.rest.now) }
+{
+    let of = cast(cursor, depth)?;
+    Ok(Expr::Unary {
+        sign,
+        of: boxed(cursor.alloc, of)?,
+    })
 }
 
 #[cycle(expression)]
@@ -58,9 +63,17 @@ fn cast(cursor: &mut Cursor<'_>, depth: u8) -> Result<Expr, FormFault>
     ensures shorter { OnOk result (length cursor.new.rest.now < length cursor.old.rest.now) }
 {
     let of = chain(cursor, depth)?;
-    if !cursor.take_keyword(Keyword::As) {
-        return Ok(of);
+    if cursor.take_keyword(Keyword::As) {
+        cast_to(cursor, of)
+    } else {
+        Ok(of)
     }
+}
+
+// The type behind `As`, which is taken.
+fn cast_to(cursor: &mut Cursor<'_>, of: Expr) -> Result<Expr, FormFault>
+    ensures shorter { OnOk result (length cursor.new.rest.now < length cursor.old.rest.now) }
+{
     let to = type_name(cursor)?;
     Ok(Expr::Cast {
         of: boxed(cursor.alloc, of)?,
@@ -74,19 +87,26 @@ fn chain(cursor: &mut Cursor<'_>, depth: u8) -> Result<Expr, FormFault>
     ensures shorter { OnOk result (length cursor.new.rest.now < length cursor.old.rest.now) }
 {
     let mut of = atom(cursor, depth)?;
-    'links: loop {
-        if cursor.take_sign(Sign::Dot) {
-            of = member(cursor, of, depth)?;
-        } else if cursor.take_sign(Sign::OpenBracket) {
-            let at = bracketed(cursor, Sign::CloseBracket, depth)?;
-            of = Expr::Index {
-                of: boxed(cursor.alloc, of)?,
-                at: boxed(cursor.alloc, at)?,
-            };
-        } else {
-            return Ok(of);
-        }
+    'links: while cursor.next_is_link() {
+        of = link(cursor, of, depth)?;
     }
+    Ok(of)
+}
+
+// A member, a call of one, or an index.
+#[cycle(expression)]
+fn link(cursor: &mut Cursor<'_>, of: Expr, depth: u8) -> Result<Expr, FormFault>
+    ensures shorter { OnOk result (length cursor.new.rest.now < length cursor.old.rest.now) }
+{
+    if cursor.take_sign(Sign::Dot) {
+        return member(cursor, of, depth);
+    }
+    cursor.expect_sign(Sign::OpenBracket)?;
+    let at = bracketed(cursor, Sign::CloseBracket, depth)?;
+    Ok(Expr::Index {
+        of: boxed(cursor.alloc, of)?,
+        at: boxed(cursor.alloc, at)?,
+    })
 }
 
 // What stands behind a `.`.
@@ -124,12 +144,21 @@ fn bracketed(cursor: &mut Cursor<'_>, close: Sign, depth: u8) -> Result<Expr, Fo
 fn atom(cursor: &mut Cursor<'_>, depth: u8) -> Result<Expr, FormFault>
     ensures shorter { OnOk result (length cursor.new.rest.now < length cursor.old.rest.now) }
 {
+    match cursor.take_word() {
+        Some(word) => word_or_call(cursor, word, depth),
+        None => other_atom(cursor, depth),
+    }
+}
+
+// An atom that begins with no word.
+#[cycle(expression)]
+fn other_atom(cursor: &mut Cursor<'_>, depth: u8) -> Result<Expr, FormFault>
+    ensures shorter { OnOk result (length cursor.new.rest.now < length cursor.old.rest.now) }
+{
     if cursor.take_sign(Sign::OpenParen) {
         bracketed(cursor, Sign::CloseParen, depth)
     } else if cursor.take_keyword(Keyword::Parent) {
         parent_call(cursor, depth)
-    } else if cursor.next_is_word() {
-        word_or_call(cursor, depth)
     } else {
         leaf(cursor)
     }
@@ -146,14 +175,24 @@ fn parent_call(cursor: &mut Cursor<'_>, depth: u8) -> Result<Expr, FormFault>
     Ok(Expr::ParentCall { name, arguments })
 }
 
+// A word, or a call of what it names; the word is taken.
 #[cycle(expression)]
-fn word_or_call(cursor: &mut Cursor<'_>, depth: u8) -> Result<Expr, FormFault>
+fn word_or_call(cursor: &mut Cursor<'_>, word: &Name, depth: u8) -> Result<Expr, FormFault>
+    ensures bound { OnOk result (length cursor.new.rest.now ≤ length cursor.old.rest.now) }
+{
+    let name = word.try_clone(cursor.alloc)?;
+    if cursor.take_sign(Sign::OpenParen) {
+        call(cursor, name, depth)
+    } else {
+        Ok(Expr::Word(name))
+    }
+}
+
+// The arguments of a call; the name and the `(` are taken.
+#[cycle(expression)]
+fn call(cursor: &mut Cursor<'_>, name: Name, depth: u8) -> Result<Expr, FormFault>
     ensures shorter { OnOk result (length cursor.new.rest.now < length cursor.old.rest.now) }
 {
-    let name = cursor.expect_word()?;
-    if !cursor.take_sign(Sign::OpenParen) {
-        return Ok(Expr::Word(name));
-    }
     let arguments = arguments(cursor, depth)?;
     Ok(Expr::Call { name, arguments })
 }

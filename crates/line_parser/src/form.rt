@@ -10,6 +10,7 @@ use crate::fault::{FormFault, LineFault, LineRule};
 use crate::nesting::{BRACKET_LIMIT, is_too_deep};
 use crate::simple::{begins_declaration, constant, flags, initial_constant, parameters, type_name};
 use crate::tree::{Heading, LineForm, LineTree, TypeName};
+use crate::type_words::TypeWords;
 use papy_base::Text;
 use script_lexer::{Keyword, Line, Sign, Spanned, Token};
 use std::alloc::Global;
@@ -23,25 +24,47 @@ pub fn parse_line(alloc: Global, line: &Line) -> Result<LineTree, LineFault>
     ensures too_deep { IsErrOf result (Broken TooDeep) ↔ IsTooDeep line.now.tokens.items }
     ensures no_block { result ≢ Err (Broken BadBlock) }
 {
+    let tokens = judged(line)?;
+    let types = TypeWords::new(alloc)?;
+    Ok(line_tree(alloc, &types, tokens)?)
+}
+
+/// As [`parse_line`], with the names of types that the lines of a file share.
+///
+/// # Errors
+/// As those of [`parse_line`].
+pub fn parse_line_with(alloc: Global, types: &TypeWords, line: &Line) -> Result<LineTree, LineFault>
+    ensures too_deep { IsErrOf result (Broken TooDeep) ↔ IsTooDeep line.now.tokens.items }
+    ensures no_block { result ≢ Err (Broken BadBlock) }
+{
+    let tokens = judged(line)?;
+    Ok(line_tree(alloc, types, tokens)?)
+}
+
+// The tokens of a line that is neither too long nor too deep.
+fn judged(line: &Line) -> Result<&[Spanned], LineFault>
+    ensures too_deep { IsErrOf result (Broken TooDeep) ↔ IsTooDeep line.now.tokens.items }
+    ensures no_block { result ≢ Err (Broken BadBlock) }
+{
     let tokens = line.tokens.as_slice();
     if is_too_deep(tokens) {
         return Err(LineFault::Broken {
             rule: LineRule::TooDeep,
         });
     }
-    Ok(line_tree(alloc, tokens)?)
+    Ok(tokens)
 }
 
 // A form, and a documentation text where one is last.
-fn line_tree(alloc: Global, tokens: &[Spanned]) -> Result<LineTree, FormFault> {
+fn line_tree(alloc: Global, types: &TypeWords, tokens: &[Spanned]) -> Result<LineTree, FormFault> {
     match tokens.split_last() {
         Some((last, others)) if is_doc(&last.token) => {
-            let form = whole_form(alloc, others)?;
+            let form = whole_form(alloc, types, others)?;
             let doc = doc_text(alloc, &last.token)?;
             Ok(LineTree { form, doc })
         }
         _ => Ok(LineTree {
-            form: whole_form(alloc, tokens)?,
+            form: whole_form(alloc, types, tokens)?,
             doc: None,
         }),
     }
@@ -59,9 +82,10 @@ fn doc_text(alloc: Global, token: &Token) -> Result<Option<Text>, FormFault> {
 }
 
 // The form that all of the tokens have.
-fn whole_form(alloc: Global, tokens: &[Spanned]) -> Result<LineForm, FormFault> {
+fn whole_form(alloc: Global, types: &TypeWords, tokens: &[Spanned]) -> Result<LineForm, FormFault> {
     let mut cursor = Cursor {
         alloc,
+        types,
         rest: tokens,
     };
     let form = form(&mut cursor)?;

@@ -1,5 +1,5 @@
 // The levels of the expression grammar.
-ghost use Rattle.std.specs.Prelude.{◌≡◌, ◌+◌, IfSome};
+ghost use Rattle.std.specs.Prelude.{◌≡◌, ◌-◌, ◌<◌, OnSome, IfSome};
 
 use script_lexer::Sign;
 
@@ -17,41 +17,49 @@ pub(crate) enum Level {
 impl Level {
     ghost use Rattle.line_parser.specs.Levels.{looseness};
 
-    /// The level of the operands, or none for the last.
-    pub(crate) fn tighter(self) -> Option<Level>
-        ensures { IfSome result (λ next. looseness next + 1 ≡ looseness self) }
+    /// The level of a binary sign.
+    pub(crate) fn of(sign: Sign) -> Option<Level>
+        ensures { IfSome result (λ level. 0 < looseness level) }
     {
-        match self {
-            Level::Or => Some(Level::And),
-            Level::And => Some(Level::Comparison),
-            Level::Comparison => Some(Level::Sum),
-            Level::Sum => Some(Level::Product),
-            Level::Product => Some(Level::Unary),
-            Level::Unary => None,
-        }
-    }
-
-    /// Whether the sign is a binary sign of this level.
-    pub(crate) fn holds(self, sign: Sign) -> bool {
-        match self {
-            Level::Or => matches!(sign, Sign::Or),
-            Level::And => matches!(sign, Sign::And),
-            Level::Comparison => is_comparison(sign),
-            Level::Sum => matches!(sign, Sign::Plus | Sign::Minus),
-            Level::Product => matches!(sign, Sign::Star | Sign::Slash | Sign::Percent),
-            Level::Unary => false,
-        }
-    }
-}
-
-fn is_comparison(sign: Sign) -> bool {
-    matches!(
-        sign,
-        Sign::Equal
+        match sign {
+            Sign::Or => Some(Level::Or),
+            Sign::And => Some(Level::And),
+            Sign::Equal
             | Sign::NotEqual
             | Sign::Less
             | Sign::Greater
             | Sign::LessEqual
-            | Sign::GreaterEqual
-    )
+            | Sign::GreaterEqual => Some(Level::Comparison),
+            Sign::Plus | Sign::Minus => Some(Level::Sum),
+            Sign::Star | Sign::Slash | Sign::Percent => Some(Level::Product),
+            _ => None,
+        }
+    }
+
+    /// The level of the operands.
+    pub(crate) fn tighter(self) -> Level
+        ensures { looseness result ≡ looseness self - 1 }
+    {
+        match self {
+            Level::Or => Level::And,
+            Level::And => Level::Comparison,
+            Level::Comparison => Level::Sum,
+            Level::Sum => Level::Product,
+            Level::Product | Level::Unary => Level::Unary,
+        }
+    }
+
+    /// How many levels bind tighter.
+    pub(crate) fn looseness(self) -> u8
+        ensures { result ≡ looseness self }
+    {
+        match self {
+            Level::Or => 5,
+            Level::And => 4,
+            Level::Comparison => 3,
+            Level::Sum => 2,
+            Level::Product => 1,
+            Level::Unary => 0,
+        }
+    }
 }

@@ -10,7 +10,9 @@ mod level;
 mod nesting;
 mod simple;
 mod tree;
+mod type_words;
 
 pub use fault::{LineFault, LineRule};
-pub use form::parse_line;
+pub use form::{parse_line, parse_line_with};
 pub use tree::{Argument, Constant, Expr, Heading, LineForm, LineTree, Parameter, TypeName};
+pub use type_words::TypeWords;

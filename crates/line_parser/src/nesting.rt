@@ -17,7 +17,14 @@ pub(crate) fn is_too_deep(tokens: &[Spanned]) -> bool
     tokens.len() > TOKEN_LIMIT || opens_too_many(tokens)
 }
 
+// A line of at most 64 tokens opens at most 64 brackets.
 fn opens_too_many(tokens: &[Spanned]) -> bool
+    ensures { IsTrue result ↔ OpensTooMany tokens.now }
+{
+    tokens.len() > usize::from(BRACKET_LIMIT) && passes_limit(tokens)
+}
+
+fn passes_limit(tokens: &[Spanned]) -> bool
     ensures { IsTrue result ↔ OpensTooMany tokens.now }
 {
     let mut open = 0;

@@ -4,7 +4,7 @@ ghost use Rattle.std.specs.Prelude.{◌<◌, ◌≤◌, length, OnOk};
 use crate::cursor::{Cursor, is_sign_at};
 use crate::fault::FormFault;
 use crate::tree::{Constant, Expr, Parameter, TypeName};
-use papy_base::{Name, neg};
+use papy_base::{Name, Text, neg};
 use script_lexer::{Keyword, Sign, Spanned, Token};
 use std::alloc::Global;
 
@@ -12,14 +12,15 @@ use std::alloc::Global;
 pub(crate) fn type_word(cursor: &mut Cursor<'_>) -> Result<Name, FormFault>
     ensures shorter { OnOk result (length cursor.new.rest.now < length cursor.old.rest.now) }
 {
-    let spelling: &[u8] = match cursor.next_keyword() {
-        Some(Keyword::Int) => b"Int",
-        Some(Keyword::Bool) => b"Bool",
-        Some(Keyword::String) => b"String",
+    let types = cursor.types;
+    let word = match cursor.next_keyword() {
+        Some(Keyword::Int) => &types.int,
+        Some(Keyword::Bool) => &types.bool,
+        Some(Keyword::String) => &types.string,
         _ => return cursor.expect_word(),
     };
     cursor.skip();
-    Ok(Name::from_bytes(cursor.alloc, spelling)?)
+    Ok(word.try_clone(cursor.alloc)?)
 }
 
 /// A type, with `[]` for an array.
@@ -35,13 +36,17 @@ pub(crate) fn type_name(cursor: &mut Cursor<'_>) -> Result<TypeName, FormFault>
 pub(crate) fn leaf(cursor: &mut Cursor<'_>) -> Result<Expr, FormFault>
     ensures shorter { OnOk result (length cursor.new.rest.now < length cursor.old.rest.now) }
 {
-    if cursor.take_keyword(Keyword::SelfWord) {
-        return Ok(Expr::SelfValue);
+    match cursor.next_keyword() {
+        Some(Keyword::SelfWord) => {
+            cursor.skip();
+            Ok(Expr::SelfValue)
+        }
+        Some(Keyword::New) => {
+            cursor.skip();
+            new_array(cursor)
+        }
+        _ => Ok(expr_of(plain_constant(cursor)?)),
     }
-    if cursor.take_keyword(Keyword::New) {
-        return new_array(cursor);
-    }
-    Ok(expr_of(plain_constant(cursor)?))
 }
 
 fn new_array(cursor: &mut Cursor<'_>) -> Result<Expr, FormFault>
@@ -78,12 +83,16 @@ fn plain_constant(cursor: &mut Cursor<'_>) -> Result<Constant, FormFault>
 fn constant_of(alloc: Global, token: &Token) -> Result<Constant, FormFault> {
     match token {
         Token::Int(number) => Ok(Constant::Int(*number)),
-        Token::Quoted(text) => Ok(Constant::Quoted(text.try_clone(alloc)?)),
+        Token::Quoted(text) => quoted(alloc, text),
         Token::Key(Keyword::True) => Ok(Constant::Bool(true)),
         Token::Key(Keyword::False) => Ok(Constant::Bool(false)),
         Token::Key(Keyword::None) => Ok(Constant::NoneValue),
         _ => Err(FormFault::NoForm),
     }
+}
+
+fn quoted(alloc: Global, text: &Text) -> Result<Constant, FormFault> {
+    Ok(Constant::Quoted(text.try_clone(alloc)?))
 }
 
 /// A constant. The least number's negation is itself.
@@ -142,6 +151,14 @@ const CONDITIONAL: u32 = 2;
 
 /// The flags `Hidden` and `Conditional`, each at most once.
 pub(crate) fn flags(cursor: &mut Cursor<'_>) -> Result<u32, FormFault> {
+    if cursor.is_at_end() {
+        Ok(0)
+    } else {
+        written_flags(cursor)
+    }
+}
+
+fn written_flags(cursor: &mut Cursor<'_>) -> Result<u32, FormFault> {
     let mut bits = 0;
     'flags: while let Some((first, others)) = cursor.rest.split_first() {
         let Token::Word(name) = &first.token else {

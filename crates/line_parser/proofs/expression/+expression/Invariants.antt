@@ -4,10 +4,13 @@ use Rattle.line_parser.specs.Levels.{looseness}
 use Rattle.line_parser.proofs.expression.+expression.Given as goal
 
 abbrev pub decreases-expression : goal.decreases-expression
-decreases-expression l = 20 * l.depth + 18
+decreases-expression l = 20 * l.depth + 19
 
 abbrev pub decreases-unary : goal.decreases-unary
-decreases-unary l = 20 * l.depth + 6
+decreases-unary l = 20 * l.depth + 7
+
+abbrev pub decreases-signed : goal.decreases-signed
+decreases-signed l = 20 * l.depth + 6
 
 abbrev pub decreases-cast : goal.decreases-cast
 decreases-cast l = 20 * l.depth + 5
@@ -15,8 +18,11 @@ decreases-cast l = 20 * l.depth + 5
 abbrev pub decreases-chain : goal.decreases-chain
 decreases-chain l = 20 * l.depth + 4
 
+abbrev pub decreases-link : goal.decreases-link
+decreases-link l = 20 * l.depth + 3
+
 abbrev pub decreases-member : goal.decreases-member
-decreases-member l = 20 * l.depth + 3
+decreases-member l = 20 * l.depth + 2
 
 abbrev pub decreases-bracketed : goal.decreases-bracketed
 decreases-bracketed l = 20 * l.depth + 0
@@ -24,17 +30,23 @@ decreases-bracketed l = 20 * l.depth + 0
 abbrev pub decreases-atom : goal.decreases-atom
 decreases-atom l = 20 * l.depth + 3
 
+abbrev pub decreases-other_atom : goal.decreases-other_atom
+decreases-other_atom l = 20 * l.depth + 2
+
 abbrev pub decreases-parent_call : goal.decreases-parent_call
-decreases-parent_call l = 20 * l.depth + 2
+decreases-parent_call l = 20 * l.depth + 1
 
 abbrev pub decreases-word_or_call : goal.decreases-word_or_call
 decreases-word_or_call l = 20 * l.depth + 2
+
+abbrev pub decreases-call : goal.decreases-call
+decreases-call l = 20 * l.depth + 1
 
 abbrev pub decreases-arguments : goal.decreases-arguments
 decreases-arguments l = 20 * l.depth + 0
 
 abbrev pub decreases-binary : goal.decreases-binary
-decreases-binary l = 20 * l.depth + 7 + looseness l.level
+decreases-binary l = 20 * l.depth + 8 + looseness l.loosest
 
 abbrev pub invariant-binary-signs : goal.invariant-binary-signs
 invariant-binary-signs l = length l.cursor.rest.now < length l.fn.cursor.rest.now

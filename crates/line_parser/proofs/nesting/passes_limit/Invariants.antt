@@ -1,7 +1,7 @@
 -- The count so far, and no earlier one was over the limit.
 use Rattle.std.proofs.Common.{◌≡◌, ℕ, ◌≤◌, take}
 use Rattle.line_parser.specs.Nesting.{open_after}
-use Rattle.line_parser.proofs.nesting.opens_too_many.Given as goal
+use Rattle.line_parser.proofs.nesting.passes_limit.Given as goal
 
 abbrev pub invariant-loop-spanned : goal.invariant-loop-spanned
 invariant-loop-spanned l =

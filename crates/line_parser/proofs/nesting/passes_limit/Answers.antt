@@ -2,7 +2,7 @@ use Rattle.std.proofs.Common.{◌≡◌, ℕ, ◌+◌, ◌-◌, ◌<◌, true, c
 use Rattle.std.proofs.lemmas.List.Sums.{fold_more}
 use Rattle.script_lexer.specs.declared.token.Spanned.{Spanned}
 use Rattle.line_parser.specs.Nesting.{opens, closes, open_next, open_after}
-use Rattle.line_parser.proofs.nesting.opens_too_many.Goals as goal
+use Rattle.line_parser.proofs.nesting.passes_limit.Goals as goal
 
 -- one more bracket is open after an opening sign
 open_after-opens : (tokens : List Spanned) (i n : ℕ) (s : Spanned) → i < length tokens → s ≡ get_or tokens i s → opens s.token ≡ true → n ≡ open_after (take i tokens) → open_after (take (i + 1) tokens) ≡ n + 1
