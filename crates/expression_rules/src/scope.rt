@@ -109,7 +109,7 @@ impl<'a> Scope<'a> {
         ensures is_global { self.new.is_global ≡ self.old.is_global }
         ensures line { self.new.line ≡ self.old.line }
     {
-        if self.locals.find(name)?.is_some() {
+        if self.locals.find(name).is_some() {
             self.fault(TypeRule::DuplicateLocal);
         }
         let number = self.locals.add(name, kind)?;

@@ -31,28 +31,24 @@ pub(crate) fn meaning_of(context: &Context<'_>, name: &Name) -> Result<Option<Me
     if name.as_bytes() == STATE_WORD {
         return Ok(Some(Meaning::State));
     }
-    match local_named(context, name)? {
+    match local_named(context, name) {
         Some(local) => Ok(Some(local)),
         None => member_named(context, name),
     }
 }
 
-fn local_named(context: &Context<'_>, name: &Name) -> Result<Option<Meaning>, OutOfMemory>
-    ensures { ContextInRange context.now → IfOk result (λ found. IfSome found (MeaningInRange (bounds_of context.now))) }
+fn local_named(context: &Context<'_>, name: &Name) -> Option<Meaning>
+    ensures { ContextInRange context.now → IfSome result (MeaningInRange (bounds_of context.now)) }
 {
-    match context.locals.find(name)? {
-        Some(local) => {
-            let number = u16::try_from(local.number).unwrap_or(u16::MAX);
-            Ok(Some(Meaning::Local(number, local.kind)))
-        }
-        None => Ok(None),
-    }
+    let local = context.locals.find(name)?;
+    let number = u16::try_from(local.number).unwrap_or(u16::MAX);
+    Some(Meaning::Local(number, local.kind))
 }
 
 fn member_named(context: &Context<'_>, name: &Name) -> Result<Option<Meaning>, OutOfMemory>
     ensures { IfOk result (λ found. IfSome found (MeaningInRange (bounds_of context.now))) }
 {
-    if let Some((number, kind)) = context.layout.find(context.catalog.alloc, name)? {
+    if let Some((number, kind)) = context.layout.find(name) {
         let kind = context.catalog.type_of(kind)?;
         return Ok(Some(Meaning::Field(number, kind)));
     }

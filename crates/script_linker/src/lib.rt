@@ -19,5 +19,5 @@ mod signatures;
 
 pub use fault::{LinkFault, LinkRule};
 pub use linker::link;
-pub use name_table::{NameTable, fold_into, folded};
+pub use name_table::NameTable;
 pub use set::{FunctionRef, PropertyRef, ScriptSet, SourceFile};

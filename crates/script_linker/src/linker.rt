@@ -104,7 +104,7 @@ fn judge_scripts(
         parents,
         peeled,
     };
-    match first_script_fault(alloc, &survey)? {
+    match first_script_fault(&survey) {
         Some((number, found)) => Err(fault(number, found)),
         None => Ok(()),
     }

@@ -138,27 +138,21 @@ fn judge_list(
     let mut lines = NameTable::new(alloc);
     lines.note_lines(alloc, functions)?;
     for function in functions {
-        judge_function(alloc, &lines, function, first)?;
+        judge_function(&lines, function, first);
     }
     Ok(())
 }
 
 // `lines` has the least line of each name in the function's list.
-fn judge_function(
-    alloc: Global,
-    lines: &NameTable,
-    function: &Function,
-    first: &mut Earliest,
-) -> Result<(), OutOfMemory>
-    ensures { OnOk result (FindsAmong (function.now.line ∷ []) first.old first.new) }
+fn judge_function(lines: &NameTable, function: &Function, first: &mut Earliest)
+    ensures { FindsAmong (function.now.line ∷ []) first.old first.new }
 {
-    let repeats = repeats(alloc, lines, function)?;
+    let repeats = repeats(lines, function);
     first.note(repeats, function.line, LinkRule::DuplicateMember);
     let is_reserved = has_reserved_name(function);
     first.note(is_reserved, function.line, LinkRule::DuplicateMember);
     let is_late = has_late_parameter(function.heading.parameters.as_slice());
     first.note(is_late, function.line, LinkRule::DefaultOrder);
-    Ok(())
 }
 
 fn judge_replacing(scripts: &Scripts, number: usize, functions: &[Function], first: &mut Earliest)
@@ -178,23 +172,18 @@ fn judge_fields(alloc: Global, script: &Script, first: &mut Earliest) -> Result<
     let mut lines = NameTable::new(alloc);
     lines.note_lines(alloc, script.variables.as_slice())?;
     lines.note_lines(alloc, script.properties.as_slice())?;
-    judge_names(alloc, &lines, script.variables.as_slice(), first)?;
-    judge_names(alloc, &lines, script.properties.as_slice(), first)
+    judge_names(&lines, script.variables.as_slice(), first);
+    judge_names(&lines, script.properties.as_slice(), first);
+    Ok(())
 }
 
-fn judge_names<T: Declared>(
-    alloc: Global,
-    lines: &NameTable,
-    items: &[T],
-    first: &mut Earliest,
-) -> Result<(), OutOfMemory>
-    ensures { OnOk result (FindsAmong (map T.line_of items.now) first.old first.new) }
+fn judge_names<T: Declared>(lines: &NameTable, items: &[T], first: &mut Earliest)
+    ensures { FindsAmong (map T.line_of items.now) first.old first.new }
 {
     for item in items {
-        let repeats = repeats(alloc, lines, item)?;
+        let repeats = repeats(lines, item);
         first.note(repeats, item.line(), LinkRule::DuplicateMember);
     }
-    Ok(())
 }
 
 fn judge_states(
@@ -211,7 +200,7 @@ fn judge_states(
     lines.note_lines(alloc, states)?;
     let mut has_auto = false;
     for state in states {
-        let repeats = repeats(alloc, &lines, state)?;
+        let repeats = repeats(&lines, state);
         first.note(repeats, state.line, LinkRule::DuplicateMember);
         let is_second = has_auto && state.is_auto;
         first.note(is_second, state.line, LinkRule::TwoAutoStates);
@@ -280,12 +269,10 @@ fn judge_accessors(kind: &TypeName, functions: &[Function], first: &mut Earliest
 }
 
 // N6: whether a thing on an earlier line has the name. `lines` has the least line of each name.
-fn repeats<T: Declared>(alloc: Global, lines: &NameTable, item: &T) -> Result<bool, OutOfMemory>
-    ensures { IfOk result
-        (λ broken. IsTrue broken ↔ IsBelow (T.line_of item.now) (number_in lines.now (folded (T.name_of item.now)))) }
+fn repeats<T: Declared>(lines: &NameTable, item: &T) -> bool
+    ensures { IsTrue result ↔ IsBelow (T.line_of item.now) (number_in lines.now (folded (T.name_of item.now))) }
 {
-    let least = lines.find(alloc, item.name())?;
-    Ok(is_below(least, usize::from(item.line())))
+    is_below(lines.find(item.name()), usize::from(item.line()))
 }
 
 // N6: whether a function has the name of one that every script has.

@@ -1,6 +1,6 @@
 // Names looked up with the case of A to Z ignored.
-ghost use Rattle.std.specs.Prelude.{◌≡◌, ◌<◌, ℕ, List, IfOk, OnOk, IfSome, IsSome, IsNone, ◌↔◌, length};
-ghost use Rattle.papy_base.specs.Case.{folded as folded_bytes};
+ghost use Rattle.std.specs.Prelude.{◌≡◌, ℕ, List, IfOk, OnOk};
+ghost use Rattle.papy_base.specs.Case.{folded};
 ghost use Rattle.script_linker.specs.Table.{number_in, least_of, Sets, Notes, IsPlaceTable};
 
 use crate::declared::Declared;
@@ -54,9 +54,8 @@ impl NameTable {
     pub fn note(&mut self, alloc: Global, name: &Name, number: usize) -> Result<(), OutOfMemory>
         ensures { OnOk result (Notes self.old self.new name.now number) }
     {
-        let folded = folded(alloc, name)?;
-        let least = lesser(number, self.find_folded(folded.as_slice()));
-        self.set(folded, least)
+        let least = lesser(number, self.find(name));
+        self.set(name.folded().to_vec(alloc)?, least)
     }
 
     // Gives the name of these folded bytes this number.
@@ -68,18 +67,10 @@ impl NameTable {
     }
 
     /// The least number that was noted for the name.
-    pub fn find(&self, alloc: Global, name: &Name) -> Result<Option<usize>, OutOfMemory>
-        ensures { IfOk result (λ found. found ≡ number_in self.now (folded_bytes name.now)) }
+    pub fn find(&self, name: &Name) -> Option<usize>
+        ensures { result ≡ number_in self.now (folded name.now) }
     {
-        let folded = folded(alloc, name)?;
-        Ok(self.find_folded(folded.as_slice()))
-    }
-
-    /// The same, of the name whose bytes these are once A to Z are read as a to z.
-    pub fn find_folded(&self, folded: &[u8]) -> Option<usize>
-        ensures { result ≡ number_in self.now folded.now }
-    {
-        self.numbers.get(folded).copied()
+        self.numbers.get(name.folded()).copied()
     }
 }
 
@@ -90,27 +81,4 @@ fn lesser(number: usize, other: Option<usize>) -> usize
         Some(other) => number.min(other),
         None => number,
     }
-}
-
-/// The bytes of a name with A to Z read as a to z.
-pub fn folded(alloc: Global, name: &Name) -> Result<Vec<u8>, OutOfMemory>
-    ensures { IfOk result (λ bytes. bytes.items ≡ folded_bytes name.now) }
-{
-    let mut bytes = name.as_bytes().to_vec(alloc)?;
-    bytes.as_mut_slice().make_ascii_lowercase();
-    Ok(bytes)
-}
-
-/// The same in the front of a buffer, where they fit.
-pub fn fold_into<'a>(buffer: &'a mut [u8], name: &Name) -> Option<&'a [u8]>
-    ensures { IfSome result (λ bytes. bytes.now ≡ folded_bytes name.now) }
-{
-    let bytes = name.as_bytes();
-    if bytes.len() > buffer.len() {
-        return None;
-    }
-    let front = &mut buffer[..bytes.len()];
-    front.copy_from_slice(bytes);
-    front.make_ascii_lowercase();
-    Some(front)
 }

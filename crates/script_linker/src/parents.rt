@@ -23,21 +23,17 @@ pub(crate) fn parent_numbers(
 {
     let mut parents = Vec::with_capacity(alloc, files.len())?;
     for file in files {
-        parents.push(number_of(alloc, names, &file.script.parent)?)?;
+        parents.push(number_of(names, &file.script.parent))?;
     }
     Ok(parents)
 }
 
-fn number_of(
-    alloc: Global,
-    names: &NameTable,
-    name: &Option<Name>,
-) -> Result<Option<usize>, OutOfMemory>
-    ensures { IfOk result (λ found. found ≡ option_and_then (λ n. number_in names.now (folded n)) name.now) }
+fn number_of(names: &NameTable, name: &Option<Name>) -> Option<usize>
+    ensures { result ≡ option_and_then (λ n. number_in names.now (folded n)) name.now }
 {
     match name {
-        Some(name) => names.find(alloc, name),
-        None => Ok(None),
+        Some(name) => names.find(name),
+        None => None,
     }
 }
 

@@ -13,8 +13,7 @@ use crate::name_table::NameTable;
 use crate::parents::Peeled;
 use crate::prelude::{LIBRARY_COUNT, PRELUDE_COUNT};
 use crate::set::SourceFile;
-use papy_base::{Name, OutOfMemory};
-use std::alloc::Global;
+use papy_base::Name;
 
 /// What is known of a set while its scripts are judged.
 #[derive(Drop)]
@@ -29,82 +28,58 @@ pub(crate) struct Survey<'a> {
 }
 
 /// The first broken rule of N1 to N5, in order of file, line and rule, with the number of its script.
-pub(crate) fn first_script_fault(
-    alloc: Global,
-    survey: &Survey<'_>,
-) -> Result<Option<(usize, Found)>, OutOfMemory>
+pub(crate) fn first_script_fault(survey: &Survey<'_>) -> Option<(usize, Found)>
     requires start { 6 ≤ length survey.now.files.now }
     requires parents { length survey.now.parents.now ≡ length survey.now.files.now }
     requires children { vec_len survey.now.peeled.now.children ≡ length survey.now.files.now }
-    ensures file { IfOk result (λ fault. IfSome fault (λ f. (6 ≤ f.0) × (f.0 < length survey.now.files.now))) }
-    ensures line { IfOk result (λ fault. IfSome fault
-        (λ f. (file : SourceFile) → Contains (heading_lines (slice_index_or survey.now.files.now f.0 file).script) f.1.line)) }
+    ensures file { IfSome result (λ f. (6 ≤ f.0) × (f.0 < length survey.now.files.now)) }
+    ensures line { IfSome result
+        (λ f. (file : SourceFile) → Contains (heading_lines (slice_index_or survey.now.files.now f.0 file).script) f.1.line) }
 {
     for number in PRELUDE_COUNT..survey.files.len() {
-        if let Some(found) = script_fault(alloc, survey, number)? {
-            return Ok(Some((number, found)));
+        if let Some(found) = script_fault(survey, number) {
+            return Some((number, found));
         }
     }
-    Ok(None)
+    None
 }
 
-fn script_fault(
-    alloc: Global,
-    survey: &Survey<'_>,
-    number: usize,
-) -> Result<Option<Found>, OutOfMemory>
+fn script_fault(survey: &Survey<'_>, number: usize) -> Option<Found>
     requires start { 6 ≤ number }
     requires file { number < length survey.now.files.now }
     requires parents { length survey.now.parents.now ≡ length survey.now.files.now }
     requires children { vec_len survey.now.peeled.now.children ≡ length survey.now.files.now }
-    ensures { IfOk result (λ fault. IfSome fault
-        (λ found. (file : SourceFile) → Contains (heading_lines (slice_index_or survey.now.files.now number file).script) found.line)) }
+    ensures { IfSome result
+        (λ found. (file : SourceFile) → Contains (heading_lines (slice_index_or survey.now.files.now number file).script) found.line) }
 {
     let script = &survey.files[number].script;
     let mut first = Earliest::none();
-    let repeats = repeats_script(
-        alloc,
-        survey.file_names,
-        number - PRELUDE_COUNT,
-        &script.name,
-    )?;
+    let repeats = repeats_script(survey.file_names, number - PRELUDE_COUNT, &script.name);
     first.note(repeats, script.line, LinkRule::DuplicateScript);
-    let is_prelude = has_prelude_name(alloc, survey.names, &script.name)?;
+    let is_prelude = has_prelude_name(survey.names, &script.name);
     first.note(is_prelude, script.line, LinkRule::PreludeName);
     let lacks_parent = script.parent.is_some() && is_no_parent(survey.parents[number]);
     first.note(lacks_parent, script.line, LinkRule::UnknownParent);
     let is_above_itself = survey.peeled.children[number] != 0;
     first.note(is_above_itself, script.line, LinkRule::ExtendsCycle);
-    judge_imports(alloc, survey.names, script.imports.as_slice(), &mut first)?;
-    Ok(first.found)
+    judge_imports(survey.names, script.imports.as_slice(), &mut first);
+    first.found
 }
 
-fn judge_imports(
-    alloc: Global,
-    names: &NameTable,
-    imports: &[(u16, Name)],
-    first: &mut Earliest,
-) -> Result<(), OutOfMemory>
-    ensures { OnOk result (FindsAmong (map import_line imports.now) first.old first.new) }
+fn judge_imports(names: &NameTable, imports: &[(u16, Name)], first: &mut Earliest)
+    ensures { FindsAmong (map import_line imports.now) first.old first.new }
 {
     for import in imports {
-        let is_unknown = is_unknown_script(alloc, names, &import.1)?;
+        let is_unknown = is_unknown_script(names, &import.1);
         first.note(is_unknown, import.0, LinkRule::UnknownImport);
     }
-    Ok(())
 }
 
 // N1: whether an earlier file has the name.
-fn repeats_script(
-    alloc: Global,
-    file_names: &NameTable,
-    file: usize,
-    name: &Name,
-) -> Result<bool, OutOfMemory>
-    ensures { IfOk result (λ broken. IsTrue broken ↔ IsBelow file (number_in file_names.now (folded name.now))) }
+fn repeats_script(file_names: &NameTable, file: usize, name: &Name) -> bool
+    ensures { IsTrue result ↔ IsBelow file (number_in file_names.now (folded name.now)) }
 {
-    let first = file_names.find(alloc, name)?;
-    Ok(is_below(first, file))
+    is_below(file_names.find(name), file)
 }
 
 pub(crate) fn is_below(found: Option<usize>, limit: usize) -> bool
@@ -117,11 +92,10 @@ pub(crate) fn is_below(found: Option<usize>, limit: usize) -> bool
 }
 
 // N2: whether a script of the prelude has the name.
-fn has_prelude_name(alloc: Global, names: &NameTable, name: &Name) -> Result<bool, OutOfMemory>
-    ensures { IfOk result (λ broken. IsTrue broken ↔ IsBelow 6 (number_in names.now (folded name.now))) }
+fn has_prelude_name(names: &NameTable, name: &Name) -> bool
+    ensures { IsTrue result ↔ IsBelow 6 (number_in names.now (folded name.now)) }
 {
-    let first = names.find(alloc, name)?;
-    Ok(is_below(first, PRELUDE_COUNT))
+    is_below(names.find(name), PRELUDE_COUNT)
 }
 
 // N3: whether a script that names a parent can't have this one: none, or a library.
@@ -135,9 +109,8 @@ fn is_no_parent(parent: Option<usize>) -> bool
 }
 
 // N5: whether no script has the name.
-fn is_unknown_script(alloc: Global, names: &NameTable, name: &Name) -> Result<bool, OutOfMemory>
-    ensures { IfOk result (λ broken. IsTrue broken ↔ (number_in names.now (folded name.now) ≡ None)) }
+fn is_unknown_script(names: &NameTable, name: &Name) -> bool
+    ensures { IsTrue result ↔ (number_in names.now (folded name.now) ≡ None) }
 {
-    let first = names.find(alloc, name)?;
-    Ok(first.is_none())
+    names.find(name).is_none()
 }

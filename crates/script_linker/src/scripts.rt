@@ -1,20 +1,13 @@
 // Scripts with their parents and the tables of their members, whether or not they break a rule.
 ghost use Rattle.std.specs.Prelude.{◌≡◌, ℕ, ◌<◌, ◌↔◌, List, length, IfOk, IfSome, IsTrue, slice_index_or};
-ghost use Rattle.std.specs.Str.{bytes_eq};
-ghost use Rattle.papy_base.specs.Case.{folded};
 ghost use Rattle.script_linker.specs.Index.{HasFunctionTables, HasPropertyTables, Rises};
-ghost use Rattle.script_linker.specs.Lookup.{function_name, property_name, parents_of, parent_at, IsWithin, Nearest, StandsAbove, HasNoCircle, own_function, own_property, IsFunctionOf, IsPropertyOf};
-ghost use Rattle.script_linker.specs.Table.{place_of};
+ghost use Rattle.script_linker.specs.Lookup.{parents_of, parent_at, IsWithin, Nearest, StandsAbove, HasNoCircle, own_function, own_property, IsFunctionOf, IsPropertyOf};
 
-use crate::name_table::{NameTable, fold_into};
+use crate::name_table::NameTable;
 use crate::set::SourceFile;
 use papy_base::{Name, OutOfMemory};
-use script_parser::{Function, Property};
 use std::alloc::Global;
 use std::marker::Model;
-
-// Names of scripts have at most this many bytes.
-const NAME_LIMIT: usize = 255;
 
 /// Scripts whose parents don't run in a circle.
 #[derive(Drop)]
@@ -148,11 +141,7 @@ impl Scripts {
         requires { number < length self.now }
         ensures { result ≡ own_function self.now name.now number }
     {
-        let mut buffer = [0u8; NAME_LIMIT];
-        match fold_into(&mut buffer, name) {
-            Some(folded) => self.functions[number].find_folded(folded),
-            None => function_place(self.files[number].script.functions.as_slice(), name),
-        }
+        self.functions[number].find(name)
     }
 
     // The place of the script's own property of this name.
@@ -160,11 +149,7 @@ impl Scripts {
         requires { number < length self.now }
         ensures { result ≡ own_property self.now name.now number }
     {
-        let mut buffer = [0u8; NAME_LIMIT];
-        match fold_into(&mut buffer, name) {
-            Some(folded) => self.properties[number].find_folded(folded),
-            None => property_place(self.files[number].script.properties.as_slice(), name),
-        }
+        self.properties[number].find(name)
     }
 }
 
@@ -188,26 +173,4 @@ fn property_tables(alloc: Global, files: &[SourceFile]) -> Result<Vec<NameTable>
         tables.push(NameTable::of_places(alloc, file.script.properties.as_slice())?)?;
     }
     Ok(tables)
-}
-
-fn function_place(functions: &[Function], name: &Name) -> Option<usize>
-    ensures { result ≡ place_of function_name functions.now (folded name.now) }
-{
-    functions
-        .iter()
-        .position(|function| has_name(&function.heading.name, name))
-}
-
-fn property_place(properties: &[Property], name: &Name) -> Option<usize>
-    ensures { result ≡ place_of property_name properties.now (folded name.now) }
-{
-    properties
-        .iter()
-        .position(|property| has_name(&property.name, name))
-}
-
-fn has_name(found: &Name, name: &Name) -> bool
-    ensures { result ≡ bytes_eq (folded name.now) (folded found.now) }
-{
-    name.same(found)
 }

@@ -50,8 +50,7 @@ impl<'a> Catalog<'a> {
     pub fn find_script(&self, name: &Name) -> Result<Option<u16>, OutOfMemory>
         ensures { IfOk result (λ found. IfSome found (λ n. n < length self.now.set.now)) }
     {
-        let number = self.numbers.find(self.alloc, name)?;
-        Ok(number_below(number, self.set.count()))
+        Ok(number_below(self.numbers.find(name), self.set.count()))
     }
 
     /// The script of this number.

@@ -1,5 +1,5 @@
 // The variables of a script, those of its Auto properties among them.
-ghost use Rattle.std.specs.Prelude.{◌<◌, IfOk, IfSome, vec_len};
+ghost use Rattle.std.specs.Prelude.{◌<◌, IfSome, vec_len};
 
 use line_parser::TypeName;
 use papy_base::{Name, OutOfMemory};
@@ -70,17 +70,10 @@ impl<'a> Layout<'a> {
     }
 
     /// The number of the declared variable of this name, with the name of its type.
-    pub fn find(
-        &self,
-        alloc: Global,
-        name: &Name,
-    ) -> Result<Option<(u16, &'a TypeName)>, OutOfMemory>
-        ensures { IfOk result (λ found. IfSome found (λ v. v.0 < vec_len self.now.sources)) }
+    pub fn find(&self, name: &Name) -> Option<(u16, &'a TypeName)>
+        ensures { IfSome result (λ v. v.0 < vec_len self.now.sources) }
     {
-        match self.declared.find(alloc, name)? {
-            Some(number) => Ok(self.variable(number)),
-            None => Ok(None),
-        }
+        self.variable(self.declared.find(name)?)
     }
 
     /// The variable of the property at this place, where the property is Auto.

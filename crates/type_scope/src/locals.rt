@@ -3,9 +3,11 @@ ghost use Rattle.std.specs.Prelude.{◌≡◌, [], ◌∷◌, ◌++◌, IfOk, If
 
 use core_tree::CoreType;
 use papy_base::{Name, OutOfMemory};
-use script_linker::folded;
 use std::alloc::Global;
 use std::collections::HashMap;
+
+// Among so many names each is compared, which takes less time than to hash one.
+const COMPARED_LIMIT: usize = 16;
 
 /// A parameter or a local: its number, and its type where that is known.
 #[derive(Clone, Copy, Debug, PartialEq, Eq)]
@@ -21,9 +23,10 @@ pub struct Locals {
     alloc: Global,
     /// The types of all that were added, none where a type isn't known.
     pub kinds: Vec<Option<CoreType>>,
-    seen: HashMap<Vec<u8>, usize>,
-    // The names that are seen, in the order in which they were added.
-    names: Vec<Vec<u8>>,
+    // The names that are seen with their numbers, in the order in which they were added.
+    seen: Vec<(Name, usize)>,
+    // The numbers of those behind the first 16, by their names with A to Z read as a to z.
+    further: HashMap<Vec<u8>, usize>,
 }
 
 impl Locals {
@@ -34,20 +37,16 @@ impl Locals {
         Locals {
             alloc,
             kinds: Vec::new(alloc),
-            seen: HashMap::new(alloc),
-            names: Vec::new(alloc),
+            seen: Vec::new(alloc),
+            further: HashMap::new(alloc),
         }
     }
 
     /// The local of this name that is seen.
-    pub fn find(&self, name: &Name) -> Result<Option<Local>, OutOfMemory>
-        ensures { IfOk result (λ found. IfSome found (λ local. slice_get self.now.kinds.items local.number ≡ Some local.kind)) }
+    pub fn find(&self, name: &Name) -> Option<Local>
+        ensures { IfSome result (λ local. slice_get self.now.kinds.items local.number ≡ Some local.kind) }
     {
-        let key = folded(self.alloc, name)?;
-        match self.seen.get(key.as_slice()) {
-            Some(number) => Ok(self.local(*number)),
-            None => Ok(None),
-        }
+        self.local(self.number_of(name)?)
     }
 
     /// Adds a local, which is seen from now on, and gives its number.
@@ -57,25 +56,41 @@ impl Locals {
     {
         let number = self.kinds.len();
         self.kinds.push(kind)?;
-        self.names.push(folded(self.alloc, name)?)?;
-        self.seen.insert(folded(self.alloc, name)?, number)?;
+        if self.seen.len() >= COMPARED_LIMIT {
+            self.further
+                .insert(name.folded().to_vec(self.alloc)?, number)?;
+        }
+        self.seen.push((name.try_clone(self.alloc)?, number))?;
         Ok(number)
     }
 
     /// How many names are seen. `close` with this number ends the block that begins here.
     pub fn mark(&self) -> usize {
-        self.names.len()
+        self.seen.len()
     }
 
     /// Ends a block: the names that were added after the mark are no longer seen.
     pub fn close(&mut self, mark: usize)
         ensures { self.new.kinds ≡ self.old.kinds }
     {
-        'names: while self.names.len() > mark {
-            if let Some(name) = self.names.pop() {
-                let _number = self.seen.remove(name.as_slice());
+        'names: while self.seen.len() > mark {
+            if let Some((name, _)) = self.seen.pop()
+                && self.seen.len() >= COMPARED_LIMIT
+            {
+                let _number = self.further.remove(name.folded());
             }
         }
+    }
+
+    // The number of the last name that is seen and is the same.
+    fn number_of(&self, name: &Name) -> Option<usize> {
+        if self.seen.len() > COMPARED_LIMIT
+            && let Some(number) = self.further.get(name.folded())
+        {
+            return Some(*number);
+        }
+        let compared = self.seen.len().min(COMPARED_LIMIT);
+        number_among(&self.seen[..compared], name)
     }
 
     fn local(&self, number: usize) -> Option<Local>
@@ -90,4 +105,15 @@ impl Locals {
             None
         }
     }
+}
+
+fn number_among(seen: &[(Name, usize)], name: &Name) -> Option<usize> {
+    let folded = name.folded();
+    for (other, number) in seen.iter().rev() {
+        let other = other.folded();
+        if other.len() == folded.len() && other == folded {
+            return Some(*number);
+        }
+    }
+    None
 }

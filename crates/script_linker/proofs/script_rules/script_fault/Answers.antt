@@ -13,6 +13,6 @@ returns c =
     let line = AreAmong-first file.script.line imports in
     let first = FindsAmong-then line (FindsAmong-nothing _ _) c.note.ensures in
     let scripts = FindsAmong-then line (FindsAmong-then line (FindsAmong-then line first c.note-2.ensures) c.note-3.ensures) c.note-4.ensures in
-    let all = FindsAmong-then (AreAmong-rest file.script.line imports) scripts (rw c.as_slice.ensures.value at c.in_ok-judge_imports.ensures) in
+    let all = FindsAmong-then (AreAmong-rest file.script.line imports) scripts (rw c.as_slice.ensures.value at c.judge_imports.ensures) in
     let is = get_or_default files c.args.number c.index-survey-number.result file c.requires.file in
     IfSome-at heading_lines files c.args.number file c.requires.file is c.judge_imports.new.first.found (IfSome-found_on c.none-first.ensures all)

@@ -5,4 +5,4 @@ abbrev pub invariant-names : goal.invariant-names
 invariant-names l = l.self.kinds ≡ l.fn.self.kinds
 
 abbrev pub decreases-names : goal.decreases-names
-decreases-names l = vec_len l.self.names
+decreases-names l = vec_len l.self.seen
