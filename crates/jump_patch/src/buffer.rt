@@ -136,7 +136,7 @@ impl CodeBuffer {
         self.ahead.reserve(1)?;
         let place = self.code.len() as u16;
         add(&mut self.code, &mut self.lines, instruction, line)?;
-        self.ahead.push(place).unwrap();
+        self.ahead.push_reserved(place);
         Ok(Ahead { place })
     }
 
@@ -162,6 +162,27 @@ impl CodeBuffer {
             lines: self.lines,
         }
     }
+
+    /// Takes the code out, in vectors of just its length. Every jump must have landed. The buffer has no instruction
+    /// then, and keeps its room for the next code.
+    ///
+    /// # Errors
+    ///
+    /// `OutOfMemory` comes where there is no room for the code. Then the buffer is as it was.
+    pub fn take(&mut self) -> Result<Code, OutOfMemory>
+        requires { self.old.ahead ≡ [] }
+        ensures code { IfOk result (λ taken. map plain_instruction taken.code.items ≡ self.old.code) }
+        ensures lines { IfOk result (λ taken. taken.lines.items ≡ self.old.lines) }
+        ensures ok { OnOk result (self.new ≡ record { code = []; lines = []; ahead = [] }) }
+        ensures err { OnErr result (self.new ≡ self.old) }
+    {
+        let alloc = *self.code.allocator();
+        let mut code = Vec::with_capacity(alloc, self.code.len())?;
+        let mut lines = Vec::with_capacity(alloc, self.lines.len())?;
+        code.append(&mut self.code).unwrap();
+        lines.append(&mut self.lines).unwrap();
+        Ok(Code { code, lines })
+    }
 }
 
 fn add(
@@ -175,9 +196,10 @@ fn add(
     ensures code_kept { OnErr result (code.new.items ≡ code.old.items) }
     ensures lines_kept { OnErr result (lines.new.items ≡ lines.old.items) }
 {
+    code.reserve(1)?;
     lines.reserve(1)?;
-    code.push(instruction)?;
-    lines.push(line).unwrap();
+    code.push_reserved(instruction);
+    lines.push_reserved(line);
     Ok(())
 }
 

@@ -1,6 +1,6 @@
 //! How instructions and functions are written.
 
-ghost use Rattle.std.specs.Prelude.{◌≡◌, ◌<◌, ◌^◌, ◌++◌, length, map, OnOk, IfSome, option_map};
+ghost use Rattle.std.specs.Prelude.{◌≡◌, ◌+◌, ◌<◌, ◌≤◌, ◌^◌, ◌++◌, length, map, vec_len, vec_capacity, OnOk, IfSome, option_map};
 ghost use Rattle.std.specs.List.{flat_map};
 ghost use Rattle.pex_values.specs.Fit.{IsCounted, FitsInstruction, FitsFunction};
 ghost use Rattle.pex_values.specs.Opcodes.{operands_of};
@@ -9,31 +9,47 @@ ghost use Rattle.pex_values.specs.Spelling as spell;
 ghost use Rattle.pex_codec.specs.Writing.{Writes, FitEach};
 
 use crate::faults::EncodeFault;
-use crate::spelled::{Spelled, put_byte, put_integer, put_list, put_u16, put_u32};
+use crate::spelled::{
+    Spelled, add_integer, add_u16, add_u32, put_byte, put_integer, put_list, put_u16, put_u32,
+};
 use pex_values::{Datum, Instruction, PexFunction, operand_count};
 use std::alloc::AllocError;
+
+/// The most bytes of an operand.
+const MOST_BYTES: usize = 5;
 
 pub(crate) fn put_datum(out: &mut Vec<u8>, datum: Datum) -> Result<(), AllocError>
     ensures { OnOk result (out.new.items ≡ out.old.items ++ spell.datum datum) }
 {
+    out.reserve(MOST_BYTES)?;
+    add_datum(out, datum);
+    Ok(())
+}
+
+fn add_datum(out: &mut Vec<u8>, datum: Datum)
+    requires { vec_len out.old + MOST_BYTES ≤ vec_capacity out.old }
+    ensures bytes { out.new.items ≡ out.old.items ++ spell.datum datum }
+    ensures len { vec_len out.new ≤ vec_len out.old + MOST_BYTES }
+    ensures capacity { vec_capacity out.new ≡ vec_capacity out.old }
+{
     match datum {
-        Datum::NoneValue => put_byte(out, 0),
+        Datum::NoneValue => out.push_reserved(0),
         Datum::Word(n) => {
-            put_byte(out, 1)?;
-            put_u16(out, n)
+            out.push_reserved(1);
+            add_u16(out, n);
         }
         Datum::Quoted(n) => {
-            put_byte(out, 2)?;
-            put_u16(out, n)
+            out.push_reserved(2);
+            add_u16(out, n);
         }
-        Datum::Int(n) => put_integer(out, n),
+        Datum::Int(n) => add_integer(out, n),
         Datum::Float(n) => {
-            put_byte(out, 4)?;
-            put_u32(out, n)
+            out.push_reserved(4);
+            add_u32(out, n);
         }
         Datum::Bool(n) => {
-            put_byte(out, 5)?;
-            put_byte(out, n)
+            out.push_reserved(5);
+            out.push_reserved(n);
         }
     }
 }
@@ -41,8 +57,12 @@ pub(crate) fn put_datum(out: &mut Vec<u8>, datum: Datum) -> Result<(), AllocErro
 fn put_data(out: &mut Vec<u8>, data: &[Datum]) -> Result<(), AllocError>
     ensures { OnOk result (out.new.items ≡ out.old.items ++ flat_map spell.datum «data».now) }
 {
+    let Some(room) = data.len().checked_mul(MOST_BYTES) else {
+        return Err(AllocError);
+    };
+    out.reserve(room)?;
     for datum in data {
-        put_datum(out, *datum)?;
+        add_datum(out, *datum);
     }
     Ok(())
 }

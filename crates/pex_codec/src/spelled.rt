@@ -1,6 +1,6 @@
 //! How each part of a value is written.
 
-ghost use Rattle.std.specs.Prelude.{◌≡◌, ◌<◌, ◌^◌, ◌++◌, List, ℕ, length, OnOk, ⊤};
+ghost use Rattle.std.specs.Prelude.{◌≡◌, ◌+◌, ◌<◌, ◌≤◌, ◌^◌, ◌++◌, List, ℕ, length, vec_len, vec_capacity, OnOk, ⊤};
 ghost use Rattle.pex_values.specs.Fit.{IsCounted};
 ghost use Rattle.pex_values.specs.Spelling as spell;
 ghost use Rattle.pex_codec.specs.Writing.{Writes, FitEach};
@@ -33,9 +33,35 @@ pub(crate) fn put_byte(out: &mut Vec<u8>, n: u8) -> Result<(), AllocError>
 pub(crate) fn put_u16(out: &mut Vec<u8>, n: u16) -> Result<(), AllocError>
     ensures { OnOk result (out.new.items ≡ out.old.items ++ spell.two_bytes n) }
 {
-    let mut bytes = [0; 2];
-    BigEndian::write_u16(&mut bytes, n);
-    out.extend_from_slice(&bytes)
+    out.reserve(2)?;
+    add_u16(out, n);
+    Ok(())
+}
+
+/// As `put_u16`, where there is room.
+pub(crate) fn add_u16(out: &mut Vec<u8>, n: u16)
+    requires { vec_len out.old + 2 ≤ vec_capacity out.old }
+    ensures bytes { out.new.items ≡ out.old.items ++ spell.two_bytes n }
+    ensures len { vec_len out.new ≡ vec_len out.old + 2 }
+    ensures capacity { vec_capacity out.new ≡ vec_capacity out.old }
+{
+    let bytes = n.to_be_bytes();
+    out.push_reserved(bytes[0]);
+    out.push_reserved(bytes[1]);
+}
+
+/// As `put_u32`, where there is room.
+pub(crate) fn add_u32(out: &mut Vec<u8>, n: u32)
+    requires { vec_len out.old + 4 ≤ vec_capacity out.old }
+    ensures bytes { out.new.items ≡ out.old.items ++ spell.four_bytes n }
+    ensures len { vec_len out.new ≡ vec_len out.old + 4 }
+    ensures capacity { vec_capacity out.new ≡ vec_capacity out.old }
+{
+    let bytes = n.to_be_bytes();
+    out.push_reserved(bytes[0]);
+    out.push_reserved(bytes[1]);
+    out.push_reserved(bytes[2]);
+    out.push_reserved(bytes[3]);
 }
 
 pub(crate) fn put_u32(out: &mut Vec<u8>, n: u32) -> Result<(), AllocError>
@@ -57,10 +83,20 @@ pub(crate) fn put_u64(out: &mut Vec<u8>, n: u64) -> Result<(), AllocError>
 pub(crate) fn put_integer(out: &mut Vec<u8>, n: i32) -> Result<(), AllocError>
     ensures { OnOk result (out.new.items ≡ out.old.items ++ spell.integer n) }
 {
-    put_byte(out, 3)?;
-    let mut bytes = [0; 4];
-    BigEndian::write_i32(&mut bytes, n);
-    out.extend_from_slice(&bytes)
+    out.reserve(5)?;
+    add_integer(out, n);
+    Ok(())
+}
+
+/// As `put_integer`, where there is room.
+pub(crate) fn add_integer(out: &mut Vec<u8>, n: i32)
+    requires { vec_len out.old + 5 ≤ vec_capacity out.old }
+    ensures bytes { out.new.items ≡ out.old.items ++ spell.integer n }
+    ensures len { vec_len out.new ≡ vec_len out.old + 5 }
+    ensures capacity { vec_capacity out.new ≡ vec_capacity out.old }
+{
+    out.push_reserved(3);
+    add_u32(out, n.cast_unsigned());
 }
 
 pub(crate) fn put_count(out: &mut Vec<u8>, count: usize) -> Result<(), EncodeFault>

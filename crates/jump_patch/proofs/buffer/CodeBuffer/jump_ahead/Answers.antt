@@ -11,8 +11,7 @@ invariant_of-self-2 c =
     let P : Buffer → Type 0 = λ b. length b.code < 65535 in
     let count = length-map i.code.items plain_instruction in
     let place_is : c.len-place.result ≡ length (map plain_instruction i.code.items) = omega (arith, c.len-place.ensures, i.code.ok.0, count) in
-    let pushed = rw c.unwrap.ensures at c.push.ensures.items in
-    jumped_all (map plain_instruction i.code.items) (map plain_instruction c.add.new.code.items) i.ahead.items c.push.new.self.items c.args.kind (pos 0) c.self.invariant
+    jumped_all (map plain_instruction i.code.items) (map plain_instruction c.add.new.code.items) i.ahead.items c.push_reserved.new.self.items c.args.kind (pos 0) c.self.invariant
     (subst P (sym c.self.view_is) c.requires)
     (c.in_ok-add.ensures.code_added ∙ ap (λ x. map plain_instruction i.code.items ++ x ∷ []) c.in_ok-instruction.ensures)
-    (pushed ∙ ap (λ x. x ++ c.len-place.result ∷ []) c.reserve.ensures.items ∙ ap (λ n. i.ahead.items ++ n ∷ []) place_is)
+    (c.push_reserved.ensures.items ∙ ap (λ x. x ++ c.len-place.result ∷ []) c.reserve.ensures.items ∙ ap (λ n. i.ahead.items ++ n ∷ []) place_is)
