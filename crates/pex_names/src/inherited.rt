@@ -16,7 +16,7 @@ pub struct MemberPlace {
 }
 
 /// A member, with the ranks of the objects that have it unless a nearer one hides it.
-#[derive(Clone, Copy, Debug, PartialEq, Eq, PartialOrd, Ord)]
+#[derive(Clone, Copy, Debug)]
 struct Holder {
     span: Span,
     member: MemberPlace,
@@ -25,14 +25,14 @@ struct Holder {
 /// The members of objects, as they are collected.
 #[derive(Drop)]
 pub struct OwnMembers {
-    holders: HashMap<MemberNames, Vec<Holder>>,
+    holders: Vec<(MemberNames, Holder)>,
 }
 
 impl OwnMembers {
     /// No members.
     pub fn new(alloc: Global) -> OwnMembers {
         OwnMembers {
-            holders: HashMap::new(alloc),
+            holders: Vec::new(alloc),
         }
     }
 
@@ -40,25 +40,23 @@ impl OwnMembers {
     /// same names, the first counts.
     pub fn add(
         &mut self,
-        alloc: Global,
+        _alloc: Global,
         names: MemberNames,
         member: MemberPlace,
         span: Span,
     ) -> Result<(), OutOfMemory> {
-        let holders = self.holders.entry(names)?.or_insert(Vec::new(alloc));
-        match holders.last() {
-            Some(last) if last.member.object == member.object => Ok(()),
-            _ => Ok(holders.push(Holder { span, member })?),
-        }
+        Ok(self.holders.push((names, Holder { span, member }))?)
     }
 
     /// What each object has from itself upward.
-    pub fn inherited(self, alloc: Global) -> Result<Inherited, OutOfMemory> {
-        let mut turns = HashMap::new(alloc);
-        for (names, holders) in self.holders {
-            turns.insert(names, turns_of(alloc, holders)?)?;
+    pub fn inherited(mut self, alloc: Global) -> Result<Inherited, OutOfMemory> {
+        self.holders
+            .sort_by_key(|(names, holder)| (*names, holder.span))?;
+        let mut turns = Turns::new(alloc, self.holders.len())?;
+        for (names, holder) in self.holders {
+            turns.add(names, holder)?;
         }
-        Ok(Inherited { turns })
+        turns.inherited()
     }
 }
 
@@ -73,33 +71,87 @@ struct Turn {
 /// steps as the number of objects with such a member has digits.
 #[derive(Drop)]
 pub struct Inherited {
-    turns: HashMap<MemberNames, Vec<Turn>>,
+    turns: Vec<Turn>,
+    // Where the turns of the names begin, and where they end.
+    ranges: HashMap<MemberNames, (usize, usize)>,
 }
 
 impl Inherited {
     /// The nearest member of these names, from the object of this rank upward.
     pub fn find(&self, names: MemberNames, rank: usize) -> Option<MemberPlace> {
-        let turns = self.turns.get(&names)?;
+        let (start, end) = *self.ranges.get(&names)?;
+        let turns = self.turns.get(start..end)?;
         let behind = turns.partition_point(|turn| turn.start <= rank);
         turns.get(behind.checked_sub(1)?)?.member
     }
 }
 
-// Where the nearest of these members changes as ranks grow.
-fn turns_of(alloc: Global, mut holders: Vec<Holder>) -> Result<Vec<Turn>, OutOfMemory> {
-    holders.sort()?;
-    let mut turns = Vec::with_capacity(alloc, holders.len().saturating_mul(2))?;
-    let mut open = Vec::new(alloc);
-    for holder in holders {
-        close(&mut turns, &mut open, holder.span.start)?;
-        turns.push(Turn {
+// Where the nearest member of some names changes as ranks grow, from one names to the next.
+#[derive(Drop)]
+struct Turns {
+    found: Inherited,
+    // The names that are open, and where their turns begin.
+    names: MemberNames,
+    start: usize,
+    // The members of these names whose ranks go on, the innermost of which stands last.
+    open: Vec<Holder>,
+}
+
+impl Turns {
+    // No turns, of so many members at most.
+    fn new(alloc: Global, members: usize) -> Result<Turns, OutOfMemory> {
+        Ok(Turns {
+            found: Inherited {
+                turns: Vec::with_capacity(alloc, members.saturating_mul(2))?,
+                ranges: HashMap::new(alloc),
+            },
+            names: (0, 0),
+            start: 0,
+            open: Vec::new(alloc),
+        })
+    }
+
+    // Adds a member. Those of the same names come one after the other, in the order of their ranks.
+    fn add(&mut self, names: MemberNames, holder: Holder) -> Result<(), OutOfMemory> {
+        if names != self.names {
+            self.end()?;
+            self.names = names;
+        }
+        if self.repeats(&holder) {
+            return Ok(());
+        }
+        close(&mut self.found.turns, &mut self.open, holder.span.start)?;
+        self.found.turns.push(Turn {
             start: holder.span.start,
             member: Some(holder.member),
         })?;
-        open.push(holder)?;
+        self.open.push(holder)?;
+        Ok(())
     }
-    close(&mut turns, &mut open, usize::MAX)?;
-    Ok(turns)
+
+    // Whether the object has an earlier member of these names.
+    fn repeats(&self, holder: &Holder) -> bool {
+        match self.open.last() {
+            Some(last) => last.member.object == holder.member.object,
+            None => false,
+        }
+    }
+
+    // Ends the turns of the open names.
+    fn end(&mut self) -> Result<(), OutOfMemory> {
+        close(&mut self.found.turns, &mut self.open, usize::MAX)?;
+        let end = self.found.turns.len();
+        if self.start < end {
+            self.found.ranges.insert(self.names, (self.start, end))?;
+        }
+        self.start = end;
+        Ok(())
+    }
+
+    fn inherited(mut self) -> Result<Inherited, OutOfMemory> {
+        self.end()?;
+        Ok(self.found)
+    }
 }
 
 // Ends those of the open members, the innermost of which stands last, whose ranks all lie below this one.
