@@ -23,11 +23,12 @@ pub record IsNew (d : Progress) : Type 0 where
   pub taken : d.taken ≡ 0
   pub standing : d.standing ≡ Reading
 
--- what a piece of so many bytes leads to where no call was refused before and the value isn't complete
+-- what a piece of so many bytes leads to where no call was refused before and the value isn't complete: an empty one is
+-- never refused, and completes nothing
 abbrev pub ReadGives : Progress → ℕ → Result Fed PexFault → Progress → Type 0
 ReadGives old len (Ok More) new = (new.standing ≡ Reading) × (new.taken ≡ old.taken + len)
-ReadGives old len (Ok (Done n)) new = (new.standing ≡ Complete) × (n ≤ len) × (new.taken ≡ old.taken + n)
-ReadGives old len (Err fault) new = new.standing ≡ Refused fault
+ReadGives old len (Ok (Done n)) new = (new.standing ≡ Complete) × (n ≤ len) × (new.taken ≡ old.taken + n) × (0 < n)
+ReadGives old len (Err fault) new = (new.standing ≡ Refused fault) × (0 < len)
 
 -- behind the value only an empty piece may come
 pub record EndedGives (old : Progress) (len : ℕ) (result : Result Fed PexFault) (new : Progress) : Type 0 where

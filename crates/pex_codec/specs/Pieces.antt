@@ -50,5 +50,5 @@ pub record Takes (old : PieceReader) (len : ℕ) (new : PieceReader) (t : Taken)
 
 abbrev pub PieceGives : PieceReader → ℕ → Result Fed PexFault → PieceReader → Type 0
 PieceGives old len (Ok More) new = IsReading new × (new.taken ≡ old.taken + len)
-PieceGives old len (Ok (Done n)) new = IsComplete new × (n ≤ len) × (new.taken ≡ old.taken + n)
-PieceGives old len (Err fault) new = Unit {0}
+PieceGives old len (Ok (Done n)) new = IsComplete new × (n ≤ len) × (new.taken ≡ old.taken + n) × (0 < n)
+PieceGives old len (Err fault) new = 0 < len

@@ -43,7 +43,8 @@ impl Decoder {
         })
     }
 
-    /// Takes the next piece. `More` says that all of it was taken, and `Done` that the value ended within it.
+    /// Takes the next piece. `More` says that all of it was taken, and `Done` that the value ended within it. Before
+    /// the value's end an empty piece is answered `More`.
     /// An empty piece after the value's end is answered `Done { taken: 0 }`, any other one there is `Trailing`.
     /// The rules of the file are judged as `PexRule` says. After a refusal, or want of memory, each further
     /// call answers the same.

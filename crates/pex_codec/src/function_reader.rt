@@ -10,7 +10,7 @@ ghost use Rattle.pex_codec.specs.Widths.{function_width};
 
 use crate::faults::{PexFault, PexRule};
 use crate::fields::{FunctionField, Place, ValueField, ValueStep, reference, value_field};
-use crate::uncut::uncut_instruction;
+use crate::uncut::{add_uncut_code, empty_instruction};
 use byteorder::{BigEndian, ByteOrder};
 use pex_values::{Instruction, PexFunction, operand_count};
 use std::alloc::Global;
@@ -33,16 +33,6 @@ pub(crate) struct FunctionReader {
     more_left: u32,
     /// The offset of the kind of the count of more operands.
     count_at: u32,
-}
-
-fn empty_instruction(alloc: Global) -> Instruction
-    ensures { (result.opcode ≡ 0) × (length result.fixed.items ≡ 0) × (length result.more.items ≡ 0) }
-{
-    Instruction {
-        opcode: 0,
-        fixed: Vec::new(alloc),
-        more: Vec::new(alloc),
-    }
 }
 
 pub(crate) fn empty_function(alloc: Global) -> PexFunction
@@ -403,22 +393,19 @@ impl FunctionReader {
         requires before { IsBefore strings FunctionField.Opcode self.old }
         ensures { IfOk result (λ p. Runs strings (before_item self.old) (length bytes.now) p.0 p.1 self.new) }
     {
-        let mut width = 0;
-        loop {
-            let Some((instruction, taken)) = uncut_instruction(
-                self.alloc,
-                &bytes[width..],
-                strings,
-            )?
-            else {
-                return Ok((width, Some(FunctionField::Opcode)));
-            };
-            width += taken;
-            match self.add_instruction(instruction, strings)? {
-                Some(FunctionField::Opcode) => {}
-                next => return Ok((width, next)),
-            }
+        let most = self.left as usize;
+        let (added, width) = add_uncut_code(
+            self.alloc,
+            &mut self.function.code,
+            bytes,
+            most,
+            strings,
+        )?;
+        self.left -= added as u16;
+        if self.left == 0 {
+            return Ok((width, None));
         }
+        Ok((width, Some(FunctionField::Opcode)))
     }
 
     /// Hands out the function.

@@ -1,9 +1,9 @@
 //! Reads the parts of a function that the open piece holds whole. What it cuts, or what breaks a rule, is left to
 //! the readers of fields, which say where.
 
-ghost use Rattle.std.specs.Prelude.{length, map, IfOk, IfSome};
+ghost use Rattle.std.specs.Prelude.{◌≡◌, ◌<◌, length, map, vec_len, vec_capacity, IfOk, IfSome};
 ghost use Rattle.pex_values.specs.Plain.{plain_instruction, plain_function, plain_named};
-ghost use Rattle.pex_codec.specs.Uncut.{IsUncutReference, IsUncutValue, AreUncutValues, AreUncutMore, IsUncutInstruction, AreUncutPairs, IsUncutCode, IsUncutFunction, IsUncutNamed};
+ghost use Rattle.pex_codec.specs.Uncut.{AddsInstruction, AddsCode, IsUncutReference, IsUncutValue, AreUncutValues, AreUncutMore, IsUncutInstruction, AreUncutPairs, IsUncutCode, IsUncutFunction, IsUncutNamed};
 
 use crate::faults::PexFault;
 use byteorder::{BigEndian, ByteOrder};
@@ -13,8 +13,21 @@ use std::alloc::Global;
 /// The most operands that an integer value can count.
 const MOST_OPERANDS: u32 = 0x7FFF_FFFF;
 
+/// The opcode of the instruction that has no operands.
+const NOP: u8 = 0;
+
 /// How many bytes of a function stand before its parameters.
 const HEADING: usize = 9;
+
+pub(crate) fn empty_instruction(alloc: Global) -> Instruction
+    ensures { (result.opcode ≡ 0) × (length result.fixed.items ≡ 0) × (length result.more.items ≡ 0) }
+{
+    Instruction {
+        opcode: 0,
+        fixed: Vec::new(alloc),
+        more: Vec::new(alloc),
+    }
+}
 
 /// A reference at a place.
 fn uncut_reference(bytes: &[u8], at: usize, strings: u16) -> Option<u16>
@@ -63,7 +76,7 @@ fn uncut_values(
         let Some((value, taken)) = uncut_value(&bytes[width..], strings) else {
             return Ok(None);
         };
-        values.push(value)?;
+        values.push_reserved(value);
         width += taken;
     }
     Ok(Some((values, width)))
@@ -91,7 +104,7 @@ fn uncut_more(
 }
 
 /// The instruction at the front, and how many bytes it has.
-pub(crate) fn uncut_instruction(
+fn uncut_instruction(
     alloc: Global,
     bytes: &[u8],
     strings: u16,
@@ -156,9 +169,55 @@ fn uncut_pairs(
         let Some(kind) = uncut_reference(bytes, 4 + 4 * i, strings) else {
             return Ok(None);
         };
-        pairs.push((name, kind))?;
+        pairs.push_reserved((name, kind));
     }
     Ok(Some((pairs, 2 + 4 * count)))
+}
+
+/// Adds the instruction at the front to the code, which has room for it, and gives how many bytes it has, or 0 where it
+/// isn't whole.
+fn add_uncut_instruction(
+    alloc: Global,
+    code: &mut Vec<Instruction>,
+    bytes: &[u8],
+    strings: u16,
+) -> Result<usize, PexFault>
+    requires { vec_len code.old < vec_capacity code.old }
+    ensures added { IfOk result (AddsInstruction strings (length bytes.now) code.old.items code.new.items) }
+    ensures capacity { vec_capacity code.new ≡ vec_capacity code.old }
+{
+    if let Some(&NOP) = bytes.first() {
+        code.push_reserved(empty_instruction(alloc));
+        return Ok(1);
+    }
+    let Some((instruction, width)) = uncut_instruction(alloc, bytes, strings)? else {
+        return Ok(0);
+    };
+    code.push_reserved(instruction);
+    Ok(width)
+}
+
+/// Adds the instructions at the front to the code, so many at most, and gives how many were added and how many bytes
+/// they have.
+pub(crate) fn add_uncut_code(
+    alloc: Global,
+    code: &mut Vec<Instruction>,
+    bytes: &[u8],
+    most: usize,
+    strings: u16,
+) -> Result<(usize, usize), PexFault>
+    ensures { IfOk result (λ p. AddsCode strings most (length bytes.now) code.old.items code.new.items p.0 p.1) }
+{
+    code.reserve(most)?;
+    let mut width = 0;
+    for added in 0..most {
+        let taken = add_uncut_instruction(alloc, code, &bytes[width..], strings)?;
+        if taken == 0 {
+            return Ok((added, width));
+        }
+        width += taken;
+    }
+    Ok((most, width))
 }
 
 /// The code of a function at the front, and how many bytes it has with its count.
@@ -177,15 +236,11 @@ fn uncut_code(
         return Ok(None);
     }
     let mut code = Vec::with_capacity(alloc, count)?;
-    let mut width = 2;
-    for _ in 0..count {
-        let Some((instruction, taken)) = uncut_instruction(alloc, &bytes[width..], strings)? else {
-            return Ok(None);
-        };
-        code.push(instruction)?;
-        width += taken;
+    let (added, width) = add_uncut_code(alloc, &mut code, &bytes[2..], count, strings)?;
+    if added < count {
+        return Ok(None);
     }
-    Ok(Some((code, width)))
+    Ok(Some((code, 2 + width)))
 }
 
 /// The function at the front, and how many bytes it has.

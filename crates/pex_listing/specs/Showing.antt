@@ -1,5 +1,5 @@
 -- When writing a listing fails, and what is written of it.
-use Rattle.std.specs.Prelude.{◌≡◌, ℕ, List, Option, Result, Ok, Err}
+use Rattle.std.specs.Prelude.{◌≡◌, ℕ, Result, Ok, Err}
 use Rattle.papy_io.specs.Count.{HasRisen}
 use Rattle.pex_listing.specs.declared.faults.ShowFault.{ShowFault}
 use Rattle.pex_listing.specs.declared.faults.ShowFault.TheVariants.{WriteFault, OutOfMemory}

@@ -5,15 +5,15 @@ ghost use Rattle.std.specs.Prelude.{◌≡◌, length, vec_len, IfOk};
 use papy_base::{OutOfMemory, Text};
 use std::alloc::Global;
 use std::collections::HashSet;
+use std::str;
 
 /// The most bytes of a string that a reference is spelled by.
 const LONGEST_WORD: usize = 64;
 
-/// The strings of a file, and which of them a reference is spelled by.
+/// For each string of a file the word that a reference to it is spelled by, if it is.
 #[derive(Clone, Copy)]
 pub(crate) struct Names<'a> {
-    pub strings: &'a [Text],
-    pub spelled: &'a [bool],
+    pub words: &'a [Option<&'a str>],
 }
 
 fn is_word_byte(byte: u8) -> bool {
@@ -41,4 +41,21 @@ pub(crate) fn spelled_names(alloc: Global, strings: &[Text]) -> Result<Vec<bool>
         spelled.push(is_first)?;
     }
     Ok(spelled)
+}
+
+/// For each string the word that a reference to it is spelled by, if it is.
+pub(crate) fn reference_words<'a>(
+    alloc: Global,
+    strings: &'a [Text],
+) -> Result<Vec<Option<&'a str>>, OutOfMemory> {
+    let spelled = spelled_names(alloc, strings)?;
+    let mut words = Vec::with_capacity(alloc, strings.len())?;
+    for (text, is_spelled) in strings.iter().zip(&spelled) {
+        words.push(if *is_spelled {
+            str::from_utf8(text.as_bytes()).ok()
+        } else {
+            None
+        })?;
+    }
+    Ok(words)
 }

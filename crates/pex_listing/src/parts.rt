@@ -34,13 +34,9 @@ pub(crate) fn put_string_line(out: &mut String, word: &str, text: &Text) -> Resu
 
 /// A reference with a space before it: the string, or `#` and its index.
 fn put_reference(out: &mut String, names: &Names, index: u16) -> Result<(), AllocError> {
-    let at = index as usize;
-    if let (Some(text), Some(true)) = (names.strings.get(at), names.spelled.get(at)) {
+    if let Some(Some(word)) = names.words.get(index as usize) {
         out.push(' ')?;
-        for byte in text.as_bytes() {
-            out.push(char::from(*byte))?;
-        }
-        return Ok(());
+        return out.push_str(word);
     }
     write!(out, " #{index}")
 }
@@ -148,19 +144,35 @@ fn put_property(out: &mut String, names: &Names, property: &PexProperty) -> Resu
     Ok(())
 }
 
-fn put_state(out: &mut String, names: &Names, state: &PexState) -> Result<(), AllocError> {
+/// The line that a state begins with.
+pub(crate) fn put_state_line(
+    out: &mut String,
+    names: &Names,
+    state: &PexState,
+) -> Result<(), AllocError> {
     out.push_str("state")?;
     put_reference(out, names, state.name)?;
-    out.push('\n')?;
-    for (name, function) in &state.functions {
-        out.push_str("function")?;
-        put_reference(out, names, *name)?;
-        put_function(out, names, function)?;
-    }
-    Ok(())
+    out.push('\n')
 }
 
-fn put_object_line(out: &mut String, names: &Names, object: &PexObject) -> Result<(), AllocError> {
+/// The lines of a function of a state.
+pub(crate) fn put_named_function(
+    out: &mut String,
+    names: &Names,
+    name: u16,
+    function: &PexFunction,
+) -> Result<(), AllocError> {
+    out.push_str("function")?;
+    put_reference(out, names, name)?;
+    put_function(out, names, function)
+}
+
+/// The line that an object begins with.
+pub(crate) fn put_object_line(
+    out: &mut String,
+    names: &Names,
+    object: &PexObject,
+) -> Result<(), AllocError> {
     out.push_str("object")?;
     put_reference(out, names, object.name)?;
     out.push_str(match object.size_form {
@@ -175,21 +187,26 @@ fn put_object_line(out: &mut String, names: &Names, object: &PexObject) -> Resul
     out.push('\n')
 }
 
-/// The lines of an object.
-pub(crate) fn put_object(
+/// The lines of variables.
+pub(crate) fn put_variables(
     out: &mut String,
     names: &Names,
-    object: &PexObject,
+    variables: &[PexVariable],
 ) -> Result<(), AllocError> {
-    put_object_line(out, names, object)?;
-    for variable in &object.variables {
+    for variable in variables {
         put_variable(out, names, variable)?;
     }
-    for property in &object.properties {
+    Ok(())
+}
+
+/// The lines of properties.
+pub(crate) fn put_properties(
+    out: &mut String,
+    names: &Names,
+    properties: &[PexProperty],
+) -> Result<(), AllocError> {
+    for property in properties {
         put_property(out, names, property)?;
-    }
-    for state in &object.states {
-        put_state(out, names, state)?;
     }
     Ok(())
 }

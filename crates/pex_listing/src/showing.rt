@@ -6,13 +6,19 @@ ghost use Rattle.pex_listing.specs.Showing.{Shows};
 ghost use Rattle.papy_io.specs.Sink.{AppendsSome};
 
 use crate::faults::ShowFault;
-use crate::names::{Names, spelled_names};
-use crate::parts::{put_debug_line, put_flag, put_lines, put_object, put_string_line};
+use crate::names::{Names, reference_words};
+use crate::parts::{
+    put_debug_line, put_flag, put_lines, put_named_function, put_object_line, put_properties,
+    put_state_line, put_string_line, put_variables,
+};
 use papy_base::Text;
 use papy_io::{IoFault, Sink};
-use pex_values::{Pex, PexDebug, PexLines, PexObject};
+use pex_values::{Pex, PexDebug, PexFunction, PexLines, PexObject, PexState};
 use std::alloc::{AllocError, Global};
 use std::fmt::Write;
+
+/// How many bytes of lines are held back at least before the sink gets them.
+const PART: usize = 65_536;
 
 /// The listing of a well shaped value. `WriteFault` comes only where the sink's count of faults rose. After a fault
 /// some of the first bytes of the listing were written.
@@ -21,11 +27,8 @@ pub fn show<S: Sink>(alloc: Global, value: &Pex, sink: &mut S) -> Result<(), Sho
     ensures faults { Shows S.faults result sink.old sink.new }
     ensures appended { AppendsSome (S.written sink.old) (S.written sink.new) }
 {
-    let spelled = spelled_names(alloc, &value.strings)?;
-    let names = Names {
-        strings: &value.strings,
-        spelled: &spelled,
-    };
+    let words = reference_words(alloc, &value.strings)?;
+    let names = Names { words: &words };
     let mut out = String::new(alloc);
     show_strings(&mut out, value, sink)?;
     show_debug(&mut out, &names, &value.debug, sink)?;
@@ -119,6 +122,49 @@ fn show_entries<S: Sink>(
     Ok(())
 }
 
+/// Writes what stands in the buffer where it is long enough.
+fn flush_part<S: Sink>(out: &mut String, sink: &mut S) -> Result<(), ShowFault>
+    ensures faults { Shows S.faults result sink.old sink.new }
+    ensures appended { AppendsSome (S.written sink.old) (S.written sink.new) }
+{
+    if out.len() < PART {
+        return Ok(());
+    }
+    flush(out, sink)
+}
+
+fn show_functions<S: Sink>(
+    out: &mut String,
+    names: &Names,
+    functions: &[(u16, PexFunction)],
+    sink: &mut S,
+) -> Result<(), ShowFault>
+    ensures faults { Shows S.faults result sink.old sink.new }
+    ensures appended { AppendsSome (S.written sink.old) (S.written sink.new) }
+{
+    for (name, function) in functions {
+        put_named_function(out, names, *name, function)?;
+        flush_part(out, sink)?;
+    }
+    Ok(())
+}
+
+fn show_states<S: Sink>(
+    out: &mut String,
+    names: &Names,
+    states: &[PexState],
+    sink: &mut S,
+) -> Result<(), ShowFault>
+    ensures faults { Shows S.faults result sink.old sink.new }
+    ensures appended { AppendsSome (S.written sink.old) (S.written sink.new) }
+{
+    for state in states {
+        put_state_line(out, names, state)?;
+        show_functions(out, names, &state.functions, sink)?;
+    }
+    Ok(())
+}
+
 fn show_objects<S: Sink>(
     out: &mut String,
     names: &Names,
@@ -129,8 +175,10 @@ fn show_objects<S: Sink>(
     ensures appended { AppendsSome (S.written sink.old) (S.written sink.new) }
 {
     for object in objects {
-        put_object(out, names, object)?;
-        flush(out, sink)?;
+        put_object_line(out, names, object)?;
+        put_variables(out, names, &object.variables)?;
+        put_properties(out, names, &object.properties)?;
+        show_states(out, names, &object.states, sink)?;
     }
-    Ok(())
+    flush(out, sink)
 }
