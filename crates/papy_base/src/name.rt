@@ -60,7 +60,7 @@ impl Name {
     pub fn same(&self, other: &Name) -> bool
         ensures { IsTrue result ↔ SameIgnoringCase self.now other.now }
     {
-        self.folded() == other.folded()
+        same_bytes(self.folded(), other.folded())
     }
 
     /// An equal name, which shares the bytes of this one.
@@ -70,4 +70,11 @@ impl Name {
         let spelling = self.spelling.clone()?;
         Ok(Name { spelling })
     }
+}
+
+/// Whether the bytes are the same. For the few bytes of a name this is quicker than the comparison of slices.
+pub(crate) fn same_bytes(left: &[u8], right: &[u8]) -> bool
+    ensures { IsTrue result ↔ left.now ≡ right.now }
+{
+    left.len() == right.len() && left.iter().zip(right).all(|(a, b)| a == b)
 }

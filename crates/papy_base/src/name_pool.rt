@@ -1,7 +1,7 @@
 ghost use Rattle.std.specs.Prelude.{◌≡◌, IfOk};
 
 use crate::faults::OutOfMemory;
-use crate::name::Name;
+use crate::name::{Name, same_bytes};
 use std::alloc::Global;
 
 // The number of places in a pool.
@@ -32,7 +32,7 @@ impl NamePool {
         ensures { IfOk result (λ name. name ≡ bytes.now) }
     {
         match self.names.get_mut(place_of(bytes)) {
-            Some(Some(name)) if name.as_bytes() == bytes => name.try_clone(self.alloc),
+            Some(Some(name)) if same_bytes(name.as_bytes(), bytes) => name.try_clone(self.alloc),
             Some(place) => {
                 let name = Name::from_bytes(self.alloc, bytes)?;
                 *place = Some(name.try_clone(self.alloc)?);
