@@ -9,11 +9,10 @@ use crate::function::{has_too_many_slots, known_kind, load_function};
 use crate::kind::Kind;
 use crate::lines::{FileLines, OF_READ, OF_WRITE};
 use crate::loaded::{LoadedFunction, LoadedProperty};
-use crate::scope::Home;
+use crate::scope::{Home, Slots};
 use crate::signature::KIND_BITS;
 use crate::sources::Source;
 use core_tree::CoreType;
-use papy_base::Name;
 use pex_names::EMPTY_NAME;
 use pex_values::{PexFunction, PexObject, PexProperty};
 
@@ -37,6 +36,7 @@ impl PropertySite<'_> {
 /// The property at this place of the object, or the first rule that it and its functions break.
 pub(crate) fn load_property(
     site: &PropertySite<'_>,
+    slots: &mut Slots,
     place: usize,
     property: &PexProperty,
 ) -> Result<LoadedProperty, Refusal>
@@ -44,9 +44,9 @@ pub(crate) fn load_property(
 {
     let kind = judged_type(site, place, property)?;
     let variable = judged_variable(site, property)?;
-    let name = Name::from_bytes(site.home.alloc, site.source.text(property.name))?;
-    let read = load_read(site, property)?;
-    let write = load_write(site, property)?;
+    let name = site.source.title(site.home.alloc, property.name)?;
+    let read = load_read(site, slots, property)?;
+    let write = load_write(site, slots, property)?;
     Ok(LoadedProperty {
         name,
         kind,
@@ -110,7 +110,7 @@ fn variable_place(site: &PropertySite<'_>, property: &PexProperty, reference: u1
 {
     let names = site.source.names;
     let variables = site.home.variables;
-    let place = *variables.places.get(&names.number(reference))?;
+    let place = variables.places.get(names.number(reference))?;
     let variable = site.object.variables.get(usize::from(place))?;
     let is_of_type = names.number(variable.kind) == names.number(property.kind);
     if is_of_type && usize::from(place) < variables.list.len() {
@@ -122,6 +122,7 @@ fn variable_place(site: &PropertySite<'_>, property: &PexProperty, reference: u1
 
 fn load_read(
     site: &PropertySite<'_>,
+    slots: &mut Slots,
     property: &PexProperty,
 ) -> Result<Option<LoadedFunction>, Refusal>
     ensures { IfOk result (λ function. IfSome function (IsSoundFunction (bounds_of site.now.home.now))) }
@@ -130,11 +131,12 @@ fn load_read(
         return Ok(None);
     };
     judge_accessor(function, reads(site, property, function))?;
-    Ok(Some(load_accessor(site, property, function, OF_READ)?))
+    Ok(Some(load_accessor(site, slots, property, function, OF_READ)?))
 }
 
 fn load_write(
     site: &PropertySite<'_>,
+    slots: &mut Slots,
     property: &PexProperty,
 ) -> Result<Option<LoadedFunction>, Refusal>
     ensures { IfOk result (λ function. IfSome function (IsSoundFunction (bounds_of site.now.home.now))) }
@@ -143,7 +145,7 @@ fn load_write(
         return Ok(None);
     };
     judge_accessor(function, writes(site, property, function))?;
-    Ok(Some(load_accessor(site, property, function, OF_WRITE)?))
+    Ok(Some(load_accessor(site, slots, property, function, OF_WRITE)?))
 }
 
 // Judges a function of a property: V13, then V14 where it hasn't the form that its place asks for, or is
@@ -177,6 +179,7 @@ fn writes(site: &PropertySite<'_>, property: &PexProperty, function: &PexFunctio
 // A function of a property has the property's name.
 fn load_accessor(
     site: &PropertySite<'_>,
+    slots: &mut Slots,
     property: &PexProperty,
     function: &PexFunction,
     purpose: u8,
@@ -188,5 +191,12 @@ fn load_accessor(
     let lines = site
         .lines
         .find(purpose, object, EMPTY_NAME, names.number(property.name));
-    load_function(site.home, site.source, property.name, function, lines)
+    load_function(
+        site.home,
+        site.source,
+        slots,
+        property.name,
+        function,
+        lines,
+    )
 }

@@ -2,7 +2,7 @@
 ghost use Rattle.std.specs.Prelude.{◌≡◌, ◌+◌, ℕ, length, vec_len, All, IfOk, OnOk, IfSome};
 ghost use Rattle.pex_verify.specs.Places.{bounds_of};
 ghost use Rattle.pex_verify.specs.Types.{IsTypeAmong, IsKindAmong};
-ghost use Rattle.pex_verify.specs.Soundness.{IsSoundFunction, IsSoundInstruction, AreSoundInstructions};
+ghost use Rattle.pex_verify.specs.Soundness.{IsSoundFunction, AreSoundInstructions};
 
 use crate::fault::{Refusal, VerifyRule};
 use crate::instruction::load_instruction;
@@ -30,6 +30,7 @@ pub(crate) fn has_too_many_slots(function: &PexFunction) -> bool {
 pub(crate) fn load_function(
     home: &Home<'_>,
     source: &Source<'_>,
+    slots: &mut Slots,
     name: u16,
     function: &PexFunction,
     lines: &[u16],
@@ -39,21 +40,21 @@ pub(crate) fn load_function(
     let alloc = home.alloc;
     let answer = home.set.kind(source.names.number(function.result));
     let result = known_kind(answer)?;
-    let mut slots = Slots::new(alloc);
-    let parameters = load_parameters(home, source, &mut slots, function.parameters.as_slice())?;
-    let locals = load_locals(home, source, &mut slots, function.locals.as_slice())?;
+    slots.clear();
+    let parameters = load_parameters(home, source, slots, function.parameters.as_slice())?;
+    let locals = load_locals(home, source, slots, function.locals.as_slice())?;
     let is_global = function.bits & GLOBAL != 0;
     let scope = Scope {
         home,
         source,
-        slots: &slots,
+        slots,
         is_global,
         answer,
     };
     let code = load_code(&scope, function.code.as_slice())?;
     let lines = lines_of(alloc, lines, code.len())?;
     Ok(LoadedFunction {
-        name: Name::from_bytes(alloc, source.text(name))?,
+        name: source.title(alloc, name)?,
         result,
         is_global,
         is_native: function.bits & NATIVE != 0,
@@ -89,10 +90,7 @@ fn load_parameters(
     for pair in pairs {
         let kind = home.set.value_kind(source.names.number(pair.1));
         match judged_slot(source, slots, *pair, kind)? {
-            Some(found) => parameters.push((
-                Name::from_bytes(home.alloc, source.text(pair.0))?,
-                found,
-            ))?,
+            Some(found) => parameters.push((source.title(home.alloc, pair.0)?, found))?,
             None => return Err(Refusal::of(VerifyRule::OperandType)),
         }
     }
@@ -112,7 +110,7 @@ fn load_locals(
     for pair in pairs {
         let kind = home.set.kind(source.names.number(pair.1));
         let found = judged_slot(source, slots, *pair, kind)?;
-        locals.push((Name::from_bytes(home.alloc, source.text(pair.0))?, found))?;
+        locals.push((source.title(home.alloc, pair.0)?, found))?;
     }
     Ok(locals)
 }
@@ -142,22 +140,10 @@ fn load_code(scope: &Scope<'_>, code: &[Instruction]) -> Result<Vec<LoadedInstru
 {
     let mut loaded = Vec::with_capacity(scope.home.alloc, code.len())?;
     for (place, instruction) in code.iter().enumerate() {
-        loaded.push(load_at(scope, place, code.len(), instruction)?)?;
+        match load_instruction(scope, place, code.len(), instruction) {
+            Ok(found) => loaded.push_reserved(found),
+            Err(refusal) => return Err(refusal.at(place.min(usize::from(u16::MAX)) as u16)),
+        }
     }
     Ok(loaded)
-}
-
-// The instruction at this place of so many. A refusal names the place.
-fn load_at(
-    scope: &Scope<'_>,
-    place: usize,
-    count: usize,
-    instruction: &Instruction,
-) -> Result<LoadedInstruction, Refusal>
-    ensures { IfOk result (IsSoundInstruction (bounds_of scope.now.home.now) (vec_len scope.now.slots.now.kinds) count place) }
-{
-    match load_instruction(scope, place, count, instruction) {
-        Ok(loaded) => Ok(loaded),
-        Err(refusal) => Err(refusal.at(place.min(usize::from(u16::MAX)) as u16)),
-    }
 }

@@ -1,10 +1,11 @@
 // One instruction.
-ghost use Rattle.std.specs.Prelude.{◌≡◌, ◌<◌, ◌≤◌, ◌+ℤ◌, ℕ, pos, vec_len, IfOk, IfSome, Some, option_copied};
+ghost use Rattle.std.specs.Prelude.{◌≡◌, ◌<◌, ◌≤◌, ◌+ℤ◌, ℕ, pos, vec_len, All, IfOk, IfSome, Some, option_copied};
 ghost use Rattle.pex_verify.specs.Places.{bounds_of, IsTargetAmong};
+ghost use Rattle.pex_verify.specs.declared.action.Use.TheVariants.{Read};
 ghost use Rattle.pex_verify.specs.Uses.{action_of as action_by};
-ghost use Rattle.pex_verify.specs.Soundness.{IsSoundInstruction, Leads, LeadsBy};
+ghost use Rattle.pex_verify.specs.Soundness.{IsResolved, AreResolved, IsSoundInstruction, Leads, LeadsBy};
 
-use crate::action::{Action, action_of, uses_of};
+use crate::action::{Action, Use, action_of, uses_of};
 use crate::arrays::{fits_create, fits_find, fits_get_element, fits_length, fits_set_element};
 use crate::calls::{
     Target, find_target, fits_call_method, fits_call_parent, fits_call_static, fits_get_property,
@@ -13,7 +14,7 @@ use crate::calls::{
 use crate::fault::{Refusal, VerifyRule};
 use crate::kind::{BOOL, INT, TEXT};
 use crate::loaded::{LoadedInstruction, MethodPlace, Operand};
-use crate::operands::{has_float, has_long_text, resolve_fixed, resolve_more};
+use crate::operands::{has_float, has_long_text, resolve_all};
 use crate::scope::Scope;
 use crate::scripts::Callee;
 use crate::values::{
@@ -31,20 +32,22 @@ pub(crate) fn load_instruction(
 ) -> Result<LoadedInstruction, Refusal>
     ensures { IfOk result (IsSoundInstruction (bounds_of scope.now.home.now) (vec_len scope.now.slots.now.kinds) count place) }
 {
-    let action = judged_action(instruction)?;
-    let data = instruction.fixed.as_slice();
-    let fixed = resolve_fixed(scope, uses_of(action), data)?;
-    let more = resolve_more(scope, instruction.more.as_slice())?;
-    // A call of a parent's method uses the instance, and a global function has none.
-    if action == Action::CallParent && scope.is_global {
-        return Err(Refusal::of(VerifyRule::UnknownVariable));
-    }
-    let target = find_target(scope, action, data, fixed.as_slice());
-    if !operands_fit(scope, action, fixed.as_slice(), more.as_slice(), target) {
-        return Err(Refusal::of(VerifyRule::OperandType));
-    }
+    let action = judged_action(instruction.opcode)?;
+    let fixed = resolved(
+        scope,
+        instruction,
+        uses_of(action),
+        instruction.fixed.as_slice(),
+    )?;
+    let more = arguments(scope, instruction)?;
+    let link = link_of(
+        scope,
+        action,
+        instruction,
+        fixed.as_slice(),
+        more.as_slice(),
+    )?;
     let jump = jump_of(action, fixed.as_slice(), place, count)?;
-    judge_target(action, target, more.len())?;
     if has_long_text(fixed.as_slice()) || has_long_text(more.as_slice()) {
         return Err(Refusal::of(VerifyRule::TextTooLong));
     }
@@ -53,38 +56,122 @@ pub(crate) fn load_instruction(
         fixed,
         more,
         jump,
+        name: link.name,
+        function: link.function,
+    })
+}
+
+// What the opcode does, where that has nothing to do with floats.
+fn judged_action(opcode: u8) -> Result<Action, Refusal>
+    ensures { IfOk result (λ action. action_by opcode ≡ Some action) }
+{
+    match action_of(opcode) {
+        Some(Action::Float) => Err(Refusal::of(VerifyRule::FloatOpcode)),
+        Some(action) => Ok(action),
+        None => Err(Refusal::of(VerifyRule::OperandType)),
+    }
+}
+
+// The arguments of a call, which are read. Most instructions have none.
+fn arguments(scope: &Scope<'_>, instruction: &Instruction) -> Result<Vec<Operand>, Refusal>
+    ensures { IfOk result (λ operands. All (IsResolved (vec_len scope.now.slots.now.kinds) (vec_len scope.now.home.now.variables.now.list) Read) operands.items) }
+{
+    if instruction.more.is_empty() {
+        return Ok(Vec::new(scope.home.alloc));
+    }
+    resolved(scope, instruction, &[], instruction.more.as_slice())
+}
+
+// Operands of the instruction, which are used so. A float in any of its operands comes before identifiers that
+// mean nothing.
+fn resolved(
+    scope: &Scope<'_>,
+    instruction: &Instruction,
+    uses: &[Use],
+    data: &[Datum],
+) -> Result<Vec<Operand>, Refusal>
+    ensures { IfOk result (λ operands. AreResolved (vec_len scope.now.slots.now.kinds) (vec_len scope.now.home.now.variables.now.list) uses.now operands.items) }
+{
+    match resolve_all(scope, uses, data) {
+        Ok(operands) => Ok(operands),
+        Err(refusal) => Err(float_first(instruction, refusal)),
+    }
+}
+
+// V2 in place of the refusal of an operand, where one of the instruction's operands is a float.
+fn float_first(instruction: &Instruction, refusal: Refusal) -> Refusal {
+    if refusal == Refusal::OutOfMemory {
+        return refusal;
+    }
+    if has_float(instruction.fixed.as_slice()) || has_float(instruction.more.as_slice()) {
+        return Refusal::of(VerifyRule::FloatValue);
+    }
+    refusal
+}
+
+// What an instruction looks up by name.
+#[derive(Clone, Copy, Debug)]
+struct Link {
+    // The number of the name that the machine looks up each time.
+    name: Option<usize>,
+    // The global function that a callstatic calls.
+    function: Option<MethodPlace>,
+}
+
+// What the instruction looks up, unless its operands break a rule.
+fn link_of(
+    scope: &Scope<'_>,
+    action: Action,
+    instruction: &Instruction,
+    fixed: &[Operand],
+    more: &[Operand],
+) -> Result<Link, Refusal>
+    ensures { IfOk result (λ link. IfSome link.function (λ f. f.script < vec_len scope.now.home.now.set.now.heads)) }
+{
+    match action {
+        Action::CallMethod
+        | Action::CallParent
+        | Action::CallStatic
+        | Action::GetProperty
+        | Action::SetProperty => found_link(scope, action, instruction, fixed, more),
+        _ if operands_fit(scope, action, fixed) => Ok(Link {
+            name: None,
+            function: None,
+        }),
+        _ => Err(Refusal::of(VerifyRule::OperandType)),
+    }
+}
+
+// What a call or a use of a property looks up: V6, V7, V9, then V10.
+fn found_link(
+    scope: &Scope<'_>,
+    action: Action,
+    instruction: &Instruction,
+    fixed: &[Operand],
+    more: &[Operand],
+) -> Result<Link, Refusal>
+    ensures { IfOk result (λ link. IfSome link.function (λ f. f.script < vec_len scope.now.home.now.set.now.heads)) }
+{
+    // A call of a parent's method uses the instance, and a global function has none.
+    if action == Action::CallParent && scope.is_global {
+        return Err(Refusal::of(VerifyRule::UnknownVariable));
+    }
+    let data = instruction.fixed.as_slice();
+    let target = find_target(scope, action, data, fixed);
+    if !target_fits(scope, action, fixed, more, target) {
+        return Err(Refusal::of(VerifyRule::OperandType));
+    }
+    judge_target(action, target, more.len())?;
+    Ok(Link {
         name: looked_up_name(scope, action, data),
         function: static_function(action, target),
     })
 }
 
-// What the instruction does, where neither that nor its operands have to do with floats.
-fn judged_action(instruction: &Instruction) -> Result<Action, Refusal>
-    ensures { IfOk result (λ action. action_by instruction.now.opcode ≡ Some action) }
-{
-    let Some(action) = action_of(instruction.opcode) else {
-        return Err(Refusal::of(VerifyRule::OperandType));
-    };
-    if action == Action::Float {
-        return Err(Refusal::of(VerifyRule::FloatOpcode));
-    }
-    if has_float(instruction.fixed.as_slice()) || has_float(instruction.more.as_slice()) {
-        return Err(Refusal::of(VerifyRule::FloatValue));
-    }
-    Ok(action)
-}
-
-// Whether the operands have the forms and types that the action asks for.
-fn operands_fit(
-    scope: &Scope<'_>,
-    action: Action,
-    fixed: &[Operand],
-    more: &[Operand],
-    target: Target<'_>,
-) -> bool {
+// Whether the operands have the forms and types that the action asks for. It isn't one that looks something up.
+fn operands_fit(scope: &Scope<'_>, action: Action, fixed: &[Operand]) -> bool {
     match action {
         Action::Nothing => true,
-        Action::Float => false,
         Action::Arithmetic => fits_two(scope, fixed, INT, INT),
         Action::Order => fits_two(scope, fixed, BOOL, INT),
         Action::Join => fits_two(scope, fixed, TEXT, TEXT),
@@ -96,16 +183,30 @@ fn operands_fit(
         Action::Jump => fits_jump(fixed),
         Action::JumpIf => fits_jump_if(fixed),
         Action::Return => fits_return(scope, fixed),
-        Action::CallMethod => fits_call_method(scope, fixed, more, target),
-        Action::CallParent => fits_call_parent(scope, fixed, more, target),
-        Action::CallStatic => fits_call_static(scope, fixed, more, target),
-        Action::GetProperty => fits_get_property(scope, fixed, target),
-        Action::SetProperty => fits_set_property(scope, fixed, target),
         Action::CreateArray => fits_create(scope, fixed),
         Action::ArrayLength => fits_length(scope, fixed),
         Action::GetElement => fits_get_element(scope, fixed),
         Action::SetElement => fits_set_element(scope, fixed),
         Action::FindElement => fits_find(scope, fixed),
+        _ => false,
+    }
+}
+
+// Whether the operands have the forms and types that a call or a use of a property asks for.
+fn target_fits(
+    scope: &Scope<'_>,
+    action: Action,
+    fixed: &[Operand],
+    more: &[Operand],
+    target: Target<'_>,
+) -> bool {
+    match action {
+        Action::CallMethod => fits_call_method(scope, fixed, more, target),
+        Action::CallParent => fits_call_parent(scope, fixed, more, target),
+        Action::CallStatic => fits_call_static(scope, fixed, more, target),
+        Action::GetProperty => fits_get_property(scope, fixed, target),
+        Action::SetProperty => fits_set_property(scope, fixed, target),
+        _ => false,
     }
 }
 

@@ -15,6 +15,7 @@ mod kind;
 mod lines;
 mod loaded;
 mod members;
+mod name_places;
 mod object;
 mod object_rules;
 mod operands;

@@ -58,9 +58,7 @@ fn places_of_entries(
         let object = names.number(entry.object);
         let state = names.number(entry.state);
         let key = (entry.kind, (object, state, names.number(entry.function)));
-        if places.get(&key).is_none() {
-            places.insert(key, place)?;
-        }
+        places.entry(key)?.or_insert(place);
     }
     Ok(places)
 }
@@ -70,11 +68,7 @@ pub(crate) fn lines_of(alloc: Global, found: &[u16], count: usize) -> Result<Vec
     ensures { IfOk result (λ lines. vec_len lines ≡ count) }
 {
     let mut lines = Vec::with_capacity(alloc, count)?;
-    for at in 0..count {
-        lines.push(match found.get(at) {
-            Some(line) => *line,
-            None => 0,
-        })?;
-    }
+    lines.extend_from_slice(&found[..found.len().min(count)])?;
+    lines.resize(count, 0)?;
     Ok(lines)
 }

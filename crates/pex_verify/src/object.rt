@@ -10,7 +10,7 @@ use crate::function::{has_too_many_slots, load_function};
 use crate::lines::{FileLines, OF_STATE};
 use crate::loaded::{LoadedFunction, LoadedProperty, LoadedScript};
 use crate::outlining::outline_script;
-use crate::scope::{Home, Words};
+use crate::scope::{Home, Seen, Slots, Words};
 use crate::scripts::Scripts;
 use crate::signature::Signature;
 use crate::sources::{Members, Source};
@@ -48,6 +48,7 @@ pub(crate) struct LoadedObject {
 /// itself, its variables, its properties, and its states, each before its functions.
 pub(crate) fn load_object(
     loader: &Loader<'_>,
+    seen: &mut Seen,
     here: u16,
     source: &Source<'_>,
     lines: &FileLines<'_>,
@@ -57,13 +58,13 @@ pub(crate) fn load_object(
 {
     let alloc = loader.alloc;
     judge_names(alloc, source, object)?;
-    let variables = load_variables(alloc, loader.set, source, object)?;
+    load_variables(alloc, loader.set, source, object, &mut seen.variables)?;
     let home = Home {
         alloc,
         set: loader.set,
         here,
         words: loader.words,
-        variables: &variables,
+        variables: &seen.variables,
     };
     let site = PropertySite {
         home: &home,
@@ -71,8 +72,8 @@ pub(crate) fn load_object(
         lines,
         object,
     };
-    let properties = load_properties(&site)?;
-    let states = load_states(loader, &site)?;
+    let properties = load_properties(&site, &mut seen.slots)?;
+    let states = load_states(loader, &site, &mut seen.slots)?;
     let script = LoadedScript { properties, states };
     let outline = outline_script(alloc, &site, &script)?;
     Ok(LoadedObject { script, outline })
@@ -88,13 +89,16 @@ fn judge_names(alloc: Global, source: &Source<'_>, object: &PexObject) -> Result
     Ok(())
 }
 
-fn load_properties(site: &PropertySite<'_>) -> Result<Vec<LoadedProperty>, VerifyFault>
+fn load_properties(
+    site: &PropertySite<'_>,
+    slots: &mut Slots,
+) -> Result<Vec<LoadedProperty>, VerifyFault>
     ensures { IfOk result (λ properties. All (IsSoundProperty (bounds_of site.now.home.now)) properties.items) }
 {
     let alloc = site.home.alloc;
     let mut properties = Vec::with_capacity(alloc, site.object.properties.len())?;
     for (place, property) in site.object.properties.iter().enumerate() {
-        match load_property(site, place, property) {
+        match load_property(site, slots, place, property) {
             Ok(loaded) => properties.push(loaded)?,
             Err(refusal) => return Err(site.fault_in(property.name, refusal)),
         }
@@ -107,6 +111,7 @@ fn load_properties(site: &PropertySite<'_>) -> Result<Vec<LoadedProperty>, Verif
 fn load_states(
     loader: &Loader<'_>,
     site: &PropertySite<'_>,
+    slots: &mut Slots,
 ) -> Result<Vec<(Name, Vec<LoadedFunction>)>, VerifyFault>
     ensures { IfOk result (λ states. All (λ state. IsSoundState (bounds_of site.now.home.now) state.1.items) states.items) }
 {
@@ -115,30 +120,30 @@ fn load_states(
     let mut states = Vec::with_capacity(alloc, site.object.states.len())?;
     for state in &site.object.states {
         let number = site.source.names.number(state.name);
-        if seen.get(&number).is_some() {
+        if seen.insert(number, ())?.is_some() {
             return Err(duplicate_state(site, state));
         }
-        seen.insert(number, ())?;
-        let name = Name::from_bytes(alloc, site.source.text(state.name))?;
-        states.push((name, load_state(loader, site, state)?))?;
+        let name = site.source.title(alloc, state.name)?;
+        states.push((name, load_state(loader, site, slots, state)?))?;
     }
     if seen.get(&EMPTY_NAME).is_some() {
         return Ok(states);
     }
-    with_members(loader, site, states)
+    with_members(loader, site, slots, states)
 }
 
 // These states, none of which is the empty one, and an empty state of the members that the script lacks.
 fn with_members(
     loader: &Loader<'_>,
     site: &PropertySite<'_>,
+    slots: &mut Slots,
     mut states: Vec<(Name, Vec<LoadedFunction>)>,
 ) -> Result<Vec<(Name, Vec<LoadedFunction>)>, VerifyFault>
     requires { All (λ state. IsSoundState (bounds_of site.now.home.now) state.1.items) states.items }
     ensures { IfOk result (λ states. All (λ state. IsSoundState (bounds_of site.now.home.now) state.1.items) states.items) }
 {
     let alloc = site.home.alloc;
-    let added = lacking_members(loader, site)?;
+    let added = lacking_members(loader, site, slots)?;
     if added.is_empty() {
         return Ok(states);
     }
@@ -149,11 +154,12 @@ fn with_members(
 fn lacking_members(
     loader: &Loader<'_>,
     site: &PropertySite<'_>,
+    slots: &mut Slots,
 ) -> Result<Vec<LoadedFunction>, VerifyFault>
     ensures { IfOk result (λ added. IsSoundState (bounds_of site.now.home.now) added.items) }
 {
     let mut added = Vec::new(loader.alloc);
-    add_members(loader, site, &mut added)?;
+    add_members(loader, site, slots, &mut added)?;
     Ok(added)
 }
 
@@ -165,19 +171,21 @@ fn duplicate_state(site: &PropertySite<'_>, state: &PexState) -> VerifyFault {
 fn load_state(
     loader: &Loader<'_>,
     site: &PropertySite<'_>,
+    slots: &mut Slots,
     state: &PexState,
 ) -> Result<Vec<LoadedFunction>, VerifyFault>
     ensures { IfOk result (λ functions. IsSoundState (bounds_of site.now.home.now) functions.items) }
 {
-    let mut functions = load_functions(site, state)?;
+    let mut functions = load_functions(site, slots, state)?;
     if site.source.names.number(state.name) == EMPTY_NAME {
-        add_members(loader, site, &mut functions)?;
+        add_members(loader, site, slots, &mut functions)?;
     }
     Ok(functions)
 }
 
 fn load_functions(
     site: &PropertySite<'_>,
+    slots: &mut Slots,
     state: &PexState,
 ) -> Result<Vec<LoadedFunction>, VerifyFault>
     ensures { IfOk result (λ functions. AreSoundFunctions (bounds_of site.now.home.now) functions.items) }
@@ -187,9 +195,8 @@ fn load_functions(
     let mut functions = Vec::with_capacity(alloc, state.functions.len())?;
     for (name, function) in &state.functions {
         let number = site.source.names.number(*name);
-        let is_new = seen.get(&number).is_none();
-        seen.insert(number, ())?;
-        match load_state_function(site, state.name, *name, function, is_new) {
+        let is_new = seen.insert(number, ())?.is_none();
+        match load_state_function(site, slots, state.name, *name, function, is_new) {
             Ok(loaded) => functions.push(loaded)?,
             Err(refusal) => return Err(site.fault_in(*name, refusal)),
         }
@@ -200,6 +207,7 @@ fn load_functions(
 // A function of a state, which has to have a new name there: V5, V11, then V13.
 fn load_state_function(
     site: &PropertySite<'_>,
+    slots: &mut Slots,
     state: u16,
     name: u16,
     function: &PexFunction,
@@ -221,7 +229,7 @@ fn load_state_function(
     let lines = site
         .lines
         .find(OF_STATE, object, names.number(state), names.number(name));
-    load_function(site.home, site.source, name, function, lines)
+    load_function(site.home, site.source, slots, name, function, lines)
 }
 
 // Whether a function of a state gives and takes what the function that it replaces does.
@@ -270,13 +278,14 @@ fn overrides_alike(site: &PropertySite<'_>, own: &Signature) -> bool {
 fn add_members(
     loader: &Loader<'_>,
     site: &PropertySite<'_>,
+    slots: &mut Slots,
     functions: &mut Vec<LoadedFunction>,
 ) -> Result<(), VerifyFault>
     ensures { AreSoundFunctions (bounds_of site.now.home.now) functions.old.items
         → OnOk result (AreSoundFunctions (bounds_of site.now.home.now) functions.new.items) }
 {
     for place in loader.set.lacking(usize::from(site.home.here)) {
-        add_member(loader, site, *place, functions)?;
+        add_member(loader, site, slots, *place, functions)?;
     }
     Ok(())
 }
@@ -285,6 +294,7 @@ fn add_members(
 fn add_member(
     loader: &Loader<'_>,
     site: &PropertySite<'_>,
+    slots: &mut Slots,
     place: usize,
     functions: &mut Vec<LoadedFunction>,
 ) -> Result<(), VerifyFault>
@@ -294,18 +304,19 @@ fn add_member(
     let Some(member) = loader.members.list.get(place) else {
         return Ok(());
     };
-    functions.push(load_member(loader, site, member)?)?;
+    functions.push(load_member(loader, site, slots, member)?)?;
     Ok(())
 }
 
 fn load_member(
     loader: &Loader<'_>,
     site: &PropertySite<'_>,
+    slots: &mut Slots,
     member: &(u16, PexFunction),
 ) -> Result<LoadedFunction, VerifyFault>
     ensures { IfOk result (IsSoundFunction (bounds_of site.now.home.now)) }
 {
-    match load_function(site.home, loader.prelude, member.0, &member.1, &[]) {
+    match load_function(site.home, loader.prelude, slots, member.0, &member.1, &[]) {
         Ok(loaded) => Ok(loaded),
         Err(refusal) => {
             let name = loader.prelude.text(member.0);

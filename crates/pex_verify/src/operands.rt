@@ -1,6 +1,5 @@
 // Operands with their identifiers resolved.
-ghost use Rattle.std.specs.Prelude.{◌≡◌, vec_len, All, IfOk};
-ghost use Rattle.pex_verify.specs.declared.action.Use.TheVariants.{Read};
+ghost use Rattle.std.specs.Prelude.{◌≡◌, vec_len, IfOk};
 ghost use Rattle.pex_verify.specs.Uses.{use_at as use_in};
 ghost use Rattle.pex_verify.specs.Soundness.{IsResolved, AreResolved};
 
@@ -8,31 +7,20 @@ use crate::action::Use;
 use crate::fault::{Refusal, VerifyRule};
 use crate::loaded::Operand;
 use crate::scope::Scope;
-use papy_base::{Name, TEXT_LIMIT, Text};
+use papy_base::{TEXT_LIMIT, Text};
 use pex_values::Datum;
 
-/// The fixed operands of an instruction, which are used so.
-pub(crate) fn resolve_fixed(
+/// Operands that are used so. Those behind the last use are read.
+pub(crate) fn resolve_all(
     scope: &Scope<'_>,
     uses: &[Use],
-    fixed: &[Datum],
+    data: &[Datum],
 ) -> Result<Vec<Operand>, Refusal>
     ensures { IfOk result (λ operands. AreResolved (vec_len scope.now.slots.now.kinds) (vec_len scope.now.home.now.variables.now.list) uses.now operands.items) }
 {
-    let mut operands = Vec::with_capacity(scope.home.alloc, fixed.len())?;
-    for (place, datum) in fixed.iter().enumerate() {
-        operands.push(resolve(scope, use_at(uses, place), *datum)?)?;
-    }
-    Ok(operands)
-}
-
-/// The arguments of a call, which are read.
-pub(crate) fn resolve_more(scope: &Scope<'_>, more: &[Datum]) -> Result<Vec<Operand>, Refusal>
-    ensures { IfOk result (λ operands. All (IsResolved (vec_len scope.now.slots.now.kinds) (vec_len scope.now.home.now.variables.now.list) Read) operands.items) }
-{
-    let mut operands = Vec::with_capacity(scope.home.alloc, more.len())?;
-    for datum in more {
-        operands.push(resolve(scope, Use::Read, *datum)?)?;
+    let mut operands = Vec::with_capacity(scope.home.alloc, data.len())?;
+    for (place, datum) in data.iter().enumerate() {
+        operands.push_reserved(resolve(scope, use_at(uses, place), *datum)?);
     }
     Ok(operands)
 }
@@ -73,8 +61,7 @@ fn resolve_word(scope: &Scope<'_>, purpose: Use, reference: u16) -> Result<Opera
             }
         }
         Use::Name | Use::Number => {
-            let name = scope.source.text(reference);
-            Ok(Operand::Word(Name::from_bytes(scope.home.alloc, name)?))
+            Ok(Operand::Word(scope.source.title(scope.home.alloc, reference)?))
         }
     }
 }

@@ -6,6 +6,7 @@ ghost use Rattle.pex_verify.specs.Soundness.{IsSoundFunction, AreSoundFunctions,
 
 use crate::accessors::PropertySite;
 use crate::loaded::{LoadedFunction, LoadedProperty, LoadedScript};
+use crate::sources::Source;
 use core_tree::{CoreType, OutlineFunction, OutlineProperty, OutlineScript, OutlineVariable};
 use papy_base::{Name, OutOfMemory};
 use std::alloc::Global;
@@ -23,20 +24,24 @@ pub(crate) fn outline_script(
 {
     let source = site.source;
     Ok(OutlineScript {
-        name: Name::from_bytes(alloc, source.text(site.object.name))?,
+        name: source.title(alloc, site.object.name)?,
         parent: site.home.set.parent_number(usize::from(site.home.here)),
-        auto_state: name_unless_empty(alloc, source.text(site.object.auto_state))?,
+        auto_state: name_unless_empty(alloc, source, site.object.auto_state)?,
         variables: outline_variables(site)?,
         properties: outline_properties(site, script.properties.as_slice())?,
         functions: outline_functions(site, empty_state(site, script))?,
     })
 }
 
-fn name_unless_empty(alloc: Global, name: &[u8]) -> Result<Option<Name>, OutOfMemory> {
-    if name.is_empty() {
+fn name_unless_empty(
+    alloc: Global,
+    source: &Source<'_>,
+    reference: u16,
+) -> Result<Option<Name>, OutOfMemory> {
+    if source.text(reference).is_empty() {
         return Ok(None);
     }
-    Ok(Some(Name::from_bytes(alloc, name)?))
+    Ok(Some(source.title(alloc, reference)?))
 }
 
 fn outline_variables(site: &PropertySite<'_>) -> Result<Vec<OutlineVariable>, OutOfMemory>

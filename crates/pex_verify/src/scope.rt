@@ -4,13 +4,13 @@ ghost use Rattle.pex_verify.specs.Soundness.{IsIdentifier};
 
 use crate::kind::{BOOL, INT, Kind, TEXT};
 use crate::loaded::Operand;
+use crate::name_places::NamePlaces;
 use crate::scripts::Scripts;
 use crate::sources::Source;
 use core_tree::{CoreType, OutlineVariable};
 use papy_base::OutOfMemory;
 use pex_names::NameTable;
 use std::alloc::Global;
-use std::collections::HashMap;
 
 /// The numbers of the words that name something in every script.
 #[derive(Clone, Copy, Debug)]
@@ -32,21 +32,28 @@ impl Words {
 #[derive(Drop)]
 pub(crate) struct Variables {
     pub(crate) list: Vec<OutlineVariable>,
-    pub(crate) places: HashMap<usize, u16>,
+    pub(crate) places: NamePlaces,
 }
 
 impl Variables {
-    pub(crate) fn new(alloc: Global) -> Variables
-        ensures { result.list.items ≡ [] }
-    {
-        Variables {
+    /// No variables, in a set with so many names.
+    pub(crate) fn new(alloc: Global, names: usize) -> Result<Variables, OutOfMemory> {
+        Ok(Variables {
             list: Vec::new(alloc),
-            places: HashMap::new(alloc),
-        }
+            places: NamePlaces::new(alloc, names)?,
+        })
+    }
+
+    /// Begins with the variables of another script.
+    pub(crate) fn clear(&mut self)
+        ensures { self.new.list.items ≡ [] }
+    {
+        self.list.clear();
+        self.places.clear();
     }
 
     pub(crate) fn has(&self, name: usize) -> bool {
-        self.places.get(&name).is_some()
+        self.places.get(name).is_some()
     }
 
     /// Adds a variable of this name behind the others. Only the first 65,536 can be named.
@@ -54,7 +61,7 @@ impl Variables {
         ensures { OnOk result (self.new.list.items ≡ self.old.list.items ++ variable ∷ []) }
     {
         if let Ok(place) = u16::try_from(self.list.len()) {
-            self.places.insert(name, place)?;
+            self.places.insert(name, place);
         }
         self.list.push(variable)?;
         Ok(())
@@ -65,21 +72,28 @@ impl Variables {
 #[derive(Drop)]
 pub(crate) struct Slots {
     pub(crate) kinds: Vec<Kind>,
-    places: HashMap<usize, u16>,
+    places: NamePlaces,
 }
 
 impl Slots {
-    pub(crate) fn new(alloc: Global) -> Slots
-        ensures { vec_len result.kinds ≡ 0 }
-    {
-        Slots {
+    /// No parameters and locals, in a set with so many names.
+    pub(crate) fn new(alloc: Global, names: usize) -> Result<Slots, OutOfMemory> {
+        Ok(Slots {
             kinds: Vec::new(alloc),
-            places: HashMap::new(alloc),
-        }
+            places: NamePlaces::new(alloc, names)?,
+        })
+    }
+
+    /// Begins with the parameters and locals of another function.
+    pub(crate) fn clear(&mut self)
+        ensures { vec_len self.new.kinds ≡ 0 }
+    {
+        self.kinds.clear();
+        self.places.clear();
     }
 
     pub(crate) fn has(&self, name: usize) -> bool {
-        self.places.get(&name).is_some()
+        self.places.get(name).is_some()
     }
 
     /// Adds a parameter or a local behind the others. Only the first 65,536 can be named.
@@ -87,10 +101,27 @@ impl Slots {
         ensures { OnOk result (vec_len self.new.kinds ≡ vec_len self.old.kinds + 1) }
     {
         if let Ok(place) = u16::try_from(self.kinds.len()) {
-            self.places.insert(name, place)?;
+            self.places.insert(name, place);
         }
         self.kinds.push(kind)?;
         Ok(())
+    }
+}
+
+/// What is seen in the open function: the variables of its script, and its parameters and locals.
+#[derive(Drop)]
+pub(crate) struct Seen {
+    pub(crate) variables: Variables,
+    pub(crate) slots: Slots,
+}
+
+impl Seen {
+    /// Nothing, in a set with so many names.
+    pub(crate) fn new(alloc: Global, names: usize) -> Result<Seen, OutOfMemory> {
+        Ok(Seen {
+            variables: Variables::new(alloc, names)?,
+            slots: Slots::new(alloc, names)?,
+        })
     }
 }
 
@@ -143,7 +174,7 @@ impl Scope<'_> {
     fn slot(&self, name: usize) -> Option<Operand>
         ensures { IfSome result (IsIdentifier (vec_len self.now.slots.now.kinds) (vec_len self.now.home.now.variables.now.list)) }
     {
-        let place = *self.slots.places.get(&name)?;
+        let place = self.slots.places.get(name)?;
         if usize::from(place) < self.slots.kinds.len() {
             Some(Operand::Slot(place))
         } else {
@@ -154,7 +185,7 @@ impl Scope<'_> {
     fn variable(&self, name: usize) -> Option<Operand>
         ensures { IfSome result (IsIdentifier (vec_len self.now.slots.now.kinds) (vec_len self.now.home.now.variables.now.list)) }
     {
-        let place = *self.home.variables.places.get(&name)?;
+        let place = self.home.variables.places.get(name)?;
         if usize::from(place) < self.home.variables.list.len() {
             Some(Operand::Variable(place))
         } else {

@@ -292,11 +292,8 @@ impl Scripts {
     /// Whether a value of one type fits the other: it has the type, or is of a script below it, or is None
     /// and the type is a script or array type.
     pub(crate) fn fits(&self, kind: Kind, to: Kind) -> bool {
-        if !kind.is_known() || !to.is_known() {
-            return false;
-        }
         if kind == to {
-            return true;
+            return kind.is_known();
         }
         match (kind, to) {
             (Kind::Nothing, to) => to.holds_none(),

@@ -3,7 +3,7 @@ ghost use Rattle.std.specs.Prelude.{◌≡◌, length, IfOk};
 ghost use Rattle.pex_verify.specs.Sources.{object_count};
 
 use crate::fault::Site;
-use papy_base::{OutOfMemory, Text};
+use papy_base::{Name, OutOfMemory, Text};
 use pex_names::{FileNames, NameTable, Objects, Prelude, text_at};
 use pex_values::{Pex, PexFunction, PexObject};
 use std::alloc::Global;
@@ -14,7 +14,10 @@ pub(crate) struct Source<'a> {
     /// The number that faults give.
     pub(crate) file: u16,
     pub(crate) pex: &'a Pex,
+    /// The numbers of its strings.
     pub(crate) names: &'a FileNames,
+    /// Its strings as names, which share their bytes with all names that are made from them.
+    pub(crate) titles: &'a [Name],
 }
 
 impl<'a> Source<'a> {
@@ -24,6 +27,14 @@ impl<'a> Source<'a> {
 
     pub(crate) fn text(&self, reference: u16) -> &'a [u8] {
         text_at(self.pex.strings.as_slice(), reference)
+    }
+
+    /// The string at this reference as a name.
+    pub(crate) fn title(&self, alloc: Global, reference: u16) -> Result<Name, OutOfMemory> {
+        match self.titles.get(usize::from(reference)) {
+            Some(title) => title.try_clone(alloc),
+            None => Name::from_bytes(alloc, &[]),
+        }
     }
 
     pub(crate) fn site(&self, object: &PexObject) -> Site<'a> {
@@ -41,25 +52,53 @@ pub(crate) struct Members<'a> {
     pub(crate) names: &'a FileNames,
 }
 
-/// The numbers of the strings of these files, in their order.
-pub(crate) fn names_of_files(
+/// The strings of a file as names, and their numbers.
+#[derive(Debug, Drop)]
+pub(crate) struct FileStrings {
+    pub(crate) names: FileNames,
+    titles: Vec<Name>,
+}
+
+impl FileStrings {
+    /// These strings, of which the table then has the numbers.
+    pub(crate) fn of(
+        alloc: Global,
+        table: &mut NameTable,
+        strings: &[Text],
+    ) -> Result<FileStrings, OutOfMemory> {
+        let names = FileNames::of_strings(alloc, table, strings)?;
+        let mut titles = Vec::with_capacity(alloc, strings.len())?;
+        for string in strings {
+            titles.push(Name::from_bytes(alloc, string.as_bytes())?)?;
+        }
+        Ok(FileStrings { names, titles })
+    }
+}
+
+/// The strings of these files, in their order.
+pub(crate) fn strings_of_files(
     alloc: Global,
     table: &mut NameTable,
     files: &[Pex],
-) -> Result<Vec<FileNames>, OutOfMemory> {
-    let mut names = Vec::with_capacity(alloc, files.len())?;
+) -> Result<Vec<FileStrings>, OutOfMemory> {
+    let mut strings = Vec::with_capacity(alloc, files.len())?;
     for pex in files {
-        names.push(FileNames::of_strings(alloc, table, pex.strings.as_slice())?)?;
+        strings.push(FileStrings::of(alloc, table, pex.strings.as_slice())?)?;
     }
-    Ok(names)
+    Ok(strings)
 }
 
 /// The prelude as a file. No fault lies in it.
-pub(crate) fn prelude_source<'a>(prelude: &'a Prelude, names: &'a FileNames) -> Source<'a> {
+pub(crate) fn prelude_source<'a>(prelude: &'a Prelude, strings: &'a FileStrings) -> Source<'a> {
+    source_of(0, &prelude.file, strings)
+}
+
+fn source_of<'a>(file: u16, pex: &'a Pex, strings: &'a FileStrings) -> Source<'a> {
     Source {
-        file: 0,
-        pex: &prelude.file,
-        names,
+        file,
+        pex,
+        names: &strings.names,
+        titles: strings.titles.as_slice(),
     }
 }
 
@@ -68,13 +107,13 @@ pub(crate) fn all_sources<'a>(
     alloc: Global,
     prelude: Source<'a>,
     files: &'a [Pex],
-    names: &'a [FileNames],
+    strings: &'a [FileStrings],
 ) -> Result<Vec<Source<'a>>, OutOfMemory> {
     let mut sources = Vec::with_capacity(alloc, files.len())?;
     sources.push(prelude)?;
     for (number, pex) in files.iter().enumerate() {
-        if let (Some(names), Ok(file)) = (names.get(number), u16::try_from(number)) {
-            sources.push(Source { file, pex, names })?;
+        if let (Some(strings), Ok(file)) = (strings.get(number), u16::try_from(number)) {
+            sources.push(source_of(file, pex, strings))?;
         }
     }
     Ok(sources)

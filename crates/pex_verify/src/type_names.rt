@@ -63,8 +63,7 @@ fn kinds_of_names(
 {
     let mut kinds = Vec::with_capacity(alloc, table.count())?;
     for number in 0..table.count() {
-        let name = table.name(number);
-        kinds.push(kind_of_name(alloc, table, objects, name)?)?;
+        kinds.push(kind_of_name(alloc, table, objects, number)?)?;
     }
     Ok(kinds)
 }
@@ -73,17 +72,18 @@ fn kind_of_name(
     alloc: Global,
     table: &NameTable,
     objects: &Objects,
-    name: &[u8],
+    number: usize,
 ) -> Result<Kind, OutOfMemory>
     ensures { IfOk result (IsKindAmong (length objects.now)) }
 {
+    let name = table.name(number);
     if name == b"none".as_slice() {
         return Ok(Kind::Nothing);
     }
     if let Some(array) = array_kind(alloc, table, objects, name)? {
         return Ok(array);
     }
-    plain_kind(alloc, table, objects, name)
+    Ok(plain_kind(objects, name, Some(number)))
 }
 
 // The array type of a name that ends with `[]` behind the name of a type.
@@ -98,30 +98,25 @@ fn array_kind(
     let Some(element) = name.strip_suffix(b"[]") else {
         return Ok(None);
     };
-    let element = plain_kind(alloc, table, objects, element)?;
-    Ok(array_of(element))
+    let number = table.find(alloc, element)?;
+    Ok(array_of(plain_kind(objects, element, number)))
 }
 
-// The meaning of a name that is no array type.
-fn plain_kind(
-    alloc: Global,
-    table: &NameTable,
-    objects: &Objects,
-    name: &[u8],
-) -> Result<Kind, OutOfMemory>
-    ensures { IfOk result (IsKindAmong (length objects.now)) }
+// The meaning of a name that is no array type, and has this number if any.
+fn plain_kind(objects: &Objects, name: &[u8], number: Option<usize>) -> Kind
+    ensures { IsKindAmong (length objects.now) result }
 {
     if let Some(kind) = word_kind(name) {
-        return Ok(kind);
+        return kind;
     }
-    let script = match table.find(alloc, name)? {
+    let script = match number {
         Some(number) => objects.first_named(number),
         None => None,
     };
-    Ok(match script {
+    match script {
         Some(script) => script_kind(script, objects.count()),
         None => Kind::Unknown,
-    })
+    }
 }
 
 // The meaning of the words of the language. They win over scripts of such a name.

@@ -1,5 +1,5 @@
 // The variables of an object.
-ghost use Rattle.std.specs.Prelude.{vec_len, IfOk, OnOk};
+ghost use Rattle.std.specs.Prelude.{vec_len, OnOk};
 ghost use Rattle.pex_verify.specs.Soundness.{AreTyped};
 
 use crate::fault::{Refusal, VerifyFault, VerifyRule};
@@ -9,27 +9,28 @@ use crate::scope::Variables;
 use crate::scripts::Scripts;
 use crate::sources::Source;
 use core_tree::{CoreType, OutlineVariable, Value};
-use papy_base::{Name, OutOfMemory, TEXT_LIMIT, Text};
+use papy_base::{OutOfMemory, TEXT_LIMIT, Text};
 use pex_values::{Datum, PexObject, PexVariable};
 use std::alloc::Global;
 
-/// The variables of an object in their order.
+/// Takes the variables of an object, in their order.
 pub(crate) fn load_variables(
     alloc: Global,
     set: &Scripts,
     source: &Source<'_>,
     object: &PexObject,
-) -> Result<Variables, VerifyFault>
-    ensures { IfOk result (λ variables. AreTyped (vec_len set.now.heads) variables.list.items) }
+    variables: &mut Variables,
+) -> Result<(), VerifyFault>
+    ensures { OnOk result (AreTyped (vec_len set.now.heads) variables.new.list.items) }
 {
-    let mut variables = Variables::new(alloc);
+    variables.clear();
     for variable in &object.variables {
-        if let Err(refusal) = load_variable(alloc, set, source, &mut variables, variable) {
+        if let Err(refusal) = load_variable(alloc, set, source, variables, variable) {
             let member = source.text(variable.name);
             return Err(source.site(object).fault_in(alloc, member, refusal));
         }
     }
-    Ok(variables)
+    Ok(())
 }
 
 // Adds a variable, unless it breaks a rule: V2, V5, V7, then V12.
@@ -54,7 +55,7 @@ fn load_variable(
         return Err(Refusal::of(VerifyRule::OperandType));
     };
     let value = judged_value(alloc, source, kind, variable.value)?;
-    let title = Name::from_bytes(alloc, source.text(variable.name))?;
+    let title = source.title(alloc, variable.name)?;
     variables.add(
         name,
         OutlineVariable {

@@ -10,11 +10,13 @@ use crate::loaded::{Loaded, LoadedScript};
 use crate::members::MemberTable;
 use crate::object::{Loader, load_object};
 use crate::object_rules::{SCRIPT_LIMIT, judge_objects};
-use crate::scope::Words;
+use crate::scope::{Seen, Words};
 use crate::scripts::Scripts;
-use crate::sources::{Members, Source, all_sources, names_of_files, objects_of, prelude_source};
+use crate::sources::{
+    FileStrings, Members, Source, all_sources, objects_of, prelude_source, strings_of_files,
+};
 use core_tree::{Outline, OutlineScript};
-use pex_names::{FileNames, NameTable, Prelude};
+use pex_names::{NameTable, Prelude};
 use pex_values::{Pex, PexObject};
 use std::alloc::Global;
 
@@ -68,13 +70,13 @@ fn load_tables(
     ensures { IfOk result (λ tables. AreSoundScripts (vec_len tables.parts.scripts) tables.parts.outlines.items tables.parts.scripts.items) }
 {
     let prelude = Prelude::new(alloc)?;
-    let prelude_names = FileNames::of_strings(alloc, table, prelude.file.strings.as_slice())?;
-    let names = names_of_files(alloc, table, files)?;
-    let first = prelude_source(&prelude, &prelude_names);
-    let sources = all_sources(alloc, first, files, names.as_slice())?;
+    let prelude_strings = FileStrings::of(alloc, table, prelude.file.strings.as_slice())?;
+    let strings = strings_of_files(alloc, table, files)?;
+    let first = prelude_source(&prelude, &prelude_strings);
+    let sources = all_sources(alloc, first, files, strings.as_slice())?;
     let members = Members {
         list: prelude.members.as_slice(),
-        names: &prelude_names,
+        names: &prelude_strings.names,
     };
     let scripts = judged_scripts(alloc, table, files, &members, sources.as_slice())?;
     let loader = Loader {
@@ -84,7 +86,8 @@ fn load_tables(
         prelude: &first,
         members: &members,
     };
-    let parts = load_files(&loader, sources.as_slice())?;
+    let mut seen = Seen::new(alloc, table.count())?;
+    let parts = load_files(&loader, &mut seen, sources.as_slice())?;
     Ok(Tables {
         parts,
         members: scripts.into_table(),
@@ -108,7 +111,11 @@ fn judged_scripts(
     Ok(scripts)
 }
 
-fn load_files(loader: &Loader<'_>, sources: &[Source<'_>]) -> Result<Parts, VerifyFault>
+fn load_files(
+    loader: &Loader<'_>,
+    seen: &mut Seen,
+    sources: &[Source<'_>],
+) -> Result<Parts, VerifyFault>
     ensures count { IfOk result (λ parts. vec_len parts.scripts ≡ object_count sources.now) }
     ensures sound { IfOk result (λ parts. AreSoundScripts (vec_len loader.now.set.now.heads) parts.outlines.items parts.scripts.items) }
 {
@@ -117,20 +124,25 @@ fn load_files(loader: &Loader<'_>, sources: &[Source<'_>]) -> Result<Parts, Veri
         scripts: Vec::new(loader.alloc),
     };
     for source in sources {
-        load_file(loader, source, &mut parts)?;
+        load_file(loader, seen, source, &mut parts)?;
     }
     Ok(parts)
 }
 
 // Loads the objects of the next file.
-fn load_file(loader: &Loader<'_>, source: &Source<'_>, parts: &mut Parts) -> Result<(), VerifyFault>
+fn load_file(
+    loader: &Loader<'_>,
+    seen: &mut Seen,
+    source: &Source<'_>,
+    parts: &mut Parts,
+) -> Result<(), VerifyFault>
     ensures count { OnOk result (vec_len parts.new.scripts ≡ vec_len parts.old.scripts + vec_len source.now.pex.now.objects) }
     ensures sound { AreSoundScripts (vec_len loader.now.set.now.heads) parts.old.outlines.items parts.old.scripts.items
         → OnOk result (AreSoundScripts (vec_len loader.now.set.now.heads) parts.new.outlines.items parts.new.scripts.items) }
 {
     let lines = FileLines::of(loader.alloc, source.names, source.pex)?;
     for object in &source.pex.objects {
-        load_next(loader, source, &lines, object, parts)?;
+        load_next(loader, seen, source, &lines, object, parts)?;
     }
     Ok(())
 }
@@ -138,6 +150,7 @@ fn load_file(loader: &Loader<'_>, source: &Source<'_>, parts: &mut Parts) -> Res
 // Loads an object as the next script.
 fn load_next(
     loader: &Loader<'_>,
+    seen: &mut Seen,
     source: &Source<'_>,
     lines: &FileLines<'_>,
     object: &PexObject,
@@ -151,7 +164,7 @@ fn load_next(
     if number >= SCRIPT_LIMIT {
         return Err(source.site(object).fault(loader.alloc, VerifyRule::TooMany));
     }
-    let loaded = load_object(loader, number as u16, source, lines, object)?;
+    let loaded = load_object(loader, seen, number as u16, source, lines, object)?;
     parts.outlines.push(loaded.outline)?;
     parts.scripts.push(loaded.script)?;
     Ok(())

@@ -10,7 +10,7 @@ loop-place-preserved c =
     let bounds = bounds_of c.args.scope.now.home.now in
     let all = length c.args.code.now in
     let old = c.loop-place.loaded in
-    let loaded = c.in_ok-load_at.field-0 in
+    let loaded = c.in-Ok.found in
     let count : length old.items ≡ c.loop-place.place = omega (arith, old.ok.0) in
-    let here : IsSoundInstruction bounds slots all (length old.items) loaded = subst (λ (n : ℕ). IsSoundInstruction bounds slots all n loaded) (sym count) c.in_ok-load_at.ensures in
-    (omega (arith, c.in_ok-push.ensures.len), each_grown (IsSoundInstruction bounds slots all) old.items c.push.new.self.items loaded c.in_ok-push.ensures.items c.loop-place.invariant.1 here)
+    let here : IsSoundInstruction bounds slots all (length old.items) loaded = subst (λ (n : ℕ). IsSoundInstruction bounds slots all n loaded) (sym count) c.in-Ok.ensures in
+    (omega (arith, c.push_reserved.ensures.len), (omega (arith, c.push_reserved.ensures.capacity), each_grown (IsSoundInstruction bounds slots all) old.items c.push_reserved.new.self.items loaded c.push_reserved.ensures.items c.loop-place.invariant.1.1 here))

@@ -2,4 +2,4 @@ use Rattle.std.proofs.Common.{length}
 use Rattle.pex_verify.proofs.type_names.array_kind.Goals as goal
 
 pub returns : goal.returns
-returns c = c.array_of.ensures (length c.args.objects.now) c.in_ok-element.ensures
+returns c = c.array_of.ensures (length c.args.objects.now) c.plain_kind.ensures
