@@ -1,10 +1,11 @@
 -- Byte lists that go into a set one after another.
-use Rattle.std.proofs.Common.{◌≡◌, ℕ, Bool, true, false, ◌||◌, cond, List, [], ◌∷◌, ◌++◌, length, map, refl, sym, ap, ◌∙◌}
-use Rattle.std.specs.List.{IsDistinct, list_any}
+use Rattle.std.proofs.Common.{◌≡◌, ℕ, Some, Bool, true, false, ◌||◌, cond, List, [], ◌∷◌, ◌++◌, length, map, refl, sym, ap, ◌∙◌}
+use Rattle.std.specs.List.{IsDistinct, list_any, slice_get}
 use Rattle.std.specs.Borrow.{Bor}
 use Rattle.std.proofs.lemmas.Cmp.{nat_list_eq_equiv}
 use Rattle.std.proofs.lemmas.List.{map-append}
-use Rattle.std.proofs.lemmas.List.Folds.{list_any-append}
+use Rattle.std.proofs.lemmas.List.Folds.{list_any-append, list_any_at}
+use Rattle.std.proofs.lemmas.Option.{slice_get_within, get_or_from_slice_get}
 use Rattle.std.proofs.lemmas.Map.Keys.{IsDistinct-push}
 use Rattle.std.proofs.lemmas.Map.Steps.{list_any_congr}
 use Rattle.indexmap.specs.IndexSet.{insert_key, insert_all}
@@ -71,6 +72,12 @@ members word ks (x ∷ xs) =
     members word (insert_key same_bytes ks x) xs
     ∙ ap (λ t. t || list_any (same_bytes word) xs) (member_cases (list_any (same_bytes x) ks) word x ks refl)
     ∙ or_assoc (list_any (same_bytes word) ks) (same_bytes word x) (list_any (same_bytes word) xs)
+
+-- a byte list equal to one of a set is in it
+pub list_any-index : (word : List ℕ) (ks : List (Bor (List ℕ))) (i : ℕ) (k : Bor (List ℕ)) → slice_get ks i ≡ Some k → same_bytes word k.now ≡ true → list_any (same_bytes word) (shown ks) ≡ true
+list_any-index word ks i k at same =
+    sym (list_any-shown word ks)
+    ∙ list_any_at (λ b. same_bytes word b.now) ks i k (slice_get_within ks i k at) (ap (λ (b : Bor (List ℕ)). same_bytes word b.now) (get_or_from_slice_get ks i k k at) ∙ same)
 
 -- what a set holds, into which all of the words went
 pub CountsDifferent-insert_all : (words all : List (List ℕ)) (n : ℕ) → all ≡ insert_all same_bytes [] words → n ≡ length all → CountsDifferent words n

@@ -3,7 +3,7 @@ ghost use Rattle.std.specs.Prelude.{◌≡◌, ◌+◌, ◌<◌, IfOk, OnOk};
 ghost use Rattle.script_parser.specs.Reader.{left};
 
 use crate::fault::BlockFault;
-use crate::reader::{FormAt, Reader};
+use crate::reader::{LineAt, Reader};
 use crate::script::{Statement, StatementForm};
 use line_parser::{Expr, LineForm, LineRule};
 
@@ -30,16 +30,6 @@ pub(crate) enum EndKind {
     EndEvent,
 }
 
-// What a line is among statements.
-#[derive(Drop)]
-enum Step {
-    Whole(StatementForm),
-    If(Expr),
-    While(Expr),
-    End(EndKind),
-    Other,
-}
-
 /// The statements up to the line that ends them. At most `depth` blocks may be open in them.
 #[cycle(statements)]
 pub(crate) fn statements(reader: &mut Reader<'_>, depth: u8) -> Result<Block, BlockFault>
@@ -47,58 +37,61 @@ pub(crate) fn statements(reader: &mut Reader<'_>, depth: u8) -> Result<Block, Bl
 {
     let mut found = Vec::new(reader.alloc);
     'lines: loop {
-        let FormAt {
-            at,
-            line,
-            form,
-            doc: _,
-        } = reader.next_in_block()?;
-        let form = match step_of(form) {
-            Step::Whole(form) => form,
-            Step::If(test) => if_block(reader, line, test, inner_depth(at, depth)?)?,
-            Step::While(test) => while_block(reader, test, inner_depth(at, depth)?)?,
-            Step::End(end) => {
-                return Ok(Block {
-                    statements: found,
-                    end,
-                    end_at: at,
-                    end_line: line,
-                });
-            }
-            Step::Other => return Err(BlockFault::bad_block(at)),
+        let first = reader.next_in_block()?;
+        let line = first.line.number;
+        let form = match reader.tree(&first)?.form {
+            LineForm::Definition {
+                kind,
+                name,
+                value,
+                flags: 0,
+            } => StatementForm::Definition { kind, name, value },
+            LineForm::Assign {
+                target,
+                sign,
+                value,
+            } => StatementForm::Assign {
+                target,
+                sign,
+                value,
+            },
+            LineForm::Plain(value) => StatementForm::Plain(value),
+            LineForm::Return(value) => StatementForm::Return(value),
+            LineForm::If(test) => if_block(reader, line, test, inner_depth(first.at, depth)?)?,
+            LineForm::While(test) => while_block(reader, test, inner_depth(first.at, depth)?)?,
+            other => return ended(found, first, other),
         };
         found.push(Statement { line, form })?;
     }
 }
 
-fn step_of(form: LineForm) -> Step {
-    match form {
-        LineForm::Definition {
-            kind,
-            name,
-            value,
-            flags: 0,
-        } => Step::Whole(StatementForm::Definition { kind, name, value }),
-        LineForm::Assign {
-            target,
-            sign,
-            value,
-        } => Step::Whole(StatementForm::Assign {
-            target,
-            sign,
-            value,
+// The block of these statements, whose next line isn't one of them.
+fn ended(
+    statements: Vec<Statement>,
+    last: LineAt<'_>,
+    form: LineForm,
+) -> Result<Block, BlockFault> {
+    match end_of(form) {
+        Some(end) => Ok(Block {
+            statements,
+            end,
+            end_at: last.at,
+            end_line: last.line.number,
         }),
-        LineForm::Plain(value) => Step::Whole(StatementForm::Plain(value)),
-        LineForm::Return(value) => Step::Whole(StatementForm::Return(value)),
-        LineForm::If(test) => Step::If(test),
-        LineForm::While(test) => Step::While(test),
-        LineForm::ElseIf(test) => Step::End(EndKind::ElseIf(test)),
-        LineForm::Else => Step::End(EndKind::Else),
-        LineForm::EndIf => Step::End(EndKind::EndIf),
-        LineForm::EndWhile => Step::End(EndKind::EndWhile),
-        LineForm::EndFunction => Step::End(EndKind::EndFunction),
-        LineForm::EndEvent => Step::End(EndKind::EndEvent),
-        _ => Step::Other,
+        None => Err(BlockFault::bad_block(last.at)),
+    }
+}
+
+// What ends statements with this form, if it does.
+fn end_of(form: LineForm) -> Option<EndKind> {
+    match form {
+        LineForm::ElseIf(test) => Some(EndKind::ElseIf(test)),
+        LineForm::Else => Some(EndKind::Else),
+        LineForm::EndIf => Some(EndKind::EndIf),
+        LineForm::EndWhile => Some(EndKind::EndWhile),
+        LineForm::EndFunction => Some(EndKind::EndFunction),
+        LineForm::EndEvent => Some(EndKind::EndEvent),
+        _ => None,
     }
 }
 

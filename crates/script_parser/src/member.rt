@@ -4,9 +4,9 @@ ghost use Rattle.script_parser.specs.Reader.{left};
 
 use crate::block::{Block, EndKind, OPEN_LIMIT, statements};
 use crate::fault::BlockFault;
-use crate::reader::{FormAt, Reader};
+use crate::reader::{LineAt, Reader};
 use crate::script::{Body, Function, Property, PropertyForm, Script, State, Variable};
-use line_parser::{Constant, Expr, Heading, LineForm, TypeName};
+use line_parser::{Constant, Expr, Heading, LineForm, LineTree, TypeName};
 use papy_base::{Name, Text, neg};
 use script_lexer::Sign;
 
@@ -14,16 +14,13 @@ use script_lexer::Sign;
 pub(crate) fn member(
     reader: &mut Reader<'_>,
     script: &mut Script,
-    first: FormAt,
+    first: LineAt<'_>,
 ) -> Result<(), BlockFault>
     ensures bound { OnOk result (left reader.new ≤ left reader.old) }
 {
-    let FormAt {
-        at,
-        line,
-        form,
-        doc,
-    } = first;
+    let LineTree { form, doc } = reader.tree(&first)?;
+    let at = first.at;
+    let line = first.line.number;
     match form {
         LineForm::Import(name) => script.imports.push((line, name))?,
         LineForm::Definition {
@@ -171,16 +168,13 @@ fn state_functions(reader: &mut Reader<'_>) -> Result<Vec<Function>, BlockFault>
 {
     let mut functions = Vec::new(reader.alloc);
     'functions: loop {
-        let FormAt {
-            at,
-            line,
-            form,
-            doc,
-        } = reader.next_in_block()?;
+        let first = reader.next_in_block()?;
+        let LineTree { form, doc } = reader.tree(&first)?;
+        let line = first.line.number;
         match form {
             LineForm::Function(heading) => functions.push(function(reader, line, heading, doc)?)?,
             LineForm::EndState => return Ok(functions),
-            _ => return Err(BlockFault::bad_block(at)),
+            _ => return Err(BlockFault::bad_block(first.at)),
         }
     }
 }
@@ -191,16 +185,13 @@ fn property_functions(reader: &mut Reader<'_>) -> Result<Vec<Function>, BlockFau
 {
     let mut functions = Vec::new(reader.alloc);
     'functions: loop {
-        let FormAt {
-            at,
-            line,
-            form,
-            doc,
-        } = reader.next_in_block()?;
+        let first = reader.next_in_block()?;
+        let LineTree { form, doc } = reader.tree(&first)?;
+        let line = first.line.number;
         match form {
             LineForm::Function(heading) => functions.push(function(reader, line, heading, doc)?)?,
             LineForm::EndProperty if !functions.is_empty() => return Ok(functions),
-            _ => return Err(BlockFault::bad_block(at)),
+            _ => return Err(BlockFault::bad_block(first.at)),
         }
     }
 }

@@ -5,10 +5,10 @@ ghost use Rattle.script_parser.specs.Words.{words_of, CountsDifferent};
 
 use crate::fault::{BlockFault, ParseFault};
 use crate::member::member;
-use crate::reader::{FormAt, Reader};
+use crate::reader::Reader;
 use crate::script::Script;
 use crate::words::count_words;
-use line_parser::LineForm;
+use line_parser::{LineForm, LineTree};
 use script_lexer::{Line, Lines};
 use std::alloc::Global;
 
@@ -51,9 +51,9 @@ fn line_at(lines: &Lines, at: usize) -> u32
 fn script(alloc: Global, lines: &[Line]) -> Result<Script, BlockFault>
     ensures words { IfOk result (λ script. CountsDifferent (words_of lines.now) script.words) }
 {
-    let mut reader = Reader::new(alloc, lines);
+    let mut reader = Reader::new(alloc, lines)?;
     let mut script = heading(&mut reader)?;
-    'members: while let Some(first) = reader.next_form()? {
+    'members: while let Some(first) = reader.next_form() {
         member(&mut reader, &mut script, first)?;
     }
     script.words = count_words(alloc, lines)?;
@@ -63,15 +63,10 @@ fn script(alloc: Global, lines: &[Line]) -> Result<Script, BlockFault>
 // The script of the first line, without members yet and with no words counted.
 fn heading(reader: &mut Reader<'_>) -> Result<Script, BlockFault> {
     let alloc = reader.alloc;
-    let Some(first) = reader.next()? else {
+    let Some(first) = reader.next() else {
         return Err(BlockFault::bad_block(0));
     };
-    let FormAt {
-        at,
-        line,
-        form,
-        doc,
-    } = first;
+    let LineTree { form, doc } = reader.tree(&first)?;
     match form {
         LineForm::ScriptName {
             name,
@@ -79,7 +74,7 @@ fn heading(reader: &mut Reader<'_>) -> Result<Script, BlockFault> {
             flags,
         } => Ok(Script {
             name,
-            line,
+            line: first.line.number,
             parent,
             flags,
             doc: reader.own_doc(doc)?,
@@ -90,6 +85,6 @@ fn heading(reader: &mut Reader<'_>) -> Result<Script, BlockFault> {
             states: Vec::new(alloc),
             words: 0,
         }),
-        _ => Err(BlockFault::bad_block(at)),
+        _ => Err(BlockFault::bad_block(first.at)),
     }
 }

@@ -1,8 +1,8 @@
 // Reads the forms of a file's lines from first to last.
-ghost use Rattle.std.specs.Prelude.{◌<◌, ◌≤◌, IfOk, OnOk, OnSome};
+ghost use Rattle.std.specs.Prelude.{◌<◌, ◌≤◌, OnOk, OnSome};
 
 use crate::fault::BlockFault;
-use line_parser::{LineForm, parse_line};
+use line_parser::{LineTree, TypeWords, parse_line_with};
 use papy_base::Text;
 use script_lexer::{Line, Spanned, Token};
 use std::alloc::Global;
@@ -11,74 +11,69 @@ use std::alloc::Global;
 #[derive(Drop)]
 pub(crate) struct Reader<'a> {
     pub(crate) alloc: Global,
+    types: TypeWords,
     lines: &'a [Line],
     /// The place of the next line.
     at: usize,
 }
 
-/// A line that was read.
+/// A line, with its place among the logical lines.
 #[derive(Drop)]
-pub(crate) struct FormAt {
-    /// Its place among the logical lines.
+pub(crate) struct LineAt<'a> {
     pub(crate) at: usize,
-    /// The physical line on which it begins.
-    pub(crate) line: u16,
-    pub(crate) form: LineForm,
-    pub(crate) doc: Option<Text>,
+    pub(crate) line: &'a Line,
 }
 
 impl<'a> Reader<'a> {
     ghost use Rattle.script_parser.specs.Reader.{left};
 
-    pub(crate) fn new(alloc: Global, lines: &'a [Line]) -> Self {
-        Reader {
+    pub(crate) fn new(alloc: Global, lines: &'a [Line]) -> Result<Self, BlockFault> {
+        let types = TypeWords::new(alloc)?;
+        Ok(Reader {
             alloc,
+            types,
             lines,
             at: 0,
+        })
+    }
+
+    /// The form of a line, and the documentation text at its end.
+    pub(crate) fn tree(&self, found: &LineAt<'_>) -> Result<LineTree, BlockFault> {
+        match parse_line_with(self.alloc, &self.types, found.line) {
+            Ok(tree) => Ok(tree),
+            Err(fault) => Err(BlockFault::of_line(found.at, fault)),
         }
     }
 
     /// The next line, also where it is a documentation text alone, or none at the end.
-    pub(crate) fn next(&mut self) -> Result<Option<FormAt>, BlockFault>
-        ensures nearer { IfOk result (λ found. OnSome found (left self.new < left self.old)) }
+    pub(crate) fn next(&mut self) -> Option<LineAt<'a>>
+        ensures nearer { OnSome result (left self.new < left self.old) }
         ensures bound { left self.new ≤ left self.old }
     {
         let at = self.at;
-        let Some(line) = self.lines.get(at) else {
-            return Ok(None);
-        };
-        match parse_line(self.alloc, line) {
-            Ok(tree) => {
-                self.at = at + 1;
-                Ok(Some(FormAt {
-                    at,
-                    line: line.number,
-                    form: tree.form,
-                    doc: tree.doc,
-                }))
-            }
-            Err(fault) => Err(BlockFault::of_line(at, fault)),
-        }
+        let line = self.lines.get(at)?;
+        self.at = at + 1;
+        Some(LineAt { at, line })
     }
 
     /// The next line that is no documentation text alone, or none at the end.
-    pub(crate) fn next_form(&mut self) -> Result<Option<FormAt>, BlockFault>
-        ensures nearer { IfOk result (λ found. OnSome found (left self.new < left self.old)) }
+    pub(crate) fn next_form(&mut self) -> Option<LineAt<'a>>
+        ensures nearer { OnSome result (left self.new < left self.old) }
         ensures bound { left self.new ≤ left self.old }
     {
-        'docs: while let Some(found) = self.next()? {
-            if !is_doc_only(&found.form) {
-                return Ok(Some(found));
+        'docs: while let Some(found) = self.next() {
+            if !is_doc_only(found.line.tokens.as_slice()) {
+                return Some(found);
             }
         }
-        Ok(None)
+        None
     }
 
     /// The next line of an open block, which the file has to have.
-    pub(crate) fn next_in_block(&mut self) -> Result<FormAt, BlockFault>
+    pub(crate) fn next_in_block(&mut self) -> Result<LineAt<'a>, BlockFault>
         ensures nearer { OnOk result (left self.new < left self.old) }
     {
-        match self.next_form()? {
+        match self.next_form() {
             Some(found) => Ok(found),
             None => Err(BlockFault::bad_block(self.at)),
         }
@@ -103,8 +98,12 @@ impl<'a> Reader<'a> {
     }
 }
 
-fn is_doc_only(form: &LineForm) -> bool {
-    matches!(form, LineForm::DocOnly)
+fn is_doc_only(tokens: &[Spanned]) -> bool {
+    match tokens {
+        [] => true,
+        [only] => matches!(only.token, Token::Doc(_)),
+        _ => false,
+    }
 }
 
 // The documentation text that is the only token.

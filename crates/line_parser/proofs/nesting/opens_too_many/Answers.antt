@@ -1,4 +1,4 @@
-use Rattle.std.proofs.Common.{◌≡◌, ℕ, ◌+◌, ◌-◌, ◌<◌, ◌≤◌, Bool, true, false, cond, List, [], ◌∷◌, length, fold, take, arith}
+use Rattle.std.proofs.Common.{ℕ, ◌+◌, ◌-◌, ◌<◌, ◌≤◌, Bool, true, false, cond, List, [], ◌∷◌, length, fold, take, arith}
 use Rattle.std.proofs.lemmas.List.{length-take}
 use Rattle.script_lexer.specs.declared.token.Spanned.{Spanned}
 use Rattle.line_parser.specs.Nesting.{opens, closes, open_next, open_after}

@@ -7,4 +7,4 @@ use Rattle.script_parser.proofs.words.add_words.Given as goal
 
 abbrev pub invariant-loop-spanned : goal.invariant-loop-spanned
 invariant-loop-spanned l =
-    held l.words ≡ insert_all same_bytes (held l.fn.words) (words_in (take l.spanned-index l.tokens))
+    held l.words.all ≡ insert_all same_bytes (held l.fn.words.all) (words_in (take l.spanned-index l.tokens))

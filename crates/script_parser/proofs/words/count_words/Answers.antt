@@ -10,4 +10,4 @@ use Rattle.script_parser.proofs.words.count_words.Goals as goal
 pub returns : goal.returns
 returns c =
     let all_lines = take_all c.loop-line.line-index c.args.lines.now c.loop-line-test.false in
-    CountsDifferent-insert_all (words_of c.args.lines.now) (held c.loop-line.words) c.len-count.result (c.loop-line.invariant ∙ ap (λ (lines : List Line). insert_all same_bytes [] (words_of lines)) all_lines) (c.len-count.ensures.len ∙ sym (length-map c.loop-line.words.keys (λ k. k.now)))
+    CountsDifferent-insert_all (words_of c.args.lines.now) (held c.loop-line.words.all) c.len-count.result (c.loop-line.invariant ∙ ap (λ (lines : List Line). insert_all same_bytes [] (words_of lines)) all_lines) (c.len-count.ensures.len ∙ sym (length-map c.loop-line.words.all.keys (λ k. k.now)))

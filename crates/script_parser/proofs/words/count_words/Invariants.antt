@@ -6,4 +6,4 @@ use Rattle.script_parser.specs.Words.{words_of, same_bytes}
 use Rattle.script_parser.proofs.words.count_words.Given as goal
 
 abbrev pub invariant-loop-line : goal.invariant-loop-line
-invariant-loop-line l = held l.words ≡ insert_all same_bytes [] (words_of (take l.line-index l.lines))
+invariant-loop-line l = held l.words.all ≡ insert_all same_bytes [] (words_of (take l.line-index l.lines))
