@@ -21,6 +21,7 @@ use script_lexer::{LexFault, LexRule, Lines, lex};
 use script_linker::{LinkFault, SourceFile, link};
 use script_parser::{ParseFault, Script, parse_script};
 use std::alloc::Global;
+use std::mem;
 use type_rules::{TypeFault, elaborate};
 
 /// The most bytes of a script.
@@ -180,7 +181,10 @@ pub(crate) fn core_set(alloc: Global, files: Vec<SourceFile>) -> Result<CoreSet,
         Ok(set) => set,
         Err(fault) => return Err(link_ending(fault)),
     };
-    match elaborate(alloc, &set) {
+    let elaborated = elaborate(alloc, &set);
+    // The trees are left to the end of the program: taking them apart takes longer than finding memory for what comes next.
+    mem::forget(set);
+    match elaborated {
         Ok(core) => Ok(core),
         Err(fault) => Err(type_ending(fault)),
     }
