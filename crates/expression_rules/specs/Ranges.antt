@@ -12,6 +12,7 @@ use Rattle.expression_rules.specs.declared.assignment.Target.TheVariants as targ
 use Rattle.expression_rules.specs.declared.calls.Outcome.{Outcome}
 use Rattle.expression_rules.specs.declared.context.Context.{Context}
 use Rattle.expression_rules.specs.declared.forms.Change.{Change}
+use Rattle.expression_rules.specs.declared.operand.Operand.{Operand}
 use Rattle.expression_rules.specs.declared.parameters.Parameters.{Parameters}
 use Rattle.expression_rules.specs.declared.parameters.Parameters.TheVariants as parameters
 use Rattle.expression_rules.specs.declared.trees.Passed.{Passed}
@@ -29,9 +30,13 @@ pub record TypedInRange (b : Bounds) (typed : Typed) : Type 0 where
   pub core : CoreInRange b typed.core
   pub kind : KindInRange b.functions typed.kind
 
+pub record OperandInRange (b : Bounds) (operand : Operand) : Type 0 where
+  pub core : CoreInRange b operand.core.value
+  pub kind : KindInRange b.functions operand.kind
+
 -- the values of arguments as they are written
 abbrev pub GivenInRange : Bounds → List Given → Type 0
-GivenInRange b given = All (λ one. TypedInRange b one.value) given
+GivenInRange b given = All (λ one. OperandInRange b one.value) given
 
 -- arguments that have a parameter each
 pub record PassedInRange (b : Bounds) (passed : Passed) : Type 0 where
@@ -82,10 +87,10 @@ abbrev pub TargetInRange : Bounds → Target → Type 0
 TargetInRange b (targets.Local number kind) = (number < b.locals) × ResultInRange b.functions kind
 TargetInRange b (targets.Field number kind) = (number < b.variables) × ResultInRange b.functions kind
 TargetInRange b targets.State = Unit {0}
-TargetInRange b (targets.Property of name kind) = CoreInRange b of × ResultInRange b.functions kind
+TargetInRange b (targets.Property of name kind) = CoreInRange b of.value × ResultInRange b.functions kind
 TargetInRange b (targets.Element array at kind) =
-    CoreInRange b array × CoreInRange b at × TypeInRange b.functions kind
+    CoreInRange b array.value × CoreInRange b at.value × TypeInRange b.functions kind
 
 pub record ChangeInRange (b : Bounds) (change : Change) : Type 0 where
   pub kind : TypeInRange b.functions change.kind
-  pub right : CoreInRange b change.right
+  pub right : CoreInRange b change.right.value

@@ -1,14 +1,14 @@
 // The arguments of a call: each finds its parameter, and default arguments follow.
 ghost use Rattle.std.specs.Prelude.{◌<◌, IfOk, OnOk, IfSome, vec_len};
 ghost use Rattle.core_tree.specs.InRange.{Bounds};
-ghost use Rattle.expression_rules.specs.Ranges.{CoreInRange, TypedInRange, GivenInRange, ParametersInRange, ArgumentsInRange, CompleteInRange, bounds_of};
+ghost use Rattle.expression_rules.specs.Ranges.{CoreInRange, OperandInRange, GivenInRange, ParametersInRange, ArgumentsInRange, CompleteInRange, bounds_of};
 
 use crate::context::Context;
 use crate::conversions::convert;
 use crate::notes::Notes;
+use crate::operand::Operand;
 use crate::parameters::Parameters;
 use crate::rule::TypeRule;
-use crate::typed::Typed;
 use core_tree::Core;
 use papy_base::{Name, OutOfMemory};
 use std::alloc::Global;
@@ -19,7 +19,7 @@ use std::alloc::Global;
 #[derive(Drop)]
 pub(crate) struct Given<'t> {
     pub(crate) name: Option<&'t Name>,
-    pub(crate) value: Typed,
+    pub(crate) value: Operand,
 }
 
 /// Arguments with the number of each one's parameter.
@@ -36,8 +36,8 @@ impl Arguments {
         ensures { (b : Bounds) → IfOk result (ArgumentsInRange b) }
     {
         Ok(Arguments {
-            cores: Vec::new(alloc),
-            places: Vec::new(alloc),
+            cores: Vec::with_capacity(alloc, parameters)?,
+            places: Vec::with_capacity(alloc, parameters)?,
             filled: vec![in alloc; false; parameters]?,
         })
     }
@@ -123,9 +123,9 @@ fn place_argument(
     found: &mut Arguments,
     parameters: Parameters<'_>,
     place: Option<usize>,
-    value: Typed,
+    value: Operand,
 ) -> Result<(), OutOfMemory>
-    ensures { ParametersInRange (bounds_of context.now) parameters.entry → ArgumentsInRange (bounds_of context.now) found.old → TypedInRange (bounds_of context.now) value → OnOk result (ArgumentsInRange (bounds_of context.now) found.new) }
+    ensures { ParametersInRange (bounds_of context.now) parameters.entry → ArgumentsInRange (bounds_of context.now) found.old → OperandInRange (bounds_of context.now) value → OnOk result (ArgumentsInRange (bounds_of context.now) found.new) }
 {
     let free = match place {
         Some(place) => found.free(place),
@@ -137,7 +137,7 @@ fn place_argument(
     };
     let kind = parameters.kind(context, place)?;
     let core = convert(context, notes, value, kind)?;
-    found.add(place, core)
+    found.add(place, Box::into_inner(core))
 }
 
 // Gives each parameter that has none its default argument.

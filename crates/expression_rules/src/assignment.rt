@@ -2,7 +2,7 @@
 ghost use Rattle.std.specs.Prelude.{◌≡◌, IfOk, IfSome};
 ghost use Rattle.core_tree.specs.InRange.{ResultInRange};
 ghost use Rattle.expression_rules.specs.Operations.{sign_of_change};
-ghost use Rattle.expression_rules.specs.Ranges.{CoreInRange, FormInRange, TypedInRange, TargetInRange, ChangeInRange, ContextInRange, bounds_of};
+ghost use Rattle.expression_rules.specs.Ranges.{CoreInRange, FormInRange, OperandInRange, TargetInRange, ChangeInRange, ContextInRange, bounds_of};
 
 use crate::context::Context;
 use crate::conversions::convert;
@@ -13,10 +13,10 @@ use crate::forms::{
 };
 use crate::members::{Access, indexed, own_variable, property_of, property_type};
 use crate::notes::Notes;
+use crate::operand::Operand;
 use crate::operators::{arithmetic, operand_type, operation};
 use crate::rule::TypeRule;
 use crate::trees::{field, local, own_instance, state_text};
-use crate::typed::Typed;
 use crate::words::{Meaning, meaning_of, member_of_word};
 use core_tree::{Core, CoreStatement, CoreType};
 use line_parser::Expr;
@@ -31,8 +31,8 @@ pub(crate) enum Target<'t> {
     Local(u16, Option<CoreType>),
     Field(u16, Option<CoreType>),
     State,
-    Property(Core, &'t Name, Option<CoreType>),
-    Element(Core, Core, CoreType),
+    Property(Box<Core>, &'t Name, Option<CoreType>),
+    Element(Box<Core>, Box<Core>, CoreType),
 }
 
 /// An assignment, also one such as `+=`.
@@ -116,7 +116,8 @@ fn word_place<'t>(
         }
         Some(Meaning::Property(at)) => {
             context.needs_instance(notes);
-            property_place(context, notes, own_instance(), at, name, access)
+            let own = Box::new(context.catalog.alloc, own_instance())?;
+            property_place(context, notes, own, at, name, access)
         }
     }
 }
@@ -146,12 +147,12 @@ fn member_place<'t>(
 fn property_place<'t>(
     context: &Context<'_>,
     notes: &mut Notes,
-    of: Core,
+    of: Box<Core>,
     at: PropertyRef,
     name: &'t Name,
     access: Access,
 ) -> Result<Option<Target<'t>>, OutOfMemory>
-    ensures { CoreInRange (bounds_of context.now) of → IfOk result (λ found. IfSome found (TargetInRange (bounds_of context.now))) }
+    ensures { CoreInRange (bounds_of context.now) of.value → IfOk result (λ found. IfSome found (TargetInRange (bounds_of context.now))) }
 {
     let kind = property_type(context, notes, at, access)?;
     Ok(Some(match own_variable(context, &of, at) {
@@ -182,9 +183,9 @@ fn store(
     context: &Context<'_>,
     notes: &mut Notes,
     place: Target<'_>,
-    value: Typed,
+    value: Operand,
 ) -> Result<CoreStatement, OutOfMemory>
-    ensures { TargetInRange (bounds_of context.now) place.entry → TypedInRange (bounds_of context.now) value → IfOk result (FormInRange (bounds_of context.now)) }
+    ensures { TargetInRange (bounds_of context.now) place.entry → OperandInRange (bounds_of context.now) value → IfOk result (FormInRange (bounds_of context.now)) }
 {
     match place {
         Target::Local(number, kind) => {
@@ -217,9 +218,9 @@ fn change_place(
     notes: &mut Notes,
     place: Target<'_>,
     sign: Sign,
-    value: Typed,
+    value: Operand,
 ) -> Result<CoreStatement, OutOfMemory>
-    ensures { TargetInRange (bounds_of context.now) place.entry → TypedInRange (bounds_of context.now) value → IfOk result (FormInRange (bounds_of context.now)) }
+    ensures { TargetInRange (bounds_of context.now) place.entry → OperandInRange (bounds_of context.now) value → IfOk result (FormInRange (bounds_of context.now)) }
 {
     match place {
         Target::Local(number, kind) => {
@@ -257,11 +258,12 @@ fn changed(
     old: Core,
     kind: Option<CoreType>,
     sign: Sign,
-    value: Typed,
-) -> Result<Core, OutOfMemory>
-    ensures { CoreInRange (bounds_of context.now) old → ResultInRange (bounds_of context.now).functions kind → TypedInRange (bounds_of context.now) value → IfOk result (CoreInRange (bounds_of context.now)) }
+    value: Operand,
+) -> Result<Box<Core>, OutOfMemory>
+    ensures { CoreInRange (bounds_of context.now) old → ResultInRange (bounds_of context.now).functions kind → OperandInRange (bounds_of context.now) value → IfOk result (λ core. CoreInRange (bounds_of context.now) core.value) }
 {
-    let new = arithmetic(context, notes, sign, Typed::found(old, kind), value)?;
+    let old = Operand::found(context.catalog.alloc, old, kind)?;
+    let new = arithmetic(context, notes, sign, old, value)?;
     convert(context, notes, new, kind)
 }
 
@@ -272,9 +274,9 @@ fn change_in_place(
     notes: &mut Notes,
     kind: Option<CoreType>,
     sign: Sign,
-    value: Typed,
+    value: Operand,
 ) -> Result<Option<Change>, OutOfMemory>
-    ensures { ResultInRange (bounds_of context.now).functions kind → TypedInRange (bounds_of context.now) value → IfOk result (λ found. IfSome found (ChangeInRange (bounds_of context.now))) }
+    ensures { ResultInRange (bounds_of context.now).functions kind → OperandInRange (bounds_of context.now) value → IfOk result (λ found. IfSome found (ChangeInRange (bounds_of context.now))) }
 {
     let Some(kind) = kind else {
         return Ok(None);

@@ -2,19 +2,19 @@
 ghost use Rattle.std.specs.Prelude.{IfOk, IfSome};
 ghost use Rattle.core_tree.specs.InRange.{Bounds, FunctionThere, TypeInRange, ResultInRange};
 ghost use Rattle.type_scope.specs.Scope.{KindInRange};
-ghost use Rattle.expression_rules.specs.Ranges.{CoreInRange, TypedInRange, GivenInRange, CompleteInRange, PassedInRange, OutcomeInRange, bounds_of};
+ghost use Rattle.expression_rules.specs.Ranges.{CoreInRange, OperandInRange, GivenInRange, CompleteInRange, PassedInRange, OutcomeInRange, bounds_of};
 
 use crate::arguments::{Arguments, Given, place_arguments};
 use crate::context::Context;
 use crate::members::element_kind;
 use crate::notes::Notes;
+use crate::operand::Operand;
 use crate::parameters::Parameters;
 use crate::rule::TypeRule;
 use crate::trees::{
     Direction, Passed, global_called, method_called, native_called, own_instance, parent_called,
     searched,
 };
-use crate::typed::Typed;
 use core_tree::{Core, CoreType, FunctionPlace};
 use line_parser::{Heading, TypeName};
 use papy_base::{Name, OutOfMemory};
@@ -26,17 +26,18 @@ pub(crate) fn plain_call(
     notes: &mut Notes,
     name: &Name,
     given: Vec<Given<'_>>,
-) -> Result<Typed, OutOfMemory>
-    ensures { GivenInRange (bounds_of context.now) given.entry.items → IfOk result (TypedInRange (bounds_of context.now)) }
+) -> Result<Operand, OutOfMemory>
+    ensures { GivenInRange (bounds_of context.now) given.entry.items → IfOk result (OperandInRange (bounds_of context.now)) }
 {
     let Some(callee) = plain_callee(context, name)? else {
-        return Ok(no_function(context, notes));
+        return no_function(context, notes);
     };
     if callee.heading.is_global {
         return global_call(context, notes, callee, given);
     }
     context.needs_instance(notes);
-    method_call(context, notes, own_instance(), callee.heading, name, given)
+    let of = Box::new(context.catalog.alloc, own_instance())?;
+    method_call(context, notes, of, callee.heading, name, given)
 }
 
 fn plain_callee<'s>(context: &Context<'s>, name: &Name) -> Result<Option<Callee<'s>>, OutOfMemory>
@@ -54,30 +55,34 @@ pub(crate) fn parent_call(
     notes: &mut Notes,
     name: &Name,
     given: Vec<Given<'_>>,
-) -> Result<Typed, OutOfMemory>
-    ensures { GivenInRange (bounds_of context.now) given.entry.items → IfOk result (TypedInRange (bounds_of context.now)) }
+) -> Result<Operand, OutOfMemory>
+    ensures { GivenInRange (bounds_of context.now) given.entry.items → IfOk result (OperandInRange (bounds_of context.now)) }
 {
     context.needs_instance(notes);
     let Some(parent) = context.catalog.parent_of(context.script)? else {
-        return Ok(context.broken(notes, TypeRule::NoParent));
+        return context.broken(notes, TypeRule::NoParent);
     };
     let Some(heading) = method_named(context, parent, name) else {
-        return Ok(no_function(context, notes));
+        return no_function(context, notes);
     };
     let outcome = called(context, notes, heading, given)?;
     parent_value(context, name, outcome)
 }
 
-fn parent_value(context: &Context<'_>, name: &Name, outcome: Outcome) -> Result<Typed, OutOfMemory>
-    ensures { OutcomeInRange (bounds_of context.now) outcome → IfOk result (TypedInRange (bounds_of context.now)) }
+fn parent_value(
+    context: &Context<'_>,
+    name: &Name,
+    outcome: Outcome,
+) -> Result<Operand, OutOfMemory>
+    ensures { OutcomeInRange (bounds_of context.now) outcome → IfOk result (OperandInRange (bounds_of context.now)) }
 {
     let Outcome { passed, kind } = outcome;
     match passed {
         Some(passed) => {
             let core = parent_called(context.catalog.alloc, name, passed)?;
-            Ok(Typed::known(core, kind))
+            Operand::known(context.catalog.alloc, core, kind)
         }
-        None => Ok(context.without_tree(kind)),
+        None => context.without_tree(kind),
     }
 }
 
@@ -89,15 +94,15 @@ pub(crate) fn script_call(
     word: &Name,
     name: &Name,
     given: Vec<Given<'_>>,
-) -> Result<Typed, OutOfMemory>
-    ensures { GivenInRange (bounds_of context.now) given.entry.items → IfOk result (TypedInRange (bounds_of context.now)) }
+) -> Result<Operand, OutOfMemory>
+    ensures { GivenInRange (bounds_of context.now) given.entry.items → IfOk result (OperandInRange (bounds_of context.now)) }
 {
     let Some(script) = context.catalog.find_script(word)? else {
-        return Ok(context.broken(notes, TypeRule::UnknownName));
+        return context.broken(notes, TypeRule::UnknownName);
     };
     match context.catalog.find_function(script, name) {
         Some(callee) if callee.heading.is_global => global_call(context, notes, callee, given),
-        _ => Ok(no_function(context, notes)),
+        _ => no_function(context, notes),
     }
 }
 
@@ -105,36 +110,36 @@ pub(crate) fn script_call(
 pub(crate) fn member_call(
     context: &Context<'_>,
     notes: &mut Notes,
-    of: Typed,
+    of: Operand,
     name: &Name,
     given: Vec<Given<'_>>,
-) -> Result<Typed, OutOfMemory>
-    ensures { TypedInRange (bounds_of context.now) of → GivenInRange (bounds_of context.now) given.entry.items → IfOk result (TypedInRange (bounds_of context.now)) }
+) -> Result<Operand, OutOfMemory>
+    ensures { OperandInRange (bounds_of context.now) of → GivenInRange (bounds_of context.now) given.entry.items → IfOk result (OperandInRange (bounds_of context.now)) }
 {
     if of.is_unknown() {
-        return Ok(context.unknown());
+        return context.unknown();
     }
     if let Some(element) = element_kind(of.kind) {
         return array_call(context, notes, of.core, element, name, given);
     }
     match method_of(context, of.kind, name) {
         Some(heading) => method_call(context, notes, of.core, heading, name, given),
-        None => Ok(no_function(context, notes)),
+        None => no_function(context, notes),
     }
 }
 
 fn array_call(
     context: &Context<'_>,
     notes: &mut Notes,
-    array: Core,
+    array: Box<Core>,
     element: CoreType,
     name: &Name,
     given: Vec<Given<'_>>,
-) -> Result<Typed, OutOfMemory>
-    ensures { CoreInRange (bounds_of context.now) array → TypeInRange (bounds_of context.now).functions element → GivenInRange (bounds_of context.now) given.entry.items → IfOk result (TypedInRange (bounds_of context.now)) }
+) -> Result<Operand, OutOfMemory>
+    ensures { CoreInRange (bounds_of context.now) array.value → TypeInRange (bounds_of context.now).functions element → GivenInRange (bounds_of context.now) given.entry.items → IfOk result (OperandInRange (bounds_of context.now)) }
 {
     let Some(direction) = search_named(name) else {
-        return Ok(no_function(context, notes));
+        return no_function(context, notes);
     };
     let parameters = Parameters::Search {
         element,
@@ -144,9 +149,9 @@ fn array_call(
     match value_and_start(found) {
         Some((value, start)) => {
             let core = searched(context.catalog.alloc, direction, array, value, start)?;
-            Ok(Typed::of(core, CoreType::Int))
+            Operand::of(context.catalog.alloc, core, CoreType::Int)
         }
-        None => Ok(context.without_tree(Kind::Of(CoreType::Int))),
+        None => context.without_tree(Kind::Of(CoreType::Int)),
     }
 }
 
@@ -232,13 +237,13 @@ fn global_call(
     notes: &mut Notes,
     callee: Callee<'_>,
     given: Vec<Given<'_>>,
-) -> Result<Typed, OutOfMemory>
-    ensures { FunctionThere (bounds_of context.now).functions callee.entry.at → GivenInRange (bounds_of context.now) given.entry.items → IfOk result (TypedInRange (bounds_of context.now)) }
+) -> Result<Operand, OutOfMemory>
+    ensures { FunctionThere (bounds_of context.now).functions callee.entry.at → GivenInRange (bounds_of context.now) given.entry.items → IfOk result (OperandInRange (bounds_of context.now)) }
 {
     notes.write_out(callee.heading.name.as_bytes())?;
     let outcome = called(context, notes, callee.heading, given)?;
     let is_native = callee.heading.is_native;
-    Ok(global_value(context, callee.at, is_native, outcome))
+    global_value(context, callee.at, is_native, outcome)
 }
 
 fn global_value(
@@ -246,12 +251,15 @@ fn global_value(
     at: FunctionPlace,
     is_native: bool,
     outcome: Outcome,
-) -> Typed
-    ensures { FunctionThere (bounds_of context.now).functions at → OutcomeInRange (bounds_of context.now) outcome → TypedInRange (bounds_of context.now) result }
+) -> Result<Operand, OutOfMemory>
+    ensures { FunctionThere (bounds_of context.now).functions at → OutcomeInRange (bounds_of context.now) outcome → IfOk result (OperandInRange (bounds_of context.now)) }
 {
     let Outcome { passed, kind } = outcome;
     match passed {
-        Some(passed) => Typed::known(global_core(at, is_native, passed), kind),
+        Some(passed) => {
+            let core = global_core(at, is_native, passed);
+            Operand::known(context.catalog.alloc, core, kind)
+        }
         None => context.without_tree(kind),
     }
 }
@@ -269,20 +277,20 @@ fn global_core(at: FunctionPlace, is_native: bool, passed: Passed) -> Core
 fn method_call(
     context: &Context<'_>,
     notes: &mut Notes,
-    of: Core,
+    of: Box<Core>,
     heading: &Heading,
     name: &Name,
     given: Vec<Given<'_>>,
-) -> Result<Typed, OutOfMemory>
-    ensures { CoreInRange (bounds_of context.now) of → GivenInRange (bounds_of context.now) given.entry.items → IfOk result (TypedInRange (bounds_of context.now)) }
+) -> Result<Operand, OutOfMemory>
+    ensures { CoreInRange (bounds_of context.now) of.value → GivenInRange (bounds_of context.now) given.entry.items → IfOk result (OperandInRange (bounds_of context.now)) }
 {
     let Outcome { passed, kind } = called(context, notes, heading, given)?;
     match passed {
         Some(passed) => {
             let core = method_called(context.catalog.alloc, of, name, passed)?;
-            Ok(Typed::known(core, kind))
+            Operand::known(context.catalog.alloc, core, kind)
         }
-        None => Ok(context.without_tree(kind)),
+        None => context.without_tree(kind),
     }
 }
 
@@ -303,8 +311,8 @@ fn method_named<'s>(context: &Context<'s>, script: u16, name: &Name) -> Option<&
     }
 }
 
-fn no_function(context: &Context<'_>, notes: &mut Notes) -> Typed
-    ensures { TypedInRange (bounds_of context.now) result }
+fn no_function(context: &Context<'_>, notes: &mut Notes) -> Result<Operand, OutOfMemory>
+    ensures { IfOk result (OperandInRange (bounds_of context.now)) }
 {
     context.broken(notes, TypeRule::NoFunction)
 }

@@ -2,12 +2,12 @@
 ghost use Rattle.std.specs.Prelude.{IfOk};
 ghost use Rattle.core_tree.specs.InRange.{ResultInRange};
 ghost use Rattle.type_scope.specs.Scope.{function_counts, KindInRange};
-ghost use Rattle.expression_rules.specs.Ranges.{TypedInRange, bounds_of};
+ghost use Rattle.expression_rules.specs.Ranges.{OperandInRange, bounds_of};
 
 use crate::notes::Notes;
+use crate::operand::Operand;
 use crate::rule::TypeRule;
 use crate::trees::nothing;
-use crate::typed::Typed;
 use core_tree::CoreType;
 use line_parser::TypeName;
 use papy_base::OutOfMemory;
@@ -29,25 +29,25 @@ pub(crate) struct Context<'s> {
 
 impl Context<'_> {
     /// What stands where something is unknown since a rule is broken.
-    pub(crate) fn unknown(&self) -> Typed
-        ensures { TypedInRange (bounds_of self.now) result }
+    pub(crate) fn unknown(&self) -> Result<Operand, OutOfMemory>
+        ensures { IfOk result (OperandInRange (bounds_of self.now)) }
     {
-        Typed::unknown()
+        Operand::unknown(self.catalog.alloc)
     }
 
     /// The same where this rule is broken.
-    pub(crate) fn broken(&self, notes: &mut Notes, rule: TypeRule) -> Typed
-        ensures { TypedInRange (bounds_of self.now) result }
+    pub(crate) fn broken(&self, notes: &mut Notes, rule: TypeRule) -> Result<Operand, OutOfMemory>
+        ensures { IfOk result (OperandInRange (bounds_of self.now)) }
     {
         self.fault(notes, rule);
-        Typed::unknown()
+        Operand::unknown(self.catalog.alloc)
     }
 
     /// What stands for a value of which only the type is known, since a rule is broken.
-    pub(crate) fn without_tree(&self, kind: Kind) -> Typed
-        ensures { KindInRange (bounds_of self.now).functions kind → TypedInRange (bounds_of self.now) result }
+    pub(crate) fn without_tree(&self, kind: Kind) -> Result<Operand, OutOfMemory>
+        ensures { KindInRange (bounds_of self.now).functions kind → IfOk result (OperandInRange (bounds_of self.now)) }
     {
-        Typed::known(nothing(), kind)
+        Operand::known(self.catalog.alloc, nothing(), kind)
     }
 
     /// Notes that a rule is broken.

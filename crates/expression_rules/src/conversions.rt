@@ -3,13 +3,13 @@ ghost use Rattle.std.specs.Prelude.{◌≡◌, IfOk, List, ℕ};
 ghost use Rattle.core_tree.specs.InRange.{Bounds, ResultInRange};
 ghost use Rattle.type_scope.specs.Scope.{KindInRange};
 ghost use Rattle.expression_rules.specs.Conversions.{prints};
-ghost use Rattle.expression_rules.specs.Ranges.{CoreInRange, TypedInRange, bounds_of};
+ghost use Rattle.expression_rules.specs.Ranges.{CoreInRange, OperandInRange, bounds_of};
 
 use crate::context::Context;
 use crate::notes::Notes;
+use crate::operand::Operand;
 use crate::rule::TypeRule;
-use crate::trees::{cast_to, nothing};
-use crate::typed::Typed;
+use crate::trees::cast_to;
 use core_tree::{Core, CoreType};
 use line_parser::TypeName;
 use papy_base::OutOfMemory;
@@ -19,41 +19,42 @@ use type_scope::{Catalog, Kind};
 pub(crate) fn convert(
     context: &Context<'_>,
     notes: &mut Notes,
-    typed: Typed,
+    value: Operand,
     to: Option<CoreType>,
-) -> Result<Core, OutOfMemory>
-    ensures { (b : Bounds) → ResultInRange b.functions to → TypedInRange b typed → IfOk result (CoreInRange b) }
+) -> Result<Box<Core>, OutOfMemory>
+    ensures { (b : Bounds) → ResultInRange b.functions to → OperandInRange b value → IfOk result (λ core. CoreInRange b core.value) }
 {
     let Some(to) = to else {
-        return Ok(typed.core);
+        return Ok(value.core);
     };
-    if typed.is_unknown() || typed.kind == Kind::Of(to) {
-        return Ok(typed.core);
+    if value.is_unknown() || value.kind == Kind::Of(to) {
+        return Ok(value.core);
     }
-    if !converts(context.catalog, typed.kind, to) {
+    if !converts(context.catalog, value.kind, to) {
         context.fault(notes, TypeRule::NoConversion);
-        return Ok(nothing());
+        return Ok(value.core);
     }
-    cast_to(context.catalog.alloc, to, typed.core)
+    let core = Box::new(context.catalog.alloc, cast_to(to, value.core))?;
+    Ok(core)
 }
 
 /// `as`
 pub(crate) fn cast(
     context: &Context<'_>,
     notes: &mut Notes,
-    of: Typed,
+    of: Operand,
     to: &TypeName,
-) -> Result<Typed, OutOfMemory>
-    ensures { TypedInRange (bounds_of context.now) of → IfOk result (TypedInRange (bounds_of context.now)) }
+) -> Result<Operand, OutOfMemory>
+    ensures { OperandInRange (bounds_of context.now) of → IfOk result (OperandInRange (bounds_of context.now)) }
 {
     let Some(to) = context.kind_named(notes, to)? else {
-        return Ok(context.unknown());
+        return context.unknown();
     };
     if !casts(context.catalog, of.kind, to) {
         context.fault(notes, TypeRule::NoConversion);
     }
-    let core = cast_to(context.catalog.alloc, to, of.core)?;
-    Ok(Typed::of(core, to))
+    let core = cast_to(to, of.core);
+    Operand::of(context.catalog.alloc, core, to)
 }
 
 /// Whether a value converts to the type by itself. A type that isn't known breaks no rule.

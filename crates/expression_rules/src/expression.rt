@@ -1,6 +1,6 @@
 // Expressions: the first leaf, and then one step after the other.
 ghost use Rattle.std.specs.Prelude.{IfOk};
-ghost use Rattle.expression_rules.specs.Ranges.{CoreInRange, TypedInRange, GivenInRange, ContextInRange, bounds_of};
+ghost use Rattle.expression_rules.specs.Ranges.{CoreInRange, OperandInRange, GivenInRange, ContextInRange, bounds_of};
 
 use crate::arguments::Given;
 use crate::calls::{member_call, parent_call, plain_call, script_call};
@@ -8,10 +8,10 @@ use crate::context::Context;
 use crate::conversions::{cast, convert};
 use crate::members::{element, length, member, new_array};
 use crate::notes::Notes;
+use crate::operand::Operand;
 use crate::operators::{binary, unary};
 use crate::rule::TypeRule;
-use crate::spine::{Leaf, Spine, Step, Written};
-use crate::typed::Typed;
+use crate::spine::{Leaf, Spine, Step, Steps, Written};
 use crate::words::{instance, meaning_of, member_of_word, read_word, unknown_word};
 use core_tree::{Core, CoreType, Value};
 use line_parser::{Argument, Expr};
@@ -27,8 +27,8 @@ pub(crate) fn any(
     context: &Context<'_>,
     notes: &mut Notes,
     tree: &Expr,
-) -> Result<Typed, OutOfMemory>
-    ensures { ContextInRange context.now → IfOk result (TypedInRange (bounds_of context.now)) }
+) -> Result<Operand, OutOfMemory>
+    ensures { ContextInRange context.now → IfOk result (OperandInRange (bounds_of context.now)) }
 {
     expression(context, notes, tree, DEPTH_LIMIT)
 }
@@ -38,11 +38,11 @@ pub(crate) fn value(
     context: &Context<'_>,
     notes: &mut Notes,
     tree: &Expr,
-) -> Result<Typed, OutOfMemory>
-    ensures { ContextInRange context.now → IfOk result (TypedInRange (bounds_of context.now)) }
+) -> Result<Operand, OutOfMemory>
+    ensures { ContextInRange context.now → IfOk result (OperandInRange (bounds_of context.now)) }
 {
-    let typed = any(context, notes, tree)?;
-    Ok(used(context, notes, typed))
+    let operand = any(context, notes, tree)?;
+    Ok(used(context, notes, operand))
 }
 
 /// The tree of a value that is needed as a Bool.
@@ -50,11 +50,11 @@ pub(crate) fn truth(
     context: &Context<'_>,
     notes: &mut Notes,
     tree: &Expr,
-) -> Result<Core, OutOfMemory>
-    ensures { ContextInRange context.now → IfOk result (CoreInRange (bounds_of context.now)) }
+) -> Result<Box<Core>, OutOfMemory>
+    ensures { ContextInRange context.now → IfOk result (λ core. CoreInRange (bounds_of context.now) core.value) }
 {
-    let typed = value(context, notes, tree)?;
-    convert(context, notes, typed, Some(CoreType::Bool))
+    let value = value(context, notes, tree)?;
+    convert(context, notes, value, Some(CoreType::Bool))
 }
 
 // An expression. `OutOfMemory` is also the answer where it is deeper than any line's.
@@ -64,8 +64,8 @@ fn expression(
     notes: &mut Notes,
     tree: &Expr,
     depth: u16,
-) -> Result<Typed, OutOfMemory>
-    ensures { ContextInRange context.now → IfOk result (TypedInRange (bounds_of context.now)) }
+) -> Result<Operand, OutOfMemory>
+    ensures { ContextInRange context.now → IfOk result (OperandInRange (bounds_of context.now)) }
 {
     let Some(inner) = depth.checked_sub(1) else {
         return Err(OutOfMemory);
@@ -86,10 +86,10 @@ fn leaf(
     context: &Context<'_>,
     notes: &mut Notes,
     leaf: Leaf<'_>,
-    steps: &mut Vec<Step<'_>>,
+    steps: &mut Steps<'_>,
     depth: u16,
-) -> Result<Typed, OutOfMemory>
-    ensures { ContextInRange context.now → IfOk result (TypedInRange (bounds_of context.now)) }
+) -> Result<Operand, OutOfMemory>
+    ensures { ContextInRange context.now → IfOk result (OperandInRange (bounds_of context.now)) }
 {
     match leaf {
         Leaf::Word(name) => word(context, notes, name, steps, depth),
@@ -101,7 +101,7 @@ fn leaf(
             let given = given(context, notes, arguments, depth)?;
             parent_call(context, notes, name, given)
         }
-        Leaf::SelfValue => Ok(instance(context, notes)),
+        Leaf::SelfValue => instance(context, notes),
         Leaf::NewArray(element, count) => new_array(context, notes, element, count),
         Leaf::Constant(constant) => written(context, constant),
     }
@@ -113,17 +113,16 @@ fn word(
     context: &Context<'_>,
     notes: &mut Notes,
     name: &Name,
-    steps: &mut Vec<Step<'_>>,
+    steps: &mut Steps<'_>,
     depth: u16,
-) -> Result<Typed, OutOfMemory>
-    ensures { ContextInRange context.now → IfOk result (TypedInRange (bounds_of context.now)) }
+) -> Result<Operand, OutOfMemory>
+    ensures { ContextInRange context.now → IfOk result (OperandInRange (bounds_of context.now)) }
 {
     if let Some(meaning) = meaning_of(context, name)? {
         return read_word(context, notes, meaning, name);
     }
-    match steps.last() {
+    match steps.last {
         Some(Step::MemberCall(function, arguments)) => {
-            let (function, arguments) = (*function, *arguments);
             let _ = steps.pop();
             let given = given(context, notes, arguments, depth)?;
             script_call(context, notes, name, function, given)
@@ -132,7 +131,7 @@ fn word(
             let _ = steps.pop();
             member_of_word(context, notes, name)
         }
-        _ => Ok(unknown_word(context, notes)),
+        _ => unknown_word(context, notes),
     }
 }
 
@@ -140,11 +139,11 @@ fn word(
 fn step(
     context: &Context<'_>,
     notes: &mut Notes,
-    of: Typed,
+    of: Operand,
     step: Step<'_>,
     depth: u16,
-) -> Result<Typed, OutOfMemory>
-    ensures { ContextInRange context.now → TypedInRange (bounds_of context.now) of → IfOk result (TypedInRange (bounds_of context.now)) }
+) -> Result<Operand, OutOfMemory>
+    ensures { ContextInRange context.now → OperandInRange (bounds_of context.now) of → IfOk result (OperandInRange (bounds_of context.now)) }
 {
     let of = used(context, notes, of);
     match step {
@@ -179,7 +178,7 @@ fn given<'t>(
 ) -> Result<Vec<Given<'t>>, OutOfMemory>
     ensures { ContextInRange context.now → IfOk result (λ found. GivenInRange (bounds_of context.now) found.items) }
 {
-    let mut found = Vec::new(context.catalog.alloc);
+    let mut found = Vec::with_capacity(context.catalog.alloc, arguments.len())?;
     for argument in arguments.iter().rev() {
         let value = expression(context, notes, &argument.value, depth)?;
         let value = used(context, notes, value);
@@ -192,26 +191,46 @@ fn given<'t>(
 }
 
 // The same where a value is needed.
-fn used(context: &Context<'_>, notes: &mut Notes, typed: Typed) -> Typed
-    ensures { TypedInRange (bounds_of context.now) typed → TypedInRange (bounds_of context.now) result }
+fn used(context: &Context<'_>, notes: &mut Notes, operand: Operand) -> Operand
+    ensures { OperandInRange (bounds_of context.now) operand → OperandInRange (bounds_of context.now) result }
 {
-    if typed.kind == Kind::Nothing {
-        return context.broken(notes, TypeRule::NoValue);
+    if operand.kind != Kind::Nothing {
+        return operand;
     }
-    typed
+    context.fault(notes, TypeRule::NoValue);
+    Operand {
+        core: operand.core,
+        kind: Kind::Unknown,
+    }
 }
 
 // A constant that is written out.
-fn written(context: &Context<'_>, constant: Written<'_>) -> Result<Typed, OutOfMemory>
-    ensures { IfOk result (TypedInRange (bounds_of context.now)) }
+fn written(context: &Context<'_>, constant: Written<'_>) -> Result<Operand, OutOfMemory>
+    ensures { IfOk result (OperandInRange (bounds_of context.now)) }
 {
     match constant {
-        Written::Int(number) => Ok(Typed::literal(Value::Int(number), Kind::Of(CoreType::Int))),
-        Written::Bool(truth) => Ok(Typed::literal(Value::Bool(truth), Kind::Of(CoreType::Bool))),
+        Written::Int(number) => Operand::literal(
+            context.catalog.alloc,
+            Value::Int(number),
+            Kind::Of(CoreType::Int),
+        ),
+        Written::Bool(truth) => Operand::literal(
+            context.catalog.alloc,
+            Value::Bool(truth),
+            Kind::Of(CoreType::Bool),
+        ),
         Written::Quoted(text) => {
             let text = text.try_clone(context.catalog.alloc)?;
-            Ok(Typed::literal(Value::Text(text), Kind::Of(CoreType::Text)))
+            Operand::literal(
+                context.catalog.alloc,
+                Value::Text(text),
+                Kind::Of(CoreType::Text),
+            )
         }
-        Written::NoneValue => Ok(Typed::literal(Value::NoneValue, Kind::NoneLiteral)),
+        Written::NoneValue => Operand::literal(
+            context.catalog.alloc,
+            Value::NoneValue,
+            Kind::NoneLiteral,
+        ),
     }
 }

@@ -15,40 +15,43 @@ pub(crate) fn no_form() -> CoreStatement
     CoreStatement::Plain(nothing())
 }
 
-pub(crate) fn set_local(number: u16, value: Core) -> CoreStatement
-    ensures { (b : Bounds) → number < b.locals → CoreInRange b value → FormInRange b result }
+pub(crate) fn set_local(number: u16, value: Box<Core>) -> CoreStatement
+    ensures { (b : Bounds) → number < b.locals → CoreInRange b value.value → FormInRange b result }
 {
-    CoreStatement::SetLocal(number, value)
+    CoreStatement::SetLocal(number, Box::into_inner(value))
 }
 
-pub(crate) fn set_field(number: u16, value: Core) -> CoreStatement
-    ensures { (b : Bounds) → number < b.variables → CoreInRange b value → FormInRange b result }
+pub(crate) fn set_field(number: u16, value: Box<Core>) -> CoreStatement
+    ensures { (b : Bounds) → number < b.variables → CoreInRange b value.value → FormInRange b result }
 {
-    CoreStatement::SetField(number, value)
+    CoreStatement::SetField(number, Box::into_inner(value))
 }
 
-pub(crate) fn set_state(value: Core) -> CoreStatement
-    ensures { (b : Bounds) → CoreInRange b value → FormInRange b result }
+pub(crate) fn set_state(value: Box<Core>) -> CoreStatement
+    ensures { (b : Bounds) → CoreInRange b value.value → FormInRange b result }
 {
-    CoreStatement::SetState(value)
+    CoreStatement::SetState(Box::into_inner(value))
 }
 
 pub(crate) fn set_property(
     alloc: Global,
-    of: Core,
+    of: Box<Core>,
     name: &Name,
-    value: Core,
+    value: Box<Core>,
 ) -> Result<CoreStatement, OutOfMemory>
-    ensures { (b : Bounds) → CoreInRange b of → CoreInRange b value → IfOk result (FormInRange b) }
+    ensures { (b : Bounds) → CoreInRange b of.value → CoreInRange b value.value → IfOk result (FormInRange b) }
 {
     let name = name.try_clone(alloc)?;
-    Ok(CoreStatement::SetProp(of, name, value))
+    let of = Box::into_inner(of);
+    Ok(CoreStatement::SetProp(of, name, Box::into_inner(value)))
 }
 
-pub(crate) fn set_element(array: Core, at: Core, value: Core) -> CoreStatement
-    ensures { (b : Bounds) → CoreInRange b array → CoreInRange b at → CoreInRange b value → FormInRange b result }
+pub(crate) fn set_element(array: Box<Core>, at: Box<Core>, value: Box<Core>) -> CoreStatement
+    ensures { (b : Bounds) → CoreInRange b array.value → CoreInRange b at.value → CoreInRange b value.value → FormInRange b result }
 {
-    CoreStatement::SetElement(array, at, value)
+    let array = Box::into_inner(array);
+    let at = Box::into_inner(at);
+    CoreStatement::SetElement(array, at, Box::into_inner(value))
 }
 
 /// A change of a property or an element: its type, the operation, and the right side.
@@ -56,23 +59,28 @@ pub(crate) fn set_element(array: Core, at: Core, value: Core) -> CoreStatement
 pub(crate) struct Change {
     pub(crate) kind: CoreType,
     pub(crate) operation: Arith,
-    pub(crate) right: Core,
+    pub(crate) right: Box<Core>,
 }
 
 pub(crate) fn change_property(
     alloc: Global,
-    of: Core,
+    of: Box<Core>,
     name: &Name,
     change: Change,
 ) -> Result<CoreStatement, OutOfMemory>
-    ensures { (b : Bounds) → CoreInRange b of → ChangeInRange b change → IfOk result (FormInRange b) }
+    ensures { (b : Bounds) → CoreInRange b of.value → ChangeInRange b change → IfOk result (FormInRange b) }
 {
     let name = name.try_clone(alloc)?;
-    Ok(CoreStatement::ChangeProp(of, name, change.kind, change.operation, change.right))
+    let of = Box::into_inner(of);
+    let right = Box::into_inner(change.right);
+    Ok(CoreStatement::ChangeProp(of, name, change.kind, change.operation, right))
 }
 
-pub(crate) fn change_element(array: Core, at: Core, change: Change) -> CoreStatement
-    ensures { (b : Bounds) → CoreInRange b array → CoreInRange b at → ChangeInRange b change → FormInRange b result }
+pub(crate) fn change_element(array: Box<Core>, at: Box<Core>, change: Change) -> CoreStatement
+    ensures { (b : Bounds) → CoreInRange b array.value → CoreInRange b at.value → ChangeInRange b change → FormInRange b result }
 {
-    CoreStatement::ChangeElement(array, at, change.kind, change.operation, change.right)
+    let array = Box::into_inner(array);
+    let at = Box::into_inner(at);
+    let right = Box::into_inner(change.right);
+    CoreStatement::ChangeElement(array, at, change.kind, change.operation, right)
 }

@@ -12,6 +12,7 @@ mod expression;
 mod forms;
 mod members;
 mod notes;
+mod operand;
 mod operators;
 mod parameters;
 mod rule;

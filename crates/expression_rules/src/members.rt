@@ -2,14 +2,14 @@
 ghost use Rattle.std.specs.Prelude.{◌≡◌, ◌<◌, ◌≤◌, pos, IfOk, IfSome, IfNone, List, ℕ};
 ghost use Rattle.core_tree.specs.InRange.{Bounds, TypeInRange, ResultInRange};
 ghost use Rattle.type_scope.specs.Scope.{KindInRange, function_counts};
-ghost use Rattle.expression_rules.specs.Ranges.{CoreInRange, TypedInRange, bounds_of};
+ghost use Rattle.expression_rules.specs.Ranges.{CoreInRange, OperandInRange, bounds_of};
 
 use crate::context::Context;
 use crate::conversions::convert;
 use crate::notes::Notes;
+use crate::operand::Operand;
 use crate::rule::TypeRule;
 use crate::trees::{element_at, field, length_of, new_array_of, property_read};
-use crate::typed::Typed;
 use core_tree::{Core, CoreType};
 use papy_base::{Name, OutOfMemory};
 use script_linker::PropertyRef;
@@ -29,14 +29,14 @@ pub(crate) enum Access {
 pub(crate) fn member(
     context: &Context<'_>,
     notes: &mut Notes,
-    of: Typed,
+    of: Operand,
     name: &Name,
-) -> Result<Typed, OutOfMemory>
-    ensures { TypedInRange (bounds_of context.now) of → IfOk result (TypedInRange (bounds_of context.now)) }
+) -> Result<Operand, OutOfMemory>
+    ensures { OperandInRange (bounds_of context.now) of → IfOk result (OperandInRange (bounds_of context.now)) }
 {
     match property_of(context, notes, of.kind, name) {
         Some(at) => read_property(context, notes, of.core, at, name),
-        None => Ok(context.unknown()),
+        None => context.unknown(),
     }
 }
 
@@ -62,32 +62,32 @@ pub(crate) fn property_of(
 pub(crate) fn read_property(
     context: &Context<'_>,
     notes: &mut Notes,
-    of: Core,
+    of: Box<Core>,
     at: PropertyRef,
     name: &Name,
-) -> Result<Typed, OutOfMemory>
-    ensures { CoreInRange (bounds_of context.now) of → IfOk result (TypedInRange (bounds_of context.now)) }
+) -> Result<Operand, OutOfMemory>
+    ensures { CoreInRange (bounds_of context.now) of.value → IfOk result (OperandInRange (bounds_of context.now)) }
 {
     match property_type(context, notes, at, Access::Read)? {
         Some(kind) => property_value(context, of, at, name, kind),
-        None => Ok(context.unknown()),
+        None => context.unknown(),
     }
 }
 
 fn property_value(
     context: &Context<'_>,
-    of: Core,
+    of: Box<Core>,
     at: PropertyRef,
     name: &Name,
     kind: CoreType,
-) -> Result<Typed, OutOfMemory>
-    ensures { TypeInRange (bounds_of context.now).functions kind → CoreInRange (bounds_of context.now) of → IfOk result (TypedInRange (bounds_of context.now)) }
+) -> Result<Operand, OutOfMemory>
+    ensures { TypeInRange (bounds_of context.now).functions kind → CoreInRange (bounds_of context.now) of.value → IfOk result (OperandInRange (bounds_of context.now)) }
 {
     match own_variable(context, &of, at) {
-        Some(number) => Ok(Typed::of(field(number), kind)),
+        Some(number) => Operand::of(context.catalog.alloc, field(number), kind),
         None => {
             let core = property_read(context.catalog.alloc, of, name, kind)?;
-            Ok(Typed::of(core, kind))
+            Operand::of(context.catalog.alloc, core, kind)
         }
     }
 }
@@ -151,33 +151,33 @@ pub(crate) fn own_variable(context: &Context<'_>, of: &Core, at: PropertyRef) ->
 pub(crate) fn length(
     context: &Context<'_>,
     notes: &mut Notes,
-    of: Typed,
-) -> Result<Typed, OutOfMemory>
-    ensures { TypedInRange (bounds_of context.now) of → IfOk result (TypedInRange (bounds_of context.now)) }
+    of: Operand,
+) -> Result<Operand, OutOfMemory>
+    ensures { OperandInRange (bounds_of context.now) of → IfOk result (OperandInRange (bounds_of context.now)) }
 {
     if !of.is_unknown() && element_kind(of.kind).is_none() {
-        return Ok(context.broken(notes, TypeRule::NoProperty));
+        return context.broken(notes, TypeRule::NoProperty);
     }
-    let core = length_of(context.catalog.alloc, of.core)?;
-    Ok(Typed::of(core, CoreType::Int))
+    let core = length_of(of.core);
+    Operand::of(context.catalog.alloc, core, CoreType::Int)
 }
 
 /// `of[at]`, read.
 pub(crate) fn element(
     context: &Context<'_>,
     notes: &mut Notes,
-    of: Typed,
-    at: Typed,
-) -> Result<Typed, OutOfMemory>
-    ensures { TypedInRange (bounds_of context.now) of → TypedInRange (bounds_of context.now) at → IfOk result (TypedInRange (bounds_of context.now)) }
+    of: Operand,
+    at: Operand,
+) -> Result<Operand, OutOfMemory>
+    ensures { OperandInRange (bounds_of context.now) of → OperandInRange (bounds_of context.now) at → IfOk result (OperandInRange (bounds_of context.now)) }
 {
     let at = convert(context, notes, at, Some(CoreType::Int))?;
     match indexed(context, notes, of.kind) {
         Some(element) => {
-            let core = element_at(context.catalog.alloc, of.core, at, element)?;
-            Ok(Typed::of(core, element))
+            let core = element_at(of.core, at, element);
+            Operand::of(context.catalog.alloc, core, element)
         }
-        None => Ok(context.unknown()),
+        None => context.unknown(),
     }
 }
 
@@ -208,24 +208,28 @@ pub(crate) fn new_array(
     notes: &mut Notes,
     word: &Name,
     count: i32,
-) -> Result<Typed, OutOfMemory>
-    ensures { IfOk result (TypedInRange (bounds_of context.now)) }
+) -> Result<Operand, OutOfMemory>
+    ensures { IfOk result (OperandInRange (bounds_of context.now)) }
 {
     let size = array_size(count);
     if size.is_none() {
         context.fault(notes, TypeRule::ArraySize);
     }
     match context.catalog.element_type(word)? {
-        Some(element) => Ok(array_made(element, size)),
-        None => Ok(context.broken(notes, TypeRule::UnknownType)),
+        Some(element) => array_made(context, element, size),
+        None => context.broken(notes, TypeRule::UnknownType),
     }
 }
 
-fn array_made(element: CoreType, size: Option<u8>) -> Typed
-    ensures { (b : Bounds) → TypeInRange b.functions element → TypedInRange b result }
+fn array_made(
+    context: &Context<'_>,
+    element: CoreType,
+    size: Option<u8>,
+) -> Result<Operand, OutOfMemory>
+    ensures { (b : Bounds) → TypeInRange b.functions element → IfOk result (OperandInRange b) }
 {
     let core = new_array_of(element, size.unwrap_or(1));
-    Typed::of(core, array_of(element))
+    Operand::of(context.catalog.alloc, core, array_of(element))
 }
 
 // The size of an array, where it is one.

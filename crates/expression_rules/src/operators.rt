@@ -2,14 +2,14 @@
 ghost use Rattle.std.specs.Prelude.{◌≡◌, IfOk};
 ghost use Rattle.core_tree.specs.InRange.{ResultInRange};
 ghost use Rattle.expression_rules.specs.Operations.{whole_operation, operation_with_text, operation_of, operand_type};
-ghost use Rattle.expression_rules.specs.Ranges.{TypedInRange, bounds_of};
+ghost use Rattle.expression_rules.specs.Ranges.{OperandInRange, bounds_of};
 
 use crate::context::Context;
 use crate::conversions::{common_type, convert, prints};
 use crate::notes::Notes;
+use crate::operand::Operand;
 use crate::rule::TypeRule;
 use crate::trees::{both, calculated, compared, either, equated, inverted, joined, negated};
-use crate::typed::Typed;
 use core_tree::{Arith, CoreType, Order};
 use papy_base::OutOfMemory;
 use script_lexer::Sign;
@@ -22,30 +22,30 @@ pub(crate) fn unary(
     context: &Context<'_>,
     notes: &mut Notes,
     sign: Sign,
-    of: Typed,
-) -> Result<Typed, OutOfMemory>
-    ensures { TypedInRange (bounds_of context.now) of → IfOk result (TypedInRange (bounds_of context.now)) }
+    of: Operand,
+) -> Result<Operand, OutOfMemory>
+    ensures { OperandInRange (bounds_of context.now) of → IfOk result (OperandInRange (bounds_of context.now)) }
 {
     if of.is_unknown() {
-        return Ok(context.unknown());
+        return context.unknown();
     }
     if sign == Sign::Not {
         return opposite(context, notes, of);
     }
     if of.kind != INT {
-        return Ok(bad_operand(context, notes));
+        return bad_operand(context, notes);
     }
-    let core = negated(context.catalog.alloc, of.core)?;
-    Ok(Typed::of(core, CoreType::Int))
+    let core = negated(of.core);
+    Operand::of(context.catalog.alloc, core, CoreType::Int)
 }
 
 // Whether the value is False.
-fn opposite(context: &Context<'_>, notes: &mut Notes, of: Typed) -> Result<Typed, OutOfMemory>
-    ensures { TypedInRange (bounds_of context.now) of → IfOk result (TypedInRange (bounds_of context.now)) }
+fn opposite(context: &Context<'_>, notes: &mut Notes, of: Operand) -> Result<Operand, OutOfMemory>
+    ensures { OperandInRange (bounds_of context.now) of → IfOk result (OperandInRange (bounds_of context.now)) }
 {
     let truth = convert(context, notes, of, Some(CoreType::Bool))?;
-    let core = inverted(context.catalog.alloc, truth)?;
-    Ok(Typed::of(core, CoreType::Bool))
+    let core = inverted(truth);
+    Operand::of(context.catalog.alloc, core, CoreType::Bool)
 }
 
 /// A sign between two values.
@@ -53,13 +53,13 @@ pub(crate) fn binary(
     context: &Context<'_>,
     notes: &mut Notes,
     sign: Sign,
-    left: Typed,
-    right: Typed,
-) -> Result<Typed, OutOfMemory>
-    ensures { TypedInRange (bounds_of context.now) left → TypedInRange (bounds_of context.now) right → IfOk result (TypedInRange (bounds_of context.now)) }
+    left: Operand,
+    right: Operand,
+) -> Result<Operand, OutOfMemory>
+    ensures { OperandInRange (bounds_of context.now) left → OperandInRange (bounds_of context.now) right → IfOk result (OperandInRange (bounds_of context.now)) }
 {
     if left.is_unknown() || right.is_unknown() {
-        return Ok(context.unknown());
+        return context.unknown();
     }
     match sign {
         Sign::And | Sign::Or => logical(context, notes, sign, left, right),
@@ -78,36 +78,36 @@ fn logical(
     context: &Context<'_>,
     notes: &mut Notes,
     sign: Sign,
-    left: Typed,
-    right: Typed,
-) -> Result<Typed, OutOfMemory>
-    ensures { TypedInRange (bounds_of context.now) left → TypedInRange (bounds_of context.now) right → IfOk result (TypedInRange (bounds_of context.now)) }
+    left: Operand,
+    right: Operand,
+) -> Result<Operand, OutOfMemory>
+    ensures { OperandInRange (bounds_of context.now) left → OperandInRange (bounds_of context.now) right → IfOk result (OperandInRange (bounds_of context.now)) }
 {
     let left = convert(context, notes, left, Some(CoreType::Bool))?;
     let right = convert(context, notes, right, Some(CoreType::Bool))?;
     if sign == Sign::And {
-        let core = both(context.catalog.alloc, left, right)?;
-        Ok(Typed::of(core, CoreType::Bool))
+        let core = both(left, right);
+        Operand::of(context.catalog.alloc, core, CoreType::Bool)
     } else {
-        let core = either(context.catalog.alloc, left, right)?;
-        Ok(Typed::of(core, CoreType::Bool))
+        let core = either(left, right);
+        Operand::of(context.catalog.alloc, core, CoreType::Bool)
     }
 }
 
 fn equal(
     context: &Context<'_>,
     notes: &mut Notes,
-    left: Typed,
-    right: Typed,
-) -> Result<Typed, OutOfMemory>
-    ensures { TypedInRange (bounds_of context.now) left → TypedInRange (bounds_of context.now) right → IfOk result (TypedInRange (bounds_of context.now)) }
+    left: Operand,
+    right: Operand,
+) -> Result<Operand, OutOfMemory>
+    ensures { OperandInRange (bounds_of context.now) left → OperandInRange (bounds_of context.now) right → IfOk result (OperandInRange (bounds_of context.now)) }
 {
     if left.kind == Kind::NoneLiteral && right.kind == Kind::NoneLiteral {
         return equated_as(context, notes, left, right, None);
     }
     match common_type(context.catalog, left.kind, right.kind) {
         Some(to) => equated_as(context, notes, left, right, Some(to)),
-        None => Ok(bad_operand(context, notes)),
+        None => bad_operand(context, notes),
     }
 }
 
@@ -115,25 +115,25 @@ fn equal(
 fn equated_as(
     context: &Context<'_>,
     notes: &mut Notes,
-    left: Typed,
-    right: Typed,
+    left: Operand,
+    right: Operand,
     to: Option<CoreType>,
-) -> Result<Typed, OutOfMemory>
-    ensures { ResultInRange (bounds_of context.now).functions to → TypedInRange (bounds_of context.now) left → TypedInRange (bounds_of context.now) right → IfOk result (TypedInRange (bounds_of context.now)) }
+) -> Result<Operand, OutOfMemory>
+    ensures { ResultInRange (bounds_of context.now).functions to → OperandInRange (bounds_of context.now) left → OperandInRange (bounds_of context.now) right → IfOk result (OperandInRange (bounds_of context.now)) }
 {
     let left = convert(context, notes, left, to)?;
     let right = convert(context, notes, right, to)?;
-    let core = equated(context.catalog.alloc, left, right)?;
-    Ok(Typed::of(core, CoreType::Bool))
+    let core = equated(left, right);
+    Operand::of(context.catalog.alloc, core, CoreType::Bool)
 }
 
 fn different(
     context: &Context<'_>,
     notes: &mut Notes,
-    left: Typed,
-    right: Typed,
-) -> Result<Typed, OutOfMemory>
-    ensures { TypedInRange (bounds_of context.now) left → TypedInRange (bounds_of context.now) right → IfOk result (TypedInRange (bounds_of context.now)) }
+    left: Operand,
+    right: Operand,
+) -> Result<Operand, OutOfMemory>
+    ensures { OperandInRange (bounds_of context.now) left → OperandInRange (bounds_of context.now) right → IfOk result (OperandInRange (bounds_of context.now)) }
 {
     let equal = equal(context, notes, left, right)?;
     if equal.is_unknown() {
@@ -146,16 +146,16 @@ fn compare(
     context: &Context<'_>,
     notes: &mut Notes,
     order: Order,
-    left: Typed,
-    right: Typed,
-) -> Result<Typed, OutOfMemory>
-    ensures { TypedInRange (bounds_of context.now) left → TypedInRange (bounds_of context.now) right → IfOk result (TypedInRange (bounds_of context.now)) }
+    left: Operand,
+    right: Operand,
+) -> Result<Operand, OutOfMemory>
+    ensures { OperandInRange (bounds_of context.now) left → OperandInRange (bounds_of context.now) right → IfOk result (OperandInRange (bounds_of context.now)) }
 {
     if left.kind != INT || right.kind != INT {
-        return Ok(bad_operand(context, notes));
+        return bad_operand(context, notes);
     }
-    let core = compared(context.catalog.alloc, order, left.core, right.core)?;
-    Ok(Typed::of(core, CoreType::Bool))
+    let core = compared(order, left.core, right.core);
+    Operand::of(context.catalog.alloc, core, CoreType::Bool)
 }
 
 /// Arithmetic on whole numbers, or two texts joined.
@@ -163,33 +163,33 @@ pub(crate) fn arithmetic(
     context: &Context<'_>,
     notes: &mut Notes,
     sign: Sign,
-    left: Typed,
-    right: Typed,
-) -> Result<Typed, OutOfMemory>
-    ensures { TypedInRange (bounds_of context.now) left → TypedInRange (bounds_of context.now) right → IfOk result (TypedInRange (bounds_of context.now)) }
+    left: Operand,
+    right: Operand,
+) -> Result<Operand, OutOfMemory>
+    ensures { OperandInRange (bounds_of context.now) left → OperandInRange (bounds_of context.now) right → IfOk result (OperandInRange (bounds_of context.now)) }
 {
     match operation(context, notes, sign, left.kind, right.kind) {
         Some(Arith::Join) => join(context, notes, left, right),
         Some(operation) => {
-            let core = calculated(context.catalog.alloc, operation, left.core, right.core)?;
-            Ok(Typed::of(core, CoreType::Int))
+            let core = calculated(operation, left.core, right.core);
+            Operand::of(context.catalog.alloc, core, CoreType::Int)
         }
-        None => Ok(context.unknown()),
+        None => context.unknown(),
     }
 }
 
 fn join(
     context: &Context<'_>,
     notes: &mut Notes,
-    left: Typed,
-    right: Typed,
-) -> Result<Typed, OutOfMemory>
-    ensures { TypedInRange (bounds_of context.now) left → TypedInRange (bounds_of context.now) right → IfOk result (TypedInRange (bounds_of context.now)) }
+    left: Operand,
+    right: Operand,
+) -> Result<Operand, OutOfMemory>
+    ensures { OperandInRange (bounds_of context.now) left → OperandInRange (bounds_of context.now) right → IfOk result (OperandInRange (bounds_of context.now)) }
 {
     let left = convert(context, notes, left, Some(CoreType::Text))?;
     let right = convert(context, notes, right, Some(CoreType::Text))?;
-    let core = joined(context.catalog.alloc, left, right)?;
-    Ok(Typed::of(core, CoreType::Text))
+    let core = joined(left, right);
+    Operand::of(context.catalog.alloc, core, CoreType::Text)
 }
 
 /// What a sign does with values of these types. `Operand` is broken where it does nothing with them.
@@ -255,8 +255,8 @@ fn whole_operation(sign: Sign) -> Option<Arith>
     }
 }
 
-fn bad_operand(context: &Context<'_>, notes: &mut Notes) -> Typed
-    ensures { TypedInRange (bounds_of context.now) result }
+fn bad_operand(context: &Context<'_>, notes: &mut Notes) -> Result<Operand, OutOfMemory>
+    ensures { IfOk result (OperandInRange (bounds_of context.now)) }
 {
     context.broken(notes, TypeRule::Operand)
 }

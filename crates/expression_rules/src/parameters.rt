@@ -163,7 +163,8 @@ fn default_argument(
             if !default_fits(context.catalog, constant, kind) {
                 return Ok(nothing());
             }
-            cast_to(context.catalog.alloc, to, value)
+            let value = Box::new(context.catalog.alloc, value)?;
+            Ok(cast_to(to, value))
         }
         _ => Ok(value),
     }

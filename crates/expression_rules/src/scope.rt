@@ -124,7 +124,7 @@ impl<'a> Scope<'a> {
         ensures kept { Keeps self.old self.new }
     {
         let context = context_of!(self);
-        any(&context, &mut self.notes, tree)
+        Ok(any(&context, &mut self.notes, tree)?.into_typed())
     }
 
     /// An expression whose value is needed. `NoValue` is broken where it has none.
@@ -133,17 +133,19 @@ impl<'a> Scope<'a> {
         ensures kept { Keeps self.old self.new }
     {
         let context = context_of!(self);
-        value(&context, &mut self.notes, tree)
+        Ok(value(&context, &mut self.notes, tree)?.into_typed())
     }
 
     /// The tree of a value that is needed as this type. `NoConversion` is broken where it doesn't convert to
     /// it by itself.
-    pub fn convert(&mut self, typed: Typed, to: Option<CoreType>) -> Result<Core, OutOfMemory>
-        ensures in_range { ResultInRange (scope_bounds self.old).functions to → TypedInRange (scope_bounds self.old) typed → IfOk result (CoreInRange (scope_bounds self.old)) }
+    pub fn value_as(&mut self, tree: &Expr, to: Option<CoreType>) -> Result<Core, OutOfMemory>
+        ensures in_range { ScopeInRange self.old → ResultInRange (scope_bounds self.old).functions to → IfOk result (CoreInRange (scope_bounds self.old)) }
         ensures kept { Keeps self.old self.new }
     {
         let context = context_of!(self);
-        convert(&context, &mut self.notes, typed, to)
+        let value = value(&context, &mut self.notes, tree)?;
+        let core = convert(&context, &mut self.notes, value, to)?;
+        Ok(Box::into_inner(core))
     }
 
     /// The tree of a value that is needed as a Bool.
@@ -152,7 +154,7 @@ impl<'a> Scope<'a> {
         ensures kept { Keeps self.old self.new }
     {
         let context = context_of!(self);
-        truth(&context, &mut self.notes, tree)
+        Ok(Box::into_inner(truth(&context, &mut self.notes, tree)?))
     }
 
     /// An assignment, also one such as `+=`.

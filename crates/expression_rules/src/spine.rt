@@ -1,5 +1,6 @@
 // An expression as what it begins with and what is done to that, step by step.
-ghost use Rattle.expression_rules.specs.Spine.{GoesDown};
+ghost use Rattle.std.specs.Prelude.{◌<◌, OnSome};
+ghost use Rattle.expression_rules.specs.Spine.{GoesDown, step_count};
 
 use line_parser::{Argument, Expr, TypeName};
 use papy_base::{Name, OutOfMemory, Text};
@@ -51,12 +52,45 @@ pub(crate) enum Top<'t> {
 #[derive(Drop)]
 pub(crate) struct Spine<'t> {
     pub(crate) leaf: Leaf<'t>,
-    pub(crate) steps: Vec<Step<'t>>,
+    pub(crate) steps: Steps<'t>,
+}
+
+/// Steps, of which the last one stands by itself: most expressions have no other, and so need no memory.
+#[derive(Drop)]
+pub(crate) struct Steps<'t> {
+    pub(crate) last: Option<Step<'t>>,
+    before: Vec<Step<'t>>,
+}
+
+impl<'t> Steps<'t> {
+    fn new(alloc: Global) -> Steps<'t> {
+        Steps {
+            last: None,
+            before: Vec::new(alloc),
+        }
+    }
+
+    fn push(&mut self, step: Step<'t>) -> Result<(), OutOfMemory> {
+        if let Some(last) = self.last {
+            self.before.push(last)?;
+        }
+        self.last = Some(step);
+        Ok(())
+    }
+
+    /// Takes the last step, where there is one.
+    pub(crate) fn pop(&mut self) -> Option<Step<'t>>
+        ensures { OnSome result (step_count self.new < step_count self.old) }
+    {
+        let last = self.last?;
+        self.last = self.before.pop();
+        Some(last)
+    }
 }
 
 impl<'t> Spine<'t> {
     pub(crate) fn of(alloc: Global, tree: &'t Expr) -> Result<Spine<'t>, OutOfMemory> {
-        let mut steps = Vec::new(alloc);
+        let mut steps = Steps::new(alloc);
         let mut rest = tree;
         'tops: loop {
             match top_of(rest) {

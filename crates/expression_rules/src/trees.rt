@@ -50,94 +50,68 @@ pub(crate) fn new_array_of(element: CoreType, count: u8) -> Core
     Core::NewArray(element, count)
 }
 
-pub(crate) fn cast_to(alloc: Global, to: CoreType, of: Core) -> Result<Core, OutOfMemory>
-    ensures { (b : Bounds) → TypeInRange b.functions to → CoreInRange b of → IfOk result (CoreInRange b) }
+pub(crate) fn cast_to(to: CoreType, of: Box<Core>) -> Core
+    ensures { (b : Bounds) → TypeInRange b.functions to → CoreInRange b of.value → CoreInRange b result }
 {
-    let of = Box::new(alloc, of)?;
-    Ok(Core::Cast(to, of))
+    Core::Cast(to, of)
 }
 
-pub(crate) fn negated(alloc: Global, of: Core) -> Result<Core, OutOfMemory>
-    ensures { (b : Bounds) → CoreInRange b of → IfOk result (CoreInRange b) }
+pub(crate) fn negated(of: Box<Core>) -> Core
+    ensures { (b : Bounds) → CoreInRange b of.value → CoreInRange b result }
 {
-    let of = Box::new(alloc, of)?;
-    Ok(Core::Neg(of))
+    Core::Neg(of)
 }
 
-pub(crate) fn inverted(alloc: Global, of: Core) -> Result<Core, OutOfMemory>
-    ensures { (b : Bounds) → CoreInRange b of → IfOk result (CoreInRange b) }
+pub(crate) fn inverted(of: Box<Core>) -> Core
+    ensures { (b : Bounds) → CoreInRange b of.value → CoreInRange b result }
 {
-    let of = Box::new(alloc, of)?;
-    Ok(Core::Not(of))
+    Core::Not(of)
 }
 
-pub(crate) fn calculated(
-    alloc: Global,
-    operation: Arith,
-    left: Core,
-    right: Core,
-) -> Result<Core, OutOfMemory>
-    ensures { (b : Bounds) → CoreInRange b left → CoreInRange b right → IfOk result (CoreInRange b) }
+pub(crate) fn calculated(operation: Arith, left: Box<Core>, right: Box<Core>) -> Core
+    ensures { (b : Bounds) → CoreInRange b left.value → CoreInRange b right.value → CoreInRange b result }
 {
-    let left = Box::new(alloc, left)?;
-    let right = Box::new(alloc, right)?;
-    Ok(Core::Arith(operation, left, right))
+    Core::Arith(operation, left, right)
 }
 
-pub(crate) fn joined(alloc: Global, left: Core, right: Core) -> Result<Core, OutOfMemory>
-    ensures { (b : Bounds) → CoreInRange b left → CoreInRange b right → IfOk result (CoreInRange b) }
+pub(crate) fn joined(left: Box<Core>, right: Box<Core>) -> Core
+    ensures { (b : Bounds) → CoreInRange b left.value → CoreInRange b right.value → CoreInRange b result }
 {
-    let left = Box::new(alloc, left)?;
-    let right = Box::new(alloc, right)?;
-    Ok(Core::Join(left, right))
+    Core::Join(left, right)
 }
 
-pub(crate) fn equated(alloc: Global, left: Core, right: Core) -> Result<Core, OutOfMemory>
-    ensures { (b : Bounds) → CoreInRange b left → CoreInRange b right → IfOk result (CoreInRange b) }
+pub(crate) fn equated(left: Box<Core>, right: Box<Core>) -> Core
+    ensures { (b : Bounds) → CoreInRange b left.value → CoreInRange b right.value → CoreInRange b result }
 {
-    let left = Box::new(alloc, left)?;
-    let right = Box::new(alloc, right)?;
-    Ok(Core::Equal(left, right))
+    Core::Equal(left, right)
 }
 
-pub(crate) fn compared(
-    alloc: Global,
-    order: Order,
-    left: Core,
-    right: Core,
-) -> Result<Core, OutOfMemory>
-    ensures { (b : Bounds) → CoreInRange b left → CoreInRange b right → IfOk result (CoreInRange b) }
+pub(crate) fn compared(order: Order, left: Box<Core>, right: Box<Core>) -> Core
+    ensures { (b : Bounds) → CoreInRange b left.value → CoreInRange b right.value → CoreInRange b result }
 {
-    let left = Box::new(alloc, left)?;
-    let right = Box::new(alloc, right)?;
-    Ok(Core::Order(order, left, right))
+    Core::Order(order, left, right)
 }
 
-pub(crate) fn both(alloc: Global, left: Core, right: Core) -> Result<Core, OutOfMemory>
-    ensures { (b : Bounds) → CoreInRange b left → CoreInRange b right → IfOk result (CoreInRange b) }
+pub(crate) fn both(left: Box<Core>, right: Box<Core>) -> Core
+    ensures { (b : Bounds) → CoreInRange b left.value → CoreInRange b right.value → CoreInRange b result }
 {
-    let left = Box::new(alloc, left)?;
-    let right = Box::new(alloc, right)?;
-    Ok(Core::And(left, right))
+    Core::And(left, right)
 }
 
-pub(crate) fn either(alloc: Global, left: Core, right: Core) -> Result<Core, OutOfMemory>
-    ensures { (b : Bounds) → CoreInRange b left → CoreInRange b right → IfOk result (CoreInRange b) }
+pub(crate) fn either(left: Box<Core>, right: Box<Core>) -> Core
+    ensures { (b : Bounds) → CoreInRange b left.value → CoreInRange b right.value → CoreInRange b result }
 {
-    let left = Box::new(alloc, left)?;
-    let right = Box::new(alloc, right)?;
-    Ok(Core::Or(left, right))
+    Core::Or(left, right)
 }
 
 pub(crate) fn property_read(
     alloc: Global,
-    of: Core,
+    of: Box<Core>,
     name: &Name,
     kind: CoreType,
 ) -> Result<Core, OutOfMemory>
-    ensures { (b : Bounds) → TypeInRange b.functions kind → CoreInRange b of → IfOk result (CoreInRange b) }
+    ensures { (b : Bounds) → TypeInRange b.functions kind → CoreInRange b of.value → IfOk result (CoreInRange b) }
 {
-    let of = Box::new(alloc, of)?;
     let name = name.try_clone(alloc)?;
     Ok(Core::PropGet {
         of,
@@ -146,24 +120,16 @@ pub(crate) fn property_read(
     })
 }
 
-pub(crate) fn length_of(alloc: Global, array: Core) -> Result<Core, OutOfMemory>
-    ensures { (b : Bounds) → CoreInRange b array → IfOk result (CoreInRange b) }
+pub(crate) fn length_of(array: Box<Core>) -> Core
+    ensures { (b : Bounds) → CoreInRange b array.value → CoreInRange b result }
 {
-    let array = Box::new(alloc, array)?;
-    Ok(Core::Length(array))
+    Core::Length(array)
 }
 
-pub(crate) fn element_at(
-    alloc: Global,
-    array: Core,
-    index: Core,
-    kind: CoreType,
-) -> Result<Core, OutOfMemory>
-    ensures { (b : Bounds) → TypeInRange b.functions kind → CoreInRange b array → CoreInRange b index → IfOk result (CoreInRange b) }
+pub(crate) fn element_at(array: Box<Core>, index: Box<Core>, kind: CoreType) -> Core
+    ensures { (b : Bounds) → TypeInRange b.functions kind → CoreInRange b array.value → CoreInRange b index.value → CoreInRange b result }
 {
-    let array = Box::new(alloc, array)?;
-    let index = Box::new(alloc, index)?;
-    Ok(Core::Element(array, index, kind))
+    Core::Element(array, index, kind)
 }
 
 /// Which end of an array is searched first.
@@ -176,13 +142,12 @@ pub(crate) enum Direction {
 pub(crate) fn searched(
     alloc: Global,
     direction: Direction,
-    array: Core,
+    array: Box<Core>,
     value: Core,
     start: Core,
 ) -> Result<Core, OutOfMemory>
-    ensures { (b : Bounds) → CoreInRange b array → CoreInRange b value → CoreInRange b start → IfOk result (CoreInRange b) }
+    ensures { (b : Bounds) → CoreInRange b array.value → CoreInRange b value → CoreInRange b start → IfOk result (CoreInRange b) }
 {
-    let array = Box::new(alloc, array)?;
     let value = Box::new(alloc, value)?;
     let start = Box::new(alloc, start)?;
     match direction {
@@ -201,13 +166,12 @@ pub(crate) struct Passed {
 
 pub(crate) fn method_called(
     alloc: Global,
-    of: Core,
+    of: Box<Core>,
     name: &Name,
     passed: Passed,
 ) -> Result<Core, OutOfMemory>
-    ensures { (b : Bounds) → CoreInRange b of → PassedInRange b passed → IfOk result (CoreInRange b) }
+    ensures { (b : Bounds) → CoreInRange b of.value → PassedInRange b passed → IfOk result (CoreInRange b) }
 {
-    let of = Box::new(alloc, of)?;
     let name = name.try_clone(alloc)?;
     Ok(Core::CallMethod {
         of,

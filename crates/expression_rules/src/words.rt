@@ -1,13 +1,13 @@
 // What a word names.
 ghost use Rattle.std.specs.Prelude.{IfOk, IfSome};
-ghost use Rattle.expression_rules.specs.Ranges.{TypedInRange, MeaningInRange, ContextInRange, bounds_of};
+ghost use Rattle.expression_rules.specs.Ranges.{OperandInRange, MeaningInRange, ContextInRange, bounds_of};
 
 use crate::context::Context;
 use crate::members::read_property;
 use crate::notes::Notes;
+use crate::operand::Operand;
 use crate::rule::TypeRule;
 use crate::trees::{field, local, own_instance, state_text};
-use crate::typed::Typed;
 use core_tree::CoreType;
 use papy_base::{Name, OutOfMemory};
 use script_linker::PropertyRef;
@@ -64,34 +64,36 @@ pub(crate) fn read_word(
     notes: &mut Notes,
     meaning: Meaning,
     name: &Name,
-) -> Result<Typed, OutOfMemory>
-    ensures { MeaningInRange (bounds_of context.now) meaning → IfOk result (TypedInRange (bounds_of context.now)) }
+) -> Result<Operand, OutOfMemory>
+    ensures { MeaningInRange (bounds_of context.now) meaning → IfOk result (OperandInRange (bounds_of context.now)) }
 {
     match meaning {
-        Meaning::Local(number, kind) => Ok(Typed::found(local(number), kind)),
-        Meaning::State => Ok(Typed::of(state_text(), CoreType::Text)),
+        Meaning::Local(number, kind) => Operand::found(context.catalog.alloc, local(number), kind),
+        Meaning::State => Operand::of(context.catalog.alloc, state_text(), CoreType::Text),
         Meaning::Field(number, kind) => {
             context.needs_instance(notes);
-            Ok(Typed::found(field(number), kind))
+            Operand::found(context.catalog.alloc, field(number), kind)
         }
         Meaning::Property(at) => {
             context.needs_instance(notes);
-            read_property(context, notes, own_instance(), at, name)
+            let own = Box::new(context.catalog.alloc, own_instance())?;
+            read_property(context, notes, own, at, name)
         }
     }
 }
 
 /// `Self`
-pub(crate) fn instance(context: &Context<'_>, notes: &mut Notes) -> Typed
-    ensures { ContextInRange context.now → TypedInRange (bounds_of context.now) result }
+pub(crate) fn instance(context: &Context<'_>, notes: &mut Notes) -> Result<Operand, OutOfMemory>
+    ensures { ContextInRange context.now → IfOk result (OperandInRange (bounds_of context.now)) }
 {
     context.needs_instance(notes);
-    Typed::of(own_instance(), CoreType::Script(context.script))
+    let kind = CoreType::Script(context.script);
+    Operand::of(context.catalog.alloc, own_instance(), kind)
 }
 
 /// A word that names no value, where a value must stand.
-pub(crate) fn unknown_word(context: &Context<'_>, notes: &mut Notes) -> Typed
-    ensures { TypedInRange (bounds_of context.now) result }
+pub(crate) fn unknown_word(context: &Context<'_>, notes: &mut Notes) -> Result<Operand, OutOfMemory>
+    ensures { IfOk result (OperandInRange (bounds_of context.now)) }
 {
     context.broken(notes, TypeRule::UnknownName)
 }
@@ -101,11 +103,11 @@ pub(crate) fn member_of_word(
     context: &Context<'_>,
     notes: &mut Notes,
     word: &Name,
-) -> Result<Typed, OutOfMemory>
-    ensures { IfOk result (TypedInRange (bounds_of context.now)) }
+) -> Result<Operand, OutOfMemory>
+    ensures { IfOk result (OperandInRange (bounds_of context.now)) }
 {
     match context.catalog.find_script(word)? {
-        Some(_) => Ok(context.broken(notes, TypeRule::NoProperty)),
-        None => Ok(context.broken(notes, TypeRule::UnknownName)),
+        Some(_) => context.broken(notes, TypeRule::NoProperty),
+        None => context.broken(notes, TypeRule::UnknownName),
     }
 }

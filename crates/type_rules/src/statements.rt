@@ -178,25 +178,12 @@ fn local_value(
     ensures in_range { ScopeInRange scope.old → ResultInRange (scope_bounds scope.old).functions kind → IfOk result (CoreInRange (scope_bounds scope.old)) }
 {
     match value {
-        Some(tree) => converted(scope, tree, kind),
+        Some(tree) => scope.value_as(tree, kind),
         None => {
             let value = initial_value(scope.catalog.alloc, kind)?;
             Ok(Core::Lit(value))
         }
     }
-}
-
-// A value as one of this type.
-fn converted(
-    scope: &mut Scope<'_>,
-    tree: &Expr,
-    kind: Option<CoreType>,
-) -> Result<Core, OutOfMemory>
-    ensures kept { Keeps scope.old scope.new }
-    ensures in_range { ScopeInRange scope.old → ResultInRange (scope_bounds scope.old).functions kind → IfOk result (CoreInRange (scope_bounds scope.old)) }
-{
-    let typed = scope.value(tree)?;
-    scope.convert(typed, kind)
 }
 
 // A value stands exactly in the functions with a result, else K10.
@@ -211,7 +198,7 @@ fn return_statement(
     match (value, promise) {
         (None, Promise::Nothing) => Ok(CoreStatement::Return(None)),
         (Some(tree), Promise::Value(kind)) => {
-            let value = converted(scope, tree, kind)?;
+            let value = scope.value_as(tree, kind)?;
             Ok(CoreStatement::Return(Some(value)))
         }
         (None, Promise::Value(_)) => {

@@ -6,4 +6,4 @@ pub returns-in-Some : goal.returns-in-Some
 returns-in-Some c = λ there outcome.
     let b = bounds_of c.args.context.now in
     let passed : PassedInRange b c.in-Some.passed = subst (λ p. IfSome p (PassedInRange b)) c.in-Some.is outcome.passed in
-    c.known.ensures b (c.global_core.ensures b there passed) outcome.kind
+    c.known.ensures b (c.global_core-core.ensures b there passed) outcome.kind

@@ -2,4 +2,4 @@ use Rattle.core_tree.proofs.Views.{expression_views}
 use Rattle.expression_rules.proofs.trees.inverted.Goals as goal
 
 pub returns : goal.returns
-returns c = λ b of. simp expression_views (tt, (rw c.in_ok-of.ensures.ok of, tt))
+returns c = λ b of. simp expression_views (tt, (of, tt))

@@ -2,4 +2,4 @@ use Rattle.core_tree.proofs.Views.{expression_views}
 use Rattle.expression_rules.proofs.trees.joined.Goals as goal
 
 pub returns : goal.returns
-returns c = λ b left right. simp expression_views (tt, (rw c.in_ok-left.ensures.ok left, (rw c.in_ok-right.ensures.ok right, tt)))
+returns c = λ b left right. simp expression_views (tt, (left, (right, tt)))

@@ -2,4 +2,4 @@ use Rattle.core_tree.proofs.Views.{expression_views}
 use Rattle.expression_rules.proofs.trees.length_of.Goals as goal
 
 pub returns : goal.returns
-returns c = λ b array. simp expression_views (tt, (rw c.in_ok-array.ensures.ok array, tt))
+returns c = λ b array. simp expression_views (tt, (array, tt))

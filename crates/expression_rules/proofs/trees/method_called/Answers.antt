@@ -5,4 +5,4 @@ use Rattle.expression_rules.proofs.trees.method_called.Goals as goal
 pub returns : goal.returns
 returns c = λ b of passed.
     let p = operands-passed b c.args.passed passed in
-    simp expression_views (p.0, (rw c.in_ok-of.ensures.ok of, p.1))
+    simp expression_views (p.0, (of, p.1))

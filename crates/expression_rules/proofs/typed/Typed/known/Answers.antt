@@ -1,4 +1,0 @@
-use Rattle.expression_rules.proofs.typed.Typed.known.Goals as goal
-
-pub returns : goal.returns
-returns c = λ b core kind. record { core = core; kind = kind }
