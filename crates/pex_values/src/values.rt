@@ -15,9 +15,11 @@ pub struct Pex {
     pub machine: Text,
     /// The string table.
     pub strings: Vec<Text>,
+    /// Where the instructions stand in the source, if the file says so.
     pub debug: Option<crate::debug::PexDebug>,
     /// References to flag names, each with the number of its bit.
     pub user_flags: Vec<(u16, u8)>,
+    /// The scripts.
     pub objects: Vec<PexObject>,
 }
 
