@@ -15,7 +15,7 @@ use crate::opcodes::{
     order_opcode,
 };
 use crate::operand::Operand;
-use crate::spine::spine;
+use crate::spine::{first_operand, spine};
 use crate::writer::Writer;
 use core_tree::{Core, CoreType, Value};
 use papy_base::Name;
@@ -42,6 +42,22 @@ pub(crate) fn value(
     ensures goes { GoesOn writer.old writer.new }
 {
     let depth = one_deeper(depth)?;
+    let Some(first) = first_operand(expression) else {
+        return form_value(writer, expression, Operand::NoneValue, depth);
+    };
+    if first_operand(first).is_some() {
+        return chain_value(writer, expression, depth);
+    }
+    let first = form_value(writer, first, Operand::NoneValue, depth)?;
+    form_value(writer, expression, first, depth)
+}
+
+// The value of an expression whose first operands stand inside each other, the innermost of which is evaluated first.
+#[cycle(expression)]
+fn chain_value(writer: &mut Writer<'_>, expression: &Core, depth: u16) -> Result<Operand, EmitFault>
+    ensures operand { IfOk result (λ operand. needs operand ≤ writer.new.strings) }
+    ensures goes { GoesOn writer.old writer.new }
+{
     let mut forms = spine(writer.alloc(), expression)?;
     let mut operand = Operand::NoneValue;
     'forms: while let Some(form) = forms.pop() {
@@ -195,11 +211,7 @@ pub(crate) fn field(writer: &mut Writer<'_>, number: u16) -> Result<Operand, Emi
     ensures operand { IfOk result (λ operand. needs operand ≤ writer.new.strings) }
     ensures goes { GoesOn writer.old writer.new }
 {
-    let script = writer.script();
-    let Some(variable) = script.variables.get(usize::from(number)) else {
-        return Err(EmitFault::OutOfRange);
-    };
-    let name = writer.string(variable.name.as_bytes())?;
+    let (variable, name) = writer.variable(number)?;
     Ok(Operand::Variable {
         name,
         kind: variable.kind,

@@ -67,7 +67,7 @@ fn written_function(
         locals,
         code,
         lines,
-    } = writer.end();
+    } = writer.end()?;
     let written = PexFunction {
         result: kind,
         doc,

@@ -171,7 +171,7 @@ fn auto_parts(writer: &mut Writer<'_>, variable: u16) -> Result<PropertyParts, E
     ensures parts { IfOk result (HaveParts writer.new.strings) }
     ensures advances { Advances writer.old writer.new }
 {
-    let variable = variable_name(writer, variable)?;
+    let (_, variable) = writer.variable(variable)?;
     Ok(PropertyParts {
         bits: AUTO_BITS,
         variable: Some(variable),
@@ -199,17 +199,6 @@ fn full_parts(
         read,
         write,
     })
-}
-
-fn variable_name(writer: &mut Writer<'_>, number: u16) -> Result<u16, EmitFault>
-    ensures place { IfOk result (IsReference writer.new.strings) }
-    ensures goes { GoesOn writer.old writer.new }
-{
-    let script = writer.script();
-    match script.variables.get(usize::from(number)) {
-        Some(variable) => writer.string(variable.name.as_bytes()),
-        None => Err(EmitFault::OutOfRange),
-    }
 }
 
 fn accessor_bits(reads: bool, writes: bool) -> u8

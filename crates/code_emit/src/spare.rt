@@ -30,6 +30,13 @@ impl Spare {
         }
     }
 
+    /// Forgets them all.
+    pub(crate) fn clear(&mut self)
+        ensures { self.new ≡ [] }
+    {
+        self.temporaries.clear();
+    }
+
     /// Hands a temporary of this type out, which is then no longer spare. None where there is none.
     pub(crate) fn take(&mut self, kind: u16) -> Option<u16>
         ensures { TakenFrom kind self.old result self.new }
@@ -44,7 +51,8 @@ impl Spare {
         ensures ok { OnOk result (self.new ≡ self.old ++ (kind, name) ∷ []) }
         ensures err { OnErr result (self.new ≡ self.old) }
     {
-        self.temporaries.push((kind, name))?;
+        self.temporaries.reserve(1)?;
+        self.temporaries.push_reserved((kind, name));
         Ok(())
     }
 }

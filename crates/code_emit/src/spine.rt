@@ -21,7 +21,8 @@ pub(crate) fn spine<'a>(alloc: Global, expression: &'a Core) -> Result<Vec<&'a C
     Err(EmitFault::TooLarge)
 }
 
-fn first_operand(form: &Core) -> Option<&Core> {
+/// The first operand of a form, which is evaluated before what else the form has.
+pub(crate) fn first_operand(form: &Core) -> Option<&Core> {
     match form {
         Core::Lit(_)
         | Core::Local(_)

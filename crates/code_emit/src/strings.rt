@@ -1,5 +1,5 @@
 // The strings of a file, each once, in order of first use.
-ghost use Rattle.std.specs.Prelude.{◌≡◌, ◌≤◌, [], length, map, IfOk, OnOk};
+ghost use Rattle.std.specs.Prelude.{◌≡◌, ◌<◌, ◌≤◌, ◌^◌, [], length, map, IfOk, IfSome, OnOk};
 ghost use Rattle.pex_values.specs.Shape.{IsReference};
 ghost use Rattle.code_emit.specs.Strings.{with_string};
 
@@ -12,21 +12,34 @@ use std::marker::Model;
 /// The most strings of a file.
 const MOST_STRINGS: usize = 65_535;
 
+/// What a string names, where that has a number.
+#[derive(Clone, Copy)]
+pub(crate) enum Numbered {
+    Type(u32),
+    /// A variable of the script.
+    Variable(u16),
+    /// A parameter or a local of any function, temporaries counted.
+    Local(u16),
+}
+
 /// The strings so far. Contracts see them as a list, in which none stands twice.
 #[derive(Drop)]
 pub(crate) struct Strings {
     alloc: Global,
     numbers: IndexSet<Vec<u8>>,
+    // The places of numbered names that were looked up already.
+    noted: Vec<Option<u16>>,
 }
 
 impl Model for Strings {
     ghost use Rattle.std.specs.Prelude.{ℕ, ◌≤◌, List, length, map};
+    ghost use Rattle.code_emit.specs.Strings.{AreNoted};
 
     ghost Value = { List (List ℕ) };
 
     ghost view = { λ s. map (λ k. k.items) s.numbers.keys };
 
-    ghost invariant = { λ s. length s.numbers.keys ≤ 65535 };
+    ghost invariant = { λ s. (length s.numbers.keys ≤ 65535) × AreNoted (length s.numbers.keys) s.noted.items };
 }
 
 impl Strings {
@@ -37,6 +50,7 @@ impl Strings {
         Strings {
             alloc,
             numbers: IndexSet::new(alloc),
+            noted: Vec::new(alloc),
         }
     }
 
@@ -56,11 +70,42 @@ impl Strings {
         Ok(inserted.0 as u16)
     }
 
+    /// The place of a numbered name, where it was noted.
+    pub(crate) fn noted(&self, name: Numbered) -> Option<u16>
+        ensures { IfSome result (IsReference (length self.now)) }
+    {
+        *self.noted.get(slot(name))?
+    }
+
+    /// Notes the place of a numbered name.
+    pub(crate) fn note(&mut self, name: Numbered, place: u16) -> Result<(), OutOfMemory>
+        requires { IsReference (length self.old) place }
+        ensures { self.new ≡ self.old }
+    {
+        let slot = slot(name);
+        if slot >= self.noted.len() {
+            self.noted.resize(slot + 1, None)?;
+        }
+        self.noted[slot] = Some(place);
+        Ok(())
+    }
+
     /// The strings as texts, in their order.
     pub(crate) fn texts(&self) -> Result<Vec<Text>, OutOfMemory>
         ensures { IfOk result (λ texts. texts.items ≡ self.now) }
     {
         texts_of(self.alloc, self.numbers.as_slice())
+    }
+}
+
+// Where the place of a name is noted: the kinds take turns.
+fn slot(name: Numbered) -> usize
+    ensures { result < 2 ^ 34 }
+{
+    match name {
+        Numbered::Type(number) => 3 * number as usize,
+        Numbered::Variable(number) => 3 * usize::from(number) + 1,
+        Numbered::Local(number) => 3 * usize::from(number) + 2,
     }
 }
 

@@ -3,12 +3,45 @@ ghost use Rattle.std.specs.Prelude.{◌≤◌, length, IfOk};
 ghost use Rattle.pex_values.specs.Shape.{IsReference};
 
 use crate::faults::EmitFault;
-use crate::strings::Strings;
+use crate::strings::{Numbered, Strings};
 use core_tree::{CoreScript, CoreType};
 use std::alloc::Global;
 
 /// The place of the name of a type, as of a result or a local. Without a type it is `None`.
 pub(crate) fn type_name(
+    alloc: Global,
+    strings: &mut Strings,
+    scripts: &[CoreScript],
+    kind: Option<CoreType>,
+) -> Result<u16, EmitFault>
+    ensures place { IfOk result (IsReference (length strings.new)) }
+    ensures kept { length strings.old ≤ length strings.new }
+{
+    let name = Numbered::Type(type_number(kind));
+    if let Some(place) = strings.noted(name) {
+        return Ok(place);
+    }
+    let place = new_type_name(alloc, strings, scripts, kind)?;
+    strings.note(name, place)?;
+    Ok(place)
+}
+
+// Each type has a number of its own.
+fn type_number(kind: Option<CoreType>) -> u32 {
+    match kind {
+        None => 0,
+        Some(CoreType::Int) => 1,
+        Some(CoreType::Bool) => 2,
+        Some(CoreType::Text) => 3,
+        Some(CoreType::IntArray) => 4,
+        Some(CoreType::BoolArray) => 5,
+        Some(CoreType::TextArray) => 6,
+        Some(CoreType::Script(number)) => 7 + 2 * u32::from(number),
+        Some(CoreType::ScriptArray(number)) => 8 + 2 * u32::from(number),
+    }
+}
+
+fn new_type_name(
     alloc: Global,
     strings: &mut Strings,
     scripts: &[CoreScript],

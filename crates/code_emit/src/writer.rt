@@ -14,11 +14,11 @@ ghost use Rattle.code_emit.specs.Writing.{GoesOn, Leaps, AreThere, Takes, landed
 use crate::faults::EmitFault;
 use crate::functions::Place;
 use crate::opcodes::ASSIGN;
-use crate::operand::{Operand, data};
+use crate::operand::{Operand, data, data_before, data_behind};
 use crate::spare::Spare;
-use crate::strings::Strings;
+use crate::strings::{Numbered, Strings};
 use crate::type_names::type_name;
-use core_tree::{CoreFunction, CoreScript, CoreSet, CoreType};
+use core_tree::{CoreFunction, CoreScript, CoreSet, CoreType, CoreVariable};
 use jump_patch::{Ahead, Code, CodeBuffer, JumpKind, Mark};
 use papy_base::Text;
 use pex_values::{Datum, Instruction, PexLines};
@@ -139,6 +139,22 @@ impl<'a> Writer<'a> {
         type_name(self.alloc, &mut self.strings, scripts, kind)
     }
 
+    /// The variable of this number, and the place of its name.
+    pub(crate) fn variable(&mut self, number: u16) -> Result<(&'a CoreVariable, u16), EmitFault>
+        ensures place { IfOk result (λ found. IsReference self.new.strings found.1) }
+        ensures goes { GoesOn self.old self.new }
+    {
+        let Some(variable) = self.script.variables.get(usize::from(number)) else {
+            return Err(EmitFault::OutOfRange);
+        };
+        let name = Numbered::Variable(number);
+        if let Some(place) = self.strings.noted(name) {
+            return Ok((variable, place));
+        }
+        let place = self.noted_string(name, variable.name.as_bytes())?;
+        Ok((variable, place))
+    }
+
     /// The line of the instructions from now on.
     pub(crate) fn set_line(&mut self, line: u16)
         ensures { self.new ≡ self.old }
@@ -169,8 +185,22 @@ impl<'a> Writer<'a> {
             return Err(EmitFault::TooLarge);
         }
         let number = parameters + locals;
+        let local = Numbered::Local(number as u16);
+        if let Some(place) = self.strings.noted(local) {
+            return Ok(place);
+        }
         let name = format!(in self.alloc; "::temp{number}")?;
-        self.string(name.as_bytes())
+        self.noted_string(local, name.as_bytes())
+    }
+
+    // The place of a string that has a number, from which it is known by its number too.
+    fn noted_string(&mut self, name: Numbered, string: &[u8]) -> Result<u16, EmitFault>
+        ensures place { IfOk result (IsReference self.new.strings) }
+        ensures goes { GoesOn self.old self.new }
+    {
+        let place = self.strings.place_of(string)?;
+        self.strings.note(name, place)?;
+        Ok(place)
     }
 
     /// Begins a function.
@@ -394,8 +424,7 @@ impl<'a> Writer<'a> {
         requires operands { AreThere self.old.strings operands.now }
         ensures { GoesOn self.old self.new }
     {
-        let mut fixed = data(self.alloc, operands)?;
-        fixed.insert(0, place.datum())?;
+        let fixed = data_behind(self.alloc, place, operands)?;
         let more = Vec::new(self.alloc);
         self.instruct(opcode, fixed, more, operands)
     }
@@ -416,8 +445,7 @@ impl<'a> Writer<'a> {
         ensures goes { GoesOn self.old self.new }
     {
         let given = self.place_for(kind)?;
-        let mut fixed = data(self.alloc, operands)?;
-        fixed.push(given.datum())?;
+        let fixed = data_before(self.alloc, operands, given)?;
         self.instruct(opcode, fixed, more, operands)?;
         Ok(given)
     }
@@ -488,25 +516,24 @@ impl<'a> Writer<'a> {
     }
 
     /// Ends the function. Every jump must have landed.
-    pub(crate) fn end(&mut self) -> Body
+    pub(crate) fn end(&mut self) -> Result<Body, EmitFault>
         requires { self.old.ahead ≡ [] }
-        ensures body { IsBody self.old.strings result }
+        ensures body { IfOk result (IsBody self.old.strings) }
         ensures strings { self.new.strings ≡ self.old.strings }
         ensures ahead { self.new.ahead ≡ [] }
     {
         let alloc = self.alloc;
-        let buffer = mem::replace(&mut self.code, CodeBuffer::new(alloc));
-        let Code { code, lines } = buffer.finish();
+        let Code { code, lines } = self.code.take()?;
         self.count = 0;
         self.numbered = 0;
-        self.spare = Spare::new(alloc);
+        self.spare.clear();
         self.none_variable = None;
-        Body {
+        Ok(Body {
             parameters: mem::replace(&mut self.parameters, Vec::new(alloc)),
             locals: mem::replace(&mut self.locals, Vec::new(alloc)),
             code,
             lines,
-        }
+        })
     }
 
     /// Adds the debug entry of a function.

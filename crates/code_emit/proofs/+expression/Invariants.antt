@@ -4,37 +4,40 @@ use Rattle.code_emit.specs.Writing.{GoesOn, AreThere}
 use Rattle.code_emit.proofs.+expression.Given as goal
 
 abbrev pub decreases-expressions::value : goal.decreases-expressions::value
-decreases-expressions::value l = 4 * l.depth
+decreases-expressions::value l = 5 * l.depth
+
+abbrev pub decreases-expressions::chain_value : goal.decreases-expressions::chain_value
+decreases-expressions::chain_value l = 5 * l.depth + 4
 
 abbrev pub decreases-expressions::form_value : goal.decreases-expressions::form_value
-decreases-expressions::form_value l = 4 * l.depth + 3
+decreases-expressions::form_value l = 5 * l.depth + 3
 
 abbrev pub decreases-expressions::call_value : goal.decreases-expressions::call_value
-decreases-expressions::call_value l = 4 * l.depth + 2
+decreases-expressions::call_value l = 5 * l.depth + 2
 
 abbrev pub decreases-calls::argument_values : goal.decreases-calls::argument_values
-decreases-calls::argument_values l = 4 * l.depth + 1
+decreases-calls::argument_values l = 5 * l.depth + 1
 
 abbrev pub decreases-expressions::with_second : goal.decreases-expressions::with_second
-decreases-expressions::with_second l = 4 * l.depth + 1
+decreases-expressions::with_second l = 5 * l.depth + 1
 
 abbrev pub decreases-expressions::find : goal.decreases-expressions::find
-decreases-expressions::find l = 4 * l.depth + 1
+decreases-expressions::find l = 5 * l.depth + 1
 
 abbrev pub decreases-conditions::either : goal.decreases-conditions::either
-decreases-conditions::either l = 4 * l.depth + 2
+decreases-conditions::either l = 5 * l.depth + 2
 
 abbrev pub decreases-conditions::store_value : goal.decreases-conditions::store_value
-decreases-conditions::store_value l = 4 * l.depth + 1
+decreases-conditions::store_value l = 5 * l.depth + 1
 
-abbrev pub invariant-expressions::value-forms : goal.invariant-expressions::value-forms
-invariant-expressions::value-forms l = record {
+abbrev pub invariant-expressions::chain_value-forms : goal.invariant-expressions::chain_value-forms
+invariant-expressions::chain_value-forms l = record {
   goes : GoesOn l.initial.writer l.writer;
   there : needs l.operand ≤ l.writer.strings;
 }
 
-abbrev pub decreases-expressions::value-forms : goal.decreases-expressions::value-forms
-decreases-expressions::value-forms l = vec_len l.forms
+abbrev pub decreases-expressions::chain_value-forms : goal.decreases-expressions::chain_value-forms
+decreases-expressions::chain_value-forms l = vec_len l.forms
 
 abbrev pub invariant-calls::argument_values-loop-place : goal.invariant-calls::argument_values-loop-place
 invariant-calls::argument_values-loop-place l = record {
