@@ -3,9 +3,9 @@ ghost use Rattle.std.specs.Prelude.{◌≡◌, ◌+◌, ◌<◌, IfOk, OnOk};
 ghost use Rattle.script_parser.specs.Reader.{left};
 
 use crate::fault::BlockFault;
-use crate::reader::{LineAt, Reader};
+use crate::reader::Reader;
 use crate::script::{Statement, StatementForm};
-use line_parser::{Expr, LineForm, LineRule};
+use line_parser::{Expr, LineForm, LineRule, LineTree};
 
 /// The most `If` and `While` that may be open.
 pub(crate) const OPEN_LIMIT: u8 = 64;
@@ -38,8 +38,10 @@ pub(crate) fn statements(reader: &mut Reader<'_>, depth: u8) -> Result<Block, Bl
     let mut found = Vec::new(reader.alloc);
     'lines: loop {
         let first = reader.next_in_block()?;
+        let LineTree { form, doc: _ } = reader.tree(&first)?;
+        let at = first.at;
         let line = first.line.number;
-        let form = match reader.tree(&first)?.form {
+        let form = match form {
             LineForm::Definition {
                 kind,
                 name,
@@ -57,9 +59,9 @@ pub(crate) fn statements(reader: &mut Reader<'_>, depth: u8) -> Result<Block, Bl
             },
             LineForm::Plain(value) => StatementForm::Plain(value),
             LineForm::Return(value) => StatementForm::Return(value),
-            LineForm::If(test) => if_block(reader, line, test, inner_depth(first.at, depth)?)?,
-            LineForm::While(test) => while_block(reader, test, inner_depth(first.at, depth)?)?,
-            other => return ended(found, first, other),
+            LineForm::If(test) => if_block(reader, line, test, inner_depth(at, depth)?)?,
+            LineForm::While(test) => while_block(reader, test, inner_depth(at, depth)?)?,
+            other => return ended(found, other, at, line),
         };
         found.push(Statement { line, form })?;
     }
@@ -68,17 +70,18 @@ pub(crate) fn statements(reader: &mut Reader<'_>, depth: u8) -> Result<Block, Bl
 // The block of these statements, whose next line isn't one of them.
 fn ended(
     statements: Vec<Statement>,
-    last: LineAt<'_>,
     form: LineForm,
+    end_at: usize,
+    end_line: u16,
 ) -> Result<Block, BlockFault> {
     match end_of(form) {
         Some(end) => Ok(Block {
             statements,
             end,
-            end_at: last.at,
-            end_line: last.line.number,
+            end_at,
+            end_line,
         }),
-        None => Err(BlockFault::bad_block(last.at)),
+        None => Err(BlockFault::bad_block(end_at)),
     }
 }
 
