@@ -556,8 +556,8 @@ Event OnInit()\nDebug.Trace(N + F())\nEndEvent";
     let set = elaborated(rt.alloc(), &rt, text)??;
     let shown = format!(in rt.alloc(); "{set:?}")?;
     let call = "Plain(CallNative { at: FunctionPlace { script: 0, place: 0 }, arguments: \
-        [Cast(Text, Arith(Add, Field(0), CallMethod { of: SelfValue, name: Name { bytes: [70] }, \
-        arguments: [], places: [], result: Some(Int) })), Lit(Int(0))], places: [0, 1], result: None })";
+        [Cast(Text, Arith(Add, Field(0), CallMethod { of: SelfValue, \
+        name: Name { spelling: Spelling { written: [70], folded: [102] } }, arguments: [], places: [], result: Some(Int) })), Lit(Int(0))], places: [0, 1], result: None })";
     assert!(&rt; shown.contains(call));
     Ok(())
 }
