@@ -25,7 +25,7 @@ refused-got new fault is m = subst (λ s. GotBy s m new.taken) (sym is) tt
 fed-from : (s : Standing) (old new : Progress) (n len : ℕ) (result : Result Fed PexFault) → old.standing ≡ s → FeedFrom s old len result new → GotBy s n old.taken → FedTo n len result new
 fed-from Reading old new n len (Ok More) is given got = subst (λ s. GotBy s (n + len) new.taken) (sym given.0) (given.1 ∙ ap (λ t. t + len) got)
 fed-from Reading old new n len (Ok (Done taken)) is given got = record { complete = given.0; within = given.1; taken_is = given.2 ∙ ap (λ t. t + taken) got }
-fed-from Reading old new n len (Err fault) is given got = refused-got new fault given
+fed-from Reading old new n len (Err fault) is given got = refused-got new fault given.0
 fed-from Complete old new n ℕ.zero (Ok More) is given got = absurd (let e = (given.empty refl).0 in cc)
 fed-from Complete old new n ℕ.zero (Ok (Done taken)) is given got =
     let e = (given.empty refl).0 in
