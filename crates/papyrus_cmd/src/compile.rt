@@ -11,7 +11,6 @@ use crate::written::write_each;
 use command_files::{Ending, accept, compile_set};
 use papy_io::Desk;
 use std::alloc::Global;
-use std::mem;
 
 /// Reads and judges the scripts, and writes the compiled file of each under its name with `.pex` in the
 /// place of `.psc`, in their order. Nothing is written before all of them have their bytes.
@@ -35,11 +34,7 @@ pub fn compile<D: Desk>(alloc: Global, scripts: &[String], desk: &mut D) -> Endi
         Ok(compiled) => compiled,
         Err(fault) => return Ending::from(fault),
     };
-    let written = write_each(alloc, desk, scripts, &compiled.files);
-    // The program ends here, and taking the trees apart would take longer than writing the files.
-    mem::forget(set);
-    mem::forget(compiled);
-    match written {
+    match write_each(alloc, desk, scripts, &compiled.files) {
         Ok(()) => Ending::Done,
         Err(fault) => Ending::from(fault),
     }
