@@ -147,7 +147,10 @@ fn climb(
 fn descend(outline: &Outline, known: &mut [Option<u32>], climbed: &[usize], count: u32) {
     let mut above = count;
     for number in climbed.iter().rev() {
-        if let (Some(script), Some(place)) = (outline.scripts.get(*number), known.get_mut(*number)) {
+        if let (Some(script), Some(place)) = (
+            outline.scripts.get(*number),
+            known.get_mut(*number),
+        ) {
             *place = Some(above);
             above = above.saturating_add(count_of(&script.properties));
         }
