@@ -76,7 +76,7 @@ pub(crate) fn global_names(
     let Some(function) = empty.functions.get(usize::from(at.place)) else {
         return Err(EmitFault::OutOfRange);
     };
-    let script = writer.string(script.name.as_bytes())?;
+    let script = writer.script_name(at.script)?;
     let function = writer.string(function.name.as_bytes())?;
     Ok((Operand::Word(script), Operand::Word(function)))
 }

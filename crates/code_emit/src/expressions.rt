@@ -16,6 +16,7 @@ use crate::opcodes::{
 };
 use crate::operand::Operand;
 use crate::spine::{first_operand, spine};
+use crate::strings::Word;
 use crate::writer::Writer;
 use core_tree::{Core, CoreType, Value};
 use papy_base::Name;
@@ -43,17 +44,37 @@ pub(crate) fn value(
 {
     let depth = one_deeper(depth)?;
     let Some(first) = first_operand(expression) else {
-        return form_value(writer, expression, Operand::NoneValue, depth);
+        return leaf_value(writer, expression, depth);
     };
-    if first_operand(first).is_some() {
+    let Some(second) = first_operand(first) else {
+        let first = leaf_value(writer, first, depth)?;
+        return form_value(writer, expression, first, depth);
+    };
+    if first_operand(second).is_some() {
         return chain_value(writer, expression, depth);
     }
-    let first = form_value(writer, first, Operand::NoneValue, depth)?;
+    let second = leaf_value(writer, second, depth)?;
+    let first = form_value(writer, first, second, depth)?;
     form_value(writer, expression, first, depth)
+}
+
+// The value of a form without a first operand.
+#[cycle(expression)]
+fn leaf_value(writer: &mut Writer<'_>, form: &Core, depth: u16) -> Result<Operand, EmitFault>
+    ensures operand { IfOk result (λ operand. needs operand ≤ writer.new.strings) }
+    ensures goes { GoesOn writer.old writer.new }
+{
+    match form {
+        Core::Lit(literal) => constant(writer, literal),
+        Core::Local(number) => Ok(Operand::Word(writer.local(*number)?)),
+        Core::Field(number) => field(writer, *number),
+        _ => form_value(writer, form, Operand::NoneValue, depth),
+    }
 }
 
 // The value of an expression whose first operands stand inside each other, the innermost of which is evaluated first.
 #[cycle(expression)]
+#[inline(never)]
 fn chain_value(writer: &mut Writer<'_>, expression: &Core, depth: u16) -> Result<Operand, EmitFault>
     ensures operand { IfOk result (λ operand. needs operand ≤ writer.new.strings) }
     ensures goes { GoesOn writer.old writer.new }
@@ -82,14 +103,14 @@ fn form_value(
         Core::Lit(literal) => constant(writer, literal),
         Core::Local(number) => Ok(Operand::Word(writer.local(*number)?)),
         Core::Field(number) => field(writer, *number),
-        Core::SelfValue => Ok(Operand::Word(writer.string(b"self")?)),
+        Core::SelfValue => Ok(Operand::Word(writer.word(Word::OwnInstance)?)),
         Core::StateText => state_text(writer),
         Core::Arith(operation, _, right) => {
             let opcode = arith_opcode(*operation);
             with_second(writer, opcode, CoreType::Int, first, right, depth)
         }
-        Core::Neg(_) => writer.compute(INEG, CoreType::Int, &[first]),
-        Core::Not(_) => writer.compute(NOT, CoreType::Bool, &[first]),
+        Core::Neg(_) => with_one(writer, INEG, CoreType::Int, first),
+        Core::Not(_) => with_one(writer, NOT, CoreType::Bool, first),
         Core::Join(_, right) => with_second(writer, STRCAT, CoreType::Text, first, right, depth),
         Core::Equal(_, right) => with_second(writer, CMP_EQ, CoreType::Bool, first, right, depth),
         Core::Order(order, _, right) => {
@@ -98,7 +119,7 @@ fn form_value(
         }
         Core::And(_, right) => either(writer, false, first, right, depth),
         Core::Or(_, right) => either(writer, true, first, right, depth),
-        Core::Cast(to, _) => writer.compute(CAST, *to, &[first]),
+        Core::Cast(to, _) => with_one(writer, CAST, *to, first),
         Core::CallMethod { .. }
         | Core::CallParent { .. }
         | Core::CallGlobal { .. }
@@ -109,7 +130,7 @@ fn form_value(
             ..
         } => get_property(writer, first, name, *kind),
         Core::NewArray(kind, count) => new_array(writer, *kind, *count),
-        Core::Length(_) => writer.compute(ARRAY_LENGTH, CoreType::Int, &[first]),
+        Core::Length(_) => with_one(writer, ARRAY_LENGTH, CoreType::Int, first),
         Core::Element(_, index, kind) => {
             with_second(writer, ARRAY_GETELEMENT, *kind, first, index, depth)
         }
@@ -223,7 +244,7 @@ pub(crate) fn state_text(writer: &mut Writer<'_>) -> Result<Operand, EmitFault>
     ensures operand { IfOk result (λ operand. needs operand ≤ writer.new.strings) }
     ensures goes { GoesOn writer.old writer.new }
 {
-    let name = writer.string(b"::State")?;
+    let name = writer.word(Word::StateVariable)?;
     Ok(Operand::Variable {
         name,
         kind: CoreType::Text,
@@ -244,6 +265,39 @@ pub(crate) fn kept_value(
     writer.kept(operand, acts)
 }
 
+// Appends an operation on one value.
+#[inline(never)]
+fn with_one(
+    writer: &mut Writer<'_>,
+    opcode: u8,
+    kind: CoreType,
+    of: Operand,
+) -> Result<Operand, EmitFault>
+    requires opcode { Takes opcode 2 }
+    requires of { needs of ≤ writer.old.strings }
+    ensures operand { IfOk result (λ operand. needs operand ≤ writer.new.strings) }
+    ensures goes { GoesOn writer.old writer.new }
+{
+    writer.compute(opcode, kind, &[of])
+}
+
+// The operand, with the value that it has before another expression is evaluated.
+fn kept_before(
+    writer: &mut Writer<'_>,
+    operand: Operand,
+    next: &Core,
+    depth: u16,
+) -> Result<Operand, EmitFault>
+    requires { needs operand ≤ writer.old.strings }
+    ensures operand { IfOk result (λ operand. needs operand ≤ writer.new.strings) }
+    ensures goes { GoesOn writer.old writer.new }
+{
+    match operand {
+        Operand::Variable { .. } => writer.kept(operand, may_act(next, depth)),
+        _ => Ok(operand),
+    }
+}
+
 #[cycle(expression)]
 fn with_second(
     writer: &mut Writer<'_>,
@@ -258,7 +312,7 @@ fn with_second(
     ensures operand { IfOk result (λ operand. needs operand ≤ writer.new.strings) }
     ensures goes { GoesOn writer.old writer.new }
 {
-    let first = writer.kept(first, may_act(second, depth))?;
+    let first = kept_before(writer, first, second, depth)?;
     let second = value(writer, second, depth)?;
     writer.compute(opcode, kind, &[first, second])
 }

@@ -63,7 +63,45 @@ pub(crate) fn data(alloc: Global, operands: &[Operand]) -> Result<Vec<Datum>, Ou
 }
 
 /// As `data`, with one more in front.
+#[inline(always)]
 pub(crate) fn data_behind(
+    alloc: Global,
+    first: Operand,
+    operands: &[Operand],
+) -> Result<Vec<Datum>, OutOfMemory>
+    ensures values { IfOk result (λ found. found.items ≡ datum_of first ∷ map datum_of operands.now) }
+    ensures within { IfOk result (λ found. AllByRecursion IsWithin found.items) }
+{
+    match operands {
+        [second] => two_data(alloc, first, *second),
+        [second, third] => three_data(alloc, first, *second, *third),
+        _ => many_behind(alloc, first, operands),
+    }
+}
+
+fn two_data(alloc: Global, first: Operand, second: Operand) -> Result<Vec<Datum>, OutOfMemory>
+    ensures values { IfOk result (λ found. found.items ≡ datum_of first ∷ datum_of second ∷ []) }
+    ensures within { IfOk result (λ found. AllByRecursion IsWithin found.items) }
+{
+    let found = vec![in alloc; first.datum(), second.datum()]?;
+    Ok(found)
+}
+
+fn three_data(
+    alloc: Global,
+    first: Operand,
+    second: Operand,
+    third: Operand,
+) -> Result<Vec<Datum>, OutOfMemory>
+    ensures values { IfOk result (λ found. found.items ≡ datum_of first ∷ datum_of second ∷ datum_of third ∷ []) }
+    ensures within { IfOk result (λ found. AllByRecursion IsWithin found.items) }
+{
+    let found = vec![in alloc; first.datum(), second.datum(), third.datum()]?;
+    Ok(found)
+}
+
+#[inline(never)]
+fn many_behind(
     alloc: Global,
     first: Operand,
     operands: &[Operand],

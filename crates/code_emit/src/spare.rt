@@ -1,9 +1,9 @@
 // The temporaries of a function that are read and may be used again.
-ghost use Rattle.std.specs.Prelude.{◌≡◌, ◌<◌, ◌∷◌, ◌++◌, ◌==◌, [], length, position, IfSome, OnOk, OnErr};
+ghost use Rattle.std.specs.Prelude.{◌≡◌, ◌<◌, ◌∷◌, ◌++◌, ◌==◌, [], length, position, vec_len, vec_capacity, IfSome, OnOk, OnErr};
 ghost use Rattle.code_emit.specs.Spare.{TakenFrom};
 
 use papy_base::OutOfMemory;
-use std::alloc::Global;
+use std::alloc::{AllocError, Global};
 use std::marker::Model;
 
 /// Temporaries, each with the places of its type's name and of its own among the file's strings.
@@ -51,10 +51,22 @@ impl Spare {
         ensures ok { OnOk result (self.new ≡ self.old ++ (kind, name) ∷ []) }
         ensures err { OnErr result (self.new ≡ self.old) }
     {
-        self.temporaries.reserve(1)?;
+        make_room(&mut self.temporaries)?;
         self.temporaries.push_reserved((kind, name));
         Ok(())
     }
+}
+
+// Makes room for one more. Where it is there already, no call is made.
+#[inline(always)]
+fn make_room(temporaries: &mut Vec<(u16, u16)>) -> Result<(), AllocError>
+    ensures items { temporaries.new.items ≡ temporaries.old.items }
+    ensures room { OnOk result (vec_len temporaries.new < vec_capacity temporaries.new) }
+{
+    if temporaries.len() < temporaries.capacity() {
+        return Ok(());
+    }
+    temporaries.reserve(1)
 }
 
 fn first_of(temporaries: &[(u16, u16)], kind: u16) -> Option<usize>

@@ -22,6 +22,7 @@ pub(crate) fn spine<'a>(alloc: Global, expression: &'a Core) -> Result<Vec<&'a C
 }
 
 /// The first operand of a form, which is evaluated before what else the form has.
+#[inline(always)]
 pub(crate) fn first_operand(form: &Core) -> Option<&Core> {
     match form {
         Core::Lit(_)

@@ -20,6 +20,20 @@ pub(crate) enum Numbered {
     Variable(u16),
     /// A parameter or a local of any function, temporaries counted.
     Local(u16),
+    /// The name of a script of the set.
+    Script(u16),
+    Word(Word),
+}
+
+/// A string that many functions of a file use.
+#[derive(Clone, Copy)]
+pub(crate) enum Word {
+    Empty,
+    OwnInstance,
+    StateVariable,
+    NoneVariable,
+    /// The name of the script whose file it is.
+    ScriptName,
 }
 
 /// The strings so far. Contracts see them as a list, in which none stands twice.
@@ -100,12 +114,26 @@ impl Strings {
 
 // Where the place of a name is noted: the kinds take turns.
 fn slot(name: Numbered) -> usize
-    ensures { result < 2 ^ 34 }
+    ensures { result < 2 ^ 35 }
 {
     match name {
-        Numbered::Type(number) => 3 * number as usize,
-        Numbered::Variable(number) => 3 * usize::from(number) + 1,
-        Numbered::Local(number) => 3 * usize::from(number) + 2,
+        Numbered::Type(number) => 5 * number as usize,
+        Numbered::Variable(number) => 5 * usize::from(number) + 1,
+        Numbered::Local(number) => 5 * usize::from(number) + 2,
+        Numbered::Script(number) => 5 * usize::from(number) + 3,
+        Numbered::Word(word) => 5 * word_number(word) + 4,
+    }
+}
+
+fn word_number(word: Word) -> usize
+    ensures { result < 5 }
+{
+    match word {
+        Word::Empty => 0,
+        Word::OwnInstance => 1,
+        Word::StateVariable => 2,
+        Word::NoneVariable => 3,
+        Word::ScriptName => 4,
     }
 }
 

@@ -8,6 +8,7 @@ use core_tree::{CoreScript, CoreType};
 use std::alloc::Global;
 
 /// The place of the name of a type, as of a result or a local. Without a type it is `None`.
+#[inline(always)]
 pub(crate) fn type_name(
     alloc: Global,
     strings: &mut Strings,
@@ -21,8 +22,22 @@ pub(crate) fn type_name(
     if let Some(place) = strings.noted(name) {
         return Ok(place);
     }
+    noted_type_name(alloc, strings, scripts, kind)
+}
+
+// The place of a type's name that wasn't looked up before.
+#[inline(never)]
+fn noted_type_name(
+    alloc: Global,
+    strings: &mut Strings,
+    scripts: &[CoreScript],
+    kind: Option<CoreType>,
+) -> Result<u16, EmitFault>
+    ensures place { IfOk result (IsReference (length strings.new)) }
+    ensures kept { length strings.old ≤ length strings.new }
+{
     let place = new_type_name(alloc, strings, scripts, kind)?;
-    strings.note(name, place)?;
+    strings.note(Numbered::Type(type_number(kind)), place)?;
     Ok(place)
 }
 

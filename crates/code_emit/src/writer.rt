@@ -16,8 +16,8 @@ use crate::functions::Place;
 use crate::opcodes::ASSIGN;
 use crate::operand::{Operand, data, data_before, data_behind};
 use crate::spare::Spare;
-use crate::strings::{Numbered, Strings};
-use crate::type_names::type_name;
+use crate::strings::{Numbered, Strings, Word};
+use crate::type_names::{script_name, type_name};
 use core_tree::{CoreFunction, CoreScript, CoreSet, CoreType, CoreVariable};
 use jump_patch::{Ahead, Code, CodeBuffer, JumpKind, Mark};
 use papy_base::Text;
@@ -31,6 +31,9 @@ const MOST_INSTRUCTIONS: usize = 65_535;
 
 /// The most parameters and locals of a function, temporaries counted.
 const MOST_VARIABLES: usize = 8_192;
+
+/// How many temporaries a function finds room for at its start.
+const SOME_TEMPORARIES: usize = 8;
 
 /// Contracts see how many strings there are, how many instructions the function has so far, and the places of its jumps
 /// that haven't landed.
@@ -126,11 +129,38 @@ impl<'a> Writer<'a> {
     {
         match text {
             Some(text) => self.string(text.as_bytes()),
-            None => self.string(b""),
+            None => self.word(Word::Empty),
         }
     }
 
+    /// The place of a string that many functions use.
+    pub(crate) fn word(&mut self, word: Word) -> Result<u16, EmitFault>
+        ensures place { IfOk result (IsReference self.new.strings) }
+        ensures goes { GoesOn self.old self.new }
+    {
+        let name = Numbered::Word(word);
+        if let Some(place) = self.strings.noted(name) {
+            return Ok(place);
+        }
+        let script = self.script;
+        self.noted_string(name, word_bytes(word, script))
+    }
+
+    /// The place of the name of the script of this number.
+    pub(crate) fn script_name(&mut self, number: u16) -> Result<u16, EmitFault>
+        ensures place { IfOk result (IsReference self.new.strings) }
+        ensures goes { GoesOn self.old self.new }
+    {
+        let name = Numbered::Script(number);
+        if let Some(place) = self.strings.noted(name) {
+            return Ok(place);
+        }
+        let string = script_name(self.set.scripts.as_slice(), number)?;
+        self.noted_string(name, string)
+    }
+
     /// The place of a type's name.
+    #[inline(always)]
     pub(crate) fn type_name(&mut self, kind: Option<CoreType>) -> Result<u16, EmitFault>
         ensures place { IfOk result (IsReference self.new.strings) }
         ensures goes { GoesOn self.old self.new }
@@ -185,15 +215,24 @@ impl<'a> Writer<'a> {
             return Err(EmitFault::TooLarge);
         }
         let number = parameters + locals;
-        let local = Numbered::Local(number as u16);
-        if let Some(place) = self.strings.noted(local) {
+        if let Some(place) = self.strings.noted(Numbered::Local(number as u16)) {
             return Ok(place);
         }
+        self.temporary_name(number as u16)
+    }
+
+    // The name of a temporary that no function of the file had so far.
+    #[inline(never)]
+    fn temporary_name(&mut self, number: u16) -> Result<u16, EmitFault>
+        ensures place { IfOk result (IsReference self.new.strings) }
+        ensures goes { GoesOn self.old self.new }
+    {
         let name = format!(in self.alloc; "::temp{number}")?;
-        self.noted_string(local, name.as_bytes())
+        self.noted_string(Numbered::Local(number), name.as_bytes())
     }
 
     // The place of a string that has a number, from which it is known by its number too.
+    #[inline(never)]
     fn noted_string(&mut self, name: Numbered, string: &[u8]) -> Result<u16, EmitFault>
         ensures place { IfOk result (IsReference self.new.strings) }
         ensures goes { GoesOn self.old self.new }
@@ -207,10 +246,23 @@ impl<'a> Writer<'a> {
     pub(crate) fn begin(&mut self, function: &CoreFunction) -> Result<(), EmitFault>
         ensures { GoesOn self.old self.new }
     {
+        if !function.body.is_empty() {
+            self.make_room(function.parameters.len(), function.locals.len())?;
+        }
         self.begin_parameters(&function.parameters)?;
         self.begin_locals(&function.locals)?;
         self.numbered = self.parameters.len().saturating_add(self.locals.len());
         self.line = 0;
+        Ok(())
+    }
+
+    // Makes room for so many parameters and locals, and for some temporaries.
+    fn make_room(&mut self, parameters: usize, locals: usize) -> Result<(), EmitFault>
+        ensures { self.new ≡ self.old }
+    {
+        self.parameters.reserve(parameters)?;
+        self.locals
+            .reserve(locals.saturating_add(SOME_TEMPORARIES))?;
         Ok(())
     }
 
@@ -257,6 +309,7 @@ impl<'a> Writer<'a> {
         Ok(())
     }
 
+    #[inline(never)]
     fn new_local(&mut self, kind: u16) -> Result<u16, EmitFault>
         requires { IsReference self.old.strings kind }
         ensures name { IfOk result (λ name. name < self.new.strings) }
@@ -312,7 +365,7 @@ impl<'a> Writer<'a> {
         if let Some(name) = self.none_variable {
             return Ok(name);
         }
-        let name = self.string(b"::NoneVar")?;
+        let name = self.word(Word::NoneVariable)?;
         let kind = self.type_name(None)?;
         self.add_none(name, kind)?;
         Ok(name)
@@ -328,6 +381,7 @@ impl<'a> Writer<'a> {
         Ok(())
     }
 
+    #[inline(always)]
     fn add(&mut self, instruction: Instruction) -> Result<(), EmitFault>
         requires { IsShapedInstruction self.old.strings (plain_instruction instruction) }
         ensures { GoesOn self.old self.new }
@@ -341,6 +395,7 @@ impl<'a> Writer<'a> {
     }
 
     // Adds an instruction, and gives back the temporaries that it reads.
+    #[inline(always)]
     fn instruct(
         &mut self,
         opcode: u8,
@@ -374,6 +429,7 @@ impl<'a> Writer<'a> {
     }
 
     /// Gives back the temporaries among operands that are read no more.
+    #[inline(always)]
     pub(crate) fn give_all_back(&mut self, operands: &[Operand]) -> Result<(), EmitFault>
         requires { AreThere self.old.strings operands.now }
         ensures { self.new ≡ self.old }
@@ -396,6 +452,7 @@ impl<'a> Writer<'a> {
     }
 
     /// Writes an instruction whose result stands before its operands, and gives back the temporaries that it reads.
+    #[inline(always)]
     pub(crate) fn compute(
         &mut self,
         opcode: u8,
@@ -413,6 +470,7 @@ impl<'a> Writer<'a> {
     }
 
     /// As `compute`, into a variable that is there.
+    #[inline(always)]
     pub(crate) fn store(
         &mut self,
         opcode: u8,
@@ -462,6 +520,7 @@ impl<'a> Writer<'a> {
     }
 
     /// The operand, or where acts come before it is read and may change it, a temporary with its value.
+    #[inline(never)]
     pub(crate) fn kept(&mut self, operand: Operand, acts: bool) -> Result<Operand, EmitFault>
         requires { needs operand ≤ self.old.strings }
         ensures operand { IfOk result (λ operand. needs operand ≤ self.new.strings) }
@@ -541,9 +600,8 @@ impl<'a> Writer<'a> {
         requires { AllByRecursion (λ line. line < 2 ^ 16) lines.items }
         ensures { GoesOn self.old self.new }
     {
-        let script = self.script;
-        let object = self.string(script.name.as_bytes())?;
-        let state = self.string(place.state)?;
+        let object = self.word(Word::ScriptName)?;
+        let state = self.state_name(place.state)?;
         let function = self.string(place.name)?;
         self.add_entry(PexLines {
             object,
@@ -552,6 +610,18 @@ impl<'a> Writer<'a> {
             kind: place.kind,
             lines,
         })
+    }
+
+    // The place of a state's name, which mostly is that of the empty state.
+    fn state_name(&mut self, state: &[u8]) -> Result<u16, EmitFault>
+        ensures place { IfOk result (IsReference self.new.strings) }
+        ensures goes { GoesOn self.old self.new }
+    {
+        if state.is_empty() {
+            self.word(Word::Empty)
+        } else {
+            self.string(state)
+        }
     }
 
     fn add_entry(&mut self, entry: PexLines) -> Result<(), EmitFault>
@@ -569,6 +639,16 @@ impl<'a> Writer<'a> {
     {
         let texts = self.strings.texts()?;
         Ok((texts, self.debug))
+    }
+}
+
+fn word_bytes(word: Word, script: &CoreScript) -> &[u8] {
+    match word {
+        Word::Empty => b"",
+        Word::OwnInstance => b"self",
+        Word::StateVariable => b"::State",
+        Word::NoneVariable => b"::NoneVar",
+        Word::ScriptName => script.name.as_bytes(),
     }
 }
 

@@ -86,6 +86,7 @@ impl CodeBuffer {
     /// # Errors
     ///
     /// `OutOfMemory` comes where there is no room. Then the buffer is as it was.
+    #[inline(always)]
     pub fn emit(&mut self, instruction: Instruction, line: u16) -> Result<(), OutOfMemory>
         requires { length self.old.code < 65535 }
         ensures ok { OnOk result (self.new ≡ record self.old { code = self.old.code ++ plain_instruction instruction ∷ []; lines = self.old.lines ++ line ∷ [] }) }
@@ -185,6 +186,7 @@ impl CodeBuffer {
     }
 }
 
+#[inline(always)]
 fn add(
     code: &mut Vec<Instruction>,
     lines: &mut Vec<u16>,

@@ -16,6 +16,7 @@ pub enum JumpKind {
 }
 
 /// The jump of a kind, with this offset.
+#[inline(always)]
 pub fn make_jump(alloc: Global, kind: JumpKind, offset: i32) -> Result<Instruction, AllocError>
     ensures { IfOk result (λ i. plain_instruction i ≡ jump kind offset) }
 {

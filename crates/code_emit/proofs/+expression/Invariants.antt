@@ -9,6 +9,9 @@ decreases-expressions::value l = 5 * l.depth
 abbrev pub decreases-expressions::chain_value : goal.decreases-expressions::chain_value
 decreases-expressions::chain_value l = 5 * l.depth + 4
 
+abbrev pub decreases-expressions::leaf_value : goal.decreases-expressions::leaf_value
+decreases-expressions::leaf_value l = 5 * l.depth + 4
+
 abbrev pub decreases-expressions::form_value : goal.decreases-expressions::form_value
 decreases-expressions::form_value l = 5 * l.depth + 3
 
