@@ -8,7 +8,7 @@ ghost use Rattle.pex_codec.specs.Writing.{Writes, FitEach, HasSize};
 
 use crate::code::{put_datum, put_optional_function};
 use crate::faults::EncodeFault;
-use crate::spelled::{Spelled, put_byte, put_list, put_u16, put_u32};
+use crate::spelled::{Spelled, put_byte, put_list, put_u16, put_u32, set_u32};
 use pex_values::{
     FILE_LIMIT, PexFunction, PexObject, PexProperty, PexState, PexVariable, SizeForm,
 };
@@ -149,14 +149,16 @@ impl Spelled for PexObject {
 
     #[tactic(auto, unfolding(pex_values::specs::Spelling::object))]
     fn write(&self, out: &mut Vec<u8>) -> Result<(), EncodeFault> {
-        let mut data = Vec::new(*out.allocator());
-        put_object_data(&mut data, self)?;
-        if data.len() > FILE_LIMIT as usize {
+        put_u16(out, self.name)?;
+        let size = out.len();
+        put_u32(out, 0)?;
+        let data = out.len();
+        put_object_data(out, self)?;
+        let len = out.len() - data;
+        if len > FILE_LIMIT as usize {
             return Err(EncodeFault::TooManyItems);
         }
-        put_u16(out, self.name)?;
-        put_u32(out, size_field(self.size_form, data.len() as u32))?;
-        out.extend_from_slice(&data)?;
+        set_u32(out, size, size_field(self.size_form, len as u32));
         Ok(())
     }
 }

@@ -1,6 +1,7 @@
 //! How each part of a value is written.
 
-ghost use Rattle.std.specs.Prelude.{◌≡◌, ◌+◌, ◌<◌, ◌≤◌, ◌^◌, ◌++◌, List, ℕ, length, vec_len, vec_capacity, OnOk, ⊤};
+ghost use Rattle.std.specs.Prelude.{◌≡◌, ◌+◌, ◌<◌, ◌≤◌, ◌^◌, ◌++◌, List, ℕ, length, take, drop, vec_len, vec_capacity, OnOk, ⊤};
+ghost use Rattle.std.specs.List.{flat_map};
 ghost use Rattle.pex_values.specs.Fit.{IsCounted};
 ghost use Rattle.pex_values.specs.Spelling as spell;
 ghost use Rattle.pex_codec.specs.Writing.{Writes, FitEach};
@@ -23,22 +24,38 @@ pub(crate) trait Spelled {
         ensures { Writes result out.old.items out.new.items (fits self.now) (spelling self.now) };
 }
 
+/// Makes room for so many bytes more. Where it is there already, no call is made.
+#[inline(always)]
+pub(crate) fn make_room(out: &mut Vec<u8>, count: usize) -> Result<(), AllocError>
+    ensures items { out.new.items ≡ out.old.items }
+    ensures len { vec_len out.new ≡ vec_len out.old }
+    ensures room { OnOk result (vec_len out.new + count ≤ vec_capacity out.new) }
+{
+    if out.capacity() - out.len() >= count {
+        return Ok(());
+    }
+    out.reserve(count)
+}
+
+#[inline(always)]
 pub(crate) fn put_byte(out: &mut Vec<u8>, n: u8) -> Result<(), AllocError>
     ensures { OnOk result (out.new.items ≡ out.old.items ++ spell.one_byte n) }
 {
-    out.push(n)?;
+    make_room(out, 1)?;
+    out.push_reserved(n);
     Ok(())
 }
 
 pub(crate) fn put_u16(out: &mut Vec<u8>, n: u16) -> Result<(), AllocError>
     ensures { OnOk result (out.new.items ≡ out.old.items ++ spell.two_bytes n) }
 {
-    out.reserve(2)?;
+    make_room(out, 2)?;
     add_u16(out, n);
     Ok(())
 }
 
 /// As `put_u16`, where there is room.
+#[inline(always)]
 pub(crate) fn add_u16(out: &mut Vec<u8>, n: u16)
     requires { vec_len out.old + 2 ≤ vec_capacity out.old }
     ensures bytes { out.new.items ≡ out.old.items ++ spell.two_bytes n }
@@ -51,6 +68,7 @@ pub(crate) fn add_u16(out: &mut Vec<u8>, n: u16)
 }
 
 /// As `put_u32`, where there is room.
+#[inline(always)]
 pub(crate) fn add_u32(out: &mut Vec<u8>, n: u32)
     requires { vec_len out.old + 4 ≤ vec_capacity out.old }
     ensures bytes { out.new.items ≡ out.old.items ++ spell.four_bytes n }
@@ -67,9 +85,17 @@ pub(crate) fn add_u32(out: &mut Vec<u8>, n: u32)
 pub(crate) fn put_u32(out: &mut Vec<u8>, n: u32) -> Result<(), AllocError>
     ensures { OnOk result (out.new.items ≡ out.old.items ++ spell.four_bytes n) }
 {
-    let mut bytes = [0; 4];
-    BigEndian::write_u32(&mut bytes, n);
-    out.extend_from_slice(&bytes)
+    make_room(out, 4)?;
+    add_u32(out, n);
+    Ok(())
+}
+
+/// Writes a number over the four bytes at a place.
+pub(crate) fn set_u32(out: &mut Vec<u8>, at: usize, n: u32)
+    requires { at + 4 ≤ vec_len out.old }
+    ensures { out.new.items ≡ take at out.old.items ++ spell.four_bytes n ++ drop 4 (drop at out.old.items) }
+{
+    BigEndian::write_u32(&mut out[at..], n);
 }
 
 pub(crate) fn put_u64(out: &mut Vec<u8>, n: u64) -> Result<(), AllocError>
@@ -83,7 +109,7 @@ pub(crate) fn put_u64(out: &mut Vec<u8>, n: u64) -> Result<(), AllocError>
 pub(crate) fn put_integer(out: &mut Vec<u8>, n: i32) -> Result<(), AllocError>
     ensures { OnOk result (out.new.items ≡ out.old.items ++ spell.integer n) }
 {
-    out.reserve(5)?;
+    make_room(out, 5)?;
     add_integer(out, n);
     Ok(())
 }
@@ -109,6 +135,20 @@ pub(crate) fn put_count(out: &mut Vec<u8>, count: usize) -> Result<(), EncodeFau
     Ok(())
 }
 
+/// The numbers in a row.
+pub(crate) fn put_numbers(out: &mut Vec<u8>, numbers: &[u16]) -> Result<(), AllocError>
+    ensures { OnOk result (out.new.items ≡ out.old.items ++ flat_map spell.two_bytes numbers.now) }
+{
+    let Some(room) = numbers.len().checked_mul(2) else {
+        return Err(AllocError);
+    };
+    make_room(out, room)?;
+    for number in numbers {
+        add_u16(out, *number);
+    }
+    Ok(())
+}
+
 /// A count, and that many items.
 pub(crate) fn put_list<T: Spelled>(out: &mut Vec<u8>, items: &[T]) -> Result<(), EncodeFault>
     ensures { Writes result out.old.items out.new.items (FitEach T.fits items.now)
@@ -130,29 +170,6 @@ impl Spelled for Text {
         let bytes = self.as_bytes();
         put_count(out, bytes.len())?;
         out.extend_from_slice(bytes)?;
-        Ok(())
-    }
-}
-
-impl Spelled for u16 {
-    ghost fits = { λ _. ⊤ };
-
-    ghost spelling = { spell.two_bytes };
-
-    fn write(&self, out: &mut Vec<u8>) -> Result<(), EncodeFault> {
-        put_u16(out, *self)?;
-        Ok(())
-    }
-}
-
-impl Spelled for (u16, u16) {
-    ghost fits = { λ _. ⊤ };
-
-    ghost spelling = { spell.pair };
-
-    fn write(&self, out: &mut Vec<u8>) -> Result<(), EncodeFault> {
-        put_u16(out, self.0)?;
-        put_u16(out, self.1)?;
         Ok(())
     }
 }
