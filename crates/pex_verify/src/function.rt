@@ -5,7 +5,7 @@ ghost use Rattle.pex_verify.specs.Types.{IsTypeAmong, IsKindAmong};
 ghost use Rattle.pex_verify.specs.Soundness.{IsSoundFunction, AreSoundInstructions};
 
 use crate::fault::{Refusal, VerifyRule};
-use crate::instruction::load_instruction;
+use crate::instruction::add_instruction;
 use crate::kind::Kind;
 use crate::lines::lines_of;
 use crate::loaded::{LoadedFunction, LoadedInstruction};
@@ -130,7 +130,7 @@ fn judged_slot(
         return Err(Refusal::of(VerifyRule::DuplicateName));
     }
     let found = known_kind(kind)?;
-    slots.add(name, kind)?;
+    slots.add(name, pair.0, kind)?;
     Ok(found)
 }
 
@@ -140,9 +140,8 @@ fn load_code(scope: &Scope<'_>, code: &[Instruction]) -> Result<Vec<LoadedInstru
 {
     let mut loaded = Vec::with_capacity(scope.home.alloc, code.len())?;
     for (place, instruction) in code.iter().enumerate() {
-        match load_instruction(scope, place, code.len(), instruction) {
-            Ok(found) => loaded.push_reserved(found),
-            Err(refusal) => return Err(refusal.at(place.min(usize::from(u16::MAX)) as u16)),
+        if let Err(refusal) = add_instruction(scope, code.len(), instruction, &mut loaded) {
+            return Err(refusal.at(place.min(usize::from(u16::MAX)) as u16));
         }
     }
     Ok(loaded)

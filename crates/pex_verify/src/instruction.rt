@@ -1,9 +1,9 @@
 // One instruction.
-ghost use Rattle.std.specs.Prelude.{◌≡◌, ◌<◌, ◌≤◌, ◌+ℤ◌, ℕ, pos, vec_len, All, IfOk, IfSome, Some, option_copied};
+ghost use Rattle.std.specs.Prelude.{◌≡◌, ◌<◌, ◌≤◌, ◌+◌, ◌+ℤ◌, ℕ, pos, vec_len, vec_capacity, All, IfOk, OnOk, IfSome, Some, option_copied};
 ghost use Rattle.pex_verify.specs.Places.{bounds_of, IsTargetAmong};
 ghost use Rattle.pex_verify.specs.declared.action.Use.TheVariants.{Read};
 ghost use Rattle.pex_verify.specs.Uses.{action_of as action_by};
-ghost use Rattle.pex_verify.specs.Soundness.{IsResolved, AreResolved, IsSoundInstruction, Leads, LeadsBy};
+ghost use Rattle.pex_verify.specs.Soundness.{IsResolved, AreResolved, IsSoundInstruction, AreSoundInstructions, Leads, LeadsBy};
 
 use crate::action::{Action, Use, action_of, uses_of};
 use crate::arrays::{fits_create, fits_find, fits_get_element, fits_length, fits_set_element};
@@ -23,16 +23,87 @@ use crate::values::{
 };
 use pex_values::{Datum, Instruction};
 
-/// The instruction at this place of so many, with its operands resolved, or the lowest rule that it breaks.
-pub(crate) fn load_instruction(
+/// Adds the instruction behind these ones of so many, with its operands resolved, or gives the lowest rule that it breaks.
+pub(crate) fn add_instruction(
+    scope: &Scope<'_>,
+    count: usize,
+    instruction: &Instruction,
+    loaded: &mut Vec<LoadedInstruction>,
+) -> Result<(), Refusal>
+    requires { vec_len loaded.old < vec_capacity loaded.old }
+    ensures count { OnOk result (vec_len loaded.new ≡ vec_len loaded.old + 1) }
+    ensures capacity { vec_capacity loaded.new ≡ vec_capacity loaded.old }
+    ensures sound { AreSoundInstructions (bounds_of scope.now.home.now) (vec_len scope.now.slots.now.kinds) count loaded.old.items
+        → OnOk result (AreSoundInstructions (bounds_of scope.now.home.now) (vec_len scope.now.slots.now.kinds) count loaded.new.items) }
+{
+    let place = loaded.len();
+    let action = judged_action(instruction.opcode)?;
+    if looks_up(action) || !instruction.more.is_empty() {
+        loaded.push_reserved(load_linked(scope, place, count, action, instruction)?);
+    } else {
+        loaded.push_reserved(load_plain(scope, place, count, action, instruction)?);
+    }
+    Ok(())
+}
+
+// An instruction that looks nothing up and has no arguments.
+fn load_plain(
     scope: &Scope<'_>,
     place: usize,
     count: usize,
+    action: Action,
     instruction: &Instruction,
 ) -> Result<LoadedInstruction, Refusal>
+    requires { action_by instruction.now.opcode ≡ Some action }
     ensures { IfOk result (IsSoundInstruction (bounds_of scope.now.home.now) (vec_len scope.now.slots.now.kinds) count place) }
 {
-    let action = judged_action(instruction.opcode)?;
+    let fixed = resolved(
+        scope,
+        instruction,
+        uses_of(action),
+        instruction.fixed.as_slice(),
+    )?;
+    if !operands_fit(scope, action, fixed.as_slice()) {
+        return Err(Refusal::of(VerifyRule::OperandType));
+    }
+    let jump = jump_of(action, fixed.as_slice(), place, count)?;
+    if has_long_text(scope, fixed.as_slice()) {
+        return Err(Refusal::of(VerifyRule::TextTooLong));
+    }
+    Ok(LoadedInstruction {
+        opcode: instruction.opcode,
+        fixed,
+        more: Vec::new(scope.home.alloc),
+        jump,
+        name: None,
+        function: None,
+    })
+}
+
+// Whether an instruction looks something up by name.
+fn looks_up(action: Action) -> bool {
+    matches!(
+        action,
+        Action::CallMethod
+            | Action::CallParent
+            | Action::CallStatic
+            | Action::GetProperty
+            | Action::SetProperty
+    )
+}
+
+// An instruction that looks something up by name, or has arguments.
+#[inline(never)]
+fn load_linked(
+    scope: &Scope<'_>,
+    place: usize,
+    count: usize,
+    action: Action,
+    instruction: &Instruction,
+) -> Result<LoadedInstruction, Refusal>
+    requires { action_by instruction.now.opcode ≡ Some action }
+    ensures { IfOk result (IsSoundInstruction (bounds_of scope.now.home.now) (vec_len scope.now.slots.now.kinds) count place) }
+{
     let fixed = resolved(
         scope,
         instruction,
@@ -48,7 +119,7 @@ pub(crate) fn load_instruction(
         more.as_slice(),
     )?;
     let jump = jump_of(action, fixed.as_slice(), place, count)?;
-    if has_long_text(fixed.as_slice()) || has_long_text(more.as_slice()) {
+    if has_long_text(scope, fixed.as_slice()) || has_long_text(scope, more.as_slice()) {
         return Err(Refusal::of(VerifyRule::TextTooLong));
     }
     Ok(LoadedInstruction {
@@ -84,6 +155,7 @@ fn arguments(scope: &Scope<'_>, instruction: &Instruction) -> Result<Vec<Operand
 
 // Operands of the instruction, which are used so. A float in any of its operands comes before identifiers that
 // mean nothing.
+#[inline(always)]
 fn resolved(
     scope: &Scope<'_>,
     instruction: &Instruction,
@@ -128,18 +200,16 @@ fn link_of(
 ) -> Result<Link, Refusal>
     ensures { IfOk result (λ link. IfSome link.function (λ f. f.script < vec_len scope.now.home.now.set.now.heads)) }
 {
-    match action {
-        Action::CallMethod
-        | Action::CallParent
-        | Action::CallStatic
-        | Action::GetProperty
-        | Action::SetProperty => found_link(scope, action, instruction, fixed, more),
-        _ if operands_fit(scope, action, fixed) => Ok(Link {
-            name: None,
-            function: None,
-        }),
-        _ => Err(Refusal::of(VerifyRule::OperandType)),
+    if looks_up(action) {
+        return found_link(scope, action, instruction, fixed, more);
     }
+    if !operands_fit(scope, action, fixed) {
+        return Err(Refusal::of(VerifyRule::OperandType));
+    }
+    Ok(Link {
+        name: None,
+        function: None,
+    })
 }
 
 // What a call or a use of a property looks up: V6, V7, V9, then V10.

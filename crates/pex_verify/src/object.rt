@@ -12,11 +12,11 @@ use crate::loaded::{LoadedFunction, LoadedProperty, LoadedScript};
 use crate::outlining::outline_script;
 use crate::scope::{Home, Seen, Slots, Words};
 use crate::scripts::Scripts;
-use crate::signature::Signature;
+use crate::signature::{KIND_BITS, Signature};
 use crate::sources::{Members, Source};
 use crate::variables::load_variables;
 use core_tree::OutlineScript;
-use papy_base::{Name, OutOfMemory};
+use papy_base::Name;
 use pex_names::EMPTY_NAME;
 use pex_values::{PexFunction, PexObject, PexState};
 use std::alloc::Global;
@@ -191,11 +191,10 @@ fn load_functions(
     ensures { IfOk result (λ functions. AreSoundFunctions (bounds_of site.now.home.now) functions.items) }
 {
     let alloc = site.home.alloc;
-    let mut seen = HashMap::new(alloc);
     let mut functions = Vec::with_capacity(alloc, state.functions.len())?;
+    slots.begin_state();
     for (name, function) in &state.functions {
-        let number = site.source.names.number(*name);
-        let is_new = seen.insert(number, ())?.is_none();
+        let is_new = slots.is_new_function(site.source.names.number(*name));
         match load_state_function(site, slots, state.name, *name, function, is_new) {
             Ok(loaded) => functions.push(loaded)?,
             Err(refusal) => return Err(site.fault_in(*name, refusal)),
@@ -218,7 +217,7 @@ fn load_state_function(
     if !is_new {
         return Err(Refusal::of(VerifyRule::DuplicateName));
     }
-    if !replaces_alike(site, state, name, function)? {
+    if !replaces_alike(site, state, name, function) {
         return Err(Refusal::of(VerifyRule::SignatureDiffers));
     }
     if has_too_many_slots(function) {
@@ -233,44 +232,38 @@ fn load_state_function(
 }
 
 // Whether a function of a state gives and takes what the function that it replaces does.
-fn replaces_alike(
-    site: &PropertySite<'_>,
-    state: u16,
-    name: u16,
-    function: &PexFunction,
-) -> Result<bool, OutOfMemory> {
+fn replaces_alike(site: &PropertySite<'_>, state: u16, name: u16, function: &PexFunction) -> bool {
     let names = site.source.names;
-    let own = Signature::of(site.home.alloc, names, name, function)?;
-    Ok(if names.number(state) == EMPTY_NAME {
-        overrides_alike(site, &own)
+    let name = names.number(name);
+    if names.number(state) == EMPTY_NAME {
+        match overridden(site, name) {
+            Some(replaced) => replaced.is_of(names, function),
+            None => true,
+        }
     } else {
-        varies_alike(site, &own)
-    })
+        varies_alike(site, name, function)
+    }
 }
 
 // A function of a named state replaces the nearest one of the empty states, which has to be there. Neither
 // is global or native.
-fn varies_alike(site: &PropertySite<'_>, own: &Signature) -> bool {
+fn varies_alike(site: &PropertySite<'_>, name: usize, function: &PexFunction) -> bool {
     let here = usize::from(site.home.here);
-    match site.home.set.find_function(here, own.name) {
-        Some(replaced) => own.bits == 0 && own.same(replaced.signature),
+    match site.home.set.find_function(here, name) {
+        Some(replaced) => {
+            function.bits & KIND_BITS == 0 && replaced.signature.is_of(site.source.names, function)
+        }
         None => false,
     }
 }
 
-// A function of the empty state replaces the nearest one of the parents, if there is one. Without a parent it
-// replaces a member that every such script has.
-fn overrides_alike(site: &PropertySite<'_>, own: &Signature) -> bool {
-    let set = site.home.set;
+// What a function of the empty state replaces: the nearest one of the parents, if there is one. Without a parent
+// it is a member that every such script has.
+fn overridden<'a>(site: &PropertySite<'a>, name: usize) -> Option<&'a Signature> {
+    let set: &'a Scripts = site.home.set;
     match set.parent(usize::from(site.home.here)) {
-        Some(parent) => match set.find_function(parent, own.name) {
-            Some(replaced) => own.same(replaced.signature),
-            None => true,
-        },
-        None => match set.member(own.name) {
-            Some(member) => own.same(member),
-            None => true,
-        },
+        Some(parent) => Some(set.find_function(parent, name)?.signature),
+        None => set.member(name),
     }
 }
 

@@ -55,7 +55,7 @@ fn resolve_word(scope: &Scope<'_>, purpose: Use, reference: u16) -> Result<Opera
 {
     match purpose {
         Use::Read | Use::Write => {
-            match scope.meaning(scope.source.names.number(reference)) {
+            match scope.meaning(reference) {
                 Some(operand) => Ok(operand),
                 None => Err(Refusal::of(VerifyRule::UnknownVariable)),
             }
@@ -72,8 +72,8 @@ pub(crate) fn has_float(values: &[Datum]) -> bool {
 }
 
 /// Whether one of these operands is a text of over 1,024 bytes.
-pub(crate) fn has_long_text(operands: &[Operand]) -> bool {
-    operands.iter().any(|operand| is_long_text(operand))
+pub(crate) fn has_long_text(scope: &Scope<'_>, operands: &[Operand]) -> bool {
+    scope.source.has_long_string && operands.iter().any(|operand| is_long_text(operand))
 }
 
 fn is_long_text(operand: &Operand) -> bool {

@@ -68,19 +68,25 @@ impl Variables {
     }
 }
 
-/// The parameters and locals of a function.
+/// The parameters and locals of a function, and the names of its state's functions so far.
 #[derive(Drop)]
 pub(crate) struct Slots {
     pub(crate) kinds: Vec<Kind>,
     places: NamePlaces,
+    // The same by the reference to the string that names it where it is declared, which code mostly uses too.
+    declared: NamePlaces,
+    // The functions of the open state that were seen.
+    functions: NamePlaces,
 }
 
 impl Slots {
-    /// No parameters and locals, in a set with so many names.
-    pub(crate) fn new(alloc: Global, names: usize) -> Result<Slots, OutOfMemory> {
+    /// No parameters and locals, in a set with so many names, and so many strings in each file.
+    pub(crate) fn new(alloc: Global, names: usize, strings: usize) -> Result<Slots, OutOfMemory> {
         Ok(Slots {
             kinds: Vec::new(alloc),
             places: NamePlaces::new(alloc, names)?,
+            declared: NamePlaces::new(alloc, strings)?,
+            functions: NamePlaces::new(alloc, names)?,
         })
     }
 
@@ -90,18 +96,37 @@ impl Slots {
     {
         self.kinds.clear();
         self.places.clear();
+        self.declared.clear();
     }
 
     pub(crate) fn has(&self, name: usize) -> bool {
         self.places.get(name).is_some()
     }
 
-    /// Adds a parameter or a local behind the others. Only the first 65,536 can be named.
-    pub(crate) fn add(&mut self, name: usize, kind: Kind) -> Result<(), OutOfMemory>
+    /// Begins with the functions of another state.
+    pub(crate) fn begin_state(&mut self)
+        ensures { self.new.kinds ≡ self.old.kinds }
+    {
+        self.functions.clear();
+    }
+
+    /// Whether the open state has no function of this name before. From now on it has one.
+    pub(crate) fn is_new_function(&mut self, name: usize) -> bool
+        ensures { self.new.kinds ≡ self.old.kinds }
+    {
+        let is_new = self.functions.get(name).is_none();
+        self.functions.insert(name, 0);
+        is_new
+    }
+
+    /// Adds a parameter or a local of a new name, which this string gives it, behind the others. Only the first 65,536
+    /// can be named.
+    pub(crate) fn add(&mut self, name: usize, reference: u16, kind: Kind) -> Result<(), OutOfMemory>
         ensures { OnOk result (vec_len self.new.kinds ≡ vec_len self.old.kinds + 1) }
     {
         if let Ok(place) = u16::try_from(self.kinds.len()) {
             self.places.insert(name, place);
+            self.declared.insert(usize::from(reference), place);
         }
         self.kinds.push(kind)?;
         Ok(())
@@ -116,11 +141,11 @@ pub(crate) struct Seen {
 }
 
 impl Seen {
-    /// Nothing, in a set with so many names.
-    pub(crate) fn new(alloc: Global, names: usize) -> Result<Seen, OutOfMemory> {
+    /// Nothing, in a set with so many names, and so many strings in each file.
+    pub(crate) fn new(alloc: Global, names: usize, strings: usize) -> Result<Seen, OutOfMemory> {
         Ok(Seen {
             variables: Variables::new(alloc, names)?,
-            slots: Slots::new(alloc, names)?,
+            slots: Slots::new(alloc, names, strings)?,
         })
     }
 }
@@ -148,12 +173,23 @@ pub(crate) struct Scope<'a> {
 }
 
 impl Scope<'_> {
-    /// What an identifier that is read or written means: the first of a parameter or local, a variable of
-    /// the script, the instance, and its state that has the name. Global functions see the first alone.
-    pub(crate) fn meaning(&self, name: usize) -> Option<Operand>
+    /// What an identifier that is read or written means, which this string gives: the first of a parameter or local,
+    /// a variable of the script, the instance, and its state that has the name. Global functions see the first alone.
+    pub(crate) fn meaning(&self, reference: u16) -> Option<Operand>
         ensures { IfSome result (IsIdentifier (vec_len self.now.slots.now.kinds) (vec_len self.now.home.now.variables.now.list)) }
     {
-        if let Some(slot) = self.slot(name) {
+        match self.slot(self.slots.declared.get(usize::from(reference))) {
+            Some(slot) => Some(slot),
+            None => self.named(self.source.names.number(reference)),
+        }
+    }
+
+    // The same by the name's number.
+    #[inline(never)]
+    fn named(&self, name: usize) -> Option<Operand>
+        ensures { IfSome result (IsIdentifier (vec_len self.now.slots.now.kinds) (vec_len self.now.home.now.variables.now.list)) }
+    {
+        if let Some(slot) = self.slot(self.slots.places.get(name)) {
             return Some(slot);
         }
         if self.is_global {
@@ -171,10 +207,10 @@ impl Scope<'_> {
         }
     }
 
-    fn slot(&self, name: usize) -> Option<Operand>
+    fn slot(&self, place: Option<u16>) -> Option<Operand>
         ensures { IfSome result (IsIdentifier (vec_len self.now.slots.now.kinds) (vec_len self.now.home.now.variables.now.list)) }
     {
-        let place = self.slots.places.get(name)?;
+        let place = place?;
         if usize::from(place) < self.slots.kinds.len() {
             Some(Operand::Slot(place))
         } else {
@@ -194,7 +230,16 @@ impl Scope<'_> {
     }
 
     /// What an operand's value is. A name that stands for itself has none.
+    #[inline(always)]
     pub(crate) fn kind_of(&self, operand: &Operand) -> Kind {
+        match operand {
+            Operand::Slot(place) => self.slot_kind(*place),
+            _ => self.other_kind(operand),
+        }
+    }
+
+    #[inline(never)]
+    fn other_kind(&self, operand: &Operand) -> Kind {
         match operand {
             Operand::NoneValue => Kind::Nothing,
             Operand::Word(_) => Kind::Unknown,
@@ -224,9 +269,11 @@ impl Scope<'_> {
 
     /// The type of what can be stored in an operand, none where it isn't a parameter, a local, a variable or
     /// the state.
+    #[inline(always)]
     pub(crate) fn target_kind(&self, operand: &Operand) -> Option<Kind> {
         match operand {
-            Operand::Slot(_) | Operand::Variable(_) | Operand::State => Some(self.kind_of(operand)),
+            Operand::Slot(place) => Some(self.slot_kind(*place)),
+            Operand::Variable(_) | Operand::State => Some(self.other_kind(operand)),
             _ => None,
         }
     }

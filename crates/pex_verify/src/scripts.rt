@@ -291,10 +291,18 @@ impl Scripts {
 
     /// Whether a value of one type fits the other: it has the type, or is of a script below it, or is None
     /// and the type is a script or array type.
+    #[inline(always)]
     pub(crate) fn fits(&self, kind: Kind, to: Kind) -> bool {
         if kind == to {
-            return kind.is_known();
+            kind.is_known()
+        } else {
+            self.is_among(kind, to)
         }
+    }
+
+    // The same of two types that differ.
+    #[inline(never)]
+    fn is_among(&self, kind: Kind, to: Kind) -> bool {
         match (kind, to) {
             (Kind::Nothing, to) => to.holds_none(),
             (Kind::Of(CoreType::Script(script)), Kind::Of(CoreType::Script(parent))) => {

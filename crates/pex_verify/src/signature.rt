@@ -44,10 +44,19 @@ impl Signature {
         self.bits & GLOBAL != 0
     }
 
-    /// Whether the result, the parameter types and what kind of function it is are the same.
-    pub(crate) fn same(&self, other: &Signature) -> bool {
-        self.answer == other.answer
-            && self.parameters.as_slice() == other.parameters.as_slice()
-            && self.bits == other.bits
+    /// Whether the result, the parameter types and what kind of function it is are those of the function.
+    pub(crate) fn is_of(&self, names: &FileNames, function: &PexFunction) -> bool {
+        self.answer == names.number(function.result)
+            && self.bits == function.bits & KIND_BITS
+            && self.has_parameters(names, function.parameters.as_slice())
+    }
+
+    fn has_parameters(&self, names: &FileNames, parameters: &[(u16, u16)]) -> bool {
+        self.parameters.len() == parameters.len()
+            && self
+                .parameters
+                .iter()
+                .zip(parameters)
+                .all(|(own, other)| *own == names.number(other.1))
     }
 }

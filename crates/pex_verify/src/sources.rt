@@ -3,7 +3,7 @@ ghost use Rattle.std.specs.Prelude.{◌≡◌, length, IfOk};
 ghost use Rattle.pex_verify.specs.Sources.{object_count};
 
 use crate::fault::Site;
-use papy_base::{Name, OutOfMemory, Text};
+use papy_base::{Name, OutOfMemory, TEXT_LIMIT, Text};
 use pex_names::{FileNames, NameTable, Objects, Prelude, text_at};
 use pex_values::{Pex, PexFunction, PexObject};
 use std::alloc::Global;
@@ -18,6 +18,8 @@ pub(crate) struct Source<'a> {
     pub(crate) names: &'a FileNames,
     /// Its strings as names, which share their bytes with all names that are made from them.
     pub(crate) titles: &'a [Name],
+    /// Whether one of its strings has over 1,024 bytes.
+    pub(crate) has_long_string: bool,
 }
 
 impl<'a> Source<'a> {
@@ -57,6 +59,7 @@ pub(crate) struct Members<'a> {
 pub(crate) struct FileStrings {
     pub(crate) names: FileNames,
     titles: Vec<Name>,
+    has_long_string: bool,
 }
 
 impl FileStrings {
@@ -71,7 +74,13 @@ impl FileStrings {
         for string in strings {
             titles.push(Name::from_bytes(alloc, string.as_bytes())?)?;
         }
-        Ok(FileStrings { names, titles })
+        Ok(FileStrings {
+            names,
+            titles,
+            has_long_string: strings
+                .iter()
+                .any(|string| string.as_bytes().len() > TEXT_LIMIT),
+        })
     }
 }
 
@@ -99,6 +108,7 @@ fn source_of<'a>(file: u16, pex: &'a Pex, strings: &'a FileStrings) -> Source<'a
         pex,
         names: &strings.names,
         titles: strings.titles.as_slice(),
+        has_long_string: strings.has_long_string,
     }
 }
 
@@ -117,6 +127,15 @@ pub(crate) fn all_sources<'a>(
         }
     }
     Ok(sources)
+}
+
+/// The most strings that one of these files has.
+pub(crate) fn most_strings(sources: &[Source<'_>]) -> usize {
+    let mut most = 0;
+    for source in sources {
+        most = most.max(source.strings().len());
+    }
+    most
 }
 
 /// The objects of these files.

@@ -4,6 +4,7 @@ use crate::loaded::Operand;
 use crate::scope::Scope;
 
 /// Whether a value of this type can be stored in the operand. What has the type None takes any value.
+#[inline(always)]
 pub(crate) fn takes(scope: &Scope<'_>, to: &Operand, kind: Kind) -> bool {
     match scope.target_kind(to) {
         Some(Kind::Nothing) => true,
@@ -13,6 +14,7 @@ pub(crate) fn takes(scope: &Scope<'_>, to: &Operand, kind: Kind) -> bool {
 }
 
 /// Whether the operand is a value of exactly this type.
+#[inline(always)]
 pub(crate) fn is_of(scope: &Scope<'_>, operand: &Operand, kind: Kind) -> bool {
     scope.kind_of(operand) == kind
 }
@@ -27,6 +29,7 @@ pub(crate) fn is_number(operand: &Operand) -> bool {
 }
 
 /// A result of one type, from two values of another.
+#[inline(always)]
 pub(crate) fn fits_two(scope: &Scope<'_>, fixed: &[Operand], answer: Kind, kind: Kind) -> bool {
     match fixed {
         [to, left, right] => {

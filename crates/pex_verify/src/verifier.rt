@@ -13,7 +13,8 @@ use crate::object_rules::{SCRIPT_LIMIT, judge_objects};
 use crate::scope::{Seen, Words};
 use crate::scripts::Scripts;
 use crate::sources::{
-    FileStrings, Members, Source, all_sources, objects_of, prelude_source, strings_of_files,
+    FileStrings, Members, Source, all_sources, most_strings, objects_of, prelude_source,
+    strings_of_files,
 };
 use core_tree::{Outline, OutlineScript};
 use pex_names::{NameTable, Prelude};
@@ -86,7 +87,8 @@ fn load_tables(
         prelude: &first,
         members: &members,
     };
-    let mut seen = Seen::new(alloc, table.count())?;
+    let strings_at_most = most_strings(sources.as_slice());
+    let mut seen = Seen::new(alloc, table.count(), strings_at_most)?;
     let parts = load_files(&loader, &mut seen, sources.as_slice())?;
     Ok(Tables {
         parts,
