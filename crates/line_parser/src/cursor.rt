@@ -37,6 +37,16 @@ impl<'a> Cursor<'a> {
         }
     }
 
+    /// Whether the next token is a word or a number that is an operand by itself: a sign that opens no
+    /// link and no call stands behind it, or nothing.
+    pub(crate) fn next_is_lone(&self) -> bool {
+        match self.rest {
+            [first] => is_plain(&first.token),
+            [first, second, ..] => is_plain(&first.token) && ends_operand(&second.token),
+            [] => false,
+        }
+    }
+
     /// Whether the next token is `.` or `[`.
     pub(crate) fn next_is_link(&self) -> bool {
         match self.next_sign() {
@@ -172,6 +182,14 @@ impl<'a> Cursor<'a> {
         Ok(Some(name))
     }
 
+    /// Whether a binary sign that binds no looser than this level is next.
+    pub(crate) fn next_is_binary(&self, loosest: Level) -> bool {
+        match self.next_sign() {
+            Some(sign) => binds_within(sign, loosest),
+            None => false,
+        }
+    }
+
     /// Takes a binary sign that binds no looser than this level where it is next, and gives its level.
     pub(crate) fn take_binary(&mut self, loosest: Level) -> Option<(Sign, Level)>
         ensures shorter { OnSome result (length self.new.rest.now < length self.old.rest.now) }
@@ -212,6 +230,13 @@ impl<'a> Cursor<'a> {
             }
             _ => None,
         }
+    }
+}
+
+fn binds_within(sign: Sign, loosest: Level) -> bool {
+    match Level::of(sign) {
+        Some(level) => level.looseness() <= loosest.looseness(),
+        None => false,
     }
 }
 
@@ -259,6 +284,17 @@ fn word(token: &Token) -> Option<&Name> {
     match token {
         Token::Word(name) => Some(name),
         _ => None,
+    }
+}
+
+fn is_plain(token: &Token) -> bool {
+    matches!(token, Token::Word(_) | Token::Int(_))
+}
+
+fn ends_operand(token: &Token) -> bool {
+    match token {
+        Token::Sign(found) => !matches!(found, Sign::Dot | Sign::OpenBracket | Sign::OpenParen),
+        _ => false,
     }
 }
 

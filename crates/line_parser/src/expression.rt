@@ -4,7 +4,7 @@ ghost use Rattle.std.specs.Prelude.{◌≡◌, ◌+◌, ◌<◌, ◌≤◌, leng
 use crate::cursor::Cursor;
 use crate::fault::FormFault;
 use crate::level::Level;
-use crate::simple::{leaf, type_name};
+use crate::simple::{leaf, lone, type_name};
 use crate::tree::{Argument, Expr};
 use papy_base::Name;
 use script_lexer::{Keyword, Sign};
@@ -24,7 +24,25 @@ pub(crate) fn expression(cursor: &mut Cursor<'_>, depth: u8) -> Result<Expr, For
 fn binary(cursor: &mut Cursor<'_>, loosest: Level, depth: u8) -> Result<Expr, FormFault>
     ensures shorter { OnOk result (length cursor.new.rest.now < length cursor.old.rest.now) }
 {
-    let mut left = unary(cursor, depth)?;
+    let first = operand(cursor, depth)?;
+    if cursor.next_is_binary(loosest) {
+        operators(cursor, first, loosest, depth)
+    } else {
+        Ok(first)
+    }
+}
+
+// The signs behind the first operand, each with its right operand.
+#[cycle(expression)]
+fn operators(
+    cursor: &mut Cursor<'_>,
+    first: Expr,
+    loosest: Level,
+    depth: u8,
+) -> Result<Expr, FormFault>
+    ensures bound { OnOk result (length cursor.new.rest.now ≤ length cursor.old.rest.now) }
+{
+    let mut left = first;
     'signs: while let Some((sign, level)) = cursor.take_binary(loosest) {
         let right = binary(cursor, level.tighter(), depth)?;
         left = Expr::Binary {
@@ -34,6 +52,18 @@ fn binary(cursor: &mut Cursor<'_>, loosest: Level, depth: u8) -> Result<Expr, Fo
         };
     }
     Ok(left)
+}
+
+// An operand of binary signs. Most are a word or a number alone.
+#[cycle(expression)]
+fn operand(cursor: &mut Cursor<'_>, depth: u8) -> Result<Expr, FormFault>
+    ensures shorter { OnOk result (length cursor.new.rest.now < length cursor.old.rest.now) }
+{
+    if cursor.next_is_lone() {
+        lone(cursor)
+    } else {
+        unary(cursor, depth)
+    }
 }
 
 #[cycle(expression)]
@@ -86,7 +116,20 @@ fn cast_to(cursor: &mut Cursor<'_>, of: Expr) -> Result<Expr, FormFault>
 fn chain(cursor: &mut Cursor<'_>, depth: u8) -> Result<Expr, FormFault>
     ensures shorter { OnOk result (length cursor.new.rest.now < length cursor.old.rest.now) }
 {
-    let mut of = atom(cursor, depth)?;
+    let first = atom(cursor, depth)?;
+    if cursor.next_is_link() {
+        links(cursor, first, depth)
+    } else {
+        Ok(first)
+    }
+}
+
+// Members, calls and indexes behind an atom.
+#[cycle(expression)]
+fn links(cursor: &mut Cursor<'_>, first: Expr, depth: u8) -> Result<Expr, FormFault>
+    ensures bound { OnOk result (length cursor.new.rest.now ≤ length cursor.old.rest.now) }
+{
+    let mut of = first;
     'links: while cursor.next_is_link() {
         of = link(cursor, of, depth)?;
     }

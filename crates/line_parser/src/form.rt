@@ -41,6 +41,21 @@ pub fn parse_line_with(alloc: Global, types: &TypeWords, line: &Line) -> Result<
     Ok(line_tree(alloc, types, tokens)?)
 }
 
+/// The form alone, as [`parse_line_with`] gives it.
+///
+/// # Errors
+/// As those of [`parse_line`].
+pub fn parse_form_with(alloc: Global, types: &TypeWords, line: &Line) -> Result<LineForm, LineFault>
+    ensures too_deep { IsErrOf result (Broken TooDeep) ↔ IsTooDeep line.now.tokens.items }
+    ensures no_block { result ≢ Err (Broken BadBlock) }
+{
+    let tokens = judged(line)?;
+    if let Some(form) = ending_form(tokens) {
+        return Ok(form);
+    }
+    Ok(whole_form(alloc, types, without_doc(tokens))?)
+}
+
 // The tokens of a line that is neither too long nor too deep.
 fn judged(line: &Line) -> Result<&[Spanned], LineFault>
     ensures too_deep { IsErrOf result (Broken TooDeep) ↔ IsTooDeep line.now.tokens.items }
@@ -55,23 +70,41 @@ fn judged(line: &Line) -> Result<&[Spanned], LineFault>
     Ok(tokens)
 }
 
+// The form of a line that is one keyword, as most ends of blocks are.
+fn ending_form(tokens: &[Spanned]) -> Option<LineForm> {
+    match tokens {
+        [only] => match only.token {
+            Token::Key(keyword) => word_form(keyword),
+            _ => None,
+        },
+        _ => None,
+    }
+}
+
 // A form, and a documentation text where one is last.
 fn line_tree(alloc: Global, types: &TypeWords, tokens: &[Spanned]) -> Result<LineTree, FormFault> {
+    let form = whole_form(alloc, types, without_doc(tokens))?;
+    let doc = doc_at_end(alloc, tokens)?;
+    Ok(LineTree { form, doc })
+}
+
+// The tokens before a documentation text where one is last, or else all.
+fn without_doc(tokens: &[Spanned]) -> &[Spanned] {
     match tokens.split_last() {
-        Some((last, others)) if is_doc(&last.token) => {
-            let form = whole_form(alloc, types, others)?;
-            let doc = doc_text(alloc, &last.token)?;
-            Ok(LineTree { form, doc })
-        }
-        _ => Ok(LineTree {
-            form: whole_form(alloc, types, tokens)?,
-            doc: None,
-        }),
+        Some((last, others)) if is_doc(&last.token) => others,
+        _ => tokens,
     }
 }
 
 fn is_doc(token: &Token) -> bool {
     matches!(token, Token::Doc(_))
+}
+
+fn doc_at_end(alloc: Global, tokens: &[Spanned]) -> Result<Option<Text>, FormFault> {
+    match tokens.last() {
+        Some(last) => doc_text(alloc, &last.token),
+        None => Ok(None),
+    }
 }
 
 fn doc_text(alloc: Global, token: &Token) -> Result<Option<Text>, FormFault> {

@@ -13,6 +13,6 @@ mod tree;
 mod type_words;
 
 pub use fault::{LineFault, LineRule};
-pub use form::{parse_line, parse_line_with};
+pub use form::{parse_form_with, parse_line, parse_line_with};
 pub use tree::{Argument, Constant, Expr, Heading, LineForm, LineTree, Parameter, TypeName};
 pub use type_words::TypeWords;

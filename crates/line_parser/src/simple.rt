@@ -32,6 +32,26 @@ pub(crate) fn type_name(cursor: &mut Cursor<'_>) -> Result<TypeName, FormFault>
     Ok(TypeName { word, is_array })
 }
 
+/// A word or a number that is an operand by itself.
+pub(crate) fn lone(cursor: &mut Cursor<'_>) -> Result<Expr, FormFault>
+    ensures shorter { OnOk result (length cursor.new.rest.now < length cursor.old.rest.now) }
+{
+    let Some((first, others)) = cursor.rest.split_first() else {
+        return Err(FormFault::NoForm);
+    };
+    let found = lone_value(cursor.alloc, &first.token)?;
+    cursor.rest = others;
+    Ok(found)
+}
+
+fn lone_value(alloc: Global, token: &Token) -> Result<Expr, FormFault> {
+    match token {
+        Token::Word(name) => Ok(Expr::Word(name.try_clone(alloc)?)),
+        Token::Int(number) => Ok(Expr::Int(*number)),
+        _ => Err(FormFault::NoForm),
+    }
+}
+
 /// An atom that holds no expression: `Self`, a new array, or a constant without `-`.
 pub(crate) fn leaf(cursor: &mut Cursor<'_>) -> Result<Expr, FormFault>
     ensures shorter { OnOk result (length cursor.new.rest.now < length cursor.old.rest.now) }
@@ -45,8 +65,35 @@ pub(crate) fn leaf(cursor: &mut Cursor<'_>) -> Result<Expr, FormFault>
             cursor.skip();
             new_array(cursor)
         }
-        _ => Ok(expr_of(plain_constant(cursor)?)),
+        _ => written_value(cursor),
     }
+}
+
+// The expression of a constant without `-`.
+fn written_value(cursor: &mut Cursor<'_>) -> Result<Expr, FormFault>
+    ensures shorter { OnOk result (length cursor.new.rest.now < length cursor.old.rest.now) }
+{
+    let Some((first, others)) = cursor.rest.split_first() else {
+        return Err(FormFault::NoForm);
+    };
+    let found = value_of(cursor.alloc, &first.token)?;
+    cursor.rest = others;
+    Ok(found)
+}
+
+fn value_of(alloc: Global, token: &Token) -> Result<Expr, FormFault> {
+    match token {
+        Token::Int(number) => Ok(Expr::Int(*number)),
+        Token::Quoted(text) => quoted_value(alloc, text),
+        Token::Key(Keyword::True) => Ok(Expr::Bool(true)),
+        Token::Key(Keyword::False) => Ok(Expr::Bool(false)),
+        Token::Key(Keyword::None) => Ok(Expr::NoneValue),
+        _ => Err(FormFault::NoForm),
+    }
+}
+
+fn quoted_value(alloc: Global, text: &Text) -> Result<Expr, FormFault> {
+    Ok(Expr::Quoted(text.try_clone(alloc)?))
 }
 
 fn new_array(cursor: &mut Cursor<'_>) -> Result<Expr, FormFault>
@@ -57,15 +104,6 @@ fn new_array(cursor: &mut Cursor<'_>) -> Result<Expr, FormFault>
     let count = cursor.expect_int()?;
     cursor.expect_sign(Sign::CloseBracket)?;
     Ok(Expr::NewArray { element, count })
-}
-
-fn expr_of(constant: Constant) -> Expr {
-    match constant {
-        Constant::Int(number) => Expr::Int(number),
-        Constant::Bool(truth) => Expr::Bool(truth),
-        Constant::Quoted(text) => Expr::Quoted(text),
-        Constant::NoneValue => Expr::NoneValue,
-    }
 }
 
 // A constant without `-`.

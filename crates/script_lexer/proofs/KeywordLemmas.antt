@@ -55,43 +55,6 @@ only_candidate entries word place d k table is_place is_word =
     let there : place ≡ keyword_place (keyword_spelling k) = is_place ∙ ap keyword_place is_word in
     ap (λ (t : List (Option Keyword)). get_or t place d) table ∙ ap (λ (n : ℕ). get_or candidates n d) there ∙ entry_of k d
 
--- a spelling is in small letters
-pub folded_spelling : (k : Keyword) → folded (keyword_spelling k) ≡ keyword_spelling k
-folded_spelling keyword.As = refl
-folded_spelling keyword.Auto = refl
-folded_spelling keyword.AutoReadOnly = refl
-folded_spelling keyword.Bool = refl
-folded_spelling keyword.Else = refl
-folded_spelling keyword.ElseIf = refl
-folded_spelling keyword.EndEvent = refl
-folded_spelling keyword.EndFunction = refl
-folded_spelling keyword.EndIf = refl
-folded_spelling keyword.EndProperty = refl
-folded_spelling keyword.EndState = refl
-folded_spelling keyword.EndWhile = refl
-folded_spelling keyword.Event = refl
-folded_spelling keyword.Extends = refl
-folded_spelling keyword.False = refl
-folded_spelling keyword.Float = refl
-folded_spelling keyword.Function = refl
-folded_spelling keyword.Global = refl
-folded_spelling keyword.If = refl
-folded_spelling keyword.Import = refl
-folded_spelling keyword.Int = refl
-folded_spelling keyword.Length = refl
-folded_spelling keyword.Native = refl
-folded_spelling keyword.New = refl
-folded_spelling keyword.None = refl
-folded_spelling keyword.Parent = refl
-folded_spelling keyword.Property = refl
-folded_spelling keyword.Return = refl
-folded_spelling keyword.ScriptName = refl
-folded_spelling keyword.SelfWord = refl
-folded_spelling keyword.State = refl
-folded_spelling keyword.String = refl
-folded_spelling keyword.True = refl
-folded_spelling keyword.While = refl
-
 abbrev same_bytes : List ℕ → List ℕ → Bool
 same_bytes [] [] = true
 same_bytes (x ∷ xs) (y ∷ ys) = (x == y) && same_bytes xs ys

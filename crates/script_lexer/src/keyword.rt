@@ -1,4 +1,4 @@
-ghost use Rattle.std.specs.Prelude.{◌≡◌, ◌≢◌, ◌<◌, Some, MatchOption};
+ghost use Rattle.std.specs.Prelude.{◌≡◌, ◌≢◌, ◌<◌, ◌↔◌, IsTrue, Some, MatchOption};
 ghost use Rattle.papy_base.specs.Case.{folded};
 ghost use Rattle.script_lexer.specs.declared.keyword.Keyword.{Keyword};
 ghost use Rattle.script_lexer.specs.Words.{keyword_spelling, keyword_place};
@@ -91,10 +91,21 @@ impl Keyword {
         ensures { MatchOption result ((k : Keyword) → folded word.now ≢ keyword_spelling k) (λ k. folded word.now ≡ keyword_spelling k) }
     {
         match candidate(word) {
-            Some(keyword) if word.eq_ignore_ascii_case(keyword.spelling()) => Some(keyword),
+            Some(keyword) if is_spelled(word, keyword.spelling()) => Some(keyword),
             _ => None,
         }
     }
+}
+
+// Whether the word is this spelling in small letters. For few bytes this is quicker than the comparison of slices.
+fn is_spelled(word: &[u8], spelling: &[u8]) -> bool
+    ensures { IsTrue result ↔ folded word.now ≡ spelling.now }
+{
+    word.len() == spelling.len()
+        && word
+            .iter()
+            .zip(spelling)
+            .all(|(byte, letter)| byte.to_ascii_lowercase() == *letter)
 }
 
 /// The keyword at each place, which is the only one that a word of that place can be.

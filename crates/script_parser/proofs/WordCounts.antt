@@ -73,6 +73,9 @@ members word ks (x ∷ xs) =
     ∙ ap (λ t. t || list_any (same_bytes word) xs) (member_cases (list_any (same_bytes x) ks) word x ks refl)
     ∙ or_assoc (list_any (same_bytes word) ks) (same_bytes word x) (list_any (same_bytes word) xs)
 
+pub same_bytes-equal : (a b : List ℕ) → a ≡ b → same_bytes a b ≡ true
+same_bytes-equal a b e = ap (λ (t : List ℕ). same_bytes a t) (sym e) ∙ nat_list_eq_equiv.refl a
+
 -- a byte list equal to one of a set is in it
 pub list_any-index : (word : List ℕ) (ks : List (Bor (List ℕ))) (i : ℕ) (k : Bor (List ℕ)) → slice_get ks i ≡ Some k → same_bytes word k.now ≡ true → list_any (same_bytes word) (shown ks) ≡ true
 list_any-index word ks i k at same =

@@ -5,7 +5,7 @@ ghost use Rattle.script_parser.specs.Reader.{left};
 use crate::fault::BlockFault;
 use crate::reader::Reader;
 use crate::script::{Statement, StatementForm};
-use line_parser::{Expr, LineForm, LineRule, LineTree};
+use line_parser::{Expr, LineForm, LineRule};
 
 /// The most `If` and `While` that may be open.
 pub(crate) const OPEN_LIMIT: u8 = 64;
@@ -38,10 +38,10 @@ pub(crate) fn statements(reader: &mut Reader<'_>, depth: u8) -> Result<Block, Bl
     let mut found = Vec::new(reader.alloc);
     'lines: loop {
         let first = reader.next_in_block()?;
-        let LineTree { form, doc: _ } = reader.tree(&first)?;
+        let found_form = reader.form(&first)?;
         let at = first.at;
         let line = first.line.number;
-        let form = match form {
+        let form = match found_form {
             LineForm::Definition {
                 kind,
                 name,

@@ -2,7 +2,7 @@
 ghost use Rattle.std.specs.Prelude.{◌<◌, ◌≤◌, OnOk, OnSome};
 
 use crate::fault::BlockFault;
-use line_parser::{LineTree, TypeWords, parse_line_with};
+use line_parser::{LineForm, LineTree, TypeWords, parse_form_with, parse_line_with};
 use papy_base::Text;
 use script_lexer::{Line, Spanned, Token};
 use std::alloc::Global;
@@ -41,6 +41,14 @@ impl<'a> Reader<'a> {
     pub(crate) fn tree(&self, found: &LineAt<'_>) -> Result<LineTree, BlockFault> {
         match parse_line_with(self.alloc, &self.types, found.line) {
             Ok(tree) => Ok(tree),
+            Err(fault) => Err(BlockFault::of_line(found.at, fault)),
+        }
+    }
+
+    /// The form of a line alone.
+    pub(crate) fn form(&self, found: &LineAt<'_>) -> Result<LineForm, BlockFault> {
+        match parse_form_with(self.alloc, &self.types, found.line) {
+            Ok(form) => Ok(form),
             Err(fault) => Err(BlockFault::of_line(found.at, fault)),
         }
     }

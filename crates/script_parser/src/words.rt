@@ -1,5 +1,5 @@
 // How many different words, texts and documentation texts a file has.
-ghost use Rattle.std.specs.Prelude.{◌≡◌, true, [], ◌∷◌, IfOk, OnOk, IsTrue};
+ghost use Rattle.std.specs.Prelude.{◌≡◌, ◌↔◌, true, [], ◌∷◌, IfOk, OnOk, IsTrue};
 ghost use Rattle.std.specs.List.{list_any};
 ghost use Rattle.indexmap.specs.IndexSet.{insert_all};
 ghost use Rattle.script_parser.specs.Held.{held};
@@ -82,9 +82,16 @@ fn came_lately(words: &Words<'_>, place: usize, bytes: &[u8]) -> bool
         return false;
     };
     match words.all.get_index(*index) {
-        Some(word) => bytes == *word,
+        Some(word) => are_same(bytes, word),
         None => false,
     }
+}
+
+// For the few bytes of a word this is quicker than the comparison of slices.
+fn are_same(left: &[u8], right: &[u8]) -> bool
+    ensures { IsTrue result ↔ left.now ≡ right.now }
+{
+    left.len() == right.len() && left.iter().zip(right).all(|(a, b)| a == b)
 }
 
 fn insert<'a>(words: &mut Words<'a>, place: usize, bytes: &'a [u8]) -> Result<(), BlockFault>
