@@ -12,10 +12,11 @@ use crate::operand::Operand;
 use crate::operators::{binary, unary};
 use crate::rule::TypeRule;
 use crate::spine::{Leaf, Spine, Step, Steps, Written};
-use crate::words::{instance, meaning_of, member_of_word, read_word, unknown_word};
+use crate::words::{instance, lone_word, meaning_of, member_of_word, read_word, unknown_word};
 use core_tree::{Core, CoreType, Value};
 use line_parser::{Argument, Expr};
 use papy_base::{Name, OutOfMemory};
+use script_lexer::Sign;
 use type_scope::Kind;
 
 // How deep arguments, indexes and right sides may stand in each other. Up to 64 brackets are open in a line,
@@ -58,8 +59,58 @@ pub(crate) fn truth(
 }
 
 // An expression. `OutOfMemory` is also the answer where it is deeper than any line's.
+//
+// Most are one word or number, or begin with one that a single sign follows: these take no list of steps.
 #[cycle(expression)]
 fn expression(
+    context: &Context<'_>,
+    notes: &mut Notes,
+    tree: &Expr,
+    depth: u16,
+) -> Result<Operand, OutOfMemory>
+    ensures { ContextInRange context.now → IfOk result (OperandInRange (bounds_of context.now)) }
+{
+    match tree {
+        Expr::Word(name) => lone_word(context, notes, name),
+        Expr::Int(number) => written(context, Written::Int(*number)),
+        Expr::Binary { sign, left, right } if is_lone(left) => {
+            one_sign(context, notes, *sign, left, right, depth)
+        }
+        other => stepped(context, notes, other, depth),
+    }
+}
+
+// Whether the expression is one word or number.
+fn is_lone(tree: &Expr) -> bool {
+    matches!(tree, Expr::Word(_) | Expr::Int(_))
+}
+
+// A sign between two values.
+#[cycle(expression)]
+fn one_sign(
+    context: &Context<'_>,
+    notes: &mut Notes,
+    sign: Sign,
+    left: &Expr,
+    right: &Expr,
+    depth: u16,
+) -> Result<Operand, OutOfMemory>
+    ensures { ContextInRange context.now → IfOk result (OperandInRange (bounds_of context.now)) }
+{
+    let Some(inner) = depth.checked_sub(1) else {
+        return Err(OutOfMemory);
+    };
+    let left = expression(context, notes, left, inner)?;
+    let left = used(context, notes, left);
+    let right = expression(context, notes, right, inner)?;
+    let right = used(context, notes, right);
+    binary(context, notes, sign, left, right)
+}
+
+// An expression as its first leaf and the steps from there.
+#[inline(never)]
+#[cycle(expression)]
+fn stepped(
     context: &Context<'_>,
     notes: &mut Notes,
     tree: &Expr,

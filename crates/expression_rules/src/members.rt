@@ -9,7 +9,7 @@ use crate::conversions::convert;
 use crate::notes::Notes;
 use crate::operand::Operand;
 use crate::rule::TypeRule;
-use crate::trees::{element_at, field, length_of, new_array_of, property_read};
+use crate::trees::{element_at, field, length_of, new_array_of, own_instance, property_read};
 use core_tree::{Core, CoreType};
 use papy_base::{Name, OutOfMemory};
 use script_linker::PropertyRef;
@@ -71,6 +71,38 @@ pub(crate) fn read_property(
     match property_type(context, notes, at, Access::Read)? {
         Some(kind) => property_value(context, of, at, name, kind),
         None => context.unknown(),
+    }
+}
+
+/// The value of a property of the frame's own instance.
+pub(crate) fn read_own_property(
+    context: &Context<'_>,
+    notes: &mut Notes,
+    at: PropertyRef,
+    name: &Name,
+) -> Result<Operand, OutOfMemory>
+    ensures { IfOk result (OperandInRange (bounds_of context.now)) }
+{
+    match property_type(context, notes, at, Access::Read)? {
+        Some(kind) => own_value(context, at, name, kind),
+        None => context.unknown(),
+    }
+}
+
+fn own_value(
+    context: &Context<'_>,
+    at: PropertyRef,
+    name: &Name,
+    kind: CoreType,
+) -> Result<Operand, OutOfMemory>
+    ensures { TypeInRange (bounds_of context.now).functions kind → IfOk result (OperandInRange (bounds_of context.now)) }
+{
+    match own_auto(context, at) {
+        Some(number) => Operand::of(context.catalog.alloc, field(number), kind),
+        None => {
+            let own = Box::new(context.catalog.alloc, own_instance())?;
+            property_value(context, own, at, name, kind)
+        }
     }
 }
 
@@ -140,7 +172,18 @@ fn has(functions: &[Function], name: &[u8]) -> bool {
 pub(crate) fn own_variable(context: &Context<'_>, of: &Core, at: PropertyRef) -> Option<u16>
     ensures { IfSome result (λ number. number < (bounds_of context.now).variables) }
 {
-    if at.script == context.script && matches!(of, Core::SelfValue) {
+    if matches!(of, Core::SelfValue) {
+        own_auto(context, at)
+    } else {
+        None
+    }
+}
+
+// The same of the frame's own instance.
+fn own_auto(context: &Context<'_>, at: PropertyRef) -> Option<u16>
+    ensures { IfSome result (λ number. number < (bounds_of context.now).variables) }
+{
+    if at.script == context.script {
         context.layout.auto_variable(at.place)
     } else {
         None

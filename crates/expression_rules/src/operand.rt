@@ -22,6 +22,7 @@ pub(crate) struct Operand {
 
 impl Operand {
     /// A tree of whose type this is known.
+    #[inline(always)]
     pub(crate) fn known(alloc: Global, core: Core, kind: Kind) -> Result<Operand, OutOfMemory>
         ensures { (b : Bounds) → CoreInRange b core → KindInRange b.functions kind → IfOk result (OperandInRange b) }
     {
@@ -30,6 +31,7 @@ impl Operand {
     }
 
     /// A tree of this type.
+    #[inline(always)]
     pub(crate) fn of(alloc: Global, core: Core, kind: CoreType) -> Result<Operand, OutOfMemory>
         ensures { (b : Bounds) → CoreInRange b core → TypeInRange b.functions kind → IfOk result (OperandInRange b) }
     {
@@ -37,6 +39,7 @@ impl Operand {
     }
 
     /// A tree of the type that was looked up.
+    #[inline(always)]
     pub(crate) fn found(
         alloc: Global,
         core: Core,
@@ -48,6 +51,7 @@ impl Operand {
     }
 
     /// A literal.
+    #[inline(always)]
     pub(crate) fn literal(alloc: Global, value: Value, kind: Kind) -> Result<Operand, OutOfMemory>
         ensures { (b : Bounds) → LiteralInRange value → KindInRange b.functions kind → IfOk result (OperandInRange b) }
     {

@@ -3,7 +3,7 @@ ghost use Rattle.std.specs.Prelude.{IfOk, IfSome};
 ghost use Rattle.expression_rules.specs.Ranges.{OperandInRange, MeaningInRange, ContextInRange, bounds_of};
 
 use crate::context::Context;
-use crate::members::read_property;
+use crate::members::read_own_property;
 use crate::notes::Notes;
 use crate::operand::Operand;
 use crate::rule::TypeRule;
@@ -28,9 +28,6 @@ pub(crate) enum Meaning {
 pub(crate) fn meaning_of(context: &Context<'_>, name: &Name) -> Result<Option<Meaning>, OutOfMemory>
     ensures { ContextInRange context.now → IfOk result (λ found. IfSome found (MeaningInRange (bounds_of context.now))) }
 {
-    if name.as_bytes() == STATE_WORD {
-        return Ok(Some(Meaning::State));
-    }
     match local_named(context, name) {
         Some(local) => Ok(Some(local)),
         None => member_named(context, name),
@@ -52,9 +49,13 @@ fn member_named(context: &Context<'_>, name: &Name) -> Result<Option<Meaning>, O
         let kind = context.catalog.type_of(kind)?;
         return Ok(Some(Meaning::Field(number, kind)));
     }
-    match context.catalog.find_property(context.script, name) {
-        Some(at) => Ok(Some(Meaning::Property(at))),
-        None => Ok(None),
+    if let Some(at) = context.catalog.find_property(context.script, name) {
+        return Ok(Some(Meaning::Property(at)));
+    }
+    if name.as_bytes() == STATE_WORD {
+        Ok(Some(Meaning::State))
+    } else {
+        Ok(None)
     }
 }
 
@@ -76,9 +77,22 @@ pub(crate) fn read_word(
         }
         Meaning::Property(at) => {
             context.needs_instance(notes);
-            let own = Box::new(context.catalog.alloc, own_instance())?;
-            read_property(context, notes, own, at, name)
+            read_own_property(context, notes, at, name)
         }
+    }
+}
+
+/// The value of a word that stands by itself, so that it can name no script.
+pub(crate) fn lone_word(
+    context: &Context<'_>,
+    notes: &mut Notes,
+    name: &Name,
+) -> Result<Operand, OutOfMemory>
+    ensures { ContextInRange context.now → IfOk result (OperandInRange (bounds_of context.now)) }
+{
+    match meaning_of(context, name)? {
+        Some(meaning) => read_word(context, notes, meaning, name),
+        None => unknown_word(context, notes),
     }
 }
 

@@ -9,6 +9,7 @@ use crate::scripts::judge_script;
 use core_tree::CoreSet;
 use script_linker::ScriptSet;
 use std::alloc::Global;
+use std::mem;
 use type_scope::Catalog;
 
 /// The set with every word resolved, and every conversion and default argument written out.
@@ -29,7 +30,11 @@ pub fn elaborate(alloc: Global, set: &ScriptSet) -> Result<CoreSet, TypeFault>
         scripts.push(judged.script)?;
     }
     match faults.first() {
-        Some(fault) => Err(fault),
+        Some(fault) => {
+            // A refused set is the last that a program reads: its trees are left to the end of the program.
+            mem::forget(scripts);
+            Err(fault)
+        }
         None => Ok(CoreSet { scripts }),
     }
 }

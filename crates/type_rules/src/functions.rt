@@ -29,7 +29,7 @@ pub(crate) fn core_functions(
 {
     let mut found = Vec::with_capacity(work.alloc(), functions.len())?;
     for function in functions {
-        found.push(core_function(work, function)?)?;
+        found.push_reserved(core_function(work, function)?);
     }
     Ok(found)
 }
@@ -130,7 +130,7 @@ fn known_types(alloc: Global, kinds: &[Option<CoreType>]) -> Result<Vec<CoreType
 {
     let mut found = Vec::with_capacity(alloc, kinds.len())?;
     for kind in kinds {
-        found.push(known(*kind))?;
+        found.push_reserved(known(*kind));
     }
     Ok(found)
 }

@@ -41,11 +41,14 @@ pub(crate) fn core_block(
     let mut found = Vec::with_capacity(scope.catalog.alloc, statements.len())?;
     for statement in statements {
         scope.line = statement.line;
-        let form = core_statement(scope, &statement.form, promise, depth)?;
-        found.push(CoreLine {
-            line: statement.line,
-            form,
-        })?;
+        // Without `?`, which would move the large statement once more.
+        match core_statement(scope, &statement.form, promise, depth) {
+            Ok(form) => found.push_reserved(CoreLine {
+                line: statement.line,
+                form,
+            }),
+            Err(fault) => return Err(fault),
+        }
     }
     scope.locals.close(mark);
     Ok(found)
@@ -147,7 +150,7 @@ fn branches(
         scope.line = *line;
         let test = scope.truth(test)?;
         let body = inner_block(scope, body.as_slice(), promise, depth)?;
-        found.push((*line, test, body))?;
+        found.push_reserved((*line, test, body));
     }
     Ok(found)
 }

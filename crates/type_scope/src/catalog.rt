@@ -13,6 +13,10 @@ use std::alloc::Global;
 // The first scripts of a set, Debug, Utility and Scene, are no types.
 const LIBRARY_COUNT: u16 = 3;
 
+// Among so many scripts or properties the name of each is compared, which takes less time than to
+// hash one.
+const COMPARED_LIMIT: usize = 16;
+
 /// A function that a call means.
 #[derive(Clone, Copy)]
 pub struct Callee<'a> {
@@ -50,7 +54,16 @@ impl<'a> Catalog<'a> {
     pub fn find_script(&self, name: &Name) -> Result<Option<u16>, OutOfMemory>
         ensures { IfOk result (λ found. IfSome found (λ n. n < length self.now.set.now)) }
     {
-        Ok(number_below(self.numbers.find(name), self.set.count()))
+        let count = self.set.count();
+        if usize::from(count) > COMPARED_LIMIT {
+            return Ok(number_below(self.numbers.find(name), count));
+        }
+        for number in 0..count {
+            if self.set.script(number).name.same(name) {
+                return Ok(Some(number));
+            }
+        }
+        Ok(None)
     }
 
     /// The script of this number.
@@ -129,11 +142,24 @@ impl<'a> Catalog<'a> {
 
     /// The nearest property of this name, from the script upward.
     pub fn find_property(&self, script: u16, name: &Name) -> Option<PropertyRef> {
-        if script < self.set.count() {
-            self.set.find_property(script, name)
-        } else {
-            None
+        let mut here = script;
+        for _ in 0..self.set.count() {
+            let own = self.script(here)?.properties.as_slice();
+            if own.len() > COMPARED_LIMIT {
+                return self.set.find_property(here, name);
+            }
+            if let Some(place) = place_among(own, name) {
+                return Some(PropertyRef {
+                    script: here,
+                    place,
+                });
+            }
+            let Ok(Some(parent)) = self.parent_of(here) else {
+                return None;
+            };
+            here = parent;
         }
+        None
     }
 
     /// The property at this place.
@@ -182,6 +208,16 @@ impl<'a> Catalog<'a> {
             None
         }
     }
+}
+
+// The place of the first property of this name.
+fn place_among(properties: &[Property], name: &Name) -> Option<u16> {
+    for (place, property) in properties.iter().enumerate() {
+        if property.name.same(name) {
+            return u16::try_from(place).ok();
+        }
+    }
+    None
 }
 
 fn number_below(number: Option<usize>, count: u16) -> Option<u16>

@@ -10,6 +10,9 @@ use std::alloc::Global;
 // The numbers of a script's variables have 16 bits.
 const VARIABLE_LIMIT: usize = 65_536;
 
+// Among so many variables the name of each is compared, which takes less time than to hash one.
+const COMPARED_LIMIT: usize = 16;
+
 /// What declares a variable: a line of its own, or an Auto property, with its place among the
 /// script's properties.
 #[derive(Clone, Copy)]
@@ -24,6 +27,14 @@ impl<'a> Source<'a> {
         match *self {
             Source::Declared(variable) => &variable.kind,
             Source::Auto(property, _) => &property.kind,
+        }
+    }
+
+    // Whether a line of its own declares the variable, and by this name.
+    fn declares(&self, name: &Name) -> bool {
+        match *self {
+            Source::Declared(variable) => variable.name.same(name),
+            Source::Auto(_, _) => false,
         }
     }
 
@@ -73,7 +84,10 @@ impl<'a> Layout<'a> {
     pub fn find(&self, name: &Name) -> Option<(u16, &'a TypeName)>
         ensures { IfSome result (λ v. v.0 < vec_len self.now.sources) }
     {
-        self.variable(self.declared.find(name)?)
+        if self.sources.len() > COMPARED_LIMIT {
+            return self.variable(self.declared.find(name)?);
+        }
+        self.variable(number_among(self.sources.as_slice(), name)?)
     }
 
     /// The variable of the property at this place, where the property is Auto.
@@ -97,16 +111,39 @@ impl<'a> Layout<'a> {
     }
 }
 
+// The first variable that a line of its own declares by this name.
+fn number_among(sources: &[Source<'_>], name: &Name) -> Option<usize> {
+    for (number, source) in sources.iter().enumerate() {
+        if source.declares(name) {
+            return Some(number);
+        }
+    }
+    None
+}
+
 fn sources_of<'a>(alloc: Global, script: &'a Script) -> Result<Vec<Source<'a>>, OutOfMemory> {
-    let mut sources = Vec::with_capacity(alloc, script.variables.len())?;
-    for variable in &script.variables {
+    let mut sources = declared_sources(alloc, script.variables.as_slice())?;
+    add_auto_sources(&mut sources, script.properties.as_slice())?;
+    sources.sort_by_key(|source| source.line())?;
+    Ok(sources)
+}
+
+fn declared_sources(alloc: Global, variables: &[Variable]) -> Result<Vec<Source<'_>>, OutOfMemory> {
+    let mut sources = Vec::with_capacity(alloc, variables.len())?;
+    for variable in variables {
         sources.push(Source::Declared(variable))?;
     }
-    for (place, property) in script.properties.iter().enumerate() {
+    Ok(sources)
+}
+
+fn add_auto_sources<'a>(
+    sources: &mut Vec<Source<'a>>,
+    properties: &'a [Property],
+) -> Result<(), OutOfMemory> {
+    for (place, property) in properties.iter().enumerate() {
         if matches!(property.form, PropertyForm::Auto(_)) {
             sources.push(Source::Auto(property, place))?;
         }
     }
-    sources.sort_by_key(|source| source.line())?;
-    Ok(sources)
+    Ok(())
 }

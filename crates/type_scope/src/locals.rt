@@ -85,12 +85,18 @@ impl Locals {
     // The number of the last name that is seen and is the same.
     fn number_of(&self, name: &Name) -> Option<usize> {
         if self.seen.len() > COMPARED_LIMIT
-            && let Some(number) = self.further.get(name.folded())
+            && let Some(number) = self.further_number(name)
         {
-            return Some(*number);
+            return Some(number);
         }
         let compared = self.seen.len().min(COMPARED_LIMIT);
         number_among(&self.seen[..compared], name)
+    }
+
+    // Few functions have so many names: the search is kept out of the common one's frame.
+    #[inline(never)]
+    fn further_number(&self, name: &Name) -> Option<usize> {
+        self.further.get(name.folded()).copied()
     }
 
     fn local(&self, number: usize) -> Option<Local>
@@ -108,10 +114,8 @@ impl Locals {
 }
 
 fn number_among(seen: &[(Name, usize)], name: &Name) -> Option<usize> {
-    let folded = name.folded();
     for (other, number) in seen.iter().rev() {
-        let other = other.folded();
-        if other.len() == folded.len() && other == folded {
+        if other.same(name) {
             return Some(*number);
         }
     }

@@ -1,3 +1,4 @@
+use Rattle.std.proofs.Common.{refl, ◌∙◌}
 use Rattle.core_tree.proofs.StatementViews.{statement_views}
 use Rattle.core_tree.specs.Tree.{block_of, branches_of, expression_of}
 use Rattle.expression_rules.specs.Scopes.{scope_bounds}
@@ -24,7 +25,9 @@ branches-loop-line-preserved t c =
           let tests = grown-branches s after grows (branches_of c.loop-line.found.items) (so_far.tests r p) in
           let test = grown-expression tested after inner (expression_of c.in_ok-test.test) (kept-expression lined tested kept (expression_of c.in_ok-test.test) (c.in_ok-test.ensures.in_range here)) in
           let body = c.in_ok-body.ensures.in_range (keeps-in_range lined tested kept here) (kept-promise lined tested kept c.args.promise promise) in
-          rw c.in_ok-push.ensures.items (branches_of-push (scope_bounds after) c.loop-line.found.items _ tests test body);
+          rw c.push_reserved.ensures.items (branches_of-push (scope_bounds after) c.loop-line.found.items _ tests test body);
+      count = rw (c.push_reserved.ensures.len, so_far.count) refl;
+      room = c.push_reserved.ensures.capacity ∙ so_far.room;
     }
 
 pub core_block-loop-statement-preserved : goal.core_block-loop-statement-preserved
@@ -33,13 +36,15 @@ core_block-loop-statement-preserved t c =
     let s = c.loop-statement.scope in
     let after = c.core_statement.new.scope in
     let so_far = c.loop-statement.invariant in
-    let grows = from_line s c.statement-item.result.line after c.in_ok-form.ensures.grows in
+    let grows = from_line s c.statement-item.result.line after c.in-Ok.ensures.grows in
     record {
       grows = grows-further entry s after so_far.grows grows;
       lines = λ r p.
           let lines = grown-block s after grows (block_of c.loop-statement.found.items) (so_far.lines r p) in
-          let form = c.in_ok-form.ensures.in_range (at_line s c.statement-item.result.line (so_far.grows.in_range r)) (grown-promise entry s so_far.grows c.args.promise p) in
-          rw c.in_ok-push.ensures.items (block_of-push (scope_bounds after) c.loop-statement.found.items _ lines (simp statement_views form));
+          let form = c.in-Ok.ensures.in_range (at_line s c.statement-item.result.line (so_far.grows.in_range r)) (grown-promise entry s so_far.grows c.args.promise p) in
+          rw c.push_reserved.ensures.items (block_of-push (scope_bounds after) c.loop-statement.found.items _ lines (simp statement_views form));
+      count = rw (c.push_reserved.ensures.len, so_far.count) refl;
+      room = c.push_reserved.ensures.capacity ∙ so_far.room;
     }
 
 pub core_statement-returns-in_ok-typed-in-Plain-clause-in_range : goal.core_statement-returns-in_ok-typed-in-Plain-clause-in_range

@@ -1,5 +1,5 @@
--- A call goes on to the statements of a block inside. What was made so far is in range.
-use Rattle.std.proofs.Common.{◌+◌, ◌*◌}
+-- A call goes on to the statements of a block inside. What was made so far is in range, and there is room for the rest.
+use Rattle.std.proofs.Common.{◌≡◌, ◌+◌, ◌*◌, length, vec_len, vec_capacity}
 use Rattle.core_tree.specs.InRange.{BlockInRange, BranchesInRange}
 use Rattle.core_tree.specs.Tree.{block_of, branches_of}
 use Rattle.expression_rules.specs.Scopes.{ScopeInRange, scope_bounds}
@@ -25,10 +25,14 @@ abbrev pub invariant-core_block-loop-statement : goal.invariant-core_block-loop-
 invariant-core_block-loop-statement l = record {
   grows : Grows l.fn.scope l.scope;
   lines : ScopeInRange l.fn.scope → PromiseInRange (scope_bounds l.fn.scope).functions l.promise → BlockInRange (scope_bounds l.scope) (block_of l.found.items);
+  count : vec_len l.found ≡ l.statement-index;
+  room : vec_capacity l.found ≡ length l.statements;
 }
 
 abbrev pub invariant-branches-loop-line : goal.invariant-branches-loop-line
 invariant-branches-loop-line l = record {
   grows : Grows l.fn.scope l.scope;
   tests : ScopeInRange l.fn.scope → PromiseInRange (scope_bounds l.fn.scope).functions l.promise → BranchesInRange (scope_bounds l.scope) (branches_of l.found.items);
+  count : vec_len l.found ≡ l.line-index;
+  room : vec_capacity l.found ≡ length l.tests;
 }
