@@ -1,6 +1,8 @@
 -- When writing a listing fails, and what is written of it.
-use Rattle.std.specs.Prelude.{◌≡◌, ℕ, Result, Ok, Err}
+use Rattle.std.specs.Prelude.{◌≡◌, ℕ, List, [], ◌∷◌, ◌++◌, codes, Option, Result, Ok, Err}
+use Rattle.std.specs.Fmt.{decimal}
 use Rattle.papy_io.specs.Count.{HasRisen}
+use Rattle.papy_io.specs.Sink.{Appended}
 use Rattle.pex_listing.specs.declared.faults.ShowFault.{ShowFault}
 use Rattle.pex_listing.specs.declared.faults.ShowFault.TheVariants.{WriteFault, OutOfMemory}
 
@@ -9,3 +11,12 @@ abbrev pub Shows : {T S : Type 0} → (S → ℕ) → Result T ShowFault → S �
 Shows faults (Ok _) old new = faults new ≡ faults old
 Shows faults (Err WriteFault) old new = HasRisen (faults old) (faults new)
 Shows faults (Err OutOfMemory) old new = faults new ≡ faults old
+
+-- the line that each listing begins with: the minor version and the time
+abbrev pub first_line : ℕ → ℕ → List ℕ
+first_line minor time = codes "pex " ++ (decimal minor ++ 32 ∷ (decimal time ++ 10 ∷ []))
+
+-- the line was appended, and bytes behind it or none
+pub record Begins (line : List ℕ) (before now : Option (List ℕ)) : Type 0 where
+  pub behind : List ℕ
+  pub appended : Appended (line ++ behind) before now

@@ -1,9 +1,11 @@
 //! Values to listings.
 
+ghost use Rattle.std.specs.Prelude.{◌≡◌, ◌++◌, [], IfOk};
+ghost use Rattle.std.specs.String.{string_bytes};
 ghost use Rattle.pex_values.specs.Plain.{plain};
 ghost use Rattle.pex_values.specs.Shape.{IsWellShaped};
-ghost use Rattle.pex_listing.specs.Showing.{Shows};
-ghost use Rattle.papy_io.specs.Sink.{AppendsSome};
+ghost use Rattle.pex_listing.specs.Showing.{Begins, Shows, first_line};
+ghost use Rattle.papy_io.specs.Sink.{Appended, AppendsSome};
 
 use crate::faults::ShowFault;
 use crate::names::{Names, reference_words};
@@ -26,6 +28,7 @@ pub fn show<S: Sink>(alloc: Global, value: &Pex, sink: &mut S) -> Result<(), Sho
     requires { IsWellShaped (plain value.now) }
     ensures faults { Shows S.faults result sink.old sink.new }
     ensures appended { AppendsSome (S.written sink.old) (S.written sink.new) }
+    ensures begun { IfOk result (λ _. Begins (first_line value.now.minor value.now.time) (S.written sink.old) (S.written sink.new)) }
 {
     let words = reference_words(alloc, &value.strings)?;
     let names = Names { words: &words };
@@ -37,11 +40,15 @@ pub fn show<S: Sink>(alloc: Global, value: &Pex, sink: &mut S) -> Result<(), Sho
     show_objects(&mut out, &names, &value.objects, sink)
 }
 
-/// The lines before the string table.
+/// The line that a listing begins with.
+fn put_first_line(out: &mut String, minor: u8, time: u64) -> Result<(), AllocError>
+    ensures { IfOk result (λ _. string_bytes out.new ≡ string_bytes out.old ++ first_line minor time) }
+{
+    write!(out, "pex {minor} {time}\n")
+}
+
+/// The lines between the first one and the string table.
 fn put_header(out: &mut String, value: &Pex) -> Result<(), AllocError> {
-    let minor = value.minor;
-    let time = value.time;
-    write!(out, "pex {minor} {time}\n")?;
     put_string_line(out, "source", &value.source)?;
     put_string_line(out, "user", &value.user)?;
     put_string_line(out, "machine", &value.machine)
@@ -51,6 +58,7 @@ fn put_header(out: &mut String, value: &Pex) -> Result<(), AllocError> {
 fn flush<S: Sink>(out: &mut String, sink: &mut S) -> Result<(), ShowFault>
     ensures faults { Shows S.faults result sink.old sink.new }
     ensures appended { AppendsSome (S.written sink.old) (S.written sink.new) }
+    ensures all { IfOk result (λ _. Appended (string_bytes out.old) (S.written sink.old) (S.written sink.new)) }
 {
     let written = sink.write(out.as_bytes());
     out.clear();
@@ -61,11 +69,15 @@ fn flush<S: Sink>(out: &mut String, sink: &mut S) -> Result<(), ShowFault>
     }
 }
 
-/// The header and the string table.
+/// The header and the string table. The buffer is empty.
 fn show_strings<S: Sink>(out: &mut String, value: &Pex, sink: &mut S) -> Result<(), ShowFault>
+    requires { string_bytes out.old ≡ [] }
     ensures faults { Shows S.faults result sink.old sink.new }
     ensures appended { AppendsSome (S.written sink.old) (S.written sink.new) }
+    ensures begun { IfOk result (λ _. Begins (first_line value.now.minor value.now.time) (S.written sink.old) (S.written sink.new)) }
 {
+    put_first_line(out, value.minor, value.time)?;
+    flush(out, sink)?;
     put_header(out, value)?;
     flush(out, sink)?;
     show_table(out, &value.strings, sink)
