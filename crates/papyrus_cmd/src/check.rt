@@ -13,6 +13,7 @@ use command_files::{Ending, read_pex};
 use papy_base::OutOfMemory;
 use papy_io::{Desk, IoFault, Sink};
 use std::alloc::Global;
+use std::mem;
 
 fn accepted_line(alloc: Global, size: usize) -> Result<String, OutOfMemory>
     ensures { IfOk result (λ line. string_bytes line ≡ accepted_line size) }
@@ -48,7 +49,11 @@ pub fn check<D: Desk, S: Sink>(alloc: Global, files: &[String], desk: &mut D, ou
         Err(fault) => return fault.at_word(1),
     };
     match write_accepted(alloc, pex.size, out) {
-        Ok(()) => Ending::Done,
+        Ok(()) => {
+            // The end of the program gives the value's memory back at once, and taking it apart doesn't.
+            mem::forget(pex);
+            Ending::Done
+        }
         Err(fault) => Ending::from(fault),
     }
 }

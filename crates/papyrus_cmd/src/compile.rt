@@ -11,6 +11,7 @@ use crate::written::write_each;
 use command_files::{Ending, accept, compile_set};
 use papy_io::Desk;
 use std::alloc::Global;
+use std::mem;
 
 /// Reads and judges the scripts, and writes the compiled file of each under its name with `.pex` in the
 /// place of `.psc`, in their order. Nothing is written before all of them have their bytes.
@@ -35,7 +36,12 @@ pub fn compile<D: Desk>(alloc: Global, scripts: &[String], desk: &mut D) -> Endi
         Err(fault) => return Ending::from(fault),
     };
     match write_each(alloc, desk, scripts, &compiled.files) {
-        Ok(()) => Ending::Done,
+        Ok(()) => {
+            // The end of the program gives their memory back at once, and taking them apart doesn't.
+            mem::forget(compiled);
+            mem::forget(set);
+            Ending::Done
+        }
         Err(fault) => Ending::from(fault),
     }
 }

@@ -10,6 +10,7 @@ use command_files::{Ending, read_pex};
 use papy_io::{Desk, Sink};
 use pex_listing::{ShowFault, show as write_listing};
 use std::alloc::Global;
+use std::mem;
 
 /// Reads the compiled file that the first word names, and writes its listing.
 pub fn show<D: Desk, S: Sink>(alloc: Global, files: &[String], desk: &mut D, out: &mut S) -> Ending
@@ -31,7 +32,11 @@ pub fn show<D: Desk, S: Sink>(alloc: Global, files: &[String], desk: &mut D, out
         Err(fault) => return fault.at_word(1),
     };
     match write_listing(alloc, &pex.value, out) {
-        Ok(()) => Ending::Done,
+        Ok(()) => {
+            // The end of the program gives the value's memory back at once, and taking it apart doesn't.
+            mem::forget(pex);
+            Ending::Done
+        }
         Err(ShowFault::WriteFault) => Ending::WriteFault,
         Err(ShowFault::OutOfMemory) => Ending::OutOfMemory,
     }

@@ -4,8 +4,8 @@ use Rattle.command_files.specs.Compiled.{bytes_of}
 use Rattle.papyrus_cmd.proofs.Compiling.{cut_leaves, have_files}
 use Rattle.papyrus_cmd.proofs.compile.compile.Goals as goal
 
-pub returns-clause-holds : goal.returns-clause-holds
-returns-clause-holds g c =
+pub returns-in-Err-write_each-clause-holds : goal.returns-in-Err-write_each-clause-holds
+returns-in-Err-write_each-clause-holds g c =
     let compiled = c.in-Ok-compile_set.compiled in
     let counted : vec_len c.in-Ok.set.scripts - 6 ≡ length c.args.scripts.now = omega (arith, c.in-Ok.ensures.scripts) in
     let have = have_files (vec_len c.in-Ok.set.scripts - 6) c.args.scripts.now compiled counted c.in-Ok-compile_set.ensures in
