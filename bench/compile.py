@@ -11,23 +11,20 @@ import measure
 from ordinary import MEBIBYTE, functions_of, growth, lua, many_scripts, papyrus
 
 
-def compiled(folder, name, text):
-    """The time and the memory of compiling a script, and the sizes of the file and the script."""
-    folder.joinpath(f"{name}.psc").write_text(text)
-    seconds, memory = measure.best([measure.program(), "compile", f"{name}.psc"], folder)
-    return seconds, memory, folder.joinpath(f"{name}.pex").stat().st_size, len(text)
-
-
 def beside_lua(folder, whole):
-    seconds, memory, size, length = compiled(folder, "Ordinary", papyrus(whole, "Ordinary"))
+    text = papyrus(whole, "Ordinary")
+    folder.joinpath("Ordinary.psc").write_text(text)
+    words = [measure.program(), "compile", "Ordinary.psc"]
     luac = measure.tool("luac5.4")
-    base = None
-    if luac is not None:
+    if luac is None:
+        measure.row("papyrus compile, 1 MiB", *measure.best(words, folder))
+    else:
         folder.joinpath("ordinary.lua").write_text(lua(functions_of(lua, MEBIBYTE)))
-        base, base_memory = measure.best([luac, "-o", "ordinary.luac", "ordinary.lua"], folder)
-        measure.row("luac5.4 -o, 1 MiB", base, base_memory)
-    measure.row("papyrus compile, 1 MiB", seconds, memory, base)
-    print(f"the file has {size} bytes, {size / length:.2f} times the script")
+        own, base, ratio = measure.beside(words, [luac, "-o", "ordinary.luac", "ordinary.lua"], folder)
+        measure.row("luac5.4 -o, 1 MiB", *base)
+        measure.row("papyrus compile, 1 MiB", *own, ratio=ratio)
+    size = folder.joinpath("Ordinary.pex").stat().st_size
+    print(f"the file has {size} bytes, {size / len(text):.2f} times the script")
 
 
 def main():

@@ -24,16 +24,15 @@ def script(functions, name):
 
 def beside_lua(folder, whole):
     folder.joinpath("Ordinary.psc").write_text(script(whole, "Ordinary"))
-    program = measure.program()
-    seconds, memory = measure.best([program, "compile", "Ordinary.psc"], folder, REFUSED)
+    words = [measure.program(), "compile", "Ordinary.psc"]
     luac = measure.tool("luac5.4")
     if luac is None:
-        measure.row("front end, 1 MiB", seconds, memory)
+        measure.row("front end, 1 MiB", *measure.best(words, folder, REFUSED))
         return
     folder.joinpath("ordinary.lua").write_text(lua(functions_of(lua, MEBIBYTE)))
-    base, base_memory = measure.best([luac, "-p", "ordinary.lua"], folder)
-    measure.row("luac5.4 -p, 1 MiB", base, base_memory)
-    measure.row("front end, 1 MiB", seconds, memory, base)
+    own, base, ratio = measure.beside(words, [luac, "-p", "ordinary.lua"], folder, REFUSED)
+    measure.row("luac5.4 -p, 1 MiB", *base)
+    measure.row("front end, 1 MiB", *own, ratio=ratio)
 
 
 def main():

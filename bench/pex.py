@@ -156,14 +156,14 @@ def compare(name):
         path = pathlib.Path(folder) / "B.pex"
         make_apart(name, path)
         size = path.stat().st_size
-        base, memory = measure.best(["sha256sum", "B.pex"], folder)
-        measure.row(f"{name}: sha256sum", base, memory)
         missed = False
         for command, bound in (("check", CHECK_BOUND), ("show", SHOW_BOUND)):
-            seconds, memory = measure.best([measure.program(), command, "B.pex"], folder, (0, 6))
-            measure.row(f"{name}: {command}", seconds, memory, base)
-            missed |= seconds > bound * base
-            missed |= (name, command) == ("ordinary", "check") and memory * 1024 > MEMORY_BOUND * size
+            words = [measure.program(), command, "B.pex"]
+            own, base, ratio = measure.beside(words, ["sha256sum", "B.pex"], folder, (0, 6), runs=7)
+            measure.row(f"{name}: sha256sum", *base)
+            measure.row(f"{name}: {command}", *own, ratio=ratio)
+            missed |= ratio > bound
+            missed |= (name, command) == ("ordinary", "check") and own[1] * 1024 > MEMORY_BOUND * size
     return missed
 
 
