@@ -26,9 +26,6 @@ pub use script::{
 pub use statement::{CoreLine, CoreStatement};
 pub use value::Value;
 
-#[cfg(test)]
-mod tests;
-
 /// The kind of a device that native functions may call.
 #[derive(Clone, Copy, Debug, PartialEq, Eq)]
 pub enum DeviceKind {

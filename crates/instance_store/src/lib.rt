@@ -14,6 +14,3 @@ mod values;
 pub use arrays::Arrays;
 pub use fault::StoreFault;
 pub use instances::Instances;
-
-#[cfg(test)]
-mod tests;

@@ -6,6 +6,3 @@ mod kind;
 
 pub use buffer::{Ahead, Code, CodeBuffer, Mark};
 pub use kind::JumpKind;
-
-#[cfg(test)]
-mod tests;

@@ -18,6 +18,3 @@ pub use latch::Latch;
 pub use sleepers::Sleepers;
 pub use sum::Sum;
 pub use tape::Tape;
-
-#[cfg(test)]
-mod tests;

@@ -10,6 +10,3 @@ mod seat;
 
 pub use locks::Locks;
 pub use seat::Seat;
-
-#[cfg(test)]
-mod tests;

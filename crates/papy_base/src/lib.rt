@@ -14,6 +14,3 @@ pub use int::{add, div, mul, neg, rem, sub};
 pub use name::Name;
 pub use name_pool::NamePool;
 pub use text::{TEXT_LIMIT, Text};
-
-#[cfg(test)]
-mod tests;

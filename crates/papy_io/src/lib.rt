@@ -24,6 +24,3 @@ pub use memory_sink::MemorySink;
 pub use sink::Sink;
 pub use stream_sink::StreamSink;
 pub use whole_file::{ReadAllFault, read_all, write_file};
-
-#[cfg(test)]
-mod tests;

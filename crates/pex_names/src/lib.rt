@@ -17,6 +17,3 @@ pub use inherited::{Inherited, MemberNames, MemberPlace, OwnMembers};
 pub use name_table::{EMPTY_NAME, NameTable, folded};
 pub use objects::{Head, Objects};
 pub use prelude::{LIBRARY_COUNT, PRELUDE_COUNT, Prelude};
-
-#[cfg(test)]
-mod tests;

@@ -17,6 +17,3 @@ pub use values::{
 
 /// The most bytes that a file may have: 16 MiB.
 pub const FILE_LIMIT: u32 = 16_777_216;
-
-#[cfg(test)]
-mod tests;

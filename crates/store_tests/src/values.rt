@@ -1,7 +1,7 @@
-use crate::{Arrays, Instances, StoreFault};
 use core_tree::{
     BoundInstance, CoreType, Outline, OutlineScript, OutlineVariable, Scene, TurnOrder, Value,
 };
+use instance_store::{Arrays, Instances, StoreFault};
 use papy_base::{Name, OutOfMemory, StackFault, Text};
 use std::alloc::Global;
 use std::test::Fail;

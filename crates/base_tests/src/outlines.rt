@@ -1,10 +1,7 @@
-use crate::core_type::CoreType;
-use crate::expression::Core;
-use crate::outlining::outline_of;
-use crate::script::{
-    CoreAccess, CoreFunction, CoreProperty, CoreScript, CoreSet, CoreState, CoreVariable,
+use core_tree::{
+    Core, CoreAccess, CoreFunction, CoreProperty, CoreScript, CoreSet, CoreState, CoreType,
+    CoreVariable, Value, outline_of,
 };
-use crate::value::Value;
 use papy_base::{Name, Text};
 use std::alloc::{AllocError, Global};
 use std::test::Fail;

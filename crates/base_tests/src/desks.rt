@@ -1,4 +1,7 @@
-use super::*;
+use papy_io::{
+    FolderDesk, IoFault, MemoryDesk, MemorySink, ReadAllFault, Sink, StreamSink, read_all,
+    write_file,
+};
 use std::alloc::Global;
 use std::fs;
 use std::fs::File;

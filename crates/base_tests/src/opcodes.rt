@@ -1,4 +1,4 @@
-use super::*;
+use pex_values::operand_count;
 
 #[test]
 fn operands(rt: HostRuntime) {

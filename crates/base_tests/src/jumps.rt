@@ -1,4 +1,4 @@
-use crate::{CodeBuffer, JumpKind};
+use jump_patch::{CodeBuffer, JumpKind};
 use pex_values::{Datum, Instruction};
 use std::alloc::Global;
 use std::test::Fail;

@@ -1,4 +1,6 @@
-use super::*;
+use papy_base::{
+    JoinFault, Name, NamePool, OutOfMemory, Text, add, div, mul, neg, read_int, rem, sub, write_int,
+};
 use std::alloc::Global;
 use std::test::Fail;
 

@@ -1,4 +1,4 @@
-use super::*;
+use pex_names::{Descent, EMPTY_NAME, MemberPlace, NameTable, OwnMembers, on_circles};
 use std::test::Fail;
 
 #[test]

@@ -1,5 +1,5 @@
-use crate::{Device, Dice, Latch, Sleepers, Sum, Tape, call_device, load_device};
 use core_tree::DeviceKind;
+use latent_natives::{Device, Dice, Latch, Sleepers, Sum, Tape, call_device, load_device};
 use std::test::Fail;
 
 #[test]

@@ -2,7 +2,7 @@
 
 ghost use Rattle.std.specs.Prelude.{◌≡◌, ◌<◌};
 
-use crate::{Locks, Seat};
+use lock_queue::{Locks, Seat};
 use papy_base::OutOfMemory;
 use std::alloc::{AllocError, Global};
 use std::process::Abort;
