@@ -18,7 +18,7 @@ use crate::operand::Operand;
 use crate::spine::{first_operand, spine};
 use crate::strings::Word;
 use crate::writer::Writer;
-use core_tree::{Core, CoreType, Value};
+use core_tree::{Core, CoreType, FunctionPlace, Value};
 use papy_base::Name;
 
 /// How many may stand inside one more.
@@ -155,62 +155,130 @@ fn call_value(
     ensures operand { IfOk result (λ operand. needs operand ≤ writer.new.strings) }
     ensures goes { GoesOn writer.old writer.new }
 {
+    let Some(called) = called_by(form) else {
+        return Ok(target);
+    };
+    match form {
+        Core::CallMethod { name, .. } => method_call(writer, target, name, called, depth),
+        Core::CallParent { name, .. } => parent_call(writer, name, called, depth),
+        Core::CallGlobal { at, .. } | Core::CallNative { at, .. } => {
+            static_call(writer, *at, called, depth)
+        }
+        _ => Ok(target),
+    }
+}
+
+// What a call has besides what is called.
+#[derive(Clone, Copy)]
+struct Called<'a> {
+    arguments: &'a [Core],
+    places: &'a [u16],
+    kind: Option<CoreType>,
+}
+
+fn called_by(form: &Core) -> Option<Called<'_>> {
     match form {
         Core::CallMethod {
-            name,
             arguments,
             places,
             result: kind,
             ..
-        } => {
-            let of = writer.kept(target, up_to_last_act(arguments, depth) > 0)?;
-            let name = writer.string(name.as_bytes())?;
-            let values = argument_values(writer, arguments, depth)?;
-            let operands = [Operand::Word(name), of];
-            call(writer, CALL_METHOD, &operands, &values, places, *kind)
         }
-        Core::CallParent {
-            name,
+        | Core::CallParent {
             arguments,
             places,
             result: kind,
-        } => {
-            let name = writer.string(name.as_bytes())?;
-            let values = argument_values(writer, arguments, depth)?;
-            call(
-                writer,
-                CALL_PARENT,
-                &[Operand::Word(name)],
-                &values,
-                places,
-                *kind,
-            )
+            ..
         }
-        Core::CallGlobal {
-            at,
+        | Core::CallGlobal {
             arguments,
             places,
             result: kind,
+            ..
         }
         | Core::CallNative {
-            at,
             arguments,
             places,
             result: kind,
-        } => {
-            let (script, function) = global_names(writer, *at)?;
-            let values = argument_values(writer, arguments, depth)?;
-            call(
-                writer,
-                CALL_STATIC,
-                &[script, function],
-                &values,
-                places,
-                *kind,
-            )
-        }
-        _ => Ok(target),
+            ..
+        } => Some(Called {
+            arguments,
+            places,
+            kind: *kind,
+        }),
+        _ => None,
     }
+}
+
+#[cycle(expression)]
+fn method_call(
+    writer: &mut Writer<'_>,
+    target: Operand,
+    name: &Name,
+    called: Called<'_>,
+    depth: u16,
+) -> Result<Operand, EmitFault>
+    requires { needs target ≤ writer.old.strings }
+    ensures operand { IfOk result (λ operand. needs operand ≤ writer.new.strings) }
+    ensures goes { GoesOn writer.old writer.new }
+{
+    let of = writer.kept(target, up_to_last_act(called.arguments, depth) > 0)?;
+    let name = writer.string(name.as_bytes())?;
+    let values = argument_values(writer, called.arguments, depth)?;
+    let operands = [Operand::Word(name), of];
+    call(
+        writer,
+        CALL_METHOD,
+        &operands,
+        &values,
+        called.places,
+        called.kind,
+    )
+}
+
+#[cycle(expression)]
+fn parent_call(
+    writer: &mut Writer<'_>,
+    name: &Name,
+    called: Called<'_>,
+    depth: u16,
+) -> Result<Operand, EmitFault>
+    ensures operand { IfOk result (λ operand. needs operand ≤ writer.new.strings) }
+    ensures goes { GoesOn writer.old writer.new }
+{
+    let operands = [Operand::Word(writer.string(name.as_bytes())?)];
+    let values = argument_values(writer, called.arguments, depth)?;
+    call(
+        writer,
+        CALL_PARENT,
+        &operands,
+        &values,
+        called.places,
+        called.kind,
+    )
+}
+
+#[cycle(expression)]
+fn static_call(
+    writer: &mut Writer<'_>,
+    at: FunctionPlace,
+    called: Called<'_>,
+    depth: u16,
+) -> Result<Operand, EmitFault>
+    ensures operand { IfOk result (λ operand. needs operand ≤ writer.new.strings) }
+    ensures goes { GoesOn writer.old writer.new }
+{
+    let (script, function) = global_names(writer, at)?;
+    let values = argument_values(writer, called.arguments, depth)?;
+    let operands = [script, function];
+    call(
+        writer,
+        CALL_STATIC,
+        &operands,
+        &values,
+        called.places,
+        called.kind,
+    )
 }
 
 /// The operand of a value that the tree has written out.

@@ -19,7 +19,7 @@ pub enum ParseFault {
 }
 
 /// As `ParseFault`, with the bad line's place among the logical lines: their number at the end.
-#[derive(Clone, Copy, Debug, PartialEq, Eq)]
+#[derive(Clone, Copy, PartialEq, Eq)]
 pub(crate) enum BlockFault {
     Broken { at: usize, rule: LineRule },
     OutOfMemory,

@@ -35,28 +35,6 @@ pub(crate) fn member(
             flags,
             line,
         })?,
-        LineForm::AutoProperty {
-            kind,
-            name,
-            value,
-            read_only,
-            flags,
-        } => script.properties.push(Property {
-            kind,
-            name,
-            form: auto_form(at, value, read_only)?,
-            doc: reader.own_doc(doc)?,
-            flags,
-            line,
-        })?,
-        LineForm::FullProperty { kind, name, flags } => script.properties.push(Property {
-            kind,
-            name,
-            doc: reader.own_doc(doc)?,
-            form: PropertyForm::Full(property_functions(reader)?),
-            flags,
-            line,
-        })?,
         LineForm::Function(heading) => {
             script
                 .functions
@@ -68,9 +46,48 @@ pub(crate) fn member(
             functions: state_functions(reader)?,
             line,
         })?,
-        _ => return Err(BlockFault::bad_block(at)),
+        other => script
+            .properties
+            .push(property(reader, &first, other, doc)?)?,
     }
     Ok(())
+}
+
+// The property that begins with a line of this form, which has to be that of one.
+fn property(
+    reader: &mut Reader<'_>,
+    first: &LineAt<'_>,
+    form: LineForm,
+    doc: Option<Text>,
+) -> Result<Property, BlockFault>
+    ensures bound { OnOk result (left reader.new ≤ left reader.old) }
+{
+    let line = first.line.number;
+    match form {
+        LineForm::AutoProperty {
+            kind,
+            name,
+            value,
+            read_only,
+            flags,
+        } => Ok(Property {
+            kind,
+            name,
+            form: auto_form(first.at, value, read_only)?,
+            doc: reader.own_doc(doc)?,
+            flags,
+            line,
+        }),
+        LineForm::FullProperty { kind, name, flags } => Ok(Property {
+            kind,
+            name,
+            doc: reader.own_doc(doc)?,
+            form: PropertyForm::Full(property_functions(reader)?),
+            flags,
+            line,
+        }),
+        _ => Err(BlockFault::bad_block(first.at)),
+    }
 }
 
 // The constant whose tree a variable's value is, which has to be one.

@@ -5,7 +5,7 @@ use papy_base::{Name, Text};
 use script_lexer::Sign;
 
 /// A variable of a script.
-#[derive(Debug, Drop)]
+#[derive(Drop)]
 pub struct Variable {
     pub kind: TypeName,
     pub name: Name,
@@ -15,7 +15,7 @@ pub struct Variable {
 }
 
 /// What a function does.
-#[derive(Debug, Drop)]
+#[derive(Drop)]
 pub enum Body {
     /// The game, or a device, does it.
     Native,
@@ -23,7 +23,7 @@ pub enum Body {
 }
 
 /// A function or an event.
-#[derive(Debug, Drop)]
+#[derive(Drop)]
 pub struct Function {
     pub heading: Heading,
     pub doc: Option<Text>,
@@ -35,7 +35,7 @@ pub struct Function {
 }
 
 /// A statement, and the line on which it begins.
-#[derive(Debug, Drop)]
+#[derive(Drop)]
 #[cycle(statement)]
 pub struct Statement {
     pub line: u16,
@@ -43,7 +43,7 @@ pub struct Statement {
 }
 
 /// What a statement does. At most 64 `If` and `While` stand inside each other.
-#[derive(Debug, Drop)]
+#[derive(Drop)]
 #[cycle(statement)]
 pub enum StatementForm {
     /// A local.
@@ -72,7 +72,7 @@ pub enum StatementForm {
 }
 
 /// How a property is read and written.
-#[derive(Debug, Drop)]
+#[derive(Drop)]
 pub enum PropertyForm {
     Auto(Option<Constant>),
     ReadOnly(Constant),
@@ -81,7 +81,7 @@ pub enum PropertyForm {
 }
 
 /// A property of a script.
-#[derive(Debug, Drop)]
+#[derive(Drop)]
 pub struct Property {
     pub kind: TypeName,
     pub name: Name,
@@ -92,7 +92,7 @@ pub struct Property {
 }
 
 /// A state with its functions.
-#[derive(Debug, Drop)]
+#[derive(Drop)]
 pub struct State {
     pub name: Name,
     pub is_auto: bool,
@@ -101,7 +101,7 @@ pub struct State {
 }
 
 /// A script. Each list is in the order of the file.
-#[derive(Debug, Drop)]
+#[derive(Drop)]
 pub struct Script {
     pub name: Name,
     pub line: u16,
