@@ -42,55 +42,10 @@ fn answer(alloc: Global, asked: &Asked) -> Result<Answer, Fail> {
     call_failing(alloc, &mut desk, words.as_slice(), asked.out, asked.notes)
 }
 
-#[test]
-fn each_answer_has_its_status_and_its_line(rt: HostRuntime) -> Result<(), Fail> {
-    let idle: &[u8] = b"ScriptName A\nInt N\n";
-    let faulty: &[u8] = b"ScriptName A\nFunction F()\nn = 1\nEndFunction\n";
-    let refused: &[u8] = b"A.psc:3: K1 UnknownName\n";
-    let usage: &[u8] = b"papyrus: usage\n";
-    let cases: [(&[&str], &[u8], u8, &[u8]); 16] = [
-        (&["once", "A.psc"], idle, 7, b"once: C6 NoFunction\n"),
-        (
-            &["once", "A.psc", "A.psc"],
-            SCRIPT,
-            5,
-            b"A.psc:1: N1 DuplicateScript\n",
-        ),
-        (&["once", "A.psc"], faulty, 5, refused),
-        (&["run", "S.json", "A.psc"], faulty, 5, refused),
-        (&["compile", "A.psc"], faulty, 5, refused),
-        (
-            &["exec", "S.json", "A.psc"],
-            SCRIPT,
-            6,
-            b"A.psc@0: P1 BadMagic\n",
-        ),
-        (
-            &["run", "A.psc", "A.psc"],
-            SCRIPT,
-            7,
-            b"A.psc: C1 NotJson\n",
-        ),
-        (
-            &["once", "A.psc", "B.psc"],
-            SCRIPT,
-            3,
-            b"papyrus: cannot read B.psc\n",
-        ),
-        (
-            &["upgrade", "A.psc", "B"],
-            SCRIPT,
-            7,
-            b"A.psc: C1 NotJson\n",
-        ),
-        (&[], SCRIPT, 2, usage),
-        (&["once"], SCRIPT, 2, usage),
-        (&["once", ".psc"], SCRIPT, 2, usage),
-        (&["run", "S.json", "A.txt"], SCRIPT, 2, usage),
-        (&["exec", "S.json"], SCRIPT, 2, usage),
-        (&["sample", "01"], SCRIPT, 2, usage),
-        (&["sample", "201"], SCRIPT, 2, usage),
-    ];
+/// Words with the script that is held as `A.psc`, and the status and the line of notes that they are to end with.
+type Case<'a> = (&'a [&'a str], &'a [u8], u8, &'a [u8]);
+
+fn expect_all(rt: &HostRuntime, cases: &[Case<'_>]) -> Result<(), Fail> {
     for (words, script, status, notes) in cases {
         let asked = Asked {
             words,
@@ -100,11 +55,56 @@ fn each_answer_has_its_status_and_its_line(rt: HostRuntime) -> Result<(), Fail> 
             notes: &[],
         };
         let found = answer(rt.alloc(), &asked)?;
-        assert_eq!(rt; found.status, status);
+        assert_eq!(rt; found.status, *status);
         assert!(rt; found.out.bytes().is_empty());
-        assert!(rt; found.notes.bytes() == notes);
+        assert!(rt; found.notes.bytes() == *notes);
     }
     Ok(())
+}
+
+#[test]
+fn refused_scripts_have_their_status_and_their_line(rt: HostRuntime) -> Result<(), Fail> {
+    let idle: &[u8] = b"ScriptName A\nInt N\n";
+    let faulty: &[u8] = b"ScriptName A\nFunction F()\nn = 1\nEndFunction\n";
+    let refused: &[u8] = b"A.psc:3: K1 UnknownName\n";
+    let twice: &[u8] = b"A.psc:1: N1 DuplicateScript\n";
+    let cases: [Case<'_>; 5] = [
+        (&["once", "A.psc"], idle, 7, b"once: C6 NoFunction\n"),
+        (&["once", "A.psc", "A.psc"], SCRIPT, 5, twice),
+        (&["once", "A.psc"], faulty, 5, refused),
+        (&["run", "S.json", "A.psc"], faulty, 5, refused),
+        (&["compile", "A.psc"], faulty, 5, refused),
+    ];
+    expect_all(&rt, &cases)
+}
+
+#[test]
+fn other_refused_files_have_their_status_and_their_line(rt: HostRuntime) -> Result<(), Fail> {
+    let no_json: &[u8] = b"A.psc: C1 NotJson\n";
+    let no_magic: &[u8] = b"A.psc@0: P1 BadMagic\n";
+    let unread: &[u8] = b"papyrus: cannot read B.psc\n";
+    let cases: [Case<'_>; 4] = [
+        (&["exec", "S.json", "A.psc"], SCRIPT, 6, no_magic),
+        (&["run", "A.psc", "A.psc"], SCRIPT, 7, no_json),
+        (&["once", "A.psc", "B.psc"], SCRIPT, 3, unread),
+        (&["upgrade", "A.psc", "B"], SCRIPT, 7, no_json),
+    ];
+    expect_all(&rt, &cases)
+}
+
+#[test]
+fn other_words_are_told_of_the_usage(rt: HostRuntime) -> Result<(), Fail> {
+    let usage: &[u8] = b"papyrus: usage\n";
+    let cases: [Case<'_>; 7] = [
+        (&[], SCRIPT, 2, usage),
+        (&["once"], SCRIPT, 2, usage),
+        (&["once", ".psc"], SCRIPT, 2, usage),
+        (&["run", "S.json", "A.txt"], SCRIPT, 2, usage),
+        (&["exec", "S.json"], SCRIPT, 2, usage),
+        (&["sample", "01"], SCRIPT, 2, usage),
+        (&["sample", "201"], SCRIPT, 2, usage),
+    ];
+    expect_all(&rt, &cases)
 }
 
 #[test]
