@@ -9,7 +9,7 @@ use pex_verify::VerifyFault;
 use std::alloc::{AllocError, AllocFailed};
 
 /// Why accepted scripts have no compiled files.
-#[derive(Clone, Copy, Debug, PartialEq, Eq)]
+#[derive(Clone, Copy, PartialEq, Eq)]
 pub enum CompileFault {
     /// A script has no value, or one that doesn't fit a file or breaks a rule of files that run
     /// together.

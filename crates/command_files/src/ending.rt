@@ -6,7 +6,7 @@ use crate::refusal::{Place, Rule};
 use papy_io::IoFault;
 
 /// How a command ends.
-#[derive(Debug, Drop)]
+#[derive(Drop)]
 pub enum Ending {
     /// It did what it is for.
     Done,

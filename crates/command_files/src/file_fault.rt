@@ -8,7 +8,7 @@ use papy_base::OutOfMemory;
 use papy_io::IoFault;
 
 /// Why a file that a command reads gave nothing.
-#[derive(Debug, Drop)]
+#[derive(Drop)]
 pub enum FileFault {
     /// It was not read.
     ReadFault,

@@ -14,7 +14,7 @@ mod source_texts;
 mod text_file;
 
 pub use compile_fault::CompileFault;
-pub use compiled::{CompiledSet, compile_set};
+pub use compiled::{CompiledFiles, CompiledSet, compile_files, compile_set};
 pub use ending::Ending;
 pub use file_fault::FileFault;
 pub use pex_file::{PexFile, read_pex};

@@ -18,7 +18,7 @@ use std::alloc::Global;
 const PART: usize = 4096;
 
 /// A compiled file that was read.
-#[derive(Debug, Drop)]
+#[derive(Drop)]
 pub struct PexFile {
     /// What it spells.
     pub value: Pex,

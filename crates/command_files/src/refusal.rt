@@ -15,7 +15,7 @@ use std::alloc::Global;
 use type_rules::TypeRule;
 
 /// Where in a file a rule is broken.
-#[derive(Debug, Drop)]
+#[derive(Drop)]
 pub enum Place {
     /// At so many bytes from the file's start.
     Offset(u32),
@@ -36,7 +36,7 @@ pub enum Place {
 }
 
 /// A rule that a file breaks.
-#[derive(Clone, Copy, Debug, PartialEq, Eq)]
+#[derive(Clone, Copy, PartialEq, Eq)]
 pub enum Rule {
     /// One of the rules of compiled files.
     Pex(PexRule),

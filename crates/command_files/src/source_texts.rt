@@ -10,7 +10,7 @@ use script_linker::SourceFile;
 use std::alloc::Global;
 
 /// The text of a script, and the name of its file, which ends with `.psc`.
-#[derive(Debug, Drop)]
+#[derive(Drop)]
 pub struct NamedText {
     /// The name of the file.
     pub name: Text,

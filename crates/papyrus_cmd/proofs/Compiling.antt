@@ -8,13 +8,13 @@ use Rattle.papy_io.specs.declared.fault.IoFault.TheVariants as io
 use Rattle.papy_io.specs.Files.{Files}
 use Rattle.command_files.specs.declared.compile_fault.CompileFault.{CompileFault}
 use Rattle.command_files.specs.declared.compile_fault.CompileFault.TheVariants as compile
-use Rattle.command_files.specs.declared.compiled.CompiledSet.{CompiledSet}
+use Rattle.command_files.specs.declared.compiled.CompiledFiles.{CompiledFiles}
 use Rattle.command_files.specs.declared.ending.Ending.{Ending}
 use Rattle.command_files.specs.declared.ending.Ending.TheVariants.{Done, OutOfMemory, Usage, ReadFault, WriteFault, Refused, NotBuilt}
 use Rattle.command_files.specs.Outputs.{EndsUnprinted}
 use Rattle.papyrus_cmd.specs.Answers.{CompileAnswersTo}
 use Rattle.papyrus_cmd.specs.Compile.{CompileLeaves, HaveFiles}
-use Rattle.command_files.specs.Compiled.{HasFiles, bytes_of, spelled}
+use Rattle.command_files.specs.Compiled.{HasValues, bytes_of, spelled}
 use Rattle.command_files.specs.Ending.{CountsWrites, compile_ending, write_ending}
 use Rattle.command_files.specs.Scripts.{EndsOnScripts}
 use Rattle.papyrus_cmd.specs.Written.{WritesEach}
@@ -44,10 +44,10 @@ unbuilt_leaves names compile.NotBuilt old new same = same
 unbuilt_leaves names compile.OutOfMemory old new same = inl same
 
 -- a file for each script
-pub have_files : (count : ℕ) (scripts : List (String Global)) (set : CompiledSet) → count ≡ length scripts → HasFiles count set → HaveFiles (map string_bytes scripts) (map bytes_of set.files.items)
+pub have_files : (count : ℕ) (scripts : List (String Global)) (set : CompiledFiles) → count ≡ length scripts → HasValues count set → HaveFiles (map string_bytes scripts) (map bytes_of set.files.items)
 have_files count scripts set counted has = record {
-  values = set.loaded.files;
-  one_each = ap length has.files.bytes ∙ length-map set.loaded.files spelled ∙ has.number ∙ counted ∙ sym (length-map scripts string_bytes);
+  values = set.values.items;
+  one_each = ap length has.files.bytes ∙ length-map set.values.items spelled ∙ has.number ∙ counted ∙ sym (length-map scripts string_bytes);
   spelled = has.files;
 }
 

@@ -17,7 +17,7 @@ const WORKER_LIMIT: u8 = 200;
 const SCRIPT_ENDING: &[u8] = b".psc";
 
 /// A command of the program.
-#[derive(Clone, Copy, Debug, PartialEq, Eq)]
+#[derive(Clone, Copy, PartialEq, Eq)]
 pub enum Command {
     /// Tells the commands.
     Help,
@@ -30,7 +30,7 @@ pub enum Command {
 }
 
 /// A command that works on files, and runs nothing.
-#[derive(Clone, Copy, Debug, PartialEq, Eq)]
+#[derive(Clone, Copy, PartialEq, Eq)]
 pub enum FileCommand {
     /// Writes the compiled files of scripts. Every word after the first names a script.
     Compile,
@@ -47,7 +47,7 @@ pub enum FileCommand {
 }
 
 /// A command that runs scripts.
-#[derive(Clone, Copy, Debug, PartialEq, Eq)]
+#[derive(Clone, Copy, PartialEq, Eq)]
 pub enum PlayCommand {
     /// Runs scripts with one instance of the first and one call of its `OnInit`. Every word after
     /// the first names a script.

@@ -27,3 +27,8 @@ pub record AreSoundScripts (count : ℕ) (outlines : List OutlineScript) (script
 pub record IsSoundSet (set : LoadedSet) : Type 0 where
   pub files : All IsFile set.files
   pub scripts : AreSoundScripts (length set.scripts) set.outline set.scripts
+
+-- the outlines of a set of so many scripts
+pub record AreSoundOutlines (count : ℕ) (outlines : List OutlineScript) : Type 0 where
+  pub number : length outlines ≡ count
+  pub each : (n : ℕ) (o : OutlineScript) → n < count → IsSoundOutline count (slice_index_or outlines n o)

@@ -1,6 +1,14 @@
--- How many objects files have.
-use Rattle.std.specs.Prelude.{ℕ, List, sum_by, vec_len}
+-- How many objects and scripts files have.
+use Rattle.std.specs.Prelude.{ℕ, ◌+◌, List, sum_by, vec_len}
+use Rattle.pex_values.specs.declared.values.Pex.{Pex}
 use Rattle.pex_verify.specs.declared.sources.Source.{Source}
+
+abbrev pub objects_of : Pex → ℕ
+objects_of file = vec_len file.objects
+
+-- the scripts of a set of files: the prelude's six, and one for each object
+abbrev pub script_count : List Pex → ℕ
+script_count files = 6 + sum_by objects_of files
 
 abbrev pub objects_in : Source → ℕ
 objects_in source = vec_len source.pex.now.objects

@@ -3,7 +3,7 @@ ghost use Rattle.std.specs.Prelude.{◌≡◌};
 ghost use Rattle.pex_verify.specs.Uses as spec;
 
 /// What an instruction does. Opcodes that ask the same of their operands share one.
-#[derive(Clone, Copy, Debug, PartialEq, Eq)]
+#[derive(Clone, Copy, PartialEq, Eq)]
 pub enum Action {
     /// nop
     Nothing,
@@ -54,7 +54,7 @@ pub enum Action {
 }
 
 /// What an instruction uses an operand for.
-#[derive(Clone, Copy, Debug, PartialEq, Eq)]
+#[derive(Clone, Copy, PartialEq, Eq)]
 pub enum Use {
     /// Its value is read.
     Read,

@@ -17,7 +17,7 @@ const READABLE: u8 = 1;
 const WRITABLE: u8 = 2;
 
 /// What an instruction looks up by name.
-#[derive(Clone, Copy, Debug)]
+#[derive(Clone, Copy)]
 pub(crate) enum Target<'a> {
     /// It looks nothing up.
     Unsought,

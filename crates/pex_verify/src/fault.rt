@@ -84,7 +84,7 @@ impl<T: Drop> From<AllocFailed<T>> for VerifyFault {
 }
 
 /// Why a part of an object is refused, before its place is named.
-#[derive(Clone, Copy, Debug, PartialEq, Eq)]
+#[derive(Clone, Copy, PartialEq, Eq)]
 pub(crate) enum Refusal {
     Broken { at: Option<u16>, rule: VerifyRule },
     OutOfMemory,
@@ -132,7 +132,7 @@ impl<T: Drop> From<AllocFailed<T>> for Refusal {
 }
 
 /// An object, as faults name it.
-#[derive(Clone, Copy, Debug)]
+#[derive(Clone, Copy)]
 pub(crate) struct Site<'a> {
     pub(crate) file: u16,
     pub(crate) object: &'a [u8],

@@ -5,7 +5,7 @@ ghost use Rattle.pex_verify.specs.Types.{IsTypeAmong, IsKindAmong};
 ghost use Rattle.pex_verify.specs.Soundness.{IsSoundFunction, AreSoundInstructions};
 
 use crate::fault::{Refusal, VerifyRule};
-use crate::instruction::add_instruction;
+use crate::instruction::{add_instruction, judge_instruction};
 use crate::kind::Kind;
 use crate::lines::lines_of;
 use crate::loaded::{LoadedFunction, LoadedInstruction};
@@ -51,7 +51,7 @@ pub(crate) fn load_function(
         is_global,
         answer,
     };
-    let code = load_code(&scope, function.code.as_slice())?;
+    let code = kept_code(&scope, function.code.as_slice())?;
     let lines = lines_of(alloc, lines, code.len())?;
     Ok(LoadedFunction {
         name: source.title(alloc, name)?,
@@ -132,6 +132,33 @@ fn judged_slot(
     let found = known_kind(kind)?;
     slots.add(name, pair.0, kind)?;
     Ok(found)
+}
+
+// The code of a function, empty where a set is judged alone.
+fn kept_code(scope: &Scope<'_>, code: &[Instruction]) -> Result<Vec<LoadedInstruction>, Refusal>
+    ensures { IfOk result (λ loaded. AreSoundInstructions (bounds_of scope.now.home.now) (vec_len scope.now.slots.now.kinds) (vec_len loaded) loaded.items) }
+{
+    if scope.home.keeps_code {
+        return load_code(scope, code);
+    }
+    judge_code(scope, code)?;
+    Ok(Vec::new(scope.home.alloc))
+}
+
+fn judge_code(scope: &Scope<'_>, code: &[Instruction]) -> Result<(), Refusal> {
+    let mut operands = Vec::new(scope.home.alloc);
+    for (place, instruction) in code.iter().enumerate() {
+        if let Err(refusal) = judge_instruction(
+            scope,
+            place,
+            code.len(),
+            instruction,
+            &mut operands,
+        ) {
+            return Err(refusal.at(place.min(usize::from(u16::MAX)) as u16));
+        }
+    }
+    Ok(())
 }
 
 fn load_code(scope: &Scope<'_>, code: &[Instruction]) -> Result<Vec<LoadedInstruction>, Refusal>

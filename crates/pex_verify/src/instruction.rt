@@ -14,7 +14,7 @@ use crate::calls::{
 use crate::fault::{Refusal, VerifyRule};
 use crate::kind::{BOOL, INT, TEXT};
 use crate::loaded::{LoadedInstruction, MethodPlace, Operand};
-use crate::operands::{has_float, has_long_text, resolve_all};
+use crate::operands::{has_float, has_long_text, resolve_all, resolve_into};
 use crate::scope::Scope;
 use crate::scripts::Callee;
 use crate::values::{
@@ -46,6 +46,27 @@ pub(crate) fn add_instruction(
     Ok(())
 }
 
+/// Judges the instruction at this place of so many by the same rules. The list has its operands meanwhile.
+pub(crate) fn judge_instruction(
+    scope: &Scope<'_>,
+    place: usize,
+    count: usize,
+    instruction: &Instruction,
+    operands: &mut Vec<Operand>,
+) -> Result<(), Refusal> {
+    let action = judged_action(instruction.opcode)?;
+    if looks_up(action) || !instruction.more.is_empty() {
+        load_linked(scope, place, count, action, instruction)?;
+        return Ok(());
+    }
+    let data = instruction.fixed.as_slice();
+    if let Err(refusal) = resolve_into(scope, uses_of(action), data, operands) {
+        return Err(float_first(instruction, refusal));
+    }
+    judged_jump(scope, place, count, action, operands.as_slice())?;
+    Ok(())
+}
+
 // An instruction that looks nothing up and has no arguments.
 fn load_plain(
     scope: &Scope<'_>,
@@ -63,13 +84,7 @@ fn load_plain(
         uses_of(action),
         instruction.fixed.as_slice(),
     )?;
-    if !operands_fit(scope, action, fixed.as_slice()) {
-        return Err(Refusal::of(VerifyRule::OperandType));
-    }
-    let jump = jump_of(action, fixed.as_slice(), place, count)?;
-    if has_long_text(scope, fixed.as_slice()) {
-        return Err(Refusal::of(VerifyRule::TextTooLong));
-    }
+    let jump = judged_jump(scope, place, count, action, fixed.as_slice())?;
     Ok(LoadedInstruction {
         opcode: instruction.opcode,
         fixed,
@@ -78,6 +93,26 @@ fn load_plain(
         name: None,
         function: None,
     })
+}
+
+// Where an instruction leads that looks nothing up and has no arguments, unless its operands break a rule.
+fn judged_jump(
+    scope: &Scope<'_>,
+    place: usize,
+    count: usize,
+    action: Action,
+    fixed: &[Operand],
+) -> Result<Option<u16>, Refusal>
+    ensures { IfOk result (Leads (Some action) place count fixed.now) }
+{
+    if !operands_fit(scope, action, fixed) {
+        return Err(Refusal::of(VerifyRule::OperandType));
+    }
+    let jump = jump_of(action, fixed, place, count)?;
+    if has_long_text(scope, fixed) {
+        return Err(Refusal::of(VerifyRule::TextTooLong));
+    }
+    Ok(jump)
 }
 
 // Whether an instruction looks something up by name.
@@ -182,7 +217,7 @@ fn float_first(instruction: &Instruction, refusal: Refusal) -> Refusal {
 }
 
 // What an instruction looks up by name.
-#[derive(Clone, Copy, Debug)]
+#[derive(Clone, Copy)]
 struct Link {
     // The number of the name that the machine looks up each time.
     name: Option<usize>,

@@ -5,7 +5,7 @@ ghost use Rattle.pex_verify.specs.Types.{IsKindAmong};
 use core_tree::CoreType;
 
 /// What a value, a variable, a result or a type name means.
-#[derive(Clone, Copy, Debug, PartialEq, Eq)]
+#[derive(Clone, Copy, PartialEq, Eq)]
 pub(crate) enum Kind {
     /// The value None, and what a local or a result of the type `None` holds.
     Nothing,

@@ -35,4 +35,4 @@ pub use loaded::{
     Loaded, LoadedFunction, LoadedInstruction, LoadedProperty, LoadedScript, MethodPlace, Operand,
     PropertyPlace,
 };
-pub use verifier::verify;
+pub use verifier::{judge, verify};

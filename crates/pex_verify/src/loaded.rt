@@ -11,7 +11,7 @@ use std::alloc::Global;
 use std::marker::Model;
 
 /// An operand of an instruction. An identifier that is read or written stands as what it means.
-#[derive(Debug, Drop)]
+#[derive(Drop)]
 pub enum Operand {
     NoneValue,
     /// The name of a function, a property or a script, as the file spells it.
@@ -30,7 +30,7 @@ pub enum Operand {
 }
 
 /// An instruction.
-#[derive(Debug, Drop)]
+#[derive(Drop)]
 pub struct LoadedInstruction {
     pub opcode: u8,
     /// The operands that the opcode always has.
@@ -46,7 +46,7 @@ pub struct LoadedInstruction {
 }
 
 /// A function of a state, or one that reads or writes a property and has the property's name.
-#[derive(Debug, Drop)]
+#[derive(Drop)]
 pub struct LoadedFunction {
     pub name: Name,
     pub result: Option<CoreType>,
@@ -61,7 +61,7 @@ pub struct LoadedFunction {
 }
 
 /// A property.
-#[derive(Debug, Drop)]
+#[derive(Drop)]
 pub struct LoadedProperty {
     pub name: Name,
     pub kind: CoreType,
@@ -75,7 +75,7 @@ pub struct LoadedProperty {
 
 /// A script. The members that a script without parent lacks stand last in its empty state. Where it has no
 /// empty state, one is added as its last state.
-#[derive(Debug, Drop)]
+#[derive(Drop)]
 pub struct LoadedScript {
     pub properties: Vec<LoadedProperty>,
     pub states: Vec<(Name, Vec<LoadedFunction>)>,
@@ -83,7 +83,7 @@ pub struct LoadedScript {
 
 /// A function of a state: the script's number, the state's place in the script, and the function's place
 /// in the state.
-#[derive(Clone, Copy, Debug, PartialEq, Eq)]
+#[derive(Clone, Copy, PartialEq, Eq)]
 pub struct MethodPlace {
     pub script: u16,
     pub state: usize,
@@ -91,7 +91,7 @@ pub struct MethodPlace {
 }
 
 /// A property: its script's number, and its place among the script's properties.
-#[derive(Clone, Copy, Debug, PartialEq, Eq)]
+#[derive(Clone, Copy, PartialEq, Eq)]
 pub struct PropertyPlace {
     pub script: u16,
     pub place: usize,

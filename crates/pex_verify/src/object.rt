@@ -35,6 +35,8 @@ pub(crate) struct Loader<'a> {
     pub(crate) prelude: &'a Source<'a>,
     /// The members of every script without parent.
     pub(crate) members: &'a Members<'a>,
+    /// Whether the code of functions is kept, once it was judged.
+    pub(crate) keeps_code: bool,
 }
 
 /// An object's script, and its outline.
@@ -65,6 +67,7 @@ pub(crate) fn load_object(
         here,
         words: loader.words,
         variables: &seen.variables,
+        keeps_code: loader.keeps_code,
     };
     let site = PropertySite {
         home: &home,

@@ -1,5 +1,5 @@
 // Operands with their identifiers resolved.
-ghost use Rattle.std.specs.Prelude.{◌≡◌, vec_len, IfOk};
+ghost use Rattle.std.specs.Prelude.{◌≡◌, vec_len, IfOk, OnOk};
 ghost use Rattle.pex_verify.specs.Uses.{use_at as use_in};
 ghost use Rattle.pex_verify.specs.Soundness.{IsResolved, AreResolved};
 
@@ -18,11 +18,26 @@ pub(crate) fn resolve_all(
 ) -> Result<Vec<Operand>, Refusal>
     ensures { IfOk result (λ operands. AreResolved (vec_len scope.now.slots.now.kinds) (vec_len scope.now.home.now.variables.now.list) uses.now operands.items) }
 {
-    let mut operands = Vec::with_capacity(scope.home.alloc, data.len())?;
+    let mut operands = Vec::new(scope.home.alloc);
+    resolve_into(scope, uses, data, &mut operands)?;
+    Ok(operands)
+}
+
+/// Puts operands that are used so in the place of these. Those behind the last use are read.
+pub(crate) fn resolve_into(
+    scope: &Scope<'_>,
+    uses: &[Use],
+    data: &[Datum],
+    operands: &mut Vec<Operand>,
+) -> Result<(), Refusal>
+    ensures { OnOk result (AreResolved (vec_len scope.now.slots.now.kinds) (vec_len scope.now.home.now.variables.now.list) uses.now operands.new.items) }
+{
+    operands.clear();
+    operands.reserve_exact(data.len())?;
     for (place, datum) in data.iter().enumerate() {
         operands.push_reserved(resolve(scope, use_at(uses, place), *datum)?);
     }
-    Ok(operands)
+    Ok(())
 }
 
 fn use_at(uses: &[Use], place: usize) -> Use

@@ -13,7 +13,7 @@ use pex_names::NameTable;
 use std::alloc::Global;
 
 /// The numbers of the words that name something in every script.
-#[derive(Clone, Copy, Debug)]
+#[derive(Clone, Copy)]
 pub(crate) struct Words {
     pub(crate) instance: usize,
     pub(crate) state: usize,
@@ -159,6 +159,8 @@ pub(crate) struct Home<'a> {
     pub(crate) here: u16,
     pub(crate) words: Words,
     pub(crate) variables: &'a Variables,
+    /// Whether the code of functions is kept, once it was judged.
+    pub(crate) keeps_code: bool,
 }
 
 /// What the code of one function sees.

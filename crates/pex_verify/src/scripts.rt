@@ -15,7 +15,7 @@ use pex_values::{PexFunction, PexObject, PexProperty};
 use std::alloc::Global;
 
 /// A property as other scripts see it. Bits 1 and 2 say whether it can be read and written.
-#[derive(Clone, Copy, Debug, PartialEq, Eq)]
+#[derive(Clone, Copy, PartialEq, Eq)]
 pub(crate) struct PropertyHead {
     pub(crate) name: usize,
     pub(crate) kind: usize,
@@ -23,7 +23,7 @@ pub(crate) struct PropertyHead {
 }
 
 /// A function of an empty state: its script's number, the place of the state there, and its own in the state.
-#[derive(Clone, Copy, Debug)]
+#[derive(Clone, Copy)]
 pub(crate) struct Callee<'a> {
     pub(crate) script: usize,
     pub(crate) state: usize,

@@ -13,7 +13,7 @@ pub(crate) const KIND_BITS: u8 = GLOBAL | NATIVE;
 
 /// A function without its code. Names of types are numbers of names: two are one type where they are the
 /// same with case ignored.
-#[derive(Debug, Drop)]
+#[derive(Drop)]
 pub(crate) struct Signature {
     pub(crate) name: usize,
     pub(crate) answer: usize,

@@ -1,6 +1,6 @@
 // The values of a set, with the numbers of their names.
-ghost use Rattle.std.specs.Prelude.{◌≡◌, length, IfOk};
-ghost use Rattle.pex_verify.specs.Sources.{object_count};
+ghost use Rattle.std.specs.Prelude.{◌≡◌, ◌+◌, ◌<◌, length, vec_len, sum_by, IfOk};
+ghost use Rattle.pex_verify.specs.Sources.{object_count, objects_in, objects_of};
 
 use crate::fault::Site;
 use papy_base::{Name, OutOfMemory, TEXT_LIMIT, Text};
@@ -9,7 +9,7 @@ use pex_values::{Pex, PexFunction, PexObject};
 use std::alloc::Global;
 
 /// One file of a set.
-#[derive(Clone, Copy, Debug)]
+#[derive(Clone, Copy)]
 pub(crate) struct Source<'a> {
     /// The number that faults give.
     pub(crate) file: u16,
@@ -55,7 +55,7 @@ pub(crate) struct Members<'a> {
 }
 
 /// The strings of a file as names, and their numbers.
-#[derive(Debug, Drop)]
+#[derive(Drop)]
 pub(crate) struct FileStrings {
     pub(crate) names: FileNames,
     titles: Vec<Name>,
@@ -89,7 +89,9 @@ pub(crate) fn strings_of_files(
     alloc: Global,
     table: &mut NameTable,
     files: &[Pex],
-) -> Result<Vec<FileStrings>, OutOfMemory> {
+) -> Result<Vec<FileStrings>, OutOfMemory>
+    ensures { IfOk result (λ strings. vec_len strings ≡ length files.now) }
+{
     let mut strings = Vec::with_capacity(alloc, files.len())?;
     for pex in files {
         strings.push(FileStrings::of(alloc, table, pex.strings.as_slice())?)?;
@@ -98,11 +100,15 @@ pub(crate) fn strings_of_files(
 }
 
 /// The prelude as a file. No fault lies in it.
-pub(crate) fn prelude_source<'a>(prelude: &'a Prelude, strings: &'a FileStrings) -> Source<'a> {
+pub(crate) fn prelude_source<'a>(prelude: &'a Prelude, strings: &'a FileStrings) -> Source<'a>
+    ensures { result.pex.now ≡ prelude.now.file }
+{
     source_of(0, &prelude.file, strings)
 }
 
-fn source_of<'a>(file: u16, pex: &'a Pex, strings: &'a FileStrings) -> Source<'a> {
+fn source_of<'a>(file: u16, pex: &'a Pex, strings: &'a FileStrings) -> Source<'a>
+    ensures { result.pex.now ≡ pex.now }
+{
     Source {
         file,
         pex,
@@ -118,13 +124,15 @@ pub(crate) fn all_sources<'a>(
     prelude: Source<'a>,
     files: &'a [Pex],
     strings: &'a [FileStrings],
-) -> Result<Vec<Source<'a>>, OutOfMemory> {
+) -> Result<Vec<Source<'a>>, OutOfMemory>
+    requires few { length files.now < 65536 }
+    requires strings { length strings.now ≡ length files.now }
+    ensures { IfOk result (λ sources. object_count sources.items ≡ objects_in prelude.entry + sum_by objects_of files.now) }
+{
     let mut sources = Vec::with_capacity(alloc, files.len())?;
     sources.push(prelude)?;
     for (number, pex) in files.iter().enumerate() {
-        if let (Some(strings), Ok(file)) = (strings.get(number), u16::try_from(number)) {
-            sources.push(source_of(file, pex, strings))?;
-        }
+        sources.push(source_of(number as u16, pex, &strings[number]))?;
     }
     Ok(sources)
 }

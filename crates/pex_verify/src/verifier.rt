@@ -1,8 +1,8 @@
 // Sets of files, in the order in which their rules are judged.
-ghost use Rattle.std.specs.Prelude.{◌≡◌, ◌+◌, ◌<◌, vec_len, All, IfOk, OnOk};
+ghost use Rattle.std.specs.Prelude.{◌≡◌, ◌+◌, ◌<◌, length, vec_len, All, IfOk, OnOk};
 ghost use Rattle.pex_verify.specs.Files.{IsFile};
-ghost use Rattle.pex_verify.specs.Sources.{object_count};
-ghost use Rattle.pex_verify.specs.Sets.{AreSoundScripts};
+ghost use Rattle.pex_verify.specs.Sources.{object_count, script_count};
+ghost use Rattle.pex_verify.specs.Sets.{AreSoundOutlines, AreSoundScripts};
 
 use crate::fault::{VerifyFault, VerifyRule};
 use crate::lines::FileLines;
@@ -31,11 +31,12 @@ use std::alloc::Global;
 pub fn verify(alloc: Global, files: Vec<Pex>) -> Result<Loaded, VerifyFault>
     requires few { vec_len files < 65536 }
     requires valid { All IsFile files.items }
-    ensures { IfOk result (λ loaded. loaded.files ≡ files.items) }
+    ensures files { IfOk result (λ loaded. loaded.files ≡ files.items) }
+    ensures count { IfOk result (λ loaded. length loaded.scripts ≡ script_count files.items) }
 {
     let mut table = NameTable::new(alloc)?;
     let words = Words::of(alloc, &mut table)?;
-    let tables = load_tables(alloc, &mut table, words, files.as_slice())?;
+    let tables = load_tables(alloc, &mut table, words, files.as_slice(), true)?;
     Ok(Loaded {
         outline: Outline {
             scripts: tables.parts.outlines,
@@ -44,6 +45,22 @@ pub fn verify(alloc: Global, files: Vec<Pex>) -> Result<Loaded, VerifyFault>
         scripts: tables.parts.scripts,
         table,
         members: tables.members,
+    })
+}
+
+/// The outline of the set of these files, of which no code is kept. Each has the shape and the size of a file.
+///
+/// `Broken` comes where a rule is broken, with the place and the rule that `verify` gives.
+pub fn judge(alloc: Global, files: &[Pex]) -> Result<Outline, VerifyFault>
+    requires few { length files.now < 65536 }
+    requires valid { All IsFile files.now }
+    ensures { IfOk result (λ outline. AreSoundOutlines (script_count files.now) outline.scripts.items) }
+{
+    let mut table = NameTable::new(alloc)?;
+    let words = Words::of(alloc, &mut table)?;
+    let tables = load_tables(alloc, &mut table, words, files, false)?;
+    Ok(Outline {
+        scripts: tables.parts.outlines,
     })
 }
 
@@ -61,14 +78,17 @@ struct Tables {
     members: MemberTable,
 }
 
-// All scripts of these files, behind those of the prelude.
+// All scripts of these files, behind those of the prelude. Their code is empty unless it is to be kept.
 fn load_tables(
     alloc: Global,
     table: &mut NameTable,
     words: Words,
     files: &[Pex],
+    keeps_code: bool,
 ) -> Result<Tables, VerifyFault>
-    ensures { IfOk result (λ tables. AreSoundScripts (vec_len tables.parts.scripts) tables.parts.outlines.items tables.parts.scripts.items) }
+    requires few { length files.now < 65536 }
+    ensures count { IfOk result (λ tables. vec_len tables.parts.scripts ≡ script_count files.now) }
+    ensures sound { IfOk result (λ tables. AreSoundScripts (vec_len tables.parts.scripts) tables.parts.outlines.items tables.parts.scripts.items) }
 {
     let prelude = Prelude::new(alloc)?;
     let prelude_strings = FileStrings::of(alloc, table, prelude.file.strings.as_slice())?;
@@ -86,6 +106,7 @@ fn load_tables(
         words,
         prelude: &first,
         members: &members,
+        keeps_code,
     };
     let strings_at_most = most_strings(sources.as_slice());
     let mut seen = Seen::new(alloc, table.count(), strings_at_most)?;

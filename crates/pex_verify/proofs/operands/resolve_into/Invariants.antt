@@ -1,6 +1,6 @@
 use Rattle.std.proofs.Common.{◌≡◌, ◌≤◌, length, vec_len, vec_capacity}
 use Rattle.pex_verify.specs.Soundness.{AreResolved}
-use Rattle.pex_verify.proofs.operands.resolve_all.Given as goal
+use Rattle.pex_verify.proofs.operands.resolve_into.Given as goal
 
 abbrev pub invariant-loop-place : goal.invariant-loop-place
 invariant-loop-place l =
