@@ -6,7 +6,7 @@ use crate::value::Value;
 use papy_base::Name;
 
 /// A function of an empty state: its script's number in the set, and its place in that state.
-#[derive(Clone, Copy, Debug, PartialEq, Eq)]
+#[derive(Clone, Copy, PartialEq, Eq)]
 pub struct FunctionPlace {
     pub script: u16,
     pub place: u16,
@@ -19,7 +19,7 @@ pub struct FunctionPlace {
 /// the function gives no value. Locals are numbered with the parameters first.
 ///
 /// A tree has up to three levels for two tokens of its line, and a line has at most 8,000 tokens.
-#[derive(Debug, Drop)]
+#[derive(Drop)]
 pub enum Core {
     Lit(Value),
     /// A parameter or a local of the function.

@@ -1,7 +1,7 @@
 // The operations on two values.
 
 /// An operation that a compound assignment may do, as `+=`. All but `Join` also stand in expressions.
-#[derive(Clone, Copy, Debug, PartialEq, Eq)]
+#[derive(Clone, Copy, PartialEq, Eq)]
 pub enum Arith {
     Add,
     Sub,
@@ -13,7 +13,7 @@ pub enum Arith {
 }
 
 /// A comparison of two whole numbers.
-#[derive(Clone, Copy, Debug, PartialEq, Eq)]
+#[derive(Clone, Copy, PartialEq, Eq)]
 pub enum Order {
     Less,
     LessEqual,

@@ -5,13 +5,13 @@ use crate::value::Value;
 use papy_base::Name;
 
 /// The scripts of a set. Each list of a script is in the order of the file.
-#[derive(Debug, Drop)]
+#[derive(Drop)]
 pub struct Outline {
     pub scripts: Vec<OutlineScript>,
 }
 
 /// A script's members.
-#[derive(Debug, Drop)]
+#[derive(Drop)]
 pub struct OutlineScript {
     pub name: Name,
     /// The parent's number in the set.
@@ -26,7 +26,7 @@ pub struct OutlineScript {
 }
 
 /// A variable, with its value at the start.
-#[derive(Debug, Drop)]
+#[derive(Drop)]
 pub struct OutlineVariable {
     pub name: Name,
     pub kind: CoreType,
@@ -34,7 +34,7 @@ pub struct OutlineVariable {
 }
 
 /// An Auto property, with the number of its variable among those of its script.
-#[derive(Debug, Drop)]
+#[derive(Drop)]
 pub struct OutlineProperty {
     pub name: Name,
     pub kind: CoreType,
@@ -42,7 +42,7 @@ pub struct OutlineProperty {
 }
 
 /// A function of the empty state.
-#[derive(Debug, Drop)]
+#[derive(Drop)]
 pub struct OutlineFunction {
     pub name: Name,
     pub parameters: Vec<CoreType>,

@@ -6,7 +6,7 @@ use papy_base::{Name, Text};
 
 /// An instance of the script of this number. In `set` each value stands after the script and the
 /// number of the property's variable.
-#[derive(Debug, Drop)]
+#[derive(Drop)]
 pub struct BoundInstance {
     pub name: Text,
     pub script: u16,
@@ -14,7 +14,7 @@ pub struct BoundInstance {
 }
 
 /// A call that starts a stack at a turn. Its function is looked up by name when it is entered.
-#[derive(Debug, Drop)]
+#[derive(Drop)]
 pub struct BoundCall {
     /// At most 1,000,000.
     pub turn: u32,
@@ -24,7 +24,7 @@ pub struct BoundCall {
 }
 
 /// What a native function does: its script, its place among the outline's functions and its binding.
-#[derive(Clone, Copy, Debug, PartialEq, Eq)]
+#[derive(Clone, Copy, PartialEq, Eq)]
 pub struct BoundNative {
     pub script: u16,
     pub function: u16,
@@ -32,7 +32,7 @@ pub struct BoundNative {
 }
 
 /// A scene that is bound to an outline and a number of devices.
-#[derive(Debug, Drop)]
+#[derive(Drop)]
 pub struct Scene {
     pub instances: Vec<BoundInstance>,
     pub calls: Vec<BoundCall>,

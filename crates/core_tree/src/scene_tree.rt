@@ -3,7 +3,7 @@
 use papy_base::Text;
 
 /// A value in a scene.
-#[derive(Debug, Drop)]
+#[derive(Drop)]
 pub enum SceneValue {
     NoneValue,
     Int(i32),
@@ -14,7 +14,7 @@ pub enum SceneValue {
 }
 
 /// An instance of a script, with the values that its properties are set to.
-#[derive(Debug, Drop)]
+#[derive(Drop)]
 pub struct SceneInstance {
     pub name: Text,
     pub script: Text,
@@ -22,7 +22,7 @@ pub struct SceneInstance {
 }
 
 /// A call that starts a stack at a turn.
-#[derive(Debug, Drop)]
+#[derive(Drop)]
 pub struct SceneCall {
     /// At most 1,000,000.
     pub turn: u32,
@@ -47,7 +47,7 @@ pub enum Binding {
 }
 
 /// Which stack gets a turn.
-#[derive(Debug, Drop)]
+#[derive(Drop)]
 pub enum TurnOrder {
     /// The next one that is ready, cyclically.
     Round,
@@ -56,7 +56,7 @@ pub enum TurnOrder {
 }
 
 /// A scene.
-#[derive(Debug, Drop)]
+#[derive(Drop)]
 pub struct SceneTree {
     pub instances: Vec<SceneInstance>,
     pub calls: Vec<SceneCall>,

@@ -6,7 +6,7 @@ use crate::value::Value;
 use papy_base::{Name, Text};
 
 /// A function or an event.
-#[derive(Debug, Drop)]
+#[derive(Drop)]
 pub struct CoreFunction {
     pub name: Name,
     pub parameters: Vec<CoreType>,
@@ -25,7 +25,7 @@ pub struct CoreFunction {
 }
 
 /// A variable of a script, with its value at the start.
-#[derive(Debug, Drop)]
+#[derive(Drop)]
 pub struct CoreVariable {
     pub name: Name,
     pub kind: CoreType,
@@ -34,7 +34,7 @@ pub struct CoreVariable {
 }
 
 /// How a property is read and written.
-#[derive(Debug, Drop)]
+#[derive(Drop)]
 pub enum CoreAccess {
     /// By the variable of this number.
     Auto(u16),
@@ -43,7 +43,7 @@ pub enum CoreAccess {
 }
 
 /// A property of a script.
-#[derive(Debug, Drop)]
+#[derive(Drop)]
 pub struct CoreProperty {
     pub name: Name,
     pub kind: CoreType,
@@ -53,7 +53,7 @@ pub struct CoreProperty {
 }
 
 /// A state with its functions.
-#[derive(Debug, Drop)]
+#[derive(Drop)]
 pub struct CoreState {
     /// Empty for the empty state.
     pub name: Name,
@@ -61,7 +61,7 @@ pub struct CoreState {
 }
 
 /// A script.
-#[derive(Debug, Drop)]
+#[derive(Drop)]
 pub struct CoreScript {
     /// The name of the file, which is empty for a script of the prelude.
     pub file: Text,
@@ -80,7 +80,7 @@ pub struct CoreScript {
 }
 
 /// Scripts that refer to each other by number. The first six are those of the prelude.
-#[derive(Debug, Drop)]
+#[derive(Drop)]
 pub struct CoreSet {
     pub scripts: Vec<CoreScript>,
 }

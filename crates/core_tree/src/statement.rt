@@ -6,7 +6,7 @@ use crate::operator::Arith;
 use papy_base::Name;
 
 /// A statement, and the line on which it begins.
-#[derive(Debug, Drop)]
+#[derive(Drop)]
 #[cycle(statement)]
 pub struct CoreLine {
     pub line: u16,
@@ -14,7 +14,7 @@ pub struct CoreLine {
 }
 
 /// What a statement does. At most 64 `If` and `While` stand inside each other.
-#[derive(Debug, Drop)]
+#[derive(Drop)]
 #[cycle(statement)]
 pub enum CoreStatement {
     SetLocal(u16, Core),

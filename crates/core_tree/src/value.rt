@@ -4,7 +4,7 @@ use papy_base::{OutOfMemory, Text};
 use std::alloc::Global;
 
 /// A value of a running script.
-#[derive(Debug, Drop)]
+#[derive(Drop)]
 pub enum Value {
     /// The None of a script type or an array type.
     NoneValue,

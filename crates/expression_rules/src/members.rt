@@ -17,7 +17,7 @@ use script_parser::{Function, Property, PropertyForm};
 use type_scope::{Kind, array_of, element_of};
 
 /// What is done with a property.
-#[derive(Clone, Copy, Debug, PartialEq, Eq)]
+#[derive(Clone, Copy, PartialEq, Eq)]
 pub(crate) enum Access {
     Read,
     Write,

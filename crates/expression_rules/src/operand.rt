@@ -14,7 +14,7 @@ use type_scope::Kind;
 /// An expression's tree where it stays as an operand, and what is known of its type.
 ///
 /// Where a rule is broken the tree is some tree, which nobody uses.
-#[derive(Debug, Drop)]
+#[derive(Drop)]
 pub(crate) struct Operand {
     pub(crate) core: Box<Core>,
     pub(crate) kind: Kind,

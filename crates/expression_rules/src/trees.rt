@@ -133,7 +133,7 @@ pub(crate) fn element_at(array: Box<Core>, index: Box<Core>, kind: CoreType) -> 
 }
 
 /// Which end of an array is searched first.
-#[derive(Clone, Copy, Debug, PartialEq, Eq)]
+#[derive(Clone, Copy, PartialEq, Eq)]
 pub(crate) enum Direction {
     Forward,
     Back,

@@ -6,7 +6,7 @@ use type_scope::Kind;
 /// An expression's tree, and what is known of its type.
 ///
 /// Where a rule is broken the tree is some tree, which nobody uses.
-#[derive(Debug, Drop)]
+#[derive(Drop)]
 pub struct Typed {
     pub core: Core,
     pub kind: Kind,

@@ -1,5 +1,5 @@
 // Sets are written as the texts of their files, parted by an empty line.
-use core_tree::CoreSet;
+use core_tree::{Arith, Core, CoreSet, CoreStatement, CoreType, Value};
 use papy_base::Text;
 use script_lexer::{Lines, lex};
 use script_linker::{SourceFile, link};
@@ -549,15 +549,59 @@ fn calls_that_write_out_more_bytes_are_too_large(rt: HostRuntime) -> Result<(), 
     Ok(())
 }
 
+/// The expression that is the first statement of the second function of the last script.
+fn call_of_second(set: &CoreSet) -> Option<&Core> {
+    let function = set.scripts.last()?.states.first()?.functions.get(1)?;
+    match &function.body.first()?.form {
+        CoreStatement::Plain(call) => Some(call),
+        _ => None,
+    }
+}
+
+/// Whether this is a call of a method of the frame's own instance, without arguments and with a number as result.
+fn is_own_call(tree: &Core, method: &[u8]) -> bool {
+    match tree {
+        Core::CallMethod {
+            of,
+            name,
+            arguments,
+            places,
+            result: Some(CoreType::Int),
+        } => {
+            matches!(&**of, Core::SelfValue)
+                && name.as_bytes() == method
+                && arguments.is_empty()
+                && places.is_empty()
+        }
+        _ => false,
+    }
+}
+
 #[test]
 fn calls_and_conversions_are_written_out(rt: HostRuntime) -> Result<(), Fail> {
     let text = "ScriptName A\nInt N\nInt Function F()\nN = 5\nReturn 1\nEndFunction
 Event OnInit()\nDebug.Trace(N + F())\nEndEvent";
     let set = elaborated(rt.alloc(), &rt, text)??;
-    let shown = format!(in rt.alloc(); "{set:?}")?;
-    let call = "Plain(CallNative { at: FunctionPlace { script: 0, place: 0 }, arguments: \
-        [Cast(Text, Arith(Add, Field(0), CallMethod { of: SelfValue, \
-        name: Name { spelling: Spelling { written: [70], folded: [102] } }, arguments: [], places: [], result: Some(Int) })), Lit(Int(0))], places: [0, 1], result: None })";
-    assert!(&rt; shown.contains(call));
+    let Some(
+        Core::CallNative {
+            at,
+            arguments,
+            places,
+            result: None,
+        },
+    ) = call_of_second(&set)
+    else {
+        return Err("a call of Trace".into());
+    };
+    assert_eq!(&rt; (at.script, at.place), (0, 0));
+    assert_eq!(&rt; places.as_slice(), [0, 1].as_slice());
+    let [Core::Cast(CoreType::Text, text), Core::Lit(Value::Int(0))] = arguments.as_slice() else {
+        return Err("a text and the default argument".into());
+    };
+    let Core::Arith(Arith::Add, left, right) = &**text else {
+        return Err("a sum".into());
+    };
+    assert!(&rt; matches!(&**left, Core::Field(0)));
+    assert!(&rt; is_own_call(right, b"F"));
     Ok(())
 }

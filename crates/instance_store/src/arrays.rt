@@ -19,7 +19,7 @@ const ARRAY_LIMIT: usize = 4096;
 /// elements and the list of their values.
 ///
 /// In each call a number that is given is that of an array that is there.
-#[derive(Debug, Drop)]
+#[derive(Drop)]
 pub struct Arrays {
     arrays: Vec<ValueArray>,
 }

@@ -12,7 +12,7 @@ use std::marker::Model;
 
 /// The text of an instance's state, and its variables. Those of its own script stand first, so they
 /// are found first.
-#[derive(Debug, Drop)]
+#[derive(Drop)]
 pub struct Instance {
     state: Text,
     scripts: Vec<ScriptVariables>,

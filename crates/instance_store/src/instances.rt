@@ -13,7 +13,7 @@ use std::marker::Model;
 
 /// The instances of a scene, numbered in its order. Contracts see, for each, the text of its state
 /// and the values of its variables, script by script.
-#[derive(Debug, Drop)]
+#[derive(Drop)]
 pub struct Instances {
     instances: Vec<Instance>,
 }

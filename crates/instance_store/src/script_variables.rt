@@ -12,7 +12,7 @@ use std::alloc::Global;
 use std::marker::Model;
 
 /// The values of a script's variables, in the order of its file.
-#[derive(Debug, Drop)]
+#[derive(Drop)]
 pub struct ScriptVariables {
     script: u16,
     values: Vec<Value>,

@@ -13,7 +13,7 @@ use std::alloc::Global;
 use std::marker::Model;
 
 /// An array of at most 128 values.
-#[derive(Debug, Drop)]
+#[derive(Drop)]
 pub struct ValueArray {
     kind: CoreType,
     items: Vec<Value>,

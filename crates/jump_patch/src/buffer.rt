@@ -11,14 +11,14 @@ use std::alloc::{AllocError, Global};
 use std::marker::Model;
 
 /// The instructions of a function, and the line of each.
-#[derive(Debug, Drop)]
+#[derive(Drop)]
 pub struct Code {
     pub code: Vec<Instruction>,
     pub lines: Vec<u16>,
 }
 
 /// A place in a buffer's code. Contracts see it as its number.
-#[derive(Clone, Copy, Debug)]
+#[derive(Clone, Copy)]
 pub struct Mark {
     place: u16,
 }
@@ -35,7 +35,7 @@ impl Model for Mark {
 
 /// A jump that hasn't landed, which contracts see as its place. It must be spent: a caller that
 /// meets a refusal while it holds one lands it first and then drops the buffer.
-#[derive(Debug)]
+
 pub struct Ahead {
     place: u16,
 }
@@ -50,7 +50,7 @@ impl Model for Ahead {
 
 /// Instructions that are added one behind another. Contracts see the code, the line of each
 /// instruction, and the places of the jumps that haven't landed, in order of adding.
-#[derive(Debug, Drop)]
+#[derive(Drop)]
 pub struct CodeBuffer {
     code: Vec<Instruction>,
     lines: Vec<u16>,

@@ -8,7 +8,7 @@ use pex_values::{Datum, Instruction};
 use std::alloc::{AllocError, Global};
 
 /// When a jump is taken.
-#[derive(Clone, Copy, Debug, PartialEq, Eq)]
+#[derive(Clone, Copy, PartialEq, Eq)]
 pub enum JumpKind {
     Always,
     IfTrue(Datum),

@@ -13,7 +13,7 @@ use std::marker::Model;
 
 /// A device whose calls take the ends of a range and reply with a number in it, chosen by one cell
 /// after another. Past the last cell, and where the range is empty, they reply with its low end.
-#[derive(Debug, Drop)]
+#[derive(Drop)]
 pub struct Dice {
     cells: Vec<i32>,
     place: usize,

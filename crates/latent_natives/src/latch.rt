@@ -11,7 +11,7 @@ use std::alloc::Global;
 use std::marker::Model;
 
 /// A device whose calls reply with its cell, which then becomes the first argument, if there is one.
-#[derive(Debug, Drop)]
+#[derive(Drop)]
 pub struct Latch {
     cell: [i32; 1],
 }

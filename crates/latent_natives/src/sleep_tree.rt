@@ -11,7 +11,7 @@ use std::marker::Model;
 /// The sleeps of stacks in order of number. Contracts see, for each stack, the turn at which it is due, or none
 /// where it doesn't sleep.
 #[cycle(sleep_tree)]
-#[derive(Debug, Drop)]
+#[derive(Drop)]
 pub struct SleepTree {
     // No sleep ends before this turn.
     earliest: u32,
@@ -20,7 +20,7 @@ pub struct SleepTree {
 }
 
 #[cycle(sleep_tree)]
-#[derive(Debug, Drop)]
+#[derive(Drop)]
 enum Node {
     Empty,
     One(Option<u32>),

@@ -10,7 +10,7 @@ use std::marker::Model;
 
 /// The stacks that sleep. Contracts see, for each stack below the room, the turn at which it is
 /// due, or none where it doesn't sleep.
-#[derive(Debug, Drop)]
+#[derive(Drop)]
 pub struct Sleepers {
     sleeps: SleepTree,
 }

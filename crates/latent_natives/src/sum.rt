@@ -12,7 +12,7 @@ use std::alloc::Global;
 use std::marker::Model;
 
 /// A device whose calls add all their arguments to its cell and reply with it. The sum wraps.
-#[derive(Debug, Drop)]
+#[derive(Drop)]
 pub struct Sum {
     cell: [i32; 1],
 }

@@ -11,7 +11,7 @@ use std::alloc::Global;
 use std::marker::Model;
 
 /// A device whose calls reply with one cell after another, and with 0 past the end.
-#[derive(Debug, Drop)]
+#[derive(Drop)]
 pub struct Tape {
     cells: Vec<i32>,
     place: usize,

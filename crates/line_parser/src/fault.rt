@@ -31,7 +31,7 @@ pub enum LineFault {
 }
 
 // Why the tokens of a line give no form.
-#[derive(Clone, Copy, Debug, PartialEq, Eq)]
+#[derive(Clone, Copy, PartialEq, Eq)]
 pub(crate) enum FormFault {
     NoForm,
     OutOfMemory,

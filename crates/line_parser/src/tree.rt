@@ -4,14 +4,14 @@ use papy_base::{Name, Text};
 use script_lexer::Sign;
 
 /// A type as a script writes it. `Int`, `Bool` and `String` are words of those spellings.
-#[derive(Debug, Drop)]
+#[derive(Drop)]
 pub struct TypeName {
     pub word: Name,
     pub is_array: bool,
 }
 
 /// An argument of a call, with the parameter's name where it is written.
-#[derive(Debug, Drop)]
+#[derive(Drop)]
 #[cycle(tree)]
 pub struct Argument {
     pub name: Option<Name>,
@@ -21,7 +21,7 @@ pub struct Argument {
 /// An expression. Binary signs group to the left, and brackets leave no node.
 ///
 /// A tree is at most as deep as its line has tokens, which are at most 8,000.
-#[derive(Debug, Drop)]
+#[derive(Drop)]
 #[cycle(tree)]
 pub enum Expr {
     Int(i32),
@@ -83,7 +83,7 @@ pub enum Expr {
 }
 
 /// A parameter of a function or an event.
-#[derive(Debug, Drop)]
+#[derive(Drop)]
 pub struct Parameter {
     pub kind: TypeName,
     pub name: Name,
@@ -91,7 +91,7 @@ pub struct Parameter {
 }
 
 /// A value that is written out.
-#[derive(Debug, Drop)]
+#[derive(Drop)]
 pub enum Constant {
     Int(i32),
     Bool(bool),
@@ -100,7 +100,7 @@ pub enum Constant {
 }
 
 /// The first line of a function or an event.
-#[derive(Debug, Drop)]
+#[derive(Drop)]
 pub struct Heading {
     pub result: Option<TypeName>,
     pub name: Name,
@@ -113,7 +113,7 @@ pub struct Heading {
 }
 
 /// The form of a line.
-#[derive(Debug, Drop)]
+#[derive(Drop)]
 pub enum LineForm {
     ScriptName {
         name: Name,
@@ -169,7 +169,7 @@ pub enum LineForm {
 }
 
 /// A line's form, and the documentation text at its end.
-#[derive(Debug, Drop)]
+#[derive(Drop)]
 pub struct LineTree {
     pub form: LineForm,
     pub doc: Option<Text>,

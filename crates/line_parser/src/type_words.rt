@@ -2,7 +2,7 @@ use papy_base::{Name, OutOfMemory};
 use std::alloc::Global;
 
 /// The names of the types `Int`, `Bool` and `String`, which are keywords. The lines of a file share them.
-#[derive(Debug, Drop)]
+#[derive(Drop)]
 pub struct TypeWords {
     pub(crate) int: Name,
     pub(crate) bool: Name,

@@ -14,7 +14,7 @@ use std::marker::Model;
 
 /// The locks of instances. Contracts see the seat of each stack and one list of the stacks that
 /// wait, each after its instance, in order of joining.
-#[derive(Debug, Drop)]
+#[derive(Drop)]
 pub struct Locks {
     seats: Vec<Seat>,
     owners: Vec<Option<u16>>,

@@ -8,7 +8,7 @@ use std::alloc::{AllocError, Global};
 use std::marker::Model;
 
 /// A list of different stacks. Each call takes constant time.
-#[derive(Debug, Drop)]
+#[derive(Drop)]
 pub struct Order {
     after: Vec<Option<u16>>,
     before: Vec<Option<u16>>,

@@ -9,7 +9,7 @@ use std::alloc::{AllocError, Global};
 use std::marker::Model;
 
 /// For each instance a queue of stacks, where no stack stands in two. Each call takes constant time.
-#[derive(Debug, Drop)]
+#[derive(Drop)]
 pub struct Queues {
     next: Vec<Option<u16>>,
     firsts: Vec<Option<u16>>,

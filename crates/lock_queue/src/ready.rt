@@ -9,7 +9,7 @@ ghost use Rattle.lock_queue.specs.LockTable.{is_some_of, numbers_from};
 use std::alloc::{AllocError, Global};
 
 /// A set of stacks. Its least member is found by reading words.
-#[derive(Debug, Drop)]
+#[derive(Drop)]
 pub struct ReadySet {
     words: Vec<u64>,
     // Stacks have numbers of 16 bits.

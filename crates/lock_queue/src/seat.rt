@@ -1,7 +1,7 @@
 //! What a stack does about locks.
 
 /// The seat of a stack.
-#[derive(Clone, Copy, Debug, PartialEq, Eq)]
+#[derive(Clone, Copy, PartialEq, Eq)]
 pub enum Seat {
     /// It has no lock and asks for none: it sleeps, is done or hasn't started.
     Resting,

@@ -20,7 +20,7 @@ use std::marker::Model;
 use std::mem;
 
 /// What the desk works on.
-#[derive(Debug, Drop)]
+#[derive(Drop)]
 enum Work {
     Idle,
     Reading {
@@ -88,7 +88,7 @@ impl Work {
 /// `read_faults` and `write_faults`, the name that was `missed` last, the numbers of the `failing`
 /// calls, and the number of `calls` that were made, which is that of the next. A call that finds no
 /// memory has no number. Finding a name takes time in proportion to the logarithm of their number.
-#[derive(Debug, Drop)]
+#[derive(Drop)]
 pub struct MemoryDesk {
     alloc: Global,
     files: MemoryFiles,

@@ -9,7 +9,7 @@ use std::collections::BTreeMap;
 use std::marker::Model;
 
 /// Files by name, seen as the map from names to bytes.
-#[derive(Debug, Drop)]
+#[derive(Drop)]
 pub(crate) struct MemoryFiles {
     tree: BTreeMap<Vec<u8>, Vec<u8>>,
 }

@@ -15,7 +15,7 @@ use std::marker::Model;
 ///
 /// A clause sees what was `written`, the numbers of the `failing` calls, the number of `calls` that
 /// were made, which is that of the next, and the number of `faults`.
-#[derive(Debug, Drop)]
+#[derive(Drop)]
 pub struct MemorySink {
     written: Vec<u8>,
     failing: Vec<u32>,

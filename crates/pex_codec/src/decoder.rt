@@ -13,7 +13,7 @@ use std::marker::Model;
 
 /// Reads a value from the bytes that spell it. They come in any pieces, and no cut between them changes an
 /// answer. It keeps what was read so far and the field that is being read, and no byte of a finished field.
-#[derive(Debug, Drop)]
+#[derive(Drop)]
 pub struct Decoder {
     pieces: PieceReader,
     standing: Standing,

@@ -10,7 +10,7 @@ use byteorder::{BigEndian, ByteOrder};
 use pex_values::Datum;
 
 /// The fields of a value.
-#[derive(Clone, Copy, Debug)]
+#[derive(Clone, Copy)]
 pub(crate) enum ValueField {
     Kind,
     Word,
@@ -21,7 +21,7 @@ pub(crate) enum ValueField {
 }
 
 /// The fields of a function.
-#[derive(Clone, Copy, Debug)]
+#[derive(Clone, Copy)]
 pub(crate) enum FunctionField {
     Result,
     Doc,
@@ -42,7 +42,7 @@ pub(crate) enum FunctionField {
 }
 
 /// The fields of an object's data.
-#[derive(Clone, Copy, Debug)]
+#[derive(Clone, Copy)]
 pub(crate) enum ObjectField {
     Parent,
     Doc,
@@ -70,7 +70,7 @@ pub(crate) enum ObjectField {
 }
 
 /// The strings of a file.
-#[derive(Clone, Copy, Debug)]
+#[derive(Clone, Copy)]
 pub(crate) enum TextField {
     Source,
     User,
@@ -80,7 +80,7 @@ pub(crate) enum TextField {
 }
 
 /// The fields of a file.
-#[derive(Clone, Copy, Debug)]
+#[derive(Clone, Copy)]
 pub(crate) enum Field {
     Magic,
     Major,
@@ -181,7 +181,7 @@ impl Field {
 }
 
 /// Where a field stands: the number of strings in the table, and the offset of its first byte.
-#[derive(Clone, Copy, Debug)]
+#[derive(Clone, Copy)]
 pub(crate) struct Place {
     pub strings: u16,
     pub at: u32,
@@ -209,7 +209,7 @@ pub(crate) fn reference(bytes: &[u8], place: Place) -> Result<u16, PexFault>
 }
 
 /// What a value's field leads to.
-#[derive(Clone, Copy, Debug)]
+#[derive(Clone, Copy)]
 pub(crate) enum ValueStep {
     Next(ValueField),
     Value(Datum),

@@ -22,7 +22,7 @@ use std::mem;
 const MAGIC: u32 = 0xFA57_C0DE;
 
 /// A file that is being read.
-#[derive(Debug, Drop)]
+#[derive(Drop)]
 pub(crate) struct FileReader {
     alloc: Global,
     /// What was read of it.

@@ -17,7 +17,7 @@ use std::alloc::Global;
 use std::mem;
 
 /// A function that is being read.
-#[derive(Debug, Drop)]
+#[derive(Drop)]
 pub(crate) struct FunctionReader {
     alloc: Global,
     /// What was read of it.

@@ -25,7 +25,7 @@ use std::alloc::Global;
 use std::mem;
 
 /// An object that is being read.
-#[derive(Debug, Drop)]
+#[derive(Drop)]
 pub(crate) struct ObjectReader {
     alloc: Global,
     /// What was read of it.

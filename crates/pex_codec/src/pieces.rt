@@ -14,7 +14,7 @@ use pex_values::{FILE_LIMIT, Pex};
 use std::alloc::Global;
 
 /// A file that comes in pieces.
-#[derive(Debug, Drop)]
+#[derive(Drop)]
 pub(crate) struct PieceReader {
     reader: FileReader,
     /// The field that is being read.
@@ -27,7 +27,7 @@ pub(crate) struct PieceReader {
 }
 
 /// How many bytes were taken, and whether the value is complete.
-#[derive(Clone, Copy, Debug)]
+#[derive(Clone, Copy)]
 struct Taken {
     count: usize,
     complete: bool,

@@ -1,7 +1,7 @@
 use crate::faults::PexFault;
 
 /// How far a decoder has come.
-#[derive(Clone, Copy, Debug)]
+#[derive(Clone, Copy)]
 pub enum Standing {
     /// The value isn't complete.
     Reading,

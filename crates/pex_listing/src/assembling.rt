@@ -16,7 +16,7 @@ use pex_values::{Pex, PexObject};
 use std::alloc::Global;
 
 /// What stands in the first line.
-#[derive(Clone, Copy, Debug)]
+#[derive(Clone, Copy)]
 struct Version {
     minor: u8,
     time: u64,

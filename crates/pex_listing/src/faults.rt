@@ -93,7 +93,7 @@ impl<T: Drop> From<AllocFailed<T>> for ListingFault {
 }
 
 /// Why a line can't stand where it does.
-#[derive(Clone, Copy, Debug)]
+#[derive(Clone, Copy)]
 pub(crate) enum LineFault {
     /// The rule that it breaks.
     Broken(ListingRule),

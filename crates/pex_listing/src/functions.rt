@@ -17,7 +17,7 @@ use pex_values::{Instruction, PexFunction};
 use std::alloc::Global;
 
 /// What stands in the line that a function begins with, behind its name.
-#[derive(Clone, Copy, Debug)]
+#[derive(Clone, Copy)]
 pub(crate) struct Heading {
     result: u16,
     doc: u16,

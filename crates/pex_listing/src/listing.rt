@@ -22,7 +22,7 @@ fn cut(bytes: &[u8], byte: u8) -> Option<(&[u8], &[u8])> {
 }
 
 /// A listing with its open line, whose fields are read from the left.
-#[derive(Debug, Drop)]
+#[derive(Drop)]
 pub(crate) struct Listing<'a> {
     keyword: Keyword,
     /// The opcode, where the keyword is an opcode's name.
@@ -272,7 +272,7 @@ impl<'a> Listing<'a> {
 }
 
 /// The kinds of values, by their words.
-#[derive(Clone, Copy, Debug)]
+#[derive(Clone, Copy)]
 pub(crate) enum Kind {
     NoneValue,
     Word,

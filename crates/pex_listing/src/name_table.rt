@@ -10,7 +10,7 @@ use papy_base::{OutOfMemory, Text};
 use std::alloc::Global;
 
 /// Where the strings of a listing stand, and which references are spelled by them.
-#[derive(Debug, Drop)]
+#[derive(Drop)]
 pub(crate) struct NameTable {
     /// The first place of each string.
     first: IndexMap<Vec<u8>, u16>,

@@ -51,7 +51,7 @@ impl Part for PexVariable {
 }
 
 /// What stands in the line of a property.
-#[derive(Clone, Copy, Debug)]
+#[derive(Clone, Copy)]
 struct PropertyHeading {
     name: u16,
     kind: u16,
@@ -171,7 +171,7 @@ impl Part for PexState {
 }
 
 /// What stands in the line of an object.
-#[derive(Clone, Copy, Debug)]
+#[derive(Clone, Copy)]
 struct ObjectHeading {
     name: u16,
     size_form: SizeForm,

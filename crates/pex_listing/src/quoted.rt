@@ -11,7 +11,7 @@ use std::alloc::Global;
 const LONGEST: usize = 65_535;
 
 /// A byte as it is spelled between quotes, and what follows it.
-#[derive(Clone, Copy, Debug)]
+#[derive(Clone, Copy)]
 struct Spelled<'a> {
     byte: u8,
     is_canonical: bool,
@@ -53,7 +53,7 @@ fn first_byte(bytes: &[u8]) -> Option<Spelled<'_>>
 }
 
 /// A string, and whether this is its one spelling.
-#[derive(Debug, Drop)]
+#[derive(Drop)]
 pub(crate) struct Quoted {
     pub text: Text,
     pub is_canonical: bool,

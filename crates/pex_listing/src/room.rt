@@ -6,7 +6,7 @@ use crate::faults::{LineFault, ListingRule};
 use pex_values::FILE_LIMIT;
 
 /// The bytes that no part of the value has taken yet. The parts that every value has are taken at the start.
-#[derive(Clone, Copy, Debug)]
+#[derive(Clone, Copy)]
 pub(crate) struct Room {
     pub left: u32,
     ghost within: { left ≤ 16777216 },

@@ -7,7 +7,7 @@ use std::alloc::Global;
 use std::marker::Model;
 
 /// The ranks of an object and of all below it: from `start` on, and below `end`.
-#[derive(Clone, Copy, Debug, PartialEq, Eq, PartialOrd, Ord)]
+#[derive(Clone, Copy, PartialEq, Eq, PartialOrd, Ord)]
 pub struct Span {
     pub start: usize,
     pub end: usize,
@@ -26,7 +26,7 @@ impl Span {
 const NO_RANKS: Span = Span { start: 0, end: 0 };
 
 /// Ranks of objects by which each is followed at once by all that stand below it.
-#[derive(Debug, Drop)]
+#[derive(Drop)]
 pub struct Descent {
     spans: Vec<Span>,
 }
@@ -133,7 +133,7 @@ fn parent_among(parents: &[Option<usize>], object: usize) -> Option<usize>
 }
 
 // Where a walk over the objects goes next.
-#[derive(Clone, Copy, Debug)]
+#[derive(Clone, Copy)]
 enum Step {
     Enter(usize),
     Leave(usize),

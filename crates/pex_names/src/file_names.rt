@@ -7,7 +7,7 @@ use std::alloc::Global;
 use std::marker::Model;
 
 /// The numbers of a file's strings, in the order of its string table.
-#[derive(Debug, Drop)]
+#[derive(Drop)]
 pub struct FileNames {
     numbers: Vec<usize>,
 }

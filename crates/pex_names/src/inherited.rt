@@ -8,7 +8,7 @@ use std::collections::HashMap;
 pub type MemberNames = (usize, usize);
 
 /// Where a member stands: the number of its object, the place of its state there, and its own place in the state.
-#[derive(Clone, Copy, Debug, PartialEq, Eq, PartialOrd, Ord)]
+#[derive(Clone, Copy, PartialEq, Eq, PartialOrd, Ord)]
 pub struct MemberPlace {
     pub object: usize,
     pub state: usize,
@@ -16,7 +16,7 @@ pub struct MemberPlace {
 }
 
 /// A member, with the ranks of the objects that have it unless a nearer one hides it.
-#[derive(Clone, Copy, Debug)]
+#[derive(Clone, Copy)]
 struct Holder {
     span: Span,
     member: MemberPlace,
@@ -61,7 +61,7 @@ impl OwnMembers {
 }
 
 /// From this rank on, up to the next turn, objects have this member of the names.
-#[derive(Clone, Copy, Debug)]
+#[derive(Clone, Copy)]
 struct Turn {
     start: usize,
     member: Option<MemberPlace>,

@@ -10,7 +10,7 @@ use std::collections::HashMap;
 use std::marker::Model;
 
 /// What is known of an object before its members are read.
-#[derive(Clone, Copy, Debug, PartialEq, Eq)]
+#[derive(Clone, Copy, PartialEq, Eq)]
 pub struct Head {
     /// The number of its file among those that were added, the prelude's being the first.
     pub file: usize,

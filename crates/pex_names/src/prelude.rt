@@ -12,7 +12,7 @@ pub const PRELUDE_COUNT: usize = 6;
 pub const LIBRARY_COUNT: usize = 3;
 
 /// What stands before the files of a set.
-#[derive(Debug, Drop)]
+#[derive(Drop)]
 pub struct Prelude {
     /// The scripts of the prelude, as a file.
     pub file: Pex,

@@ -1,5 +1,5 @@
 /// Where the instructions stand in the source.
-#[derive(Debug, Drop)]
+#[derive(Drop)]
 pub struct PexDebug {
     /// When the source was changed last, in seconds since 1970.
     pub time: u64,
@@ -8,7 +8,7 @@ pub struct PexDebug {
 }
 
 /// The source lines of one function, one for each instruction.
-#[derive(Debug, Drop)]
+#[derive(Drop)]
 pub struct PexLines {
     /// A reference.
     pub object: u16,

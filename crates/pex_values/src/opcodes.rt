@@ -2,7 +2,7 @@ ghost use Rattle.std.specs.Prelude.{◌≡◌};
 ghost use Rattle.pex_values.specs.Opcodes.{operands_of};
 
 /// An opcode's name, how many operands it always has, and whether a count and that many more follow.
-#[derive(Clone, Copy, Debug, PartialEq, Eq)]
+#[derive(Clone, Copy, PartialEq, Eq)]
 pub struct Opcode {
     pub name: &'static str,
     pub fixed: u8,

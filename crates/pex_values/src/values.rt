@@ -1,7 +1,7 @@
 use papy_base::Text;
 
 /// What a compiled file holds. A `u16` that is called a reference is an index into `strings`.
-#[derive(Debug, Drop)]
+#[derive(Drop)]
 pub struct Pex {
     /// The minor version, 1 or 2. The major one is 3.
     pub minor: u8,
@@ -33,7 +33,7 @@ pub enum SizeForm {
 }
 
 /// A script.
-#[derive(Debug, Drop)]
+#[derive(Drop)]
 pub struct PexObject {
     /// A reference.
     pub name: u16,
@@ -51,7 +51,7 @@ pub struct PexObject {
 }
 
 /// A variable of a script.
-#[derive(Debug, Drop)]
+#[derive(Drop)]
 pub struct PexVariable {
     /// A reference.
     pub name: u16,
@@ -63,7 +63,7 @@ pub struct PexVariable {
 }
 
 /// A property of a script.
-#[derive(Debug, Drop)]
+#[derive(Drop)]
 pub struct PexProperty {
     /// A reference.
     pub name: u16,
@@ -81,7 +81,7 @@ pub struct PexProperty {
 }
 
 /// A state with its functions, each beside a reference to its name.
-#[derive(Debug, Drop)]
+#[derive(Drop)]
 pub struct PexState {
     /// A reference; that of the empty string for the empty state.
     pub name: u16,
@@ -89,7 +89,7 @@ pub struct PexState {
 }
 
 /// A function. Its name stands beside it.
-#[derive(Debug, Drop)]
+#[derive(Drop)]
 pub struct PexFunction {
     /// A reference to the result type's name.
     pub result: u16,
@@ -106,7 +106,7 @@ pub struct PexFunction {
 }
 
 /// An instruction: an opcode, the operands that it always has, and those that it counts.
-#[derive(Debug, Drop)]
+#[derive(Drop)]
 pub struct Instruction {
     pub opcode: u8,
     pub fixed: Vec<Datum>,

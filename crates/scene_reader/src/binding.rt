@@ -37,7 +37,7 @@ pub(crate) fn bindings_of(
 }
 
 /// The kinds of bindings.
-#[derive(Clone, Copy, Debug, PartialEq, Eq)]
+#[derive(Clone, Copy, PartialEq, Eq)]
 enum Kind {
     Sleep,
     Trace,
@@ -80,7 +80,7 @@ fn binding_of(value: &Value, version: Version, limits: &mut Limits) -> Result<Bi
 }
 
 /// When a native's effect lets its caller go on: in the same turn, or this many turns later.
-#[derive(Clone, Copy, Debug, PartialEq, Eq)]
+#[derive(Clone, Copy, PartialEq, Eq)]
 enum Timing {
     Prompt,
     After(u32),

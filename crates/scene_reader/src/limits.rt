@@ -23,7 +23,7 @@ pub const TURN_LIMIT: u32 = 1_000_000;
 pub const QUANTUM_LIMIT: u32 = 1000;
 
 /// Whether what was read so far breaks a limit.
-#[derive(Clone, Copy, Debug, PartialEq, Eq)]
+#[derive(Clone, Copy, PartialEq, Eq)]
 pub(crate) struct Limits {
     pub(crate) broken: bool,
 }

@@ -16,7 +16,7 @@ use serde_json::Value;
 use std::alloc::Global;
 
 /// The versions of the form of scenes. The second has prompt natives and the quantum.
-#[derive(Clone, Copy, Debug, PartialEq, Eq)]
+#[derive(Clone, Copy, PartialEq, Eq)]
 pub(crate) enum Version {
     One,
     Two,

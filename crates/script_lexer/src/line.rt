@@ -1,7 +1,7 @@
 use crate::token::Spanned;
 
 /// A logical line that has tokens.
-#[derive(Debug, Drop)]
+#[derive(Drop)]
 pub struct Line {
     /// The physical line on which it begins, from 1.
     pub number: u16,
@@ -10,7 +10,7 @@ pub struct Line {
 }
 
 /// What a file was cut into.
-#[derive(Debug, Drop)]
+#[derive(Drop)]
 pub struct Lines {
     /// The logical lines that have tokens, in order.
     pub lines: Vec<Line>,

@@ -4,7 +4,7 @@ ghost use Rattle.script_lexer.specs.Bytes.{opening_of, is_sign_start, stays_in_l
 use crate::byte_class::is_word_start;
 
 /// What the first byte of a piece opens.
-#[derive(Clone, Copy, Debug, PartialEq, Eq)]
+#[derive(Clone, Copy, PartialEq, Eq)]
 pub enum Opening {
     /// A blank is one byte.
     Blank,

@@ -7,7 +7,7 @@ use papy_base::OutOfMemory;
 use std::alloc::{AllocError, AllocFailed};
 
 /// A piece of a script: what stands between the places at which pieces begin.
-#[derive(Debug, Drop)]
+#[derive(Drop)]
 pub enum Piece {
     Blank,
     LineEnd,
@@ -18,14 +18,14 @@ pub enum Piece {
 }
 
 /// A piece and how many bytes it takes.
-#[derive(Debug, Drop)]
+#[derive(Drop)]
 pub struct Found {
     pub piece: Piece,
     pub len: usize,
 }
 
 /// Why no piece stands at a place.
-#[derive(Clone, Copy, Debug, PartialEq, Eq)]
+#[derive(Clone, Copy, PartialEq, Eq)]
 pub enum PieceFault {
     /// The lowest rule that is broken there.
     Broken(LexRule),

@@ -9,7 +9,7 @@ use papy_base::OutOfMemory;
 use std::alloc::Global;
 
 /// What was read so far.
-#[derive(Debug, Drop)]
+#[derive(Drop)]
 pub struct Progress {
     /// The place behind it.
     pub at: u32,

@@ -28,7 +28,7 @@ fn next_item(rest: &[u8]) -> Option<TextItem>
 }
 
 // What was read behind a quote.
-#[derive(Debug, Drop)]
+#[derive(Drop)]
 struct Read {
     meant: Vec<u8>,
     is_good: bool,

@@ -3,7 +3,7 @@ use crate::sign::Sign;
 use papy_base::{Name, Text};
 
 /// A token, with what it means.
-#[derive(Debug, Drop)]
+#[derive(Drop)]
 pub enum Token {
     /// A word that is no keyword, as it is spelled: at most 255 bytes.
     Word(Name),
@@ -21,7 +21,7 @@ pub enum Token {
 
 /// A token and where it stands: the bytes of the file from `from` to before `until`, which count from
 /// 0 and include a byte order mark.
-#[derive(Debug, Drop)]
+#[derive(Drop)]
 pub struct Spanned {
     pub token: Token,
     pub from: u32,

@@ -5,7 +5,7 @@ ghost use Rattle.script_linker.specs.Found.{FindsAmong};
 use crate::fault::LinkRule;
 
 /// A broken rule, and the line of the thing that breaks it.
-#[derive(Clone, Copy, Debug, PartialEq, Eq)]
+#[derive(Clone, Copy, PartialEq, Eq)]
 pub(crate) struct Found {
     pub(crate) line: u16,
     pub(crate) rule: LinkRule,
@@ -13,7 +13,7 @@ pub(crate) struct Found {
 
 /// The first broken rule of a file among those that were noted: the one on the least line, and there
 /// the one with the least number.
-#[derive(Clone, Copy, Debug)]
+#[derive(Clone, Copy)]
 pub(crate) struct Earliest {
     pub(crate) found: Option<Found>,
 }

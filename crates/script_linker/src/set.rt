@@ -7,7 +7,7 @@ use script_parser::Script;
 use std::marker::Model;
 
 /// A script with the name of its file.
-#[derive(Debug, Drop)]
+#[derive(Drop)]
 pub struct SourceFile {
     pub name: Text,
     pub script: Script,

@@ -9,7 +9,7 @@ use pex_verify::{LoadedFunction, MethodPlace, PropertyPlace};
 use std::alloc::Global;
 
 /// What a look-up finds.
-#[derive(Clone, Copy, Debug, PartialEq, Eq)]
+#[derive(Clone, Copy, PartialEq, Eq)]
 pub enum Found {
     Body(Body),
     Native(MethodPlace),

@@ -4,7 +4,7 @@ use core_tree::Value;
 use pex_verify::{MethodPlace, PropertyPlace};
 
 /// How a call names its function. Names stand as their numbers.
-#[derive(Clone, Copy, Debug, PartialEq, Eq)]
+#[derive(Clone, Copy, PartialEq, Eq)]
 pub enum Way {
     /// A method, from the instance's script upward.
     Method(usize),
@@ -19,7 +19,7 @@ pub enum Way {
 }
 
 /// A call that is pending: its function is looked up at its entry.
-#[derive(Debug, Drop)]
+#[derive(Drop)]
 pub struct Call {
     /// None for a global function.
     pub instance: Option<u16>,
@@ -29,7 +29,7 @@ pub struct Call {
 }
 
 /// Which body runs.
-#[derive(Clone, Copy, Debug, PartialEq, Eq)]
+#[derive(Clone, Copy, PartialEq, Eq)]
 pub enum Body {
     /// A function of a state.
     Method(MethodPlace),
@@ -50,7 +50,7 @@ impl Body {
 }
 
 /// A body that was entered.
-#[derive(Debug, Drop)]
+#[derive(Drop)]
 pub struct Running {
     /// None in a global function.
     pub instance: Option<u16>,
@@ -64,7 +64,7 @@ pub struct Running {
 }
 
 /// A frame.
-#[derive(Debug, Drop)]
+#[derive(Drop)]
 pub enum Frame {
     Pending(Call),
     Running(Running),

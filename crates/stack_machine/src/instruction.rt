@@ -10,7 +10,7 @@ use papy_base::{OutOfMemory, StackFault};
 use pex_verify::{Action, LoadedInstruction, MethodPlace, action_of};
 
 /// What an instruction did.
-#[derive(Clone, Copy, Debug)]
+#[derive(Clone, Copy)]
 pub enum Step {
     /// It is done, and the next one follows.
     Done,
@@ -23,7 +23,7 @@ pub enum Step {
 }
 
 /// What an instruction that calls or returns asks for.
-#[derive(Debug, Drop)]
+#[derive(Drop)]
 pub enum Event {
     /// No call can be made, and the next instruction follows.
     Refused(StackFault),

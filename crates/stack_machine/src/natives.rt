@@ -27,7 +27,7 @@ use std::alloc::Global;
 const LONGEST_SLEEP: i32 = 1_000_000;
 
 /// What a native gave.
-#[derive(Debug, Drop)]
+#[derive(Drop)]
 pub struct Performed {
     pub reply: Value,
     /// Its latency, none where it is prompt.

@@ -9,7 +9,7 @@ use pex_verify::{Loaded, MethodPlace};
 use std::alloc::Global;
 
 /// A call of the scene: when it begins, its number in the scene, and the number of its function's name.
-#[derive(Clone, Copy, Debug, PartialEq, Eq)]
+#[derive(Clone, Copy, PartialEq, Eq)]
 pub struct PlannedCall {
     pub turn: u32,
     pub number: usize,
@@ -17,7 +17,7 @@ pub struct PlannedCall {
 }
 
 /// What is resolved when the machine starts.
-#[derive(Debug, Drop)]
+#[derive(Drop)]
 pub struct Plan {
     /// The scene's calls in order of their turns, those of one turn in the scene's order. A stack's number is
     /// that of its call here.

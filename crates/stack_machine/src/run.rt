@@ -20,7 +20,7 @@ use papy_io::Sink;
 use pex_verify::LoadedInstruction;
 
 /// What ended a run of a body.
-#[derive(Debug, Drop)]
+#[derive(Drop)]
 pub enum Ending {
     /// A loop pass.
     Pass,
@@ -33,7 +33,7 @@ pub enum Ending {
 }
 
 // Why a row of instructions halts.
-#[derive(Clone, Copy, Debug)]
+#[derive(Clone, Copy)]
 enum Halt {
     // The code has no more.
     Ended,
@@ -46,7 +46,7 @@ enum Halt {
 }
 
 // Where a row of instructions halts, and why.
-#[derive(Clone, Copy, Debug)]
+#[derive(Clone, Copy)]
 struct Row {
     place: usize,
     halt: Halt,

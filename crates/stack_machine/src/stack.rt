@@ -11,7 +11,7 @@ use std::alloc::Global;
 const FRAME_LIMIT: usize = 128;
 
 /// The frames of one stack, innermost first.
-#[derive(Debug, Drop)]
+#[derive(Drop)]
 pub struct Stack {
     // Innermost last.
     frames: Vec<Frame>,

@@ -12,7 +12,7 @@ use pex_verify::Loaded;
 use std::alloc::Global;
 
 /// What scripts change beside their frames.
-#[derive(Debug, Drop)]
+#[derive(Drop)]
 pub struct Store {
     pub instances: Instances,
     // The number of the name of each instance's state, none where no file has it.

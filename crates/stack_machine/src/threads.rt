@@ -21,7 +21,7 @@ use std::marker::Model;
 const ALL_FRAMES: u16 = 512;
 
 /// The stacks that have started, numbered in order of start.
-#[derive(Debug, Drop)]
+#[derive(Drop)]
 pub struct Threads {
     stacks: Vec<Stack>,
     locks: Locks,

@@ -9,7 +9,7 @@ use expression_rules::TypeRule;
 const PRELUDE_COUNT: u16 = 6;
 
 /// What was found of one script.
-#[derive(Clone, Copy, Debug, PartialEq, Eq)]
+#[derive(Clone, Copy, PartialEq, Eq)]
 pub(crate) struct ScriptFaults {
     /// The line and the rule of its first broken rule but K15.
     pub(crate) broken: Option<(u16, TypeRule)>,
@@ -18,7 +18,7 @@ pub(crate) struct ScriptFaults {
 }
 
 /// The first broken rules of a set, while its scripts are judged in order.
-#[derive(Clone, Copy, Debug, PartialEq, Eq)]
+#[derive(Clone, Copy, PartialEq, Eq)]
 pub(crate) struct FirstFaults {
     broken: Option<TypeFault>,
     too_large: Option<TypeFault>,

@@ -12,7 +12,7 @@ const FUNCTION_LIMIT: u32 = 4_000;
 const SCRIPT_LIMIT: u32 = 200_000;
 
 /// The sizes of a script's functions.
-#[derive(Clone, Copy, Debug, PartialEq, Eq)]
+#[derive(Clone, Copy, PartialEq, Eq)]
 pub(crate) struct Sizes {
     total: u32,
     // The least line of a function that is too large.

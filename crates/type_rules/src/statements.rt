@@ -17,7 +17,7 @@ use script_parser::{Statement, StatementForm};
 pub(crate) const BLOCK_LIMIT: u8 = 64;
 
 /// What a function's Return gives.
-#[derive(Clone, Copy, Debug, PartialEq, Eq)]
+#[derive(Clone, Copy, PartialEq, Eq)]
 pub(crate) enum Promise {
     Nothing,
     /// A value of this type, where the type is known.

@@ -6,7 +6,7 @@ ghost use Rattle.type_scope.specs.Scope.{KindInRange};
 use core_tree::CoreType;
 
 /// What is known of the type of an expression.
-#[derive(Clone, Copy, Debug, PartialEq, Eq)]
+#[derive(Clone, Copy, PartialEq, Eq)]
 pub enum Kind {
     /// It has this type.
     Of(CoreType),

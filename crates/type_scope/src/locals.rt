@@ -10,7 +10,7 @@ use std::collections::HashMap;
 const COMPARED_LIMIT: usize = 16;
 
 /// A parameter or a local: its number, and its type where that is known.
-#[derive(Clone, Copy, Debug, PartialEq, Eq)]
+#[derive(Clone, Copy, PartialEq, Eq)]
 pub struct Local {
     pub number: usize,
     pub kind: Option<CoreType>,
