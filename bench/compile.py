@@ -20,7 +20,7 @@ def beside_lua(folder, whole):
         measure.row("papyrus compile, 1 MiB", *measure.best(words, folder))
     else:
         folder.joinpath("ordinary.lua").write_text(lua(functions_of(lua, MEBIBYTE)))
-        own, base, ratio = measure.beside(words, [luac, "-o", "ordinary.luac", "ordinary.lua"], folder)
+        own, base, ratio = measure.beside(words, [luac, "-o", "ordinary.luac", "ordinary.lua"], folder, runs=45)
         measure.row("luac5.4 -o, 1 MiB", *base)
         measure.row("papyrus compile, 1 MiB", *own, ratio=ratio)
     size = folder.joinpath("Ordinary.pex").stat().st_size

@@ -30,7 +30,7 @@ def beside_lua(folder, whole):
         measure.row("front end, 1 MiB", *measure.best(words, folder, REFUSED))
         return
     folder.joinpath("ordinary.lua").write_text(lua(functions_of(lua, MEBIBYTE)))
-    own, base, ratio = measure.beside(words, [luac, "-p", "ordinary.lua"], folder, REFUSED)
+    own, base, ratio = measure.beside(words, [luac, "-p", "ordinary.lua"], folder, REFUSED, runs=45)
     measure.row("luac5.4 -p, 1 MiB", *base)
     measure.row("front end, 1 MiB", *own, ratio=ratio)
 

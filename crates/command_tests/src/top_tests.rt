@@ -4,6 +4,7 @@ ghost use Rattle.papy_io.specs.Activity.{Idle};
 use crate::calls::{Answer, call, call_failing, words_of};
 use papy_io::MemoryDesk;
 use std::alloc::Global;
+use std::process::Abort;
 use std::test::Fail;
 
 const SCRIPT: &[u8] = b"ScriptName A\nEvent OnInit()\nDebug.Trace(\"a\")\nEndEvent\n";
@@ -45,7 +46,7 @@ fn answer(alloc: Global, asked: &Asked) -> Result<Answer, Fail> {
 /// Words with the script that is held as `A.psc`, and the status and the line of notes that they are to end with.
 type Case<'a> = (&'a [&'a str], &'a [u8], u8, &'a [u8]);
 
-fn expect_all(rt: &HostRuntime, cases: &[Case<'_>]) -> Result<(), Fail> {
+fn expect_all(rt: &impl Abort, alloc: Global, cases: &[Case<'_>]) -> Result<(), Fail> {
     for (words, script, status, notes) in cases {
         let asked = Asked {
             words,
@@ -54,7 +55,7 @@ fn expect_all(rt: &HostRuntime, cases: &[Case<'_>]) -> Result<(), Fail> {
             out: &[],
             notes: &[],
         };
-        let found = answer(rt.alloc(), &asked)?;
+        let found = answer(alloc, &asked)?;
         assert_eq!(rt; found.status, *status);
         assert!(rt; found.out.bytes().is_empty());
         assert!(rt; found.notes.bytes() == *notes);
@@ -75,7 +76,7 @@ fn refused_scripts_have_their_status_and_their_line(rt: HostRuntime) -> Result<(
         (&["run", "S.json", "A.psc"], faulty, 5, refused),
         (&["compile", "A.psc"], faulty, 5, refused),
     ];
-    expect_all(&rt, &cases)
+    expect_all(&rt, rt.alloc(), &cases)
 }
 
 #[test]
@@ -89,7 +90,7 @@ fn other_refused_files_have_their_status_and_their_line(rt: HostRuntime) -> Resu
         (&["once", "A.psc", "B.psc"], SCRIPT, 3, unread),
         (&["upgrade", "A.psc", "B"], SCRIPT, 7, no_json),
     ];
-    expect_all(&rt, &cases)
+    expect_all(&rt, rt.alloc(), &cases)
 }
 
 #[test]
@@ -104,7 +105,7 @@ fn other_words_are_told_of_the_usage(rt: HostRuntime) -> Result<(), Fail> {
         (&["sample", "01"], SCRIPT, 2, usage),
         (&["sample", "201"], SCRIPT, 2, usage),
     ];
-    expect_all(&rt, &cases)
+    expect_all(&rt, rt.alloc(), &cases)
 }
 
 #[test]

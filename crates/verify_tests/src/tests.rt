@@ -1,7 +1,8 @@
 use crate::test_sets::files_of;
+use core_tree::Outline;
 use papy_base::{OutOfMemory, Text};
 use pex_verify::VerifyRule::*;
-use pex_verify::{Loaded, MethodPlace, VerifyFault, VerifyRule, verify};
+use pex_verify::{Loaded, MethodPlace, VerifyFault, VerifyRule, judge, verify};
 use std::alloc::Global;
 use std::test::Fail;
 
@@ -16,12 +17,50 @@ struct Case<'a> {
     rule: VerifyRule,
 }
 
-fn judged(alloc: Global, set: &[u8]) -> Result<Result<Loaded, VerifyFault>, OutOfMemory> {
+// What `verify` answers, which `judge` has to answer too.
+fn judged(alloc: Global, set: &[u8]) -> Result<Result<Loaded, VerifyFault>, Fail> {
     let files = files_of(alloc, set)?;
     if files.len() > 9 {
-        return Err(OutOfMemory);
+        return Err("a set of more than nine files".into());
     }
-    Ok(verify(alloc, files))
+    let outline = judge(alloc, files.as_slice());
+    let loaded = verify(alloc, files);
+    if !are_alike(&outline, &loaded) {
+        return Err("judge and verify differ".into());
+    }
+    Ok(loaded)
+}
+
+// Whether both accept a set of as many scripts, or tell of the same fault.
+fn are_alike(outline: &Result<Outline, VerifyFault>, loaded: &Result<Loaded, VerifyFault>) -> bool {
+    match (outline, loaded) {
+        (Ok(outline), Ok(loaded)) => outline.scripts.len() == loaded.outline().scripts.len(),
+        (Err(fault), Err(_)) => match case_of(fault) {
+            Some(case) => is_fault(loaded, &case),
+            None => false,
+        },
+        _ => false,
+    }
+}
+
+fn case_of(fault: &VerifyFault) -> Option<Case<'_>> {
+    match fault {
+        VerifyFault::Broken {
+            file,
+            object,
+            member,
+            at,
+            rule,
+        } => Some(Case {
+            set: b"",
+            file: *file,
+            object: object.as_bytes(),
+            member: member.as_ref().map_or(b"-", |member| member.as_bytes()),
+            at: *at,
+            rule: *rule,
+        }),
+        VerifyFault::OutOfMemory => None,
+    }
 }
 
 // Whether the answer is this fault. A member `-` is none.
@@ -54,7 +93,7 @@ fn is_text(text: &Option<Text>, wanted: &[u8]) -> bool {
 }
 
 // Whether these sets break these rules at these places.
-fn all_break(alloc: Global, cases: &[Case<'_>]) -> Result<bool, OutOfMemory> {
+fn all_break(alloc: Global, cases: &[Case<'_>]) -> Result<bool, Fail> {
     for case in cases {
         let answer = judged(alloc, case.set)?;
         if !is_fault(&answer, case) {
@@ -64,7 +103,7 @@ fn all_break(alloc: Global, cases: &[Case<'_>]) -> Result<bool, OutOfMemory> {
     Ok(true)
 }
 
-fn all_pass(alloc: Global, sets: &[&[u8]]) -> Result<bool, OutOfMemory> {
+fn all_pass(alloc: Global, sets: &[&[u8]]) -> Result<bool, Fail> {
     for set in sets {
         if judged(alloc, set)?.is_err() {
             return Ok(false);
@@ -77,7 +116,7 @@ fn all_pass(alloc: Global, sets: &[&[u8]]) -> Result<bool, OutOfMemory> {
 const HEAD: &[u8] = b"object J - -/state -/function OnInit None 0/local x None/";
 
 // Whether a line of code behind `HEAD` breaks the rule, or no rule.
-fn line_gives(alloc: Global, line: &[u8], rule: Option<VerifyRule>) -> Result<bool, OutOfMemory> {
+fn line_gives(alloc: Global, line: &[u8], rule: Option<VerifyRule>) -> Result<bool, Fail> {
     let mut set = HEAD.to_vec(alloc)?;
     set.extend_from_slice(line)?;
     let answer = judged(alloc, set.as_slice())?;
