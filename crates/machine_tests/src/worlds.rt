@@ -76,14 +76,25 @@ fn run_with(
     let loaded = loaded_of(alloc, texts.0)?;
     let bound = bound_to(alloc, &loaded, texts.1)?;
     let mut machine = Machine::start(alloc, loaded, bound, devices)?;
+    run_on(alloc, &mut machine, devices, turns, failing)
+}
+
+// The machine is lent, since its end on each way out of this function would be proved once more.
+fn run_on(
+    alloc: Global,
+    machine: &mut Machine,
+    devices: &mut Vec<Box<dyn Device>>,
+    turns: u32,
+    failing: Vec<u32>,
+) -> Result<Run, OutOfMemory> {
     let mut sink = MemorySink::new(alloc, failing);
-    let moments = turns_of(alloc, &mut machine, &mut sink, devices, turns)?;
+    let moments = turns_of(alloc, machine, &mut sink, devices, turns)?;
     Ok(Run {
         bytes: sink.bytes().to_vec(alloc)?,
         turns: machine.turns_done(),
         stacks: machine.stack_count(),
-        numbers: numbers_of(&machine)?,
-        state: state_of(alloc, &machine)?,
+        numbers: numbers_of(machine)?,
+        state: state_of(alloc, machine)?,
         moments,
     })
 }
