@@ -82,10 +82,7 @@ pub fn compile_files(alloc: Global, set: &CoreSet) -> Result<CompiledFiles, Comp
 }
 
 // The values of a set of scripts with their bytes, before they are judged together.
-fn spelled_values(
-    alloc: Global,
-    set: &CoreSet,
-) -> Result<(Vec<Pex>, Vec<Vec<u8>>), CompileFault>
+fn spelled_values(alloc: Global, set: &CoreSet) -> Result<(Vec<Pex>, Vec<Vec<u8>>), CompileFault>
     ensures count { IfOk result (λ made. vec_len made.0 ≡ vec_len set.now.scripts - 6) }
     ensures files { IfOk result (λ made. AreFilesOf made.0.items (map bytes_of made.1.items)) }
 {
