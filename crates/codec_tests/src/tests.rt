@@ -1,11 +1,12 @@
-ghost use Rattle.std.specs.Prelude.{IfOk};
+ghost use Rattle.std.specs.Prelude.{◌≡◌, IfOk};
 ghost use Rattle.pex_values.specs.Plain.{plain};
 ghost use Rattle.pex_values.specs.Shape.{IsWellShaped};
 
 use papy_base::Text;
 use pex_codec::{Decoder, EncodeFault, Fed, PexFault, PexRule, encode, one_spelling};
-use pex_values::Pex;
-use std::alloc::Global;
+use pex_packed::PackedCode;
+use pex_values::{Datum, Instruction, Pex};
+use std::alloc::{AllocError, Global};
 use std::process::Abort;
 use std::test::Fail;
 
@@ -227,4 +228,86 @@ fn too_large(rt: HostRuntime) {
     };
     assert_eq!(rt; endless(rt.alloc(), 255), Ok(Fed::More));
     assert_eq!(rt; endless(rt.alloc(), 256), Err(refused));
+}
+
+/// What a decoder that makes no value says of the bytes, where they come in pieces of so many.
+fn finished(alloc: Global, bytes: &[u8], size: usize) -> Result<(), PexFault> {
+    let mut decoder = Decoder::new(alloc)?;
+    for piece in bytes.chunks(size.max(1)) {
+        decoder.feed(piece)?;
+    }
+    decoder.finish()
+}
+
+#[test]
+fn finish_without_a_value(rt: HostRuntime) {
+    for bytes in [EMPTY.as_slice(), OBJECT.as_slice(), MEMBERS.as_slice()] {
+        assert_eq!(rt; finished(rt.alloc(), bytes, 7), Ok(()));
+        each_first_part_is_unfinished(&rt, rt.alloc(), bytes);
+    }
+}
+
+fn each_first_part_is_unfinished(rt: &impl Abort, alloc: Global, bytes: &[u8]) {
+    for k in 0..bytes.len() {
+        let truncated = PexFault::Broken {
+            offset: k as u32,
+            rule: PexRule::Truncated,
+        };
+        assert_eq!(rt; finished(alloc, &bytes[..k], 7), Err(truncated));
+    }
+}
+
+fn instruction(
+    alloc: Global,
+    opcode: u8,
+    fixed: &[Datum],
+    more: &[Datum],
+) -> Result<Instruction, AllocError>
+    ensures fixed { IfOk result (λ i. i.fixed.items ≡ fixed.now) }
+    ensures more { IfOk result (λ i. i.more.items ≡ more.now) }
+{
+    Ok(Instruction {
+        opcode,
+        fixed: fixed.to_vec(alloc)?,
+        more: more.to_vec(alloc)?,
+    })
+}
+
+/// A nop, an assignment, a call with two arguments and a nop.
+fn packed(alloc: Global) -> Result<PackedCode, AllocError> {
+    let assign = instruction(alloc, 0x0D, &[Datum::Word(1), Datum::Int(-5)], &[])?;
+    let names = [Datum::Word(1), Datum::Word(2), Datum::Word(3)];
+    let call = instruction(alloc, 0x17, &names, &[Datum::Bool(1), Datum::NoneValue])?;
+    let mut code = PackedCode::new(alloc);
+    code.reserve(4)?;
+    code.push_bare(0)?;
+    code.push(&assign)?;
+    code.push(&call)?;
+    code.push_bare(0)?;
+    Ok(code)
+}
+
+#[test]
+fn packed_code(rt: HostRuntime) -> Result<(), Fail> {
+    let code = packed(rt.alloc()).ok().ok_or("memory")?;
+    let code = code.unpack(rt.alloc()).ok().ok_or("memory")?;
+    assert_eq!(rt; code.len(), 4);
+    let [first, assign, call, last] = code.as_slice() else {
+        return Err(Fail::from("four"));
+    };
+    assert!(rt; first.opcode == 0 && first.fixed.is_empty() && first.more.is_empty());
+    assert_eq!(rt; assign.opcode, 0x0D);
+    assert_eq!(rt;
+        assign.fixed.as_slice(),
+        [Datum::Word(1), Datum::Int(-5)].as_slice()
+    );
+    assert!(rt; assign.more.is_empty());
+    assert_eq!(rt; call.opcode, 0x17);
+    assert_eq!(rt; call.fixed.len(), 3);
+    assert_eq!(rt;
+        call.more.as_slice(),
+        [Datum::Bool(1), Datum::NoneValue].as_slice()
+    );
+    assert!(rt; last.opcode == 0 && last.fixed.is_empty());
+    Ok(())
 }

@@ -5,17 +5,17 @@ use Rattle.std.specs.List.{flat_map, AllByRecursion}
 use Rattle.std.proofs.lemmas.List.{length-append, length-map}
 use Rattle.pex_values.specs.declared.debug.PexDebug.{PexDebug}
 use Rattle.pex_values.specs.declared.debug.PexLines.{PexLines}
-use Rattle.pex_values.specs.declared.values.Pex.{Pex}
-use Rattle.pex_values.specs.declared.values.PexObject.{PexObject}
+use Rattle.pex_packed.specs.declared.values.PackedObject.{PackedObject}
 use Rattle.pex_values.specs.Fit.{FitsDebug}
-use Rattle.pex_values.specs.Plain.{plain_lines, plain_debug, plain_object, plain}
+use Rattle.pex_values.specs.Plain.{plain_lines, plain_debug}
+use Rattle.pex_packed.specs.Values.{unpacked_object}
 use Rattle.pex_values.specs.Shape.{IsShapedDebug, IsShapedFlag}
 use Rattle.pex_values.specs.Spelling.{two_bytes, string, lines, debug, flag, object, object_data, spelling}
 use Rattle.pex_values.proofs.Sizes as sizes
 use Rattle.pex_codec.specs.declared.faults.PexFault.{PexFault}
 use Rattle.pex_codec.specs.declared.fields.Field.{Field}
 use Rattle.pex_codec.specs.declared.file_reader.FileReader.{FileReader}
-use Rattle.pex_codec.specs.FileReading.{HoldsHeader, HoldsDebug, HoldsFlags, HoldsObjects, HasTable, IsUntouched, IsWholeFile, ReachesField, debug_len, before_object_item}
+use Rattle.pex_codec.specs.FileReading.{HoldsHeader, HoldsDebug, HoldsFlags, HoldsObjects, HasTable, IsUntouched, IsWholeFile, ReachesField, debug_len, before_object_item, read_value}
 
 numbers_len : (ns : List ℕ) → length (flat_map two_bytes ns) ≡ 2 * length ns
 numbers_len [] = refl
@@ -31,11 +31,11 @@ lines_size e = sizes.lines_size (plain_lines e) ∙ ap (λ (n : ℕ). 9 + n) (nu
 pub debug_size : (d : PexDebug) → length (debug (Some (plain_debug d))) ≡ 11 + length (flat_map lines (map plain_lines d.functions.items))
 debug_size d = sizes.debug_size (plain_debug d)
 
-pub object_bytes : (o : PexObject) → length (object (plain_object o)) ≡ 6 + length (object_data (plain_object o))
-object_bytes o = sizes.object_size (plain_object o)
+pub object_bytes : (o : PackedObject) → length (object (unpacked_object o)) ≡ 6 + length (object_data (unpacked_object o))
+object_bytes o = sizes.object_size (unpacked_object o)
 
-pub spelling_size : (v : Pex) → length (spelling (plain v)) ≡ 28 + (length v.source + length v.user + length v.machine) + length (flat_map string v.strings.items) + length (debug (option_map plain_debug v.debug)) + 3 * length v.user_flags.items + length (flat_map object (map plain_object v.objects.items))
-spelling_size v = omega (arith, sizes.spelling_size (plain v), flags_len v.user_flags.items)
+pub spelling_size : (r : FileReader) → length (spelling (read_value r)) ≡ 28 + (length r.pex.source + length r.pex.user + length r.pex.machine) + length (flat_map string r.pex.strings.items) + length (debug (option_map plain_debug r.pex.debug)) + 3 * length r.pex.user_flags.items + length (flat_map object (map unpacked_object r.objects.items))
+spelling_size r = omega (arith, sizes.spelling_size (read_value r), flags_len r.pex.user_flags.items)
 
 pub untouched_debug : (r : FileReader) → IsUntouched r → HoldsDebug r × HoldsFlags r × (debug_len r ≡ 1)
 untouched_debug r u = (
@@ -48,7 +48,7 @@ untouched_debug r u = (
 )
 
 pub is_whole_file : (r : FileReader) (n : ℕ) → HoldsHeader r → HasTable r → HoldsDebug r → HoldsFlags r → length r.pex.user_flags.items < 2 ^ 16
-    → HoldsObjects r → length r.pex.objects.items < 2 ^ 16 → before_object_item r ≡ n → IsWholeFile r n
+    → HoldsObjects r → length r.objects.items < 2 ^ 16 → before_object_item r ≡ n → IsWholeFile r n
 is_whole_file r n h table d flags few_flags objects few size = record {
   shaped = record {
     minor = h.minor;
@@ -65,15 +65,15 @@ is_whole_file r n h table d flags few_flags objects few size = record {
     each_string = h.each_string;
     debug = d.fits;
     user_flags = few_flags;
-    objects = rw (length-map r.pex.objects.items plain_object) few;
+    objects = rw (length-map r.objects.items unpacked_object) few;
     each_object = objects.each;
   };
-  size = omega (arith, spelling_size r.pex, size);
+  size = omega (arith, spelling_size r, size);
 }
 
-pub no_objects : (r : FileReader) → r.pex.objects.items ≡ [] → HoldsObjects r × (length (flat_map object (map plain_object r.pex.objects.items)) ≡ 0)
+pub no_objects : (r : FileReader) → r.objects.items ≡ [] → HoldsObjects r × (length (flat_map object (map unpacked_object r.objects.items)) ≡ 0)
 no_objects r none =
-    (record { shaped = rw none tt; each = rw none tt }, ap (λ (x : List PexObject). length (flat_map object (map plain_object x))) none)
+    (record { shaped = rw none tt; each = rw none tt }, ap (λ (x : List PackedObject). length (flat_map object (map unpacked_object x))) none)
 
 pub reaches_field_same : (m n : ℕ) (result : Result (Option Field) PexFault) (r : FileReader) → m ≡ n → ReachesField m result r → ReachesField n result r
 reaches_field_same m n result r same there = subst (λ (k : ℕ). ReachesField k result r) same there

@@ -1,5 +1,6 @@
 pub mod Lists
 pub mod Whole
+pub mod Operands
 pub mod Sizes
 pub mod UncutSizes
 pub mod ObjectSizes

@@ -11,13 +11,6 @@ use Rattle.std.proofs.lemmas.List.{length-map}
 use Rattle.std.specs.List.{flat_map, AllByRecursion}
 use Rattle.std.proofs.lemmas.List.Elements.{All-from_recursion, recursion_from_All, All-more}
 
-pub each_at : {X : Type 0} (P : X → Type 0) (xs : List X) (i : ℕ) (x : X) → i < length xs → x ≡ get_or xs i x → AllByRecursion P xs → P x
-each_at P xs i x below is each = subst P (sym is) (All-from_recursion P xs each i x below)
-
-pub each_more : {X : Type 0} (P : X → Type 0) (xs : List X) (i : ℕ) (x : X) → i < length xs → x ≡ get_or xs i x → AllByRecursion P (take i xs) → P x → AllByRecursion P (take (i + 1) xs)
-each_more P xs i x below is each here =
-    recursion_from_All P (take (i + 1) xs) (All-more P xs i x below (All-from_recursion P (take i xs) each) (subst P is here))
-
 -- the first i items fit, and their bytes were written
 pub record WroteFirst {X : Type 0} (P : X → Type 0) (spell : X → List ℕ) (old : List ℕ) (xs : List X) (i : ℕ) (new : List ℕ) : Type 0 where
   pub each : AllByRecursion P (take i xs)

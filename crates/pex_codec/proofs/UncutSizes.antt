@@ -3,16 +3,16 @@ use Rattle.std.proofs.Common.{◌≡◌, ℕ, ◌∷◌, ◌++◌, [], Bool, tru
 use Rattle.std.specs.List.{AllByRecursion}
 use Rattle.std.proofs.lemmas.List.{length-append, nil_from_length}
 use Rattle.pex_values.specs.declared.values.Datum.{Datum}
-use Rattle.pex_values.specs.declared.values.Instruction.{Instruction}
 use Rattle.pex_values.specs.Fit.{FitsInstruction}
 use Rattle.pex_values.specs.Opcodes.{operands_of}
-use Rattle.pex_values.specs.Plain.{plain_instruction}
+use Rattle.pex_values.specs.Plain.{PlainInstruction}
 use Rattle.pex_values.specs.Shape.{AgreesWith, IsShapedDatum, IsShapedInstruction}
 use Rattle.pex_values.specs.Spelling.{instruction}
+use Rattle.pex_values.proofs.Parts.{each_added}
 use Rattle.pex_values.proofs.Sizes.{plain_size}
 use Rattle.pex_codec.specs.FunctionReading.{data_len}
 use Rattle.pex_codec.specs.Uncut.{Adds}
-use Rattle.pex_codec.proofs.Sizes.{each_pushed, code_len_pushed}
+use Rattle.pex_codec.proofs.Sizes.{code_len_pushed}
 
 pub plain_agrees : (opcode count : ℕ) (fixed more : List Datum) → operands_of opcode ≡ Some (count, false) → length fixed ≡ count → length more ≡ 0
     → AgreesWith (operands_of opcode) (length fixed) (length more)
@@ -29,26 +29,26 @@ no_operand_bytes : (items : List Datum) → length items ≡ 0 → data_len item
 no_operand_bytes items none = ap data_len (nil_from_length items none)
 
 -- an instruction was added to the code
-pub instruction_adds : (strings : ℕ) (old : List Instruction) (i : Instruction) (width : ℕ) → IsShapedInstruction strings (plain_instruction i) → FitsInstruction (plain_instruction i)
-    → length (instruction (plain_instruction i)) ≡ width → Adds strings old (old ++ i ∷ []) 1 width
+pub instruction_adds : (strings : ℕ) (old : List PlainInstruction) (i : PlainInstruction) (width : ℕ) → IsShapedInstruction strings i → FitsInstruction i
+    → length (instruction i) ≡ width → Adds strings old (old ++ i ∷ []) 1 width
 instruction_adds strings old i width shaped fits size = record {
-  shaped = λ each. each_pushed (IsShapedInstruction strings) plain_instruction old i each shaped;
-  fits = λ each. each_pushed FitsInstruction plain_instruction old i each fits;
+  shaped = λ each. each_added (IsShapedInstruction strings) old i each shaped;
+  fits = λ each. each_added FitsInstruction old i each fits;
   longer = length-append old (i ∷ []);
   size = omega (arith, code_len_pushed old i, size);
 }
 
 -- a nop was added to the code
-pub nop_adds : (strings : ℕ) (old : List Instruction) (i : Instruction) → i.opcode ≡ 0 → length i.fixed.items ≡ 0 → length i.more.items ≡ 0
+pub nop_adds : (strings : ℕ) (old : List PlainInstruction) (i : PlainInstruction) → i.opcode ≡ 0 → length i.fixed ≡ 0 → length i.more ≡ 0
     → Adds strings old (old ++ i ∷ []) 1 1
 nop_adds strings old i nop fixed more =
     let operands : operands_of i.opcode ≡ Some (0, false) = ap operands_of nop in
-    let shaped : IsShapedInstruction strings (plain_instruction i) = record {
+    let shaped : IsShapedInstruction strings i = record {
       opcode = omega (arith, nop);
-      operands = plain_agrees i.opcode 0 i.fixed.items i.more.items operands fixed more;
-      fixed = no_operands i.fixed.items fixed strings;
-      more = no_operands i.more.items more strings;
+      operands = plain_agrees i.opcode 0 i.fixed i.more operands fixed more;
+      fixed = no_operands i.fixed fixed strings;
+      more = no_operands i.more more strings;
     } in
-    let bytes = no_operand_bytes i.fixed.items fixed in
-    let size = plain_size (plain_instruction i) 0 operands in
+    let bytes = no_operand_bytes i.fixed fixed in
+    let size = plain_size i 0 operands in
     instruction_adds strings old i 1 shaped (omega (arith, more)) (omega (arith, size, bytes))

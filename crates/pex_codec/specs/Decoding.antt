@@ -1,13 +1,13 @@
 -- What a caller sees of a decoder.
-use Rattle.std.specs.Prelude.{◌≡◌, ℕ, ◌+◌, ◌<◌, ◌≤◌, Result, Ok, Err, IsOkAnd}
+use Rattle.std.specs.Prelude.{◌≡◌, ℕ, ◌+◌, ◌<◌, ◌≤◌, Result, Ok, Err}
 use Rattle.pex_values.specs.declared.values.Pex.{Pex}
 use Rattle.pex_values.specs.Fit.{Fits}
-use Rattle.pex_values.specs.Plain.{plain}
+use Rattle.pex_values.specs.Plain.{PlainPex, plain}
 use Rattle.pex_values.specs.Shape.{IsWellShaped}
 use Rattle.pex_values.specs.Spelling.{spelling}
 use Rattle.std.specs.Prelude.{length}
 use Rattle.pex_codec.specs.declared.faults.PexFault.{PexFault}
-use Rattle.pex_codec.specs.declared.faults.PexFault.TheVariants.{Broken}
+use Rattle.pex_codec.specs.declared.faults.PexFault.TheVariants.{Broken, OutOfMemory}
 use Rattle.pex_codec.specs.declared.faults.PexRule.TheVariants.{Truncated, Trailing}
 use Rattle.pex_codec.specs.declared.progress.Fed.{Fed}
 use Rattle.pex_codec.specs.declared.progress.Fed.TheVariants.{More, Done}
@@ -43,16 +43,39 @@ FeedFrom (Refused fault) old len result new = (result ≡ Err fault) × (new ≡
 abbrev pub FeedGives : Progress → ℕ → Result Fed PexFault → Progress → Type 0
 FeedGives old len result new = FeedFrom old.standing old len result new
 
+-- a value that so many bytes spell
+pub record IsSpelledBy (taken : ℕ) (v : PlainPex) : Type 0 where
+  pub shaped : IsWellShaped v
+  pub fits : Fits v
+  pub size : length (spelling v) ≡ taken
+
 -- the value that so many bytes were
-pub record IsDecoded (taken : ℕ) (v : Pex) : Type 0 where
-  pub shaped : IsWellShaped (plain v)
-  pub fits : Fits (plain v)
-  pub size : length (spelling (plain v)) ≡ taken
+abbrev pub IsDecoded : ℕ → Pex → Type 0
+IsDecoded taken v = IsSpelledBy taken (plain v)
+
+-- so many bytes were a value
+abbrev pub SpellOne : ℕ → Type 0
+SpellOne taken = (v : PlainPex) × IsSpelledBy taken v
+
+-- the value, or no memory for it
+abbrev pub MakesValue : ℕ → Result Pex PexFault → Type 0
+MakesValue taken (Ok v) = IsDecoded taken v
+MakesValue taken (Err OutOfMemory) = Unit {0}
+MakesValue taken (Err (Broken offset rule)) = ⊥
 
 abbrev pub EndFrom : Standing → ℕ → Result Pex PexFault → Type 0
 EndFrom Reading taken result = result ≡ Err (Broken taken Truncated)
-EndFrom Complete taken result = IsOkAnd result (IsDecoded taken)
+EndFrom Complete taken result = MakesValue taken result
 EndFrom (Refused fault) taken result = result ≡ Err fault
 
 abbrev pub EndGives : Progress → Result Pex PexFault → Type 0
 EndGives d result = EndFrom d.standing d.taken result
+
+abbrev pub FinishFrom : Standing → ℕ → Result Unit PexFault → Type 0
+FinishFrom Reading taken result = result ≡ Err (Broken taken Truncated)
+FinishFrom Complete taken result = (result ≡ Ok tt) × SpellOne taken
+FinishFrom (Refused fault) taken result = result ≡ Err fault
+
+-- the same without the value
+abbrev pub FinishGives : Progress → Result Unit PexFault → Type 0
+FinishGives d result = FinishFrom d.standing d.taken result

@@ -2,7 +2,8 @@
 use Rattle.std.specs.Prelude.{◌≡◌, ℕ, ◌+◌, ◌*◌, ◌<◌, ◌≤◌, ◌^◌, ◌⊎◌, [], length, map, Option, Some, None, Result, Ok, Err, IfSome, option_map}
 use Rattle.std.specs.List.{flat_map, AllByRecursion}
 use Rattle.pex_values.specs.Fit.{IsCounted, FitsDebug, FitsObject}
-use Rattle.pex_values.specs.Plain.{PlainPex, plain_lines, plain_debug, plain_object, plain}
+use Rattle.pex_values.specs.Plain.{PlainPex, plain_lines, plain_debug}
+use Rattle.pex_packed.specs.Values.{unpacked_object}
 use Rattle.pex_values.specs.Shape.{IsReference, IsShapedLines, IsShapedDebug, IsShapedFlag, IsShapedObject, IsWellShaped}
 use Rattle.pex_values.specs.Spelling.{string, lines, debug, object, spelling}
 use Rattle.pex_codec.specs.declared.faults.PexFault.{PexFault}
@@ -28,7 +29,7 @@ abbrev pub debug_len : FileReader → ℕ
 debug_len r = length (debug (option_map plain_debug r.pex.debug))
 
 abbrev pub objects_len : FileReader → ℕ
-objects_len r = length (flat_map object (map plain_object r.pex.objects.items))
+objects_len r = length (flat_map object (map unpacked_object r.objects.items))
 
 abbrev pub before_debug : FileReader → ℕ
 before_debug r = 24 + header_len r + strings_len r
@@ -89,7 +90,7 @@ pub record HoldsHeader (r : FileReader) : Type 0 where
 
 -- nothing behind the string table was read
 abbrev pub IsUntouched : FileReader → Type 0
-IsUntouched r = (r.pex.debug ≡ None) × (r.pex.user_flags.items ≡ []) × (r.pex.objects.items ≡ [])
+IsUntouched r = (r.pex.debug ≡ None) × (r.pex.user_flags.items ≡ []) × (r.objects.items ≡ [])
 
 -- the string table is complete
 abbrev pub HasTable : FileReader → Type 0
@@ -110,8 +111,8 @@ abbrev pub HoldsFlags : FileReader → Type 0
 HoldsFlags r = AllByRecursion (IsShapedFlag r.strings) r.pex.user_flags.items
 
 pub record HoldsObjects (r : FileReader) : Type 0 where
-  pub shaped : AllByRecursion (IsShapedObject r.strings) (map plain_object r.pex.objects.items)
-  pub each : AllByRecursion FitsObject (map plain_object r.pex.objects.items)
+  pub shaped : AllByRecursion (IsShapedObject r.strings) (map unpacked_object r.objects.items)
+  pub each : AllByRecursion FitsObject (map unpacked_object r.objects.items)
 
 -- ---- what holds before a field
 
@@ -147,7 +148,7 @@ HasLines r =
     × AllByRecursion (λ n. n < 2 ^ 16) r.lines.lines.items
 
 abbrev pub InFlags : FileReader → Type 0
-InFlags r = HoldsHeader r × HasTable r × HoldsDebug r × HoldsFlags r × (r.pex.objects.items ≡ [])
+InFlags r = HoldsHeader r × HasTable r × HoldsDebug r × HoldsFlags r × (r.objects.items ≡ [])
 
 abbrev pub HasFlags : FileReader → Type 0
 HasFlags r = (0 < r.left) × (length r.pex.user_flags.items + r.left < 2 ^ 16)
@@ -155,7 +156,7 @@ HasFlags r = (0 < r.left) × (length r.pex.user_flags.items + r.left < 2 ^ 16)
 abbrev pub InObjects : FileReader → Type 0
 InObjects r =
     HoldsHeader r × HasTable r × HoldsDebug r × HoldsFlags r × (length r.pex.user_flags.items < 2 ^ 16) × HoldsObjects r
-    × (0 < r.left) × (length r.pex.objects.items + r.left < 2 ^ 16)
+    × (0 < r.left) × (length r.objects.items + r.left < 2 ^ 16)
 
 abbrev pub IsBeforeField : Field → FileReader → Type 0
 IsBeforeField (field.Bytes text.Entry) r = InStringText r
@@ -196,11 +197,25 @@ pub record FitsCounts (v : PlainPex) : Type 0 where
   pub objects : IsCounted v.objects
   pub each_object : AllByRecursion FitsObject v.objects
 
+-- what was read, with its code unpacked
+abbrev pub read_value : FileReader → PlainPex
+read_value r = record {
+  minor = r.pex.minor;
+  time = r.pex.time;
+  source = r.pex.source;
+  user = r.pex.user;
+  machine = r.pex.machine;
+  strings = r.pex.strings.items;
+  debug = option_map plain_debug r.pex.debug;
+  user_flags = r.pex.user_flags.items;
+  objects = map unpacked_object r.objects.items;
+}
+
 -- the value is complete
 pub record IsWholeFile (r : FileReader) (n : ℕ) : Type 0 where
-  pub shaped : IsWellShaped (plain r.pex)
-  pub fits : FitsCounts (plain r.pex)
-  pub size : length (spelling (plain r.pex)) ≡ n
+  pub shaped : IsWellShaped (read_value r)
+  pub fits : FitsCounts (read_value r)
+  pub size : length (spelling (read_value r)) ≡ n
 
 -- n bytes were taken, and either a field is next or the value is complete
 abbrev pub ReachesField : ℕ → Result (Option Field) PexFault → FileReader → Type 0

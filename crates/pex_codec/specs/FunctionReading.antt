@@ -1,10 +1,11 @@
 -- What a reader of a function holds before each field.
-use Rattle.std.specs.Prelude.{◌≡◌, ℕ, ◌+◌, ◌*◌, ◌<◌, ◌≤◌, ◌^◌, true, List, length, map, Option, Some, None, Result, Ok, Err}
+use Rattle.std.specs.Prelude.{◌≡◌, ℕ, ◌+◌, ◌*◌, ◌<◌, ◌≤◌, ◌^◌, true, List, length, Option, Some, None, Result, Ok, Err}
 use Rattle.std.specs.List.{flat_map, AllByRecursion}
 use Rattle.pex_values.specs.declared.values.Datum.{Datum}
 use Rattle.pex_values.specs.Fit.{FitsInstruction, FitsFunction}
 use Rattle.pex_values.specs.Opcodes.{operands_of}
-use Rattle.pex_values.specs.Plain.{PlainInstruction, plain_instruction, plain_function}
+use Rattle.pex_values.specs.Plain.{PlainInstruction}
+use Rattle.pex_packed.specs.Values.{unpacked_function}
 use Rattle.pex_values.specs.Shape.{IsReference, IsShapedDatum, IsShapedFunction}
 use Rattle.pex_values.specs.Spelling.{datum, instruction, function}
 use Rattle.pex_codec.specs.declared.faults.PexFault.{PexFault}
@@ -23,7 +24,7 @@ code_len items = length (flat_map instruction items)
 abbrev pub before_item : FunctionReader → ℕ
 before_item r =
     15 + 4 * length r.function.parameters.items + 4 * length r.function.locals.items
-    + code_len (map plain_instruction r.function.code.items)
+    + code_len (r.function.code)
 
 -- the bytes of the function before a field
 abbrev pub before_function : FunctionField → FunctionReader → ℕ
@@ -47,22 +48,22 @@ before_function (field.More v) r =
 
 -- the lists that come later are empty, and the open one has room for the items that its count still asks for
 abbrev pub HasNone : FunctionReader → Type 0
-HasNone r = (length r.function.parameters.items ≡ 0) × (length r.function.locals.items ≡ 0) × (length r.function.code.items ≡ 0)
+HasNone r = (length r.function.parameters.items ≡ 0) × (length r.function.locals.items ≡ 0) × (length r.function.code ≡ 0)
 
 abbrev pub HasParameters : FunctionReader → Type 0
 HasParameters r =
     (0 < r.left) × (length r.function.parameters.items + r.left < 2 ^ 16) × (length r.function.locals.items ≡ 0)
-    × (length r.function.code.items ≡ 0)
+    × (length r.function.code ≡ 0)
 
 abbrev pub HasLocals : FunctionReader → Type 0
 HasLocals r =
     (0 < r.left) × (length r.function.parameters.items < 2 ^ 16) × (length r.function.locals.items + r.left < 2 ^ 16)
-    × (length r.function.code.items ≡ 0)
+    × (length r.function.code ≡ 0)
 
 abbrev pub HasCode : FunctionReader → Type 0
 HasCode r =
     (0 < r.left) × (length r.function.parameters.items < 2 ^ 16) × (length r.function.locals.items < 2 ^ 16)
-    × (length r.function.code.items + r.left < 2 ^ 16)
+    × (length r.function.code + r.left < 2 ^ 16)
 
 abbrev pub HasRoom : FunctionField → FunctionReader → Type 0
 HasRoom field.Result r = HasNone r
@@ -73,11 +74,11 @@ HasRoom field.ParameterCount r = HasNone r
 HasRoom field.ParameterName r = HasParameters r
 HasRoom field.ParameterType r = HasParameters r
 HasRoom field.LocalCount r =
-    (length r.function.parameters.items < 2 ^ 16) × (length r.function.locals.items ≡ 0) × (length r.function.code.items ≡ 0)
+    (length r.function.parameters.items < 2 ^ 16) × (length r.function.locals.items ≡ 0) × (length r.function.code ≡ 0)
 HasRoom field.LocalName r = HasLocals r
 HasRoom field.LocalType r = HasLocals r
 HasRoom field.CodeCount r =
-    (length r.function.parameters.items < 2 ^ 16) × (length r.function.locals.items < 2 ^ 16) × (length r.function.code.items ≡ 0)
+    (length r.function.parameters.items < 2 ^ 16) × (length r.function.locals.items < 2 ^ 16) × (length r.function.code ≡ 0)
 HasRoom _ r = HasCode r
 
 -- the open instruction, up to its fixed operands
@@ -107,8 +108,8 @@ Opens strings _ r = Unit {0}
 -- what was read is well shaped and fits
 pub record Holds (strings : ℕ) (r : FunctionReader) : Type 0 where
   pub some : 0 < strings
-  pub shaped : IsShapedFunction strings (plain_function r.function)
-  pub each : AllByRecursion FitsInstruction (map plain_instruction r.function.code.items)
+  pub shaped : IsShapedFunction strings (unpacked_function r.function)
+  pub each : AllByRecursion FitsInstruction (r.function.code)
 
 pub record IsBefore (strings : ℕ) (f : FunctionField) (r : FunctionReader) : Type 0 where
   pub holds : Holds strings r
@@ -117,9 +118,9 @@ pub record IsBefore (strings : ℕ) (f : FunctionField) (r : FunctionReader) : T
 
 -- the function is complete
 pub record IsWhole (strings : ℕ) (r : FunctionReader) (n : ℕ) : Type 0 where
-  pub shaped : IsShapedFunction strings (plain_function r.function)
-  pub fits : FitsFunction (plain_function r.function)
-  pub size : length (function (plain_function r.function)) ≡ n
+  pub shaped : IsShapedFunction strings (unpacked_function r.function)
+  pub fits : FitsFunction (unpacked_function r.function)
+  pub size : length (function (unpacked_function r.function)) ≡ n
 
 -- n bytes of the function were taken, and either a field of it is next or it is complete
 abbrev pub Reaches : ℕ → ℕ → Result (Option FunctionField) PexFault → FunctionReader → Type 0

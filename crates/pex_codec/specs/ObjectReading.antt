@@ -3,7 +3,7 @@ use Rattle.std.specs.Prelude.{◌≡◌, ℕ, ◌+◌, ◌<◌, ◌≤◌, ◌^�
 use Rattle.std.specs.List.{flat_map, AllByRecursion}
 use Rattle.pex_values.specs.Bits.{has_variable, has_read, has_write}
 use Rattle.pex_values.specs.Fit.{FitsFunction, FitsState, FitsProperty, FitsObject}
-use Rattle.pex_values.specs.Plain.{plain_function, plain_named, plain_state, plain_property, plain_object}
+use Rattle.pex_packed.specs.Values.{unpacked_function, unpacked_named, unpacked_state, unpacked_property, unpacked_object}
 use Rattle.pex_values.specs.Shape.{IsReference, IsShapedFunction, IsShapedState, IsShapedObject}
 use Rattle.pex_values.specs.Spelling.{two_bytes, optional, variable, property, state, named, function, object_data}
 use Rattle.pex_codec.specs.declared.faults.PexFault.{PexFault}
@@ -17,13 +17,13 @@ abbrev pub variables_len : ObjectReader → ℕ
 variables_len r = length (flat_map variable r.object.variables.items)
 
 abbrev pub properties_len : ObjectReader → ℕ
-properties_len r = length (flat_map property (map plain_property r.object.properties.items))
+properties_len r = length (flat_map property (map unpacked_property r.object.properties.items))
 
 abbrev pub states_len : ObjectReader → ℕ
-states_len r = length (flat_map state (map plain_state r.object.states.items))
+states_len r = length (flat_map state (map unpacked_state r.object.states.items))
 
 abbrev pub functions_len : ObjectReader → ℕ
-functions_len r = length (flat_map named (map plain_named r.state.functions.items))
+functions_len r = length (flat_map named (map unpacked_named r.state.functions.items))
 
 -- the bytes before the open property, and before the open state
 abbrev pub before_property : ObjectReader → ℕ
@@ -36,7 +36,7 @@ abbrev pub variable_len : ObjectReader → ℕ
 variable_len r = length (optional two_bytes r.variable)
 
 abbrev pub read_len : ObjectReader → ℕ
-read_len r = length (optional function (option_map plain_function r.read))
+read_len r = length (optional function (option_map unpacked_function r.read))
 
 -- the bytes of the data before a field
 abbrev pub before_object : ObjectField → ObjectReader → ℕ
@@ -139,14 +139,14 @@ pub record HasVariable (strings : ℕ) (r : ObjectReader) : Type 0 where
   pub variable : IfSome r.variable (IsReference strings)
 
 pub record HasRead (strings : ℕ) (r : ObjectReader) : Type 0 where
-  pub asked : is_some (option_map plain_function r.read) ≡ has_read r.bits
-  pub read : IfSome (option_map plain_function r.read) (IsShapedFunction strings)
-  pub fits : IfSome (option_map plain_function r.read) FitsFunction
+  pub asked : is_some (option_map unpacked_function r.read) ≡ has_read r.bits
+  pub read : IfSome (option_map unpacked_function r.read) (IsShapedFunction strings)
+  pub fits : IfSome (option_map unpacked_function r.read) FitsFunction
 
 -- the open state
 pub record HasState (strings : ℕ) (r : ObjectReader) : Type 0 where
-  pub shaped : IsShapedState strings (plain_state r.state)
-  pub each : AllByRecursion (λ f. FitsFunction f.1) (map plain_named r.state.functions.items)
+  pub shaped : IsShapedState strings (unpacked_state r.state)
+  pub each : AllByRecursion (λ f. FitsFunction f.1) (map unpacked_named r.state.functions.items)
 
 abbrev pub HasFunctions : ObjectReader → Type 0
 HasFunctions r = (0 < r.functions_left) × (length r.state.functions.items + r.functions_left < 2 ^ 16)
@@ -172,9 +172,9 @@ Opens strings _ r = Unit {0}
 -- what was read is well shaped and fits
 pub record Holds (strings : ℕ) (r : ObjectReader) : Type 0 where
   pub some : 0 < strings
-  pub shaped : IsShapedObject strings (plain_object r.object)
-  pub each_property : AllByRecursion FitsProperty (map plain_property r.object.properties.items)
-  pub each_state : AllByRecursion FitsState (map plain_state r.object.states.items)
+  pub shaped : IsShapedObject strings (unpacked_object r.object)
+  pub each_property : AllByRecursion FitsProperty (map unpacked_property r.object.properties.items)
+  pub each_state : AllByRecursion FitsState (map unpacked_state r.object.states.items)
 
 pub record IsBeforeObject (strings : ℕ) (f : ObjectField) (r : ObjectReader) : Type 0 where
   pub holds : Holds strings r
@@ -183,9 +183,9 @@ pub record IsBeforeObject (strings : ℕ) (f : ObjectField) (r : ObjectReader) :
 
 -- the data is complete
 pub record IsWholeObject (strings : ℕ) (r : ObjectReader) (n : ℕ) : Type 0 where
-  pub shaped : IsShapedObject strings (plain_object r.object)
-  pub fits : FitsObject (plain_object r.object)
-  pub size : length (object_data (plain_object r.object)) ≡ n
+  pub shaped : IsShapedObject strings (unpacked_object r.object)
+  pub fits : FitsObject (unpacked_object r.object)
+  pub size : length (object_data (unpacked_object r.object)) ≡ n
 
 -- n bytes of the data were taken, and either a field of it is next or it is complete
 abbrev pub ReachesObject : ℕ → ℕ → ℕ → Result (Option ObjectField) PexFault → ObjectReader → Type 0

@@ -1,10 +1,9 @@
 -- What a part that a piece of so many bytes holds whole is, and how many of those bytes it takes.
-use Rattle.std.specs.Prelude.{◌≡◌, ℕ, ◌+◌, ◌*◌, ◌<◌, ◌≤◌, ◌^◌, List, length, map}
+use Rattle.std.specs.Prelude.{◌≡◌, ℕ, ◌+◌, ◌*◌, ◌<◌, ◌≤◌, ◌^◌, List, length}
 use Rattle.std.specs.List.{AllByRecursion}
 use Rattle.pex_values.specs.declared.values.Datum.{Datum}
-use Rattle.pex_values.specs.declared.values.Instruction.{Instruction}
 use Rattle.pex_values.specs.Fit.{IsCounted, FitsInstruction, FitsFunction}
-use Rattle.pex_values.specs.Plain.{PlainInstruction, PlainFunction, plain_instruction}
+use Rattle.pex_values.specs.Plain.{PlainInstruction, PlainFunction}
 use Rattle.pex_values.specs.Shape.{IsReference, ArePair, IsShapedDatum, IsShapedInstruction, IsShapedFunction, IsShapedNamed}
 use Rattle.pex_values.specs.Spelling.{datum, instruction, function, named}
 use Rattle.pex_codec.specs.FunctionReading.{data_len, code_len}
@@ -39,20 +38,20 @@ pub record IsUncutInstruction (strings len : ℕ) (i : PlainInstruction) (width 
   pub most : width ≤ len
 
 -- so many instructions of so many bytes stand behind the old ones
-pub record Adds (strings : ℕ) (old new : List Instruction) (count width : ℕ) : Type 0 where
-  pub shaped : AllByRecursion (IsShapedInstruction strings) (map plain_instruction old) → AllByRecursion (IsShapedInstruction strings) (map plain_instruction new)
-  pub fits : AllByRecursion FitsInstruction (map plain_instruction old) → AllByRecursion FitsInstruction (map plain_instruction new)
+pub record Adds (strings : ℕ) (old new : List PlainInstruction) (count width : ℕ) : Type 0 where
+  pub shaped : AllByRecursion (IsShapedInstruction strings) old → AllByRecursion (IsShapedInstruction strings) new
+  pub fits : AllByRecursion FitsInstruction old → AllByRecursion FitsInstruction new
   pub longer : length new ≡ length old + count
-  pub size : code_len (map plain_instruction new) ≡ code_len (map plain_instruction old) + width
+  pub size : code_len new ≡ code_len old + width
 
 -- of so many bytes an instruction was added, or none where it has no bytes
-pub record AddsInstruction (strings len : ℕ) (old new : List Instruction) (width : ℕ) : Type 0 where
+pub record AddsInstruction (strings len : ℕ) (old new : List PlainInstruction) (width : ℕ) : Type 0 where
   pub none : width ≡ 0 → new ≡ old
   pub some : 0 < width → Adds strings old new 1 width
   pub most : width ≤ len
 
 -- of so many bytes some instructions were added, and no more than were asked for
-pub record AddsCode (strings most len : ℕ) (old new : List Instruction) (count width : ℕ) : Type 0 where
+pub record AddsCode (strings most len : ℕ) (old new : List PlainInstruction) (count width : ℕ) : Type 0 where
   pub adds : Adds strings old new count width
   pub asked : count ≤ most
   pub each : count ≤ width

@@ -1,7 +1,7 @@
 //! Takes the bytes of a file in any pieces.
 
 ghost use Rattle.std.specs.Prelude.{IfOk, length};
-ghost use Rattle.pex_codec.specs.Decoding.{IsNew, FeedGives, EndGives};
+ghost use Rattle.pex_codec.specs.Decoding.{IsNew, FeedGives, EndGives, FinishGives};
 
 use crate::faults::{PexFault, PexRule};
 use crate::pieces::PieceReader;
@@ -12,7 +12,7 @@ use std::alloc::Global;
 use std::marker::Model;
 
 /// Reads a value from the bytes that spell it. They come in any pieces, and no cut between them changes an
-/// answer. It keeps what was read so far and the field that is being read, and no byte of a finished field.
+/// answer. It keeps what was read so far, with its code packed, and the field that is being read, and no byte of a finished field.
 #[derive(Drop)]
 pub struct Decoder {
     pieces: PieceReader,
@@ -68,13 +68,22 @@ impl Decoder {
         outcome
     }
 
-    /// The value, which is well shaped and fits. `Truncated` comes where it isn't complete.
+    /// The value, which is well shaped and fits. `Truncated` comes where it isn't complete, and `OutOfMemory` where it is and
+    /// there is no memory for its unpacked code.
     pub fn end(self) -> Result<Pex, PexFault>
         ensures { EndGives self result }
     {
+        self.finish()?;
+        Ok(self.pieces.into_value()?)
+    }
+
+    /// Ok where the bytes so far spell a value. It answers as `end` does, and needs no memory, since it makes no value.
+    pub fn finish(&self) -> Result<(), PexFault>
+        ensures { FinishGives self.now result }
+    {
         match self.standing {
             Standing::Refused(fault) => Err(fault),
-            Standing::Complete => Ok(self.pieces.into_value()),
+            Standing::Complete => Ok(()),
             Standing::Reading => Err(PexFault::Broken {
                 offset: self.pieces.taken(),
                 rule: PexRule::Truncated,

@@ -3,10 +3,11 @@
 ghost use Rattle.std.specs.Prelude.{◌≡◌, ◌+◌, ◌*◌, ◌<◌, ◌≤◌, ◌^◌, length, map, IfOk, OnOk};
 ghost use Rattle.std.specs.List.{AllByRecursion};
 ghost use Rattle.pex_values.specs.Fit.{IsCounted, FitsObject};
-ghost use Rattle.pex_values.specs.Plain.{plain_lines, plain_object};
+ghost use Rattle.pex_values.specs.Plain.{plain, plain_lines, plain_object};
+ghost use Rattle.pex_packed.specs.Values.{unpacked_object};
 ghost use Rattle.pex_values.specs.Shape.{IsShapedLines, IsShapedObject};
 ghost use Rattle.pex_values.specs.Spelling.{object_data};
-ghost use Rattle.pex_codec.specs.FileReading.{IsBeforeField, ReachesField, RunsField, EndsText, InStrings, InDebug, InEntries, InObjects, before_field, before_entry, before_object_item, header_len, strings_len};
+ghost use Rattle.pex_codec.specs.FileReading.{IsBeforeField, ReachesField, RunsField, EndsText, InStrings, InDebug, InEntries, InObjects, read_value, before_field, before_entry, before_object_item, header_len, strings_len};
 ghost use Rattle.pex_codec.specs.Widths.{field_width, object_width};
 
 use crate::faults::{PexFault, PexRule};
@@ -14,7 +15,8 @@ use crate::fields::{Field, ObjectField, Place, TextField, reference};
 use crate::object_reader::ObjectReader;
 use byteorder::{BigEndian, ByteOrder};
 use papy_base::{OutOfMemory, Text};
-use pex_values::{FILE_LIMIT, Pex, PexDebug, PexLines};
+use pex_packed::PackedObject;
+use pex_values::{FILE_LIMIT, Pex, PexDebug, PexLines, PexObject};
 use std::alloc::Global;
 use std::mem;
 
@@ -25,8 +27,9 @@ const MAGIC: u32 = 0xFA57_C0DE;
 #[derive(Drop)]
 pub(crate) struct FileReader {
     alloc: Global,
-    /// What was read of it.
+    /// What was read of it, but for the objects.
     pex: Pex,
+    objects: Vec<PackedObject>,
     /// The bytes of the open string, and how many are still to come.
     text: Vec<u8>,
     text_left: u16,
@@ -66,6 +69,16 @@ fn add_lines(lines: &mut Vec<u16>, bytes: &[u8], count: usize) -> Result<(), Pex
     Ok(())
 }
 
+fn unpack_objects(alloc: Global, packed: Vec<PackedObject>) -> Result<Vec<PexObject>, OutOfMemory>
+    ensures { IfOk result (λ os. map plain_object os.items ≡ map unpacked_object packed.items) }
+{
+    let mut objects = Vec::with_capacity(alloc, packed.len())?;
+    for object in packed {
+        objects.push(object.unpack(alloc)?)?;
+    }
+    Ok(objects)
+}
+
 impl FileReader {
     /// Has read nothing. The next field is the magic number.
     pub(crate) fn new(alloc: Global) -> Result<FileReader, OutOfMemory>
@@ -84,6 +97,7 @@ impl FileReader {
                 user_flags: Vec::new(alloc),
                 objects: Vec::new(alloc),
             },
+            objects: Vec::new(alloc),
             text: Vec::new(alloc),
             text_left: 0,
             strings: 0,
@@ -526,7 +540,7 @@ impl FileReader {
         if self.left == 0 {
             return Ok(None);
         }
-        self.pex.objects = Vec::with_capacity(self.alloc, self.left as usize)?;
+        self.objects = Vec::with_capacity(self.alloc, self.left as usize)?;
         Ok(Some(Field::ObjectName))
     }
 
@@ -574,12 +588,12 @@ impl FileReader {
     /// Adds the open object.
     fn finish_object(&mut self) -> Result<Option<Field>, PexFault>
         requires before { InObjects self.old }
-        requires shaped { IsShapedObject self.old.strings (plain_object self.old.object.object) }
-        requires fits { FitsObject (plain_object self.old.object.object) }
-        ensures { ReachesField (before_object_item self.old + 6 + length (object_data (plain_object self.old.object.object))) result self.new }
+        requires shaped { IsShapedObject self.old.strings (unpacked_object self.old.object.object) }
+        requires fits { FitsObject (unpacked_object self.old.object.object) }
+        ensures { ReachesField (before_object_item self.old + 6 + length (object_data (unpacked_object self.old.object.object))) result self.new }
     {
         let object = self.object.take();
-        self.pex.objects.push(object)?;
+        self.objects.push(object)?;
         self.left -= 1;
         if self.left == 0 {
             return Ok(None);
@@ -587,10 +601,12 @@ impl FileReader {
         Ok(Some(Field::ObjectName))
     }
 
-    /// Hands out the value.
-    pub(crate) fn into_value(self) -> Pex
-        ensures { result ≡ self.pex }
+    /// Makes the value.
+    pub(crate) fn into_value(self) -> Result<Pex, OutOfMemory>
+        ensures { IfOk result (λ v. plain v ≡ read_value self) }
     {
-        self.pex
+        let mut value = self.pex;
+        value.objects = unpack_objects(self.alloc, self.objects)?;
+        Ok(value)
     }
 }

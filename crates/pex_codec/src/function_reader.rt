@@ -1,6 +1,6 @@
 //! Reads a function, field by field.
 
-ghost use Rattle.std.specs.Prelude.{◌≡◌, ◌+◌, ◌<◌, ◌^◌, ℕ, [], length, map, true, Some, None, IfOk};
+ghost use Rattle.std.specs.Prelude.{◌≡◌, ◌+◌, ◌<◌, ◌^◌, ℕ, [], length, true, Some, None, IfOk};
 ghost use Rattle.pex_values.specs.Fit.{FitsInstruction};
 ghost use Rattle.pex_values.specs.Plain.{plain_instruction};
 ghost use Rattle.pex_values.specs.Shape.{IsShapedInstruction};
@@ -12,7 +12,8 @@ use crate::faults::{PexFault, PexRule};
 use crate::fields::{FunctionField, Place, ValueField, ValueStep, reference, value_field};
 use crate::uncut::{add_uncut_code, empty_instruction};
 use byteorder::{BigEndian, ByteOrder};
-use pex_values::{Instruction, PexFunction, operand_count};
+use pex_packed::{PackedCode, PackedFunction};
+use pex_values::{Instruction, operand_count};
 use std::alloc::Global;
 use std::mem;
 
@@ -21,12 +22,12 @@ use std::mem;
 pub(crate) struct FunctionReader {
     alloc: Global,
     /// What was read of it.
-    function: PexFunction,
+    function: PackedFunction,
     /// How many items of the open list are still to come, the open one counted.
     left: u16,
     /// The name of the open parameter or local.
     name: u16,
-    /// What was read of the open instruction.
+    /// What was read of the open instruction. The vectors serve all instructions in turn.
     instruction: Instruction,
     fixed_left: u8,
     has_more: bool,
@@ -35,18 +36,18 @@ pub(crate) struct FunctionReader {
     count_at: u32,
 }
 
-pub(crate) fn empty_function(alloc: Global) -> PexFunction
+pub(crate) fn empty_function(alloc: Global) -> PackedFunction
     ensures numbers { (result.result ≡ 0) × (result.doc ≡ 0) × (result.flags ≡ 0) × (result.bits ≡ 0) }
-    ensures lists { (result.parameters.items ≡ []) × (result.locals.items ≡ []) × (result.code.items ≡ []) }
+    ensures lists { (result.parameters.items ≡ []) × (result.locals.items ≡ []) × (result.code ≡ []) }
 {
-    PexFunction {
+    PackedFunction {
         result: 0,
         doc: 0,
         flags: 0,
         bits: 0,
         parameters: Vec::new(alloc),
         locals: Vec::new(alloc),
-        code: Vec::new(alloc),
+        code: PackedCode::new(alloc),
     }
 }
 
@@ -228,7 +229,7 @@ impl FunctionReader {
         if self.left == 0 {
             return Ok(None);
         }
-        self.function.code = Vec::with_capacity(self.alloc, self.left as usize)?;
+        self.function.code.reserve(self.left as usize)?;
         Ok(Some(FunctionField::Opcode))
     }
 
@@ -242,8 +243,8 @@ impl FunctionReader {
             return Err(place.broken(PexRule::BadOpcode));
         };
         self.instruction.opcode = opcode;
-        self.instruction.fixed = Vec::with_capacity(self.alloc, fixed as usize)?;
-        self.instruction.more = Vec::new(self.alloc);
+        self.instruction.fixed.clear();
+        self.instruction.more.clear();
         self.fixed_left = fixed;
         self.has_more = more;
         self.after_fixed(place.strings)
@@ -358,24 +359,7 @@ impl FunctionReader {
         requires fits { FitsInstruction (plain_instruction self.old.instruction) }
         ensures { Reaches strings (before_item self.old + length (instruction (plain_instruction self.old.instruction))) result self.new }
     {
-        let empty = empty_instruction(self.alloc);
-        let instruction = mem::replace(&mut self.instruction, empty);
-        self.add_instruction(instruction, strings)
-    }
-
-    /// Adds an instruction to the code.
-    fn add_instruction(
-        &mut self,
-        added: Instruction,
-        strings: u16,
-    ) -> Result<Option<FunctionField>, PexFault>
-        requires holds { Holds strings self.old }
-        requires room { HasCode self.old }
-        requires shaped { IsShapedInstruction strings (plain_instruction added) }
-        requires fits { FitsInstruction (plain_instruction added) }
-        ensures { Reaches strings (before_item self.old + length (instruction (plain_instruction added))) result self.new }
-    {
-        self.function.code.push(added)?;
+        self.function.code.push(&self.instruction)?;
         self.left -= 1;
         if self.left == 0 {
             return Ok(None);
@@ -395,8 +379,8 @@ impl FunctionReader {
     {
         let most = self.left as usize;
         let (added, width) = add_uncut_code(
-            self.alloc,
             &mut self.function.code,
+            &mut self.instruction,
             bytes,
             most,
             strings,
@@ -409,7 +393,7 @@ impl FunctionReader {
     }
 
     /// Hands out the function.
-    pub(crate) fn take(&mut self) -> PexFunction
+    pub(crate) fn take(&mut self) -> PackedFunction
         ensures { result ≡ self.old.function }
     {
         let empty = empty_function(self.alloc);

@@ -4,7 +4,7 @@ ghost use Rattle.std.specs.Prelude.{◌≡◌, ◌+◌, ◌<◌, ◌≤◌, ◌^
 ghost use Rattle.std.specs.List.{AllByRecursion};
 ghost use Rattle.pex_values.specs.Bits.{has_write as asks_write};
 ghost use Rattle.pex_values.specs.Fit.{FitsFunction};
-ghost use Rattle.pex_values.specs.Plain.{plain_function, plain_named, plain_state};
+ghost use Rattle.pex_packed.specs.Values.{unpacked_function, unpacked_named, unpacked_state};
 ghost use Rattle.pex_values.specs.Shape.{IsReference, IsShapedFunction, IsShapedNamed};
 ghost use Rattle.pex_values.specs.Spelling.{optional, function, named, state};
 ghost use Rattle.pex_codec.specs.ObjectReading.{IsBeforeObject, ReachesObject, RunsObject, Holds, HasProperties, HasStates, HasBits, HasVariable, HasRead, HasState, HasFunctions, before_object, before_property, before_state, variable_len, read_len, functions_len};
@@ -17,10 +17,8 @@ use crate::fields::{
 use crate::function_reader::FunctionReader;
 use crate::uncut::uncut_named;
 use byteorder::{BigEndian, ByteOrder};
-use pex_values::{
-    FILE_LIMIT, PexFunction, PexObject, PexProperty, PexState, PexVariable, SizeForm, has_read,
-    has_variable, has_write,
-};
+use pex_packed::{PackedFunction, PackedObject, PackedProperty, PackedState};
+use pex_values::{FILE_LIMIT, PexVariable, SizeForm, has_read, has_variable, has_write};
 use std::alloc::Global;
 use std::mem;
 
@@ -29,7 +27,7 @@ use std::mem;
 pub(crate) struct ObjectReader {
     alloc: Global,
     /// What was read of it.
-    object: PexObject,
+    object: PackedObject,
     /// What its size field holds, and where that stands.
     size: u32,
     size_at: u32,
@@ -42,20 +40,20 @@ pub(crate) struct ObjectReader {
     flags: u32,
     bits: u8,
     variable: Option<u16>,
-    read: Option<PexFunction>,
+    read: Option<PackedFunction>,
     /// What was read of the open state, and how many of its functions are still to come.
-    state: PexState,
+    state: PackedState,
     functions_left: u16,
     /// The open function with its name.
     function_name: u16,
     function: FunctionReader,
 }
 
-pub(crate) fn empty_object(alloc: Global, name: u16) -> PexObject
+pub(crate) fn empty_object(alloc: Global, name: u16) -> PackedObject
     ensures numbers { (result.name ≡ name) × (result.parent ≡ 0) × (result.doc ≡ 0) × (result.flags ≡ 0) × (result.auto_state ≡ 0) }
     ensures lists { (result.variables.items ≡ []) × (result.properties.items ≡ []) × (result.states.items ≡ []) }
 {
-    PexObject {
+    PackedObject {
         name,
         size_form: SizeForm::Bare,
         parent: 0,
@@ -68,10 +66,10 @@ pub(crate) fn empty_object(alloc: Global, name: u16) -> PexObject
     }
 }
 
-fn empty_state(alloc: Global, name: u16) -> PexState
+fn empty_state(alloc: Global, name: u16) -> PackedState
     ensures { (result.name ≡ name) × (result.functions.items ≡ []) }
 {
-    PexState {
+    PackedState {
         name,
         functions: Vec::new(alloc),
     }
@@ -411,7 +409,7 @@ impl ObjectReader {
     /// Adds the open property, with its write function.
     fn finish_property(
         &mut self,
-        write: Option<PexFunction>,
+        write: Option<PackedFunction>,
         strings: u16,
     ) -> Result<Option<ObjectField>, PexFault>
         requires holds { Holds strings self.old }
@@ -419,13 +417,13 @@ impl ObjectReader {
         requires bits { HasBits strings self.old }
         requires variable { HasVariable strings self.old }
         requires read { HasRead strings self.old }
-        requires asked { is_some (option_map plain_function write) ≡ asks_write self.old.bits }
-        requires shaped { IfSome (option_map plain_function write) (IsShapedFunction strings) }
-        requires fits { IfSome (option_map plain_function write) FitsFunction }
+        requires asked { is_some (option_map unpacked_function write) ≡ asks_write self.old.bits }
+        requires shaped { IfSome (option_map unpacked_function write) (IsShapedFunction strings) }
+        requires fits { IfSome (option_map unpacked_function write) FitsFunction }
         ensures { ReachesObject strings self.old.size_at (before_property self.old + 11 + variable_len self.old + read_len self.old
-            + length (optional function (option_map plain_function write))) result self.new }
+            + length (optional function (option_map unpacked_function write))) result self.new }
     {
-        let property = PexProperty {
+        let property = PackedProperty {
             name: self.name,
             kind: self.kind,
             doc: self.doc,
@@ -520,7 +518,7 @@ impl ObjectReader {
     /// Adds a function with its name to the open state. `end` is the offset behind it.
     fn add_function(
         &mut self,
-        added: (u16, PexFunction),
+        added: (u16, PackedFunction),
         end: u32,
         strings: u16,
     ) -> Result<Option<ObjectField>, PexFault>
@@ -528,10 +526,10 @@ impl ObjectReader {
         requires room { HasStates self.old }
         requires state { HasState strings self.old }
         requires functions { HasFunctions self.old }
-        requires shaped { IsShapedNamed strings (plain_named added) }
-        requires fits { FitsFunction (plain_function added.1) }
-        requires at { self.old.size_at + 8 + before_state self.old + functions_len self.old + length (named (plain_named added)) ≡ end }
-        ensures { ReachesObject strings self.old.size_at (before_state self.old + 4 + functions_len self.old + length (named (plain_named added))) result self.new }
+        requires shaped { IsShapedNamed strings (unpacked_named added) }
+        requires fits { FitsFunction (unpacked_function added.1) }
+        requires at { self.old.size_at + 8 + before_state self.old + functions_len self.old + length (named (unpacked_named added)) ≡ end }
+        ensures { ReachesObject strings self.old.size_at (before_state self.old + 4 + functions_len self.old + length (named (unpacked_named added))) result self.new }
     {
         self.state.functions.push(added)?;
         self.functions_left -= 1;
@@ -652,8 +650,8 @@ impl ObjectReader {
         requires room { HasStates self.old }
         requires state { HasState strings self.old }
         requires functions { length self.old.state.functions.items < 2 ^ 16 }
-        requires at { self.old.size_at + 4 + before_state self.old + length (state (plain_state self.old.state)) ≡ end }
-        ensures { ReachesObject strings self.old.size_at (before_state self.old + length (state (plain_state self.old.state))) result self.new }
+        requires at { self.old.size_at + 4 + before_state self.old + length (state (unpacked_state self.old.state)) ≡ end }
+        ensures { ReachesObject strings self.old.size_at (before_state self.old + length (state (unpacked_state self.old.state))) result self.new }
     {
         let empty = empty_state(self.alloc, 0);
         let state = mem::replace(&mut self.state, empty);
@@ -689,7 +687,7 @@ impl ObjectReader {
     }
 
     /// Hands out the object.
-    pub(crate) fn take(&mut self) -> PexObject
+    pub(crate) fn take(&mut self) -> PackedObject
         ensures { result ≡ self.old.object }
     {
         let empty = empty_object(self.alloc, 0);

@@ -1,7 +1,8 @@
 //! Cuts the fields of a file out of the pieces in which it comes.
 
 ghost use Rattle.std.specs.Prelude.{◌≡◌, ◌+◌, ◌<◌, ◌≤◌, length, IfOk};
-ghost use Rattle.pex_codec.specs.FileReading.{ReachesField};
+ghost use Rattle.pex_values.specs.Plain.{plain};
+ghost use Rattle.pex_codec.specs.FileReading.{ReachesField, read_value};
 ghost use Rattle.pex_codec.specs.Pieces.{IsReading, IsFresh, Takes, PieceGives, IsNumber};
 ghost use Rattle.pex_codec.specs.Widths.{field_width};
 
@@ -52,8 +53,8 @@ impl PieceReader {
         self.taken
     }
 
-    pub(crate) fn into_value(self) -> Pex
-        ensures { result ≡ self.reader.pex }
+    pub(crate) fn into_value(self) -> Result<Pex, OutOfMemory>
+        ensures { IfOk result (λ v. plain v ≡ read_value self.reader) }
     {
         self.reader.into_value()
     }

@@ -1,13 +1,15 @@
 //! Reads the parts of a function that the open piece holds whole. What it cuts, or what breaks a rule, is left to
 //! the readers of fields, which say where.
 
-ghost use Rattle.std.specs.Prelude.{◌≡◌, ◌<◌, length, map, vec_len, vec_capacity, IfOk, IfSome};
-ghost use Rattle.pex_values.specs.Plain.{plain_instruction, plain_function, plain_named};
+ghost use Rattle.std.specs.Prelude.{◌≡◌, length, IfOk, IfSome};
+ghost use Rattle.pex_values.specs.Plain.{plain_instruction};
+ghost use Rattle.pex_packed.specs.Values.{unpacked_function, unpacked_named};
 ghost use Rattle.pex_codec.specs.Uncut.{AddsInstruction, AddsCode, IsUncutReference, IsUncutValue, AreUncutValues, AreUncutMore, IsUncutInstruction, AreUncutPairs, IsUncutCode, IsUncutFunction, IsUncutNamed};
 
 use crate::faults::PexFault;
 use byteorder::{BigEndian, ByteOrder};
-use pex_values::{Datum, Instruction, PexFunction, operand_count};
+use pex_packed::{PackedCode, PackedFunction};
+use pex_values::{Datum, Instruction, operand_count};
 use std::alloc::Global;
 
 /// The most operands that an integer value can count.
@@ -58,19 +60,20 @@ fn uncut_value(bytes: &[u8], strings: u16) -> Option<(Datum, usize)>
     }
 }
 
-/// So many values at the front, and how many bytes they have.
+/// Puts so many values at the front in place of those that are held, and gives how many bytes they have.
 fn uncut_values(
-    alloc: Global,
+    values: &mut Vec<Datum>,
     bytes: &[u8],
     count: usize,
     strings: u16,
-) -> Result<Option<(Vec<Datum>, usize)>, PexFault>
-    ensures { IfOk result (λ r. IfSome r (λ p. AreUncutValues strings (length bytes.now) count p.0.items p.1)) }
+) -> Result<Option<usize>, PexFault>
+    ensures { IfOk result (λ r. IfSome r (AreUncutValues strings (length bytes.now) count values.new.items)) }
 {
     if count > bytes.len() {
         return Ok(None);
     }
-    let mut values = Vec::with_capacity(alloc, count)?;
+    values.clear();
+    values.reserve(count)?;
     let mut width = 0;
     for _ in 0..count {
         let Some((value, taken)) = uncut_value(&bytes[width..], strings) else {
@@ -79,16 +82,13 @@ fn uncut_values(
         values.push_reserved(value);
         width += taken;
     }
-    Ok(Some((values, width)))
+    Ok(Some(width))
 }
 
-/// A count as an integer value at the front, that many values, and how many bytes all of it has.
-fn uncut_more(
-    alloc: Global,
-    bytes: &[u8],
-    strings: u16,
-) -> Result<Option<(Vec<Datum>, usize)>, PexFault>
-    ensures { IfOk result (λ r. IfSome r (λ p. AreUncutMore strings (length bytes.now) p.0.items p.1)) }
+/// A count as an integer value at the front and that many values, which are put in place of those that are held. It gives
+/// how many bytes all of it has.
+fn uncut_more(more: &mut Vec<Datum>, bytes: &[u8], strings: u16) -> Result<Option<usize>, PexFault>
+    ensures { IfOk result (λ r. IfSome r (AreUncutMore strings (length bytes.now) more.new.items)) }
 {
     if bytes.len() < 5 || bytes[0] != 3 {
         return Ok(None);
@@ -97,19 +97,19 @@ fn uncut_more(
     if count > MOST_OPERANDS {
         return Ok(None);
     }
-    let Some((more, width)) = uncut_values(alloc, &bytes[5..], count as usize, strings)? else {
+    let Some(width) = uncut_values(more, &bytes[5..], count as usize, strings)? else {
         return Ok(None);
     };
-    Ok(Some((more, 5 + width)))
+    Ok(Some(5 + width))
 }
 
-/// The instruction at the front, and how many bytes it has.
+/// Puts the instruction at the front in place of the one that is held, and gives how many bytes it has.
 fn uncut_instruction(
-    alloc: Global,
+    instruction: &mut Instruction,
     bytes: &[u8],
     strings: u16,
-) -> Result<Option<(Instruction, usize)>, PexFault>
-    ensures { IfOk result (λ r. IfSome r (λ p. IsUncutInstruction strings (length bytes.now) (plain_instruction p.0) p.1)) }
+) -> Result<Option<usize>, PexFault>
+    ensures { IfOk result (λ r. IfSome r (IsUncutInstruction strings (length bytes.now) (plain_instruction instruction.new))) }
 {
     let Some(first) = bytes.first() else {
         return Ok(None);
@@ -118,32 +118,20 @@ fn uncut_instruction(
     let Some((count, has_more)) = operand_count(opcode) else {
         return Ok(None);
     };
-    let Some((fixed, width)) = uncut_values(alloc, &bytes[1..], count as usize, strings)? else {
+    instruction.opcode = opcode;
+    let fixed = uncut_values(&mut instruction.fixed, &bytes[1..], count as usize, strings)?;
+    let Some(width) = fixed else {
         return Ok(None);
     };
     let width = 1 + width;
     if !has_more {
-        let more = Vec::new(alloc);
-        return Ok(Some((
-            Instruction {
-                opcode,
-                fixed,
-                more,
-            },
-            width,
-        )));
+        instruction.more.clear();
+        return Ok(Some(width));
     }
-    let Some((more, taken)) = uncut_more(alloc, &bytes[width..], strings)? else {
+    let Some(taken) = uncut_more(&mut instruction.more, &bytes[width..], strings)? else {
         return Ok(None);
     };
-    Ok(Some((
-        Instruction {
-            opcode,
-            fixed,
-            more,
-        },
-        width + taken,
-    )))
+    Ok(Some(width + taken))
 }
 
 /// A list of names with their types at the front, and how many bytes it has with its count.
@@ -174,44 +162,41 @@ fn uncut_pairs(
     Ok(Some((pairs, 2 + 4 * count)))
 }
 
-/// Adds the instruction at the front to the code, which has room for it, and gives how many bytes it has, or 0 where it
-/// isn't whole.
+/// Adds the instruction at the front to the code, and gives how many bytes it has, or 0 where it isn't whole. `held` holds its
+/// parts on the way.
 fn add_uncut_instruction(
-    alloc: Global,
-    code: &mut Vec<Instruction>,
+    code: &mut PackedCode,
+    held: &mut Instruction,
     bytes: &[u8],
     strings: u16,
 ) -> Result<usize, PexFault>
-    requires { vec_len code.old < vec_capacity code.old }
-    ensures added { IfOk result (AddsInstruction strings (length bytes.now) code.old.items code.new.items) }
-    ensures capacity { vec_capacity code.new ≡ vec_capacity code.old }
+    ensures { IfOk result (AddsInstruction strings (length bytes.now) code.old code.new) }
 {
     if let Some(&NOP) = bytes.first() {
-        code.push_reserved(empty_instruction(alloc));
+        code.push_bare(NOP)?;
         return Ok(1);
     }
-    let Some((instruction, width)) = uncut_instruction(alloc, bytes, strings)? else {
+    let Some(width) = uncut_instruction(held, bytes, strings)? else {
         return Ok(0);
     };
-    code.push_reserved(instruction);
+    code.push(held)?;
     Ok(width)
 }
 
 /// Adds the instructions at the front to the code, so many at most, and gives how many were added and how many bytes
-/// they have.
+/// they have. `held` holds the parts of each in turn.
 pub(crate) fn add_uncut_code(
-    alloc: Global,
-    code: &mut Vec<Instruction>,
+    code: &mut PackedCode,
+    held: &mut Instruction,
     bytes: &[u8],
     most: usize,
     strings: u16,
 ) -> Result<(usize, usize), PexFault>
-    ensures { IfOk result (λ p. AddsCode strings most (length bytes.now) code.old.items code.new.items p.0 p.1) }
+    ensures { IfOk result (λ p. AddsCode strings most (length bytes.now) code.old code.new p.0 p.1) }
 {
-    code.reserve(most)?;
     let mut width = 0;
     for added in 0..most {
-        let taken = add_uncut_instruction(alloc, code, &bytes[width..], strings)?;
+        let taken = add_uncut_instruction(code, held, &bytes[width..], strings)?;
         if taken == 0 {
             return Ok((added, width));
         }
@@ -225,8 +210,8 @@ fn uncut_code(
     alloc: Global,
     bytes: &[u8],
     strings: u16,
-) -> Result<Option<(Vec<Instruction>, usize)>, PexFault>
-    ensures { IfOk result (λ r. IfSome r (λ p. IsUncutCode strings (length bytes.now) (map plain_instruction p.0.items) p.1)) }
+) -> Result<Option<(PackedCode, usize)>, PexFault>
+    ensures { IfOk result (λ r. IfSome r (λ p. IsUncutCode strings (length bytes.now) p.0 p.1)) }
 {
     if bytes.len() < 2 {
         return Ok(None);
@@ -235,8 +220,10 @@ fn uncut_code(
     if count > bytes.len() {
         return Ok(None);
     }
-    let mut code = Vec::with_capacity(alloc, count)?;
-    let (added, width) = add_uncut_code(alloc, &mut code, &bytes[2..], count, strings)?;
+    let mut code = PackedCode::new(alloc);
+    code.reserve(count)?;
+    let mut held = empty_instruction(alloc);
+    let (added, width) = add_uncut_code(&mut code, &mut held, &bytes[2..], count, strings)?;
     if added < count {
         return Ok(None);
     }
@@ -248,8 +235,8 @@ fn uncut_function(
     alloc: Global,
     bytes: &[u8],
     strings: u16,
-) -> Result<Option<(PexFunction, usize)>, PexFault>
-    ensures { IfOk result (λ r. IfSome r (λ p. IsUncutFunction strings (length bytes.now) (plain_function p.0) p.1)) }
+) -> Result<Option<(PackedFunction, usize)>, PexFault>
+    ensures { IfOk result (λ r. IfSome r (λ p. IsUncutFunction strings (length bytes.now) (unpacked_function p.0) p.1)) }
 {
     if bytes.len() < HEADING {
         return Ok(None);
@@ -271,7 +258,7 @@ fn uncut_function(
     let Some((code, width)) = uncut_code(alloc, &bytes[at..], strings)? else {
         return Ok(None);
     };
-    let function = PexFunction {
+    let function = PackedFunction {
         result,
         doc,
         flags: BigEndian::read_u32(&bytes[4..8]),
@@ -288,8 +275,8 @@ pub(crate) fn uncut_named(
     alloc: Global,
     bytes: &[u8],
     strings: u16,
-) -> Result<Option<((u16, PexFunction), usize)>, PexFault>
-    ensures { IfOk result (λ r. IfSome r (λ p. IsUncutNamed strings (length bytes.now) (plain_named p.0) p.1)) }
+) -> Result<Option<((u16, PackedFunction), usize)>, PexFault>
+    ensures { IfOk result (λ r. IfSome r (λ p. IsUncutNamed strings (length bytes.now) (unpacked_named p.0) p.1)) }
 {
     let Some(name) = uncut_reference(bytes, 0, strings) else {
         return Ok(None);

@@ -1,6 +1,6 @@
-use Rattle.std.proofs.Common.{map, arith, slice_index_or}
+use Rattle.std.proofs.Common.{arith, slice_index_or}
 use Rattle.std.proofs.lemmas.Grind.{common_steps}
-use Rattle.pex_values.specs.Plain.{PlainFunction, plain_instruction}
+use Rattle.pex_values.specs.Plain.{PlainFunction}
 use Rattle.pex_codec.proofs.Sizes.{function_len}
 use Rattle.pex_codec.proofs.uncut.uncut_function.Goals as goal
 
@@ -13,7 +13,7 @@ returns c =
       bits = slice_index_or c.args.bytes.now 8 0;
       parameters = c.in-Some.parameters.items;
       locals = c.in-Some-2.locals.items;
-      code = map plain_instruction c.in-Some-3.code.items;
+      code = c.in-Some-3.code;
     } in
     record {
       shaped = record {

@@ -1,8 +1,8 @@
 use Rattle.std.proofs.Common.{List, length, map, ap, refl, arith}
 use Rattle.std.specs.List.{flat_map}
-use Rattle.pex_values.specs.declared.values.PexProperty.{PexProperty}
+use Rattle.pex_packed.specs.declared.values.PackedProperty.{PackedProperty}
 use Rattle.pex_values.specs.Fit.{FitsProperty}
-use Rattle.pex_values.specs.Plain.{plain_property}
+use Rattle.pex_packed.specs.Values.{unpacked_property}
 use Rattle.pex_values.specs.Shape.{IsShapedProperty}
 use Rattle.pex_values.specs.Spelling.{property}
 use Rattle.pex_codec.proofs.Sizes.{each_pushed}
@@ -16,9 +16,9 @@ returns-then-self-eq0 c =
     let s = h.shaped in
     let self = c.args.self.now in
     let old = self.object.properties.items in
-    let p : PexProperty = record { name = self.name; kind = self.kind; doc = self.doc; flags = self.flags; bits = self.bits; variable = self.variable; read = self.read; write = c.args.write } in
+    let p : PackedProperty = record { name = self.name; kind = self.kind; doc = self.doc; flags = self.flags; bits = self.bits; variable = self.variable; read = self.read; write = c.args.write } in
     let items = rw c.take.ensures.value at c.in_ok-push.ensures.items in
-    let size = ap (λ (x : List PexProperty). length (flat_map property (map plain_property x))) items in (
+    let size = ap (λ (x : List PackedProperty). length (flat_map property (map unpacked_property x))) items in (
       record {
         holds = record {
           some = h.some;
@@ -29,7 +29,7 @@ returns-then-self-eq0 c =
             flags = s.flags;
             auto_state = s.auto_state;
             variables = s.variables;
-            properties = rw items (each_pushed (IsShapedProperty c.args.strings) plain_property old p s.properties (record {
+            properties = rw items (each_pushed (IsShapedProperty c.args.strings) unpacked_property old p s.properties (record {
               name = q.bits.name;
               kind = q.bits.kind;
               doc = q.bits.doc;
@@ -44,13 +44,13 @@ returns-then-self-eq0 c =
             }));
             states = s.states;
           };
-          each_property = rw items (each_pushed FitsProperty plain_property old p h.each_property (record { read = q.read.fits; write = q.fits }));
+          each_property = rw items (each_pushed FitsProperty unpacked_property old p h.each_property (record { read = q.read.fits; write = q.fits }));
           each_state = h.each_state;
         };
         room = (q.room.1, omega (arith, q.room.2, c.in_ok-push.ensures.len), q.room.3);
         opens = tt;
       },
-      omega (arith, size, len_pushed property plain_property old p, property_size p),
+      omega (arith, size, len_pushed property unpacked_property old p, property_size p),
       refl,
     )
 
@@ -61,9 +61,9 @@ returns c =
     let s = h.shaped in
     let self = c.args.self.now in
     let old = self.object.properties.items in
-    let p : PexProperty = record { name = self.name; kind = self.kind; doc = self.doc; flags = self.flags; bits = self.bits; variable = self.variable; read = self.read; write = c.args.write } in
+    let p : PackedProperty = record { name = self.name; kind = self.kind; doc = self.doc; flags = self.flags; bits = self.bits; variable = self.variable; read = self.read; write = c.args.write } in
     let items = rw c.take.ensures.value at c.in_ok-push.ensures.items in
-    let size = ap (λ (x : List PexProperty). length (flat_map property (map plain_property x))) items in (
+    let size = ap (λ (x : List PackedProperty). length (flat_map property (map unpacked_property x))) items in (
       record {
         holds = record {
           some = h.some;
@@ -74,7 +74,7 @@ returns c =
             flags = s.flags;
             auto_state = s.auto_state;
             variables = s.variables;
-            properties = rw items (each_pushed (IsShapedProperty c.args.strings) plain_property old p s.properties (record {
+            properties = rw items (each_pushed (IsShapedProperty c.args.strings) unpacked_property old p s.properties (record {
               name = q.bits.name;
               kind = q.bits.kind;
               doc = q.bits.doc;
@@ -89,12 +89,12 @@ returns c =
             }));
             states = s.states;
           };
-          each_property = rw items (each_pushed FitsProperty plain_property old p h.each_property (record { read = q.read.fits; write = q.fits }));
+          each_property = rw items (each_pushed FitsProperty unpacked_property old p h.each_property (record { read = q.read.fits; write = q.fits }));
           each_state = h.each_state;
         };
         room = (omega (arith, c.if-self-eq0.false), q.room.1, omega (arith, q.room.2, c.in_ok-push.ensures.len, c.if-self-eq0.false), q.room.3);
         opens = tt;
       },
-      omega (arith, size, len_pushed property plain_property old p, property_size p),
+      omega (arith, size, len_pushed property unpacked_property old p, property_size p),
       refl,
     )
