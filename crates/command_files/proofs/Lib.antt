@@ -1,5 +1,4 @@
 pub mod Encoded
-pub mod Feeding
 pub mod HeldScripts
 pub mod PexCounting
 pub mod PexRead

@@ -116,46 +116,6 @@ script_word count place (Refused p rule) within = omega arith
 
 -- ---- a set
 
--- a set of scripts that is refused
-pub set_refused : (holds : Option Files) (names : List (List ℕ)) (count : ℕ) (found : Ending) → IfSome holds (AreHeld names) → count ≡ length names → EndsOnSet count found →
-    EndsOnScripts names holds found
-set_refused None names count (ending.Refused word place rule) held is ends = tt
-set_refused (Some files) names count (ending.Refused word place rule) held is ends =
-    inr (held, subst (λ n. RefusesSet n word place rule) is ends)
-set_refused holds names count ending.OutOfMemory held is ends = tt
-set_refused holds names count (ending.ReadFault word) held is ends = absurd ends
-set_refused holds names count ending.Done held is ends = absurd ends
-set_refused holds names count ending.Usage held is ends = absurd ends
-set_refused holds names count ending.WriteFault held is ends = absurd ends
-set_refused holds names count ending.NotBuilt held is ends = absurd ends
-
-pub set_word : (count : ℕ) (found : Ending) → EndsOnSet count found → IsWordBelow (count + 1) found
-set_word count (ending.Refused word place rule) ends = ends.within
-set_word count ending.OutOfMemory ends = tt
-set_word count (ending.ReadFault word) ends = absurd ends
-set_word count ending.Done ends = tt
-set_word count ending.Usage ends = tt
-set_word count ending.WriteFault ends = tt
-set_word count ending.NotBuilt ends = tt
-
-pub set_counts : (count : ℕ) (found : Ending) (before now : ℕ) → EndsOnSet count found → now ≡ before → CountsReads found before now
-set_counts count (ending.Refused word place rule) before now ends same = same
-set_counts count ending.OutOfMemory before now ends same = same
-set_counts count (ending.ReadFault word) before now ends same = absurd ends
-set_counts count ending.Done before now ends same = same
-set_counts count ending.Usage before now ends same = same
-set_counts count ending.WriteFault before now ends same = same
-set_counts count ending.NotBuilt before now ends same = same
-
-pub set_missed : (names : List (List ℕ)) (count : ℕ) (found : Ending) (missed : Option (List ℕ)) → EndsOnSet count found → MissesScript names found missed
-set_missed names count (ending.Refused word place rule) missed ends = tt
-set_missed names count ending.OutOfMemory missed ends = tt
-set_missed names count (ending.ReadFault word) missed ends = absurd ends
-set_missed names count ending.Done missed ends = tt
-set_missed names count ending.Usage missed ends = tt
-set_missed names count ending.WriteFault missed ends = tt
-set_missed names count ending.NotBuilt missed ends = tt
-
 -- a text of a list that is in memory breaks a rule
 pub text_ends : (T : Type 0) (texts : List NamedText) (place : ℕ) (bytes : List ℕ) (fault : FileFault) → place < length texts →
     slice_index_or (map bytes_in texts) place [] ≡ bytes → ParsesScript {T = T} bytes (Err fault) → EndsOnTexts (map bytes_in texts) (ending_at (place + 1) fault)
@@ -167,20 +127,4 @@ text_ends T texts place bytes ReadFault within is broken = absurd broken
 
 -- ---- the answers of the two judges of a set
 
-pub link_ends : (files : List SourceFile) (fault : LinkFault) → IsFaultOf files fault → EndsOnSet (length files) (link_ending fault)
-link_ends files link.OutOfMemory of = tt
-link_ends files (link.Broken file line rule) (within, on) =
-    record { line = line; place_is = refl; rule_is = tt; above = omega arith; within = omega arith }
-
-pub type_ends : (count : ℕ) (fault : TypeFault) → IsFaultBelow (count + 6) fault → EndsOnSet count (type_ending fault)
-type_ends count typing.OutOfMemory below = tt
-type_ends count (typing.Broken file line rule) below =
-    record { line = line; place_is = refl; rule_is = tt; above = omega arith; within = omega arith }
-
 -- ---- an accepted set
-
--- the prelude's six scripts and these
-pub set_counted : (made : List CoreScript) (set files : List SourceFile) → map core_script_head made ≡ map script_head set → AreFilesOf files set → length made ≡ length files + 6
-set_counted made set files heads are =
-    let counted : length (map core_script_head made) ≡ length (map script_head set) = ap length heads in
-    sym (length-map made core_script_head) ∙ counted ∙ length-map set script_head ∙ are.count

@@ -4,11 +4,13 @@ use Rattle.papy_io.specs.declared.fault.IoFault.{IoFault}
 use Rattle.papy_io.specs.declared.fault.Failed as unit
 use Rattle.papy_io.specs.Activity.{Activity, Idle, Reading, Writing}
 use Rattle.papy_io.specs.Files.{Files, told_bytes}
+use Rattle.pex_codec.specs.declared.faults.PexFault.{PexFault}
+use Rattle.pex_codec.specs.declared.faults.PexFault.TheVariants as pex
 use Rattle.pex_codec.specs.declared.faults.PexRule.{PexRule}
 use Rattle.pex_codec.specs.declared.faults.PexRule.TheVariants.{TooLarge}
 use Rattle.pex_codec.specs.declared.progress.Standing.{Standing}
 use Rattle.pex_codec.specs.declared.progress.Standing.TheVariants as decoder
-use Rattle.pex_codec.specs.Decoding.{Progress, IsDecoded}
+use Rattle.pex_codec.specs.Decoding.{Progress, IsDecoded, SpellOne}
 use Rattle.command_files.specs.declared.file_fault.FileFault.{FileFault}
 use Rattle.command_files.specs.declared.file_fault.FileFault.TheVariants.{ReadFault, OutOfMemory, Refused}
 use Rattle.command_files.specs.declared.pex_file.PexFile.{PexFile}
@@ -53,22 +55,47 @@ CountsHeld (Some files) name (Err _) = Unit {0}
 abbrev pub IsPexRefusal : Place → Rule → Type 0
 IsPexRefusal place rule = (offset : ℕ) × (broken : PexRule) × (place ≡ Offset offset) × (rule ≡ Pex broken)
 
+-- why a file that was read gave nothing
+abbrev pub IsRefusalOf : PexFault → FileFault → Type 0
+IsRefusalOf pex.OutOfMemory fault = fault ≡ OutOfMemory
+IsRefusalOf (pex.Broken offset broken) fault = fault ≡ Refused (Offset offset) (Pex broken)
+
+-- a file that was read gave something of which P holds, or is refused
+abbrev pub Judges : {T : Type 0} → (T → Type 0) → Result T FileFault → Type 0
+Judges P (Ok x) = P x
+Judges P (Err (Refused place rule)) = IsPexRefusal place rule
+Judges P (Err OutOfMemory) = Unit {0}
+Judges P (Err ReadFault) = ⊥
+
 -- a file of so many bytes, decoded or refused
 abbrev pub Decodes : ℕ → Result PexFile FileFault → Type 0
-Decodes size (Ok file) = IsDecoded size file.value × (file.size ≡ size)
-Decodes size (Err (Refused place rule)) = IsPexRefusal place rule
-Decodes size (Err OutOfMemory) = Unit {0}
-Decodes size (Err ReadFault) = ⊥
+Decodes size result = Judges (λ file. IsDecoded size file.value × (file.size ≡ size)) result
+
+-- the same without its value
+abbrev pub Counts : ℕ → Result ℕ FileFault → Type 0
+Counts size result = Judges (λ n. SpellOne size × (n ≡ size)) result
 
 -- a file with these bytes is refused so: one of more than 16 MiB is too large, whatever else it breaks
 pub record RefusesPex (bytes : List ℕ) (place : Place) (rule : Rule) : Type 0 where
   pub pex : IsPexRefusal place rule
   pub too_large : limit < length bytes → (place ≡ Offset limit) × (rule ≡ Pex TooLarge)
 
--- what reading the file of this name gives
+-- what reading the file of this name gives, where an Ok tells the number of its bytes
+abbrev pub ReadsSized : {T : Type 0} → (T → ℕ) → Option Files → List ℕ → Result T FileFault → Type 0
+ReadsSized size_of None name result = Unit {0}
+ReadsSized size_of (Some files) name (Ok x) = (bytes : List ℕ) × (told_bytes (Some files) name ≡ Some bytes) × (size_of x ≡ length bytes)
+ReadsSized size_of (Some files) name (Err (Refused place rule)) = (bytes : List ℕ) × (told_bytes (Some files) name ≡ Some bytes) × RefusesPex bytes place rule
+ReadsSized size_of (Some files) name (Err ReadFault) = Unit {0}
+ReadsSized size_of (Some files) name (Err OutOfMemory) = Unit {0}
+
 abbrev pub ReadsPex : Option Files → List ℕ → Result PexFile FileFault → Type 0
-ReadsPex None name result = Unit {0}
-ReadsPex (Some files) name (Ok file) = (bytes : List ℕ) × (told_bytes (Some files) name ≡ Some bytes) × (file.size ≡ length bytes)
-ReadsPex (Some files) name (Err (Refused place rule)) = (bytes : List ℕ) × (told_bytes (Some files) name ≡ Some bytes) × RefusesPex bytes place rule
-ReadsPex (Some files) name (Err ReadFault) = Unit {0}
-ReadsPex (Some files) name (Err OutOfMemory) = Unit {0}
+ReadsPex holds name result = ReadsSized (λ file. file.size) holds name result
+
+-- the same without the value
+abbrev pub CountsPex : Option Files → List ℕ → Result ℕ FileFault → Type 0
+CountsPex holds name result = ReadsSized (λ n. n) holds name result
+
+-- what handing the file of this name to a decoder gives: the decoder, and the number of bytes, which are no more than a file may have
+abbrev pub Hands : Option Files → List ℕ → Result (Progress × ℕ) FileFault → Type 0
+Hands holds name (Ok (decoder, n)) = CountsHeld holds name (Ok (Some n))
+Hands holds name (Err fault) = ReadsSized (λ n. n) holds name (Err fault)

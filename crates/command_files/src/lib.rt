@@ -17,7 +17,7 @@ pub use compile_fault::CompileFault;
 pub use compiled::{CompiledFiles, CompiledSet, compile_files, compile_set};
 pub use ending::Ending;
 pub use file_fault::FileFault;
-pub use pex_file::{PexFile, read_pex};
+pub use pex_file::{PexFile, count_pex, read_pex};
 pub use refusal::{Place, Rule, refusal_line};
 pub use scene_file::{load_scene, read_scene_text};
 pub use scripts::accept;

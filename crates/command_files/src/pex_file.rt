@@ -3,9 +3,9 @@ ghost use Rattle.std.specs.Prelude.{◌≡◌, ◌+◌, ℕ, length, IfOk, IfSom
 ghost use Rattle.papy_io.specs.Activity.{Idle, IsReading};
 ghost use Rattle.papy_io.specs.Count.{CountsFailures, CountsFaults};
 ghost use Rattle.papy_io.specs.Desk.{MissesRead, MissesStart};
-ghost use Rattle.pex_codec.specs.Decoding.{IsDecoded};
+ghost use Rattle.pex_codec.specs.Decoding.{IsDecoded, SpellOne};
 ghost use Rattle.command_files.specs.FileFault.{CountsFile, MissesFile};
-ghost use Rattle.command_files.specs.PexFile.{CountsHeld, CountsLeft, Decodes, HasGot, ReadsPex};
+ghost use Rattle.command_files.specs.PexFile.{Counts, CountsHeld, CountsLeft, CountsPex, Decodes, Hands, HasGot, IsRefusalOf, ReadsPex};
 
 use crate::file_fault::FileFault;
 use crate::refusal::{Place, Rule};
@@ -91,6 +91,48 @@ fn feed_file<D: Desk>(
     Ok(size?)
 }
 
+/// Hands a whole file to a new decoder, and gives both it and the number of bytes. A file of more than 16 MiB is refused.
+fn fed_decoder<D: Desk>(
+    alloc: Global,
+    desk: &mut D,
+    name: &[u8],
+) -> Result<(Decoder, usize), FileFault>
+    requires { D.busy desk.old ≡ Idle }
+    ensures holds { D.holds desk.new ≡ D.holds desk.old }
+    ensures busy { D.busy desk.new ≡ Idle }
+    ensures write_faults { D.write_faults desk.new ≡ D.write_faults desk.old }
+    ensures read_faults { CountsFile result (D.read_faults desk.old) (D.read_faults desk.new) }
+    ensures missed { MissesFile name.now result (D.missed desk.new) }
+    ensures got { IfOk result (λ p. HasGot p.1 p.0) }
+    ensures read { Hands (D.holds desk.old) name.now result }
+{
+    let mut decoder = Decoder::new(alloc)?;
+    let size = match feed_file(desk, &mut decoder, name) {
+        Ok(size) => size,
+        Err(fault) => return Err(FileFault::from(fault)),
+    };
+    match size {
+        Some(count) => Ok((decoder, count)),
+        None => Err(FileFault::Refused {
+            place: Place::Offset(FILE_LIMIT),
+            rule: Rule::Pex(PexRule::TooLarge),
+        }),
+    }
+}
+
+/// Why a file that was read gave nothing.
+fn refused(fault: PexFault) -> FileFault
+    ensures { IsRefusalOf fault result }
+{
+    match fault {
+        PexFault::OutOfMemory => FileFault::OutOfMemory,
+        PexFault::Broken { offset, rule } => FileFault::Refused {
+            place: Place::Offset(offset),
+            rule: Rule::Pex(rule),
+        },
+    }
+}
+
 /// What a decoder that got so many bytes, a whole file, has read.
 fn decoded(decoder: Decoder, size: usize) -> Result<PexFile, FileFault>
     requires { HasGot size decoder }
@@ -98,15 +140,23 @@ fn decoded(decoder: Decoder, size: usize) -> Result<PexFile, FileFault>
 {
     match decoder.end() {
         Ok(value) => Ok(PexFile { value, size }),
-        Err(PexFault::OutOfMemory) => Err(FileFault::OutOfMemory),
-        Err(PexFault::Broken { offset, rule }) => Err(FileFault::Refused {
-            place: Place::Offset(offset),
-            rule: Rule::Pex(rule),
-        }),
+        Err(fault) => Err(refused(fault)),
     }
 }
 
-/// Reads a compiled file. One of more than 16 MiB breaks P12, whatever else it breaks.
+/// So many bytes, where a decoder that got them, a whole file, has read a value.
+fn counted(decoder: &Decoder, size: usize) -> Result<usize, FileFault>
+    requires { HasGot size decoder.now }
+    ensures { Counts size result }
+{
+    match decoder.finish() {
+        Ok(()) => Ok(size),
+        Err(fault) => Err(refused(fault)),
+    }
+}
+
+/// Reads a compiled file. It is refused with the first rule P that it breaks, but one of more than 16 MiB with P12, whatever else it
+/// breaks. `ReadFault` comes where it wasn't read.
 pub fn read_pex<D: Desk>(alloc: Global, desk: &mut D, name: &[u8]) -> Result<PexFile, FileFault>
     requires { D.busy desk.old ≡ Idle }
     ensures holds { D.holds desk.new ≡ D.holds desk.old }
@@ -117,16 +167,26 @@ pub fn read_pex<D: Desk>(alloc: Global, desk: &mut D, name: &[u8]) -> Result<Pex
     ensures decoded { IfOk result (λ file. IsDecoded file.size file.value) }
     ensures read { ReadsPex (D.holds desk.old) name.now result }
 {
-    let mut decoder = Decoder::new(alloc)?;
-    let size = match feed_file(desk, &mut decoder, name) {
-        Ok(size) => size,
-        Err(fault) => return Err(FileFault::from(fault)),
-    };
-    match size {
-        Some(count) => decoded(decoder, count),
-        None => Err(FileFault::Refused {
-            place: Place::Offset(FILE_LIMIT),
-            rule: Rule::Pex(PexRule::TooLarge),
-        }),
+    match fed_decoder(alloc, desk, name) {
+        Ok((decoder, size)) => decoded(decoder, size),
+        Err(fault) => Err(fault),
+    }
+}
+
+/// Counts the bytes of a compiled file that `read_pex` would read, and refuses what it would refuse. It makes no value, so it takes less
+/// time and memory.
+pub fn count_pex<D: Desk>(alloc: Global, desk: &mut D, name: &[u8]) -> Result<usize, FileFault>
+    requires { D.busy desk.old ≡ Idle }
+    ensures holds { D.holds desk.new ≡ D.holds desk.old }
+    ensures busy { D.busy desk.new ≡ Idle }
+    ensures write_faults { D.write_faults desk.new ≡ D.write_faults desk.old }
+    ensures read_faults { CountsFile result (D.read_faults desk.old) (D.read_faults desk.new) }
+    ensures missed { MissesFile name.now result (D.missed desk.new) }
+    ensures spelled { IfOk result SpellOne }
+    ensures read { CountsPex (D.holds desk.old) name.now result }
+{
+    match fed_decoder(alloc, desk, name) {
+        Ok((decoder, size)) => counted(&decoder, size),
+        Err(fault) => Err(fault),
     }
 }

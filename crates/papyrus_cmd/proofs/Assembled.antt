@@ -39,29 +39,3 @@ listing_read (Some files) name text (Err (file.Refused place rule)) read assembl
     (text.items, read.1, record { listing = assembles; too_large = λ past. absurd (let small = read.0 in omega arith) })
 listing_read (Some files) name text (Err file.OutOfMemory) read assembles = tt
 listing_read (Some files) name text (Err file.ReadFault) read assembles = tt
-
--- a listing that was accepted
-pub asm_done : (holds : Option Files) (name : List ℕ) (bytes : Vec ℕ Global) → ReadsListing holds name (Ok bytes) → IfSome holds (λ files. AnswersTo AsmAnswers name files Done [])
-asm_done None name bytes read = tt
-asm_done (Some files) name bytes (text, held) = (text, held, refl)
-
--- a listing that was not
-pub asm_refused : (holds : Option Files) (name : List ℕ) (fault : FileFault) → ReadsListing holds name (Err fault) → EndsUnprinted (AnswersTo AsmAnswers name) holds (ending_at 1 fault)
-asm_refused None name (file.Refused place rule) read = tt
-asm_refused (Some files) name (file.Refused place rule) (text, held, refuses) = (text, held, (refl, refuses, refl))
-asm_refused holds name file.ReadFault read = tt
-asm_refused holds name file.OutOfMemory read = tt
-
-pub refused_leaves : (pex : List ℕ) (fault : FileFault) (old new : Option Files) → new ≡ old → AsmLeaves pex (ending_at 1 fault) old new
-refused_leaves pex (file.Refused place rule) old new same = same
-refused_leaves pex file.ReadFault old new same = same
-refused_leaves pex file.OutOfMemory old new same = inl same
-
--- a file that was not written whole
-pub unwritten_leaves : (pex bytes : List ℕ) (fault : IoFault) (old new : Option Files) → IsSpelling bytes → WritesFile {T = Unit {0}} pex bytes (Err fault) old new → AsmLeaves pex (write_ending fault) old new
-unwritten_leaves pex bytes io.Failed old new spelled writes = inr (bytes, spelled, writes)
-unwritten_leaves pex bytes io.OutOfMemory old new spelled writes = inr (bytes, spelled, writes)
-
-pub unwritten_ends : (holds : Option Files) (name : List ℕ) (fault : IoFault) → EndsUnprinted (AnswersTo AsmAnswers name) holds (write_ending fault)
-unwritten_ends holds name io.Failed = tt
-unwritten_ends holds name io.OutOfMemory = tt

@@ -19,30 +19,6 @@ use Rattle.command_files.specs.Ending.{CountsWrites, compile_ending, write_endin
 use Rattle.command_files.specs.Scripts.{EndsOnScripts}
 use Rattle.papyrus_cmd.specs.Written.{WritesEach}
 
--- on scripts that aren't accepted
-pub unaccepted_leaves : (names : List (List ℕ)) (holds : Option Files) (ending : Ending) (old new : Option Files) → EndsOnScripts names holds ending → new ≡ old → CompileLeaves names ending old new
-unaccepted_leaves names holds (Refused word place rule) old new ends same = same
-unaccepted_leaves names holds (ReadFault word) old new ends same = same
-unaccepted_leaves names holds OutOfMemory old new ends same = inl same
-unaccepted_leaves names holds Done old new ends same = absurd ends
-unaccepted_leaves names holds Usage old new ends same = absurd ends
-unaccepted_leaves names holds WriteFault old new ends same = absurd ends
-unaccepted_leaves names holds NotBuilt old new ends same = absurd ends
-
-pub unaccepted_counts : (names : List (List ℕ)) (holds : Option Files) (ending : Ending) (before now : ℕ) → EndsOnScripts names holds ending → now ≡ before → CountsWrites ending before now
-unaccepted_counts names holds (Refused word place rule) before now ends same = same
-unaccepted_counts names holds (ReadFault word) before now ends same = same
-unaccepted_counts names holds OutOfMemory before now ends same = same
-unaccepted_counts names holds Done before now ends same = absurd ends
-unaccepted_counts names holds Usage before now ends same = absurd ends
-unaccepted_counts names holds WriteFault before now ends same = absurd ends
-unaccepted_counts names holds NotBuilt before now ends same = absurd ends
-
--- on a set without files
-pub unbuilt_leaves : (names : List (List ℕ)) (fault : CompileFault) (old new : Option Files) → new ≡ old → CompileLeaves names (compile_ending fault) old new
-unbuilt_leaves names compile.NotBuilt old new same = same
-unbuilt_leaves names compile.OutOfMemory old new same = inl same
-
 -- a file for each script
 pub have_files : (count : ℕ) (scripts : List (String Global)) (set : CompiledFiles) → count ≡ length scripts → HasValues count set → HaveFiles (map string_bytes scripts) (map bytes_of set.files.items)
 have_files count scripts set counted has = record {
@@ -55,7 +31,3 @@ have_files count scripts set counted has = record {
 pub cut_leaves : (T : Type 0) (names files : List (List ℕ)) (fault : IoFault) (old new : Option Files) → HaveFiles names files → WritesEach {T = T} names files (Err fault) old new → CompileLeaves names (write_ending fault) old new
 cut_leaves T names files io.Failed old new have writes = inr (files, have, writes)
 cut_leaves T names files io.OutOfMemory old new have writes = inr (files, have, writes)
-
-pub cut_ends : (holds : Option Files) (names : List (List ℕ)) (fault : IoFault) → EndsUnprinted (CompileAnswersTo names) holds (write_ending fault)
-cut_ends holds names io.Failed = tt
-cut_ends holds names io.OutOfMemory = tt

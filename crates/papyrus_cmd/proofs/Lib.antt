@@ -1,11 +1,9 @@
 pub mod Assembled
 pub mod Compiling
 pub mod CutShort
-pub mod FailedWrites
 pub mod NotedLines
 pub mod OutputsOf
 pub mod PartOutput
 pub mod PexShown
 pub mod Statuses
-pub mod WrittenFiles
 pub mod Words

@@ -59,25 +59,3 @@ command_outputs command words holds ending before now is outputs =
 -- the names that stand behind the command
 abbrev pub names_behind : List (String Global) → List (List ℕ)
 names_behind words = map string_bytes (take (length words - 1) (drop 1 words))
-
--- what a command leaves that is given the words behind it
-pub files_left : (command : Command) (words : List (String Global)) (ending : Ending) (old new : Option Files) → command_of (map string_bytes words) ≡ Some command →
-    CommandLeaves (Some command) (names_behind words) ending old new → FilesLeft (map string_bytes words) ending old new
-files_left command words ending old new is leaves =
-    let P : Option Command → Type 0 = λ found. CommandLeaves found (drop 1 (map string_bytes words)) ending old new in
-    let Q : List (List ℕ) → Type 0 = λ names. CommandLeaves (Some command) names ending old new in
-    subst P (sym is) (subst Q (names-behind words) leaves)
-
-nothing-yet : (Ends : Files → Ending → List ℕ → Type 0) (holds : Option Files) → IfSome holds (λ files. IsPart (Ends files) [])
-nothing-yet Ends None = tt
-nothing-yet Ends (Some files) = inl refl
-
--- a command that writes nothing to `out`
-pub unprinted_outputs : (Ends : Files → Ending → List ℕ → Type 0) (holds : Option Files) (ending : Ending) (out : Option (List ℕ)) → EndsUnprinted Ends holds ending → Outputs Ends holds ending out out
-unprinted_outputs Ends holds Done out ends = ([], appended_nothing out out refl, ends)
-unprinted_outputs Ends holds NotBuilt out ends = (refl, ends)
-unprinted_outputs Ends holds (Refused word place rule) out ends = (refl, ends)
-unprinted_outputs Ends holds (ReadFault word) out ends = refl
-unprinted_outputs Ends holds OutOfMemory out ends = ([], appended_nothing out out refl, nothing-yet Ends holds)
-unprinted_outputs Ends holds WriteFault out ends = ([], appended_nothing out out refl, nothing-yet Ends holds)
-unprinted_outputs Ends holds Usage out ends = absurd ends

@@ -3,21 +3,22 @@ use Rattle.std.proofs.Common.{arith, ◌≡◌, ℕ, List, ap, subst, take, leng
 use Rattle.std.specs.Prelude.{Option, None, Some, Ok, IfSome}
 use Rattle.std.proofs.lemmas.Grind.{common_steps}
 use Rattle.papy_io.specs.Files.{Files}
-use Rattle.pex_codec.specs.Decoding.{IsDecoded}
+use Rattle.pex_values.specs.Plain.{plain}
+use Rattle.pex_codec.specs.Decoding.{IsDecoded, SpellOne}
 use Rattle.command_files.specs.declared.ending.Ending.TheVariants.{Done}
 use Rattle.command_files.specs.declared.pex_file.PexFile.{PexFile}
 use Rattle.command_files.specs.Outputs.{AnswersTo, IsPart}
-use Rattle.command_files.specs.PexFile.{ReadsPex}
+use Rattle.command_files.specs.PexFile.{CountsPex, ReadsPex}
 use Rattle.papyrus_cmd.specs.Answers.{CheckAnswers, ShowAnswers, IsPex}
 use Rattle.papyrus_cmd.specs.Check.{accepted_line}
 
 is-pex : (pex : PexFile) (bytes : List ℕ) → pex.size ≡ length bytes → IsDecoded pex.size pex.value → IsPex bytes
-is-pex pex bytes is decoded = (pex.value, subst (λ n. IsDecoded n pex.value) is decoded)
+is-pex pex bytes is decoded = (plain pex.value, subst (λ n. IsDecoded n pex.value) is decoded)
 
-pub checked : (holds : Option Files) (name : List ℕ) (pex : PexFile) → ReadsPex holds name (Ok pex) → IsDecoded pex.size pex.value →
-    IfSome holds (λ files. AnswersTo CheckAnswers name files Done (accepted_line pex.size))
-checked None name pex read decoded = tt
-checked (Some files) name pex (bytes, held, is) decoded = (bytes, held, (is-pex pex bytes is decoded, ap accepted_line is))
+pub checked : (holds : Option Files) (name : List ℕ) (size : ℕ) → CountsPex holds name (Ok size) → SpellOne size →
+    IfSome holds (λ files. AnswersTo CheckAnswers name files Done (accepted_line size))
+checked None name size read spelled = tt
+checked (Some files) name size (bytes, held, is) spelled = (bytes, held, (subst SpellOne is spelled, ap accepted_line is))
 
 pub shown : (holds : Option Files) (name : List ℕ) (pex : PexFile) (text : List ℕ) → ReadsPex holds name (Ok pex) → IsDecoded pex.size pex.value →
     IfSome holds (λ files. AnswersTo ShowAnswers name files Done text)

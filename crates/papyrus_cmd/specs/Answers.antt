@@ -9,8 +9,7 @@ use Rattle.papyrus_cmd.specs.declared.command.PlayCommand.{PlayCommand}
 use Rattle.papyrus_cmd.specs.declared.command.PlayCommand.TheVariants as play
 use Rattle.command_files.specs.declared.ending.Ending.{Ending}
 use Rattle.command_files.specs.declared.ending.Ending.TheVariants.{Done, OutOfMemory, Usage, ReadFault, WriteFault, Refused, NotBuilt}
-use Rattle.pex_codec.specs.Decoding.{IsDecoded}
-use Rattle.pex_values.specs.declared.values.Pex.{Pex}
+use Rattle.pex_codec.specs.Decoding.{SpellOne}
 use Rattle.papyrus_cmd.specs.Asm.{RefusesListing}
 use Rattle.papyrus_cmd.specs.Check.{accepted_line}
 use Rattle.papyrus_cmd.specs.Command.{command_of}
@@ -35,7 +34,7 @@ CompileAnswersTo names files WriteFault text = ⊥
 
 -- the bytes spell a value
 abbrev pub IsPex : List ℕ → Type 0
-IsPex bytes = (value : Pex) × IsDecoded (length bytes) value
+IsPex bytes = SpellOne (length bytes)
 
 -- how `check` ends on a file with these bytes, and what it writes
 abbrev pub CheckAnswers : List ℕ → Ending → List ℕ → Type 0

@@ -9,11 +9,10 @@ ghost use Rattle.papyrus_cmd.specs.Check.{accepted_line};
 ghost use Rattle.command_files.specs.Ending.{CountsReads, CountsWrites, IsWordBelow, MissesScript, word_at};
 ghost use Rattle.papyrus_cmd.specs.WritesText.{WritesText};
 
-use command_files::{Ending, read_pex};
+use command_files::{Ending, count_pex};
 use papy_base::OutOfMemory;
 use papy_io::{Desk, IoFault, Sink};
 use std::alloc::Global;
-use std::mem;
 
 fn accepted_line(alloc: Global, size: usize) -> Result<String, OutOfMemory>
     ensures { IfOk result (λ line. string_bytes line ≡ accepted_line size) }
@@ -44,16 +43,12 @@ pub fn check<D: Desk, S: Sink>(alloc: Global, files: &[String], desk: &mut D, ou
     ensures output { Outputs (AnswersTo CheckAnswers (word_at (map string_bytes files.now) 0)) (D.holds desk.old) result (S.written out.old) (S.written out.new) }
 {
     let file = &files[0];
-    let pex = match read_pex(alloc, desk, file.as_bytes()) {
-        Ok(pex) => pex,
+    let size = match count_pex(alloc, desk, file.as_bytes()) {
+        Ok(size) => size,
         Err(fault) => return fault.at_word(1),
     };
-    match write_accepted(alloc, pex.size, out) {
-        Ok(()) => {
-            // The end of the program gives the value's memory back at once, and taking it apart doesn't.
-            mem::forget(pex);
-            Ending::Done
-        }
+    match write_accepted(alloc, size, out) {
+        Ok(()) => Ending::Done,
         Err(fault) => Ending::from(fault),
     }
 }
