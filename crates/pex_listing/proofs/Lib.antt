@@ -1,2 +1,4 @@
 pub mod Appending
+pub mod Digits
+pub mod Taken
 mod Views

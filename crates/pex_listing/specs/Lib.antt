@@ -1,3 +1,6 @@
+pub mod Numbers
+pub mod Lines
+pub mod Opened
 pub mod Showing
 pub mod Reading
 pub mod Headings

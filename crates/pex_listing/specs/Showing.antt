@@ -1,6 +1,5 @@
 -- When writing a listing fails, and what is written of it.
-use Rattle.std.specs.Prelude.{◌≡◌, ℕ, List, [], ◌∷◌, ◌++◌, codes, Option, Result, Ok, Err}
-use Rattle.std.specs.Fmt.{decimal}
+use Rattle.std.specs.Prelude.{◌≡◌, ℕ, List, ◌++◌, Option, Result, Ok, Err}
 use Rattle.papy_io.specs.Count.{HasRisen}
 use Rattle.papy_io.specs.Sink.{Appended}
 use Rattle.pex_listing.specs.declared.faults.ShowFault.{ShowFault}
@@ -12,11 +11,7 @@ Shows faults (Ok _) old new = faults new ≡ faults old
 Shows faults (Err WriteFault) old new = HasRisen (faults old) (faults new)
 Shows faults (Err OutOfMemory) old new = faults new ≡ faults old
 
--- the line that each listing begins with: the minor version and the time
-abbrev pub first_line : ℕ → ℕ → List ℕ
-first_line minor time = codes "pex " ++ (decimal minor ++ 32 ∷ (decimal time ++ 10 ∷ []))
-
--- the line was appended, and bytes behind it or none
-pub record Begins (line : List ℕ) (before now : Option (List ℕ)) : Type 0 where
+-- the lines were appended, and bytes behind them or none
+pub record Begins (lines : List ℕ) (before now : Option (List ℕ)) : Type 0 where
   pub behind : List ℕ
-  pub appended : Appended (line ++ behind) before now
+  pub appended : Appended (lines ++ behind) before now

@@ -1,9 +1,11 @@
 //! Listings to values.
 
-ghost use Rattle.std.specs.Prelude.{◌≡◌, ◌<◌, ◌^◌, ◌⊎◌, IfOk};
+ghost use Rattle.std.specs.Prelude.{◌≡◌, ℕ, List, ◌<◌, ◌^◌, ◌⊎◌, IfOk};
 ghost use Rattle.pex_values.specs.Fit.{Fits};
 ghost use Rattle.pex_values.specs.Plain.{plain};
 ghost use Rattle.pex_values.specs.Shape.{IsWellShaped};
+ghost use Rattle.pex_listing.specs.Lines.{first_line, head_lines};
+ghost use Rattle.pex_listing.specs.Opened.{BeginsWith, Opens, TakesLines};
 
 use crate::faults::{LineFault, ListingFault, ListingRule};
 use crate::keyword::Keyword;
@@ -23,7 +25,8 @@ struct Version {
 }
 
 fn read_version(listing: &mut Listing) -> Result<Version, LineFault>
-    ensures { IfOk result (λ v. ((v.minor ≡ 1) ⊎ (v.minor ≡ 2)) × (v.time < 2 ^ 64)) }
+    ensures shaped { IfOk result (λ v. ((v.minor ≡ 1) ⊎ (v.minor ≡ 2)) × (v.time < 2 ^ 64)) }
+    ensures line { IfOk result (λ v. TakesLines (first_line v.minor v.time) listing.old listing.new) }
 {
     listing.expect(Keyword::Pex)?;
     let minor = listing.unsigned_8()?;
@@ -40,6 +43,7 @@ fn read_version(listing: &mut Listing) -> Result<Version, LineFault>
 fn read_pex(alloc: Global, listing: &mut Listing) -> Result<Pex, LineFault>
     ensures shaped { IfOk result (λ v. IsWellShaped (plain v)) }
     ensures fits { IfOk result (λ v. Fits (plain v)) }
+    ensures begun { IfOk result (λ v. (text : List ℕ) → Opens text listing.old → BeginsWith (head_lines (plain v)) text) }
 {
     let mut room = Room::new();
     let version = read_version(listing)?;
@@ -71,6 +75,7 @@ fn read_pex(alloc: Global, listing: &mut Listing) -> Result<Pex, LineFault>
 pub fn assemble(alloc: Global, bytes: &[u8]) -> Result<Pex, ListingFault>
     ensures shaped { IfOk result (λ v. IsWellShaped (plain v)) }
     ensures fits { IfOk result (λ v. Fits (plain v)) }
+    ensures begun { IfOk result (λ v. BeginsWith (head_lines (plain v)) bytes.now) }
 {
     let mut listing = Listing::new(bytes);
     match read_pex(alloc, &mut listing) {

@@ -1,6 +1,7 @@
 //! The words that lines begin with.
 
-ghost use Rattle.std.specs.Prelude.{◌<◌, IfSome};
+ghost use Rattle.std.specs.Prelude.{◌≡◌, ◌<◌, IfSome};
+ghost use Rattle.pex_listing.specs.Opened.{word_of};
 
 use pex_values::OPCODES;
 
@@ -46,7 +47,9 @@ pub(crate) fn opcode_of(word: &[u8]) -> Option<u8>
 }
 
 /// What a line with this first word is.
-pub(crate) fn keyword_of(word: &[u8]) -> Keyword {
+pub(crate) fn keyword_of(word: &[u8]) -> Keyword
+    ensures { IfSome (word_of result) (λ spelled. word.now ≡ spelled) }
+{
     match word {
         b"pex" => Keyword::Pex,
         b"source" => Keyword::Source,

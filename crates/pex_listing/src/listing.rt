@@ -1,7 +1,11 @@
 //! A listing as lines, and a line as fields.
 
-ghost use Rattle.std.specs.Prelude.{◌≡◌, ◌<◌, ◌≤◌, ◌^◌, Some, length, vec_len, IfOk, IfSome};
+ghost use Rattle.std.specs.Prelude.{◌≡◌, ◌<◌, ◌≤◌, ◌^◌, ◌&&◌, not, [], ◌∷◌, ◌++◌, Some, length, vec_len, ◌↔◌, IfOk, IfSome, IsTrue, unwrap_or, option_map, if◌then◌else◌};
+ghost use Rattle.std.specs.Fmt.{decimal};
 ghost use Rattle.pex_values.specs.Shape.{IsReference};
+ghost use Rattle.pex_listing.specs.Lines.{quoted};
+ghost use Rattle.pex_listing.specs.Numbers.{has_leading_zero};
+ghost use Rattle.pex_listing.specs.Opened.{Opens, TakesField, fields_left};
 
 use crate::faults::{LineFault, ListingRule};
 use crate::keyword::{Keyword, keyword_of, opcode_of};
@@ -16,9 +20,38 @@ use std::alloc::Global;
 const BAD_LINE: LineFault = LineFault::Broken(ListingRule::BadLine);
 
 /// What stands before the first such byte, and what follows it.
-fn cut(bytes: &[u8], byte: u8) -> Option<(&[u8], &[u8])> {
+fn cut(bytes: &[u8], byte: u8) -> Option<(&[u8], &[u8])>
+    ensures { IfSome result (λ parts. bytes.now ≡ parts.0.now ++ byte ∷ parts.1.now) }
+{
     let at = bytes.iter().position(|each| *each == byte)?;
     Some((&bytes[..at], &bytes[at + 1..]))
+}
+
+/// What stands before the first space, and the fields behind it, if there is one.
+fn split_field(bytes: &[u8]) -> (&[u8], Option<&[u8]>)
+    ensures { bytes.now ≡ result.0.now ++ unwrap_or (option_map (λ fields. 32 ∷ fields.now) result.1) [] }
+{
+    match cut(bytes, b' ') {
+        Some((field, fields)) => (field, Some(fields)),
+        None => (bytes, None),
+    }
+}
+
+/// The digits of a number, and whether a minus stands before them.
+fn split_minus(field: &[u8]) -> (&[u8], bool)
+    ensures { field.now ≡ (if result.1 then 45 ∷ result.0.now else result.0.now) }
+{
+    match field {
+        [b'-', digits @ ..] => (digits, true),
+        _ => (field, false),
+    }
+}
+
+/// Whether a number of these digits is in its one spelling: without a minus and without a zero before another digit.
+fn is_canonical_number(is_negative: bool, digits: &[u8]) -> bool
+    ensures { result ≡ (not is_negative && not (has_leading_zero digits.now)) }
+{
+    !is_negative && !has_leading_zero(digits)
 }
 
 /// A listing with its open line, whose fields are read from the left.
@@ -39,7 +72,9 @@ pub(crate) struct Listing<'a> {
 
 impl<'a> Listing<'a> {
     /// The first line is open.
-    pub(crate) fn new(bytes: &'a [u8]) -> Listing<'a> {
+    pub(crate) fn new(bytes: &'a [u8]) -> Listing<'a>
+        ensures { Opens bytes.now result }
+    {
         let mut listing = Listing {
             keyword: Keyword::End,
             opcode: 0,
@@ -53,7 +88,9 @@ impl<'a> Listing<'a> {
     }
 
     /// Opens the line that follows. There are fewer than 2^32 before one that is refused, since their parts don't fit.
-    fn open_next(&mut self) {
+    fn open_next(&mut self)
+        ensures { Opens self.old.rest.now self.new }
+    {
         self.number = self.number.saturating_add(1);
         self.fields = None;
         self.keyword = Keyword::End;
@@ -61,11 +98,8 @@ impl<'a> Listing<'a> {
             return;
         };
         self.rest = rest;
-        let mut word = line;
-        if let Some((first, fields)) = cut(line, b' ') {
-            word = first;
-            self.fields = Some(fields);
-        }
+        let (word, fields) = split_field(line);
+        self.fields = fields;
         self.keyword = keyword_of(word);
         self.opcode = opcode_of(word).unwrap_or(0);
     }
@@ -75,7 +109,9 @@ impl<'a> Listing<'a> {
     }
 
     /// Whether the open line begins with this word.
-    pub(crate) fn is_at(&self, keyword: Keyword) -> bool {
+    pub(crate) fn is_at(&self, keyword: Keyword) -> bool
+        ensures { IsTrue result ↔ (self.now.keyword ≡ keyword) }
+    {
         self.keyword == keyword
     }
 
@@ -85,7 +121,9 @@ impl<'a> Listing<'a> {
     }
 
     /// A line with this word must come.
-    pub(crate) fn expect(&self, keyword: Keyword) -> Result<(), LineFault> {
+    pub(crate) fn expect(&self, keyword: Keyword) -> Result<(), LineFault>
+        ensures { IfOk result (λ _. self.now.keyword ≡ keyword) }
+    {
         if self.keyword == keyword {
             return Ok(());
         }
@@ -107,7 +145,9 @@ impl<'a> Listing<'a> {
     }
 
     /// The open line has no further field.
-    pub(crate) fn end_of_line(&self) -> Result<(), LineFault> {
+    pub(crate) fn end_of_line(&self) -> Result<(), LineFault>
+        ensures { IfOk result (λ _. fields_left self.now ≡ []) }
+    {
         match self.fields {
             None => Ok(()),
             Some(_) => Err(BAD_LINE),
@@ -120,7 +160,10 @@ impl<'a> Listing<'a> {
     }
 
     /// Goes on to the next line. Every field of the open one was read, so now its spelling is judged.
-    pub(crate) fn next_line(&mut self) -> Result<(), LineFault> {
+    pub(crate) fn next_line(&mut self) -> Result<(), LineFault>
+        ensures canonical { IfOk result (λ _. IsTrue self.old.is_canonical) }
+        ensures opened { IfOk result (λ _. Opens self.old.rest.now self.new) }
+    {
         if !self.is_canonical {
             return Err(LineFault::Broken(ListingRule::NotCanonical));
         }
@@ -129,28 +172,33 @@ impl<'a> Listing<'a> {
     }
 
     /// The next field.
-    fn field(&mut self) -> Result<&'a [u8], LineFault> {
+    fn field(&mut self) -> Result<&'a [u8], LineFault>
+        ensures taken { IfOk result (λ field. fields_left self.old ≡ 32 ∷ field.now ++ fields_left self.new) }
+        ensures keyword { self.new.keyword ≡ self.old.keyword }
+        ensures canonical { self.new.is_canonical ≡ self.old.is_canonical }
+        ensures rest { self.new.rest.now ≡ self.old.rest.now }
+    {
         let fields = self.fields.ok_or(BAD_LINE)?;
-        match cut(fields, b' ') {
-            Some((field, rest)) => {
-                self.fields = Some(rest);
-                Ok(field)
-            }
-            None => {
-                self.fields = None;
-                Ok(fields)
-            }
-        }
+        let (field, behind) = split_field(fields);
+        self.fields = behind;
+        Ok(field)
     }
 
     /// Notes whether a field is in its one spelling.
-    fn note(&mut self, is_canonical: bool) {
+    fn note(&mut self, is_canonical: bool)
+        ensures canonical { self.new.is_canonical ≡ (self.old.is_canonical && is_canonical) }
+        ensures keyword { self.new.keyword ≡ self.old.keyword }
+        ensures fields { fields_left self.new ≡ fields_left self.old }
+        ensures rest { self.new.rest.now ≡ self.old.rest.now }
+    {
         self.is_canonical = self.is_canonical && is_canonical;
     }
 
     /// All that is left of the line, which is a string in quotes.
     pub(crate) fn string(&mut self, alloc: Global) -> Result<Text, LineFault>
-        ensures { IfOk result (λ text. length text < 2 ^ 16) }
+        ensures short { IfOk result (λ text. length text < 2 ^ 16) }
+        ensures taken { IfOk result (λ text. TakesField (quoted text) self.old self.new) }
+        ensures last { IfOk result (λ _. fields_left self.new ≡ []) }
     {
         let field = self.fields.ok_or(BAD_LINE)?;
         let quoted = unquote(alloc, field)?;
@@ -161,11 +209,11 @@ impl<'a> Listing<'a> {
 
     /// A number without sign, or `-0`.
     pub(crate) fn unsigned(&mut self, most: u64) -> Result<u64, LineFault>
-        ensures { IfOk result (λ n. n ≤ most) }
+        ensures within { IfOk result (λ n. n ≤ most) }
+        ensures taken { IfOk result (λ n. TakesField (decimal n) self.old self.new) }
     {
         let field = self.field()?;
-        let digits = field.strip_prefix(b"-").unwrap_or(field);
-        let is_negative = digits.len() < field.len();
+        let (digits, is_negative) = split_minus(field);
         if !is_digits(digits) {
             return Err(BAD_LINE);
         }
@@ -173,27 +221,32 @@ impl<'a> Listing<'a> {
         if number > most || (is_negative && number != 0) {
             return Err(BAD_LINE);
         }
-        self.note(!is_negative && !has_leading_zero(digits));
+        self.note(is_canonical_number(is_negative, digits));
         Ok(number)
     }
 
-    pub(crate) fn unsigned_8(&mut self) -> Result<u8, LineFault> {
+    pub(crate) fn unsigned_8(&mut self) -> Result<u8, LineFault>
+        ensures { IfOk result (λ n. TakesField (decimal n) self.old self.new) }
+    {
         Ok(self.unsigned(0xFF)? as u8)
     }
 
-    pub(crate) fn unsigned_16(&mut self) -> Result<u16, LineFault> {
+    pub(crate) fn unsigned_16(&mut self) -> Result<u16, LineFault>
+        ensures { IfOk result (λ n. TakesField (decimal n) self.old self.new) }
+    {
         Ok(self.unsigned(0xFFFF)? as u16)
     }
 
-    pub(crate) fn unsigned_32(&mut self) -> Result<u32, LineFault> {
+    pub(crate) fn unsigned_32(&mut self) -> Result<u32, LineFault>
+        ensures { IfOk result (λ n. TakesField (decimal n) self.old self.new) }
+    {
         Ok(self.unsigned(0xFFFF_FFFF)? as u32)
     }
 
     /// A number with a sign.
     pub(crate) fn signed(&mut self) -> Result<i32, LineFault> {
         let field = self.field()?;
-        let digits = field.strip_prefix(b"-").unwrap_or(field);
-        let is_negative = digits.len() < field.len();
+        let (digits, is_negative) = split_minus(field);
         if !is_digits(digits) {
             return Err(BAD_LINE);
         }

@@ -1,5 +1,9 @@
 //! The lines of the parts of a file.
 
+ghost use Rattle.std.specs.Prelude.{◌≡◌, ◌++◌, IfOk};
+ghost use Rattle.std.specs.String.{string_bytes};
+ghost use Rattle.pex_listing.specs.Lines.{escaped, quoted, string_line};
+
 use crate::names::Names;
 use papy_base::Text;
 use pex_values::{
@@ -9,23 +13,34 @@ use pex_values::{
 use std::alloc::AllocError;
 use std::fmt::Write;
 
-/// A string in quotes: the bytes from 20h to 7Eh as they are, but for `\"` and `\\`, and all others as `\x` and two
+/// A byte between quotes: one from 20h to 7Eh as it is, but for `\"` and `\\`, and all others as `\x` and two
 /// hexadecimal digits.
-pub(crate) fn put_string(out: &mut String, text: &Text) -> Result<(), AllocError> {
+fn put_byte(out: &mut String, byte: u8) -> Result<(), AllocError>
+    ensures { IfOk result (λ _. string_bytes out.new ≡ string_bytes out.old ++ escaped byte) }
+{
+    match byte {
+        b'"' => out.push_str("\\\""),
+        b'\\' => out.push_str("\\\\"),
+        0x20..=0x7E => out.push(char::from(byte)),
+        _ => write!(out, "\\x{byte:02x}"),
+    }
+}
+
+/// A string in quotes.
+fn put_string(out: &mut String, text: &Text) -> Result<(), AllocError>
+    ensures { IfOk result (λ _. string_bytes out.new ≡ string_bytes out.old ++ quoted text.now) }
+{
     out.push('"')?;
     for byte in text.as_bytes() {
-        match *byte {
-            b'"' => out.push_str("\\\"")?,
-            b'\\' => out.push_str("\\\\")?,
-            0x20..=0x7E => out.push(char::from(*byte))?,
-            _ => write!(out, "\\x{:02x}", *byte)?,
-        }
+        put_byte(out, *byte)?;
     }
     out.push('"')
 }
 
 /// A line with a string behind its first word.
-pub(crate) fn put_string_line(out: &mut String, word: &str, text: &Text) -> Result<(), AllocError> {
+pub(crate) fn put_string_line(out: &mut String, word: &str, text: &Text) -> Result<(), AllocError>
+    ensures { IfOk result (λ _. string_bytes out.new ≡ string_bytes out.old ++ string_line word.now text.now) }
+{
     out.push_str(word)?;
     out.push(' ')?;
     put_string(out, text)?;

@@ -1,6 +1,7 @@
 //! Strings in quotes.
 
-ghost use Rattle.std.specs.Prelude.{◌+◌, ◌<◌, ◌≤◌, ◌^◌, length, vec_len, IfOk, IfSome};
+ghost use Rattle.std.specs.Prelude.{◌≡◌, ◌+◌, ◌<◌, ◌≤◌, ◌^◌, [], ◌∷◌, ◌++◌, length, vec_len, IfOk, IfSome, IsTrue};
+ghost use Rattle.pex_listing.specs.Lines.{escaped, quoted};
 
 use crate::faults::{LineFault, ListingRule};
 use crate::numbers::{hex_value, is_upper};
@@ -19,7 +20,9 @@ struct Spelled<'a> {
 }
 
 /// The byte that `\x` and these two digits spell. It has this form only where it isn't from 20h to 7Eh.
-fn hex_escape(high: u8, low: u8) -> Option<(u8, bool)> {
+fn hex_escape(high: u8, low: u8) -> Option<(u8, bool)>
+    ensures { IfSome result (λ p. IsTrue p.1 → escaped p.0 ≡ 92 ∷ 120 ∷ high ∷ low ∷ []) }
+{
     let byte = hex_value(high)? * 16 + hex_value(low)?;
     let is_plain = matches!(byte, 0x20..=0x7E);
     Some((byte, !is_plain && !is_upper(high) && !is_upper(low)))
@@ -27,7 +30,8 @@ fn hex_escape(high: u8, low: u8) -> Option<(u8, bool)> {
 
 /// The first byte that is spelled. None where the bytes spell none.
 fn first_byte(bytes: &[u8]) -> Option<Spelled<'_>>
-    ensures { IfSome result (λ s. length s.rest.now < length bytes.now) }
+    ensures shorter { IfSome result (λ s. length s.rest.now < length bytes.now) }
+    ensures canonical { IfSome result (λ s. IsTrue s.is_canonical → bytes.now ≡ escaped s.byte ++ s.rest.now) }
 {
     match bytes {
         [b'\\', b'x', high, low, rest @ ..] => {
@@ -60,7 +64,9 @@ pub(crate) struct Quoted {
 }
 
 /// What stands between the quotes at both ends.
-fn between_quotes(field: &[u8]) -> Option<&[u8]> {
+fn between_quotes(field: &[u8]) -> Option<&[u8]>
+    ensures { IfSome result (λ inner. field.now ≡ 34 ∷ inner.now ++ 34 ∷ []) }
+{
     match field {
         [b'"', inner @ .., b'"'] => Some(inner),
         _ => None,
@@ -69,7 +75,8 @@ fn between_quotes(field: &[u8]) -> Option<&[u8]> {
 
 /// The string that a field in quotes spells. It has at most 65,535 bytes.
 pub(crate) fn unquote(alloc: Global, field: &[u8]) -> Result<Quoted, LineFault>
-    ensures { IfOk result (λ q. length q.text < 2 ^ 16) }
+    ensures short { IfOk result (λ q. length q.text < 2 ^ 16) }
+    ensures canonical { IfOk result (λ q. IsTrue q.is_canonical → field.now ≡ quoted q.text) }
 {
     let bad = LineFault::Broken(ListingRule::BadLine);
     let mut bytes = Vec::new(alloc);

@@ -4,7 +4,8 @@ ghost use Rattle.std.specs.Prelude.{◌≡◌, ◌++◌, [], IfOk};
 ghost use Rattle.std.specs.String.{string_bytes};
 ghost use Rattle.pex_values.specs.Plain.{plain};
 ghost use Rattle.pex_values.specs.Shape.{IsWellShaped};
-ghost use Rattle.pex_listing.specs.Showing.{Begins, Shows, first_line};
+ghost use Rattle.pex_listing.specs.Lines.{first_line, header_lines, table_lines, head_lines};
+ghost use Rattle.pex_listing.specs.Showing.{Begins, Shows};
 ghost use Rattle.papy_io.specs.Sink.{Appended, AppendsSome};
 
 use crate::faults::ShowFault;
@@ -28,7 +29,7 @@ pub fn show<S: Sink>(alloc: Global, value: &Pex, sink: &mut S) -> Result<(), Sho
     requires { IsWellShaped (plain value.now) }
     ensures faults { Shows S.faults result sink.old sink.new }
     ensures appended { AppendsSome (S.written sink.old) (S.written sink.new) }
-    ensures begun { IfOk result (λ _. Begins (first_line value.now.minor value.now.time) (S.written sink.old) (S.written sink.new)) }
+    ensures begun { IfOk result (λ _. Begins (head_lines (plain value.now)) (S.written sink.old) (S.written sink.new)) }
 {
     let words = reference_words(alloc, &value.strings)?;
     let names = Names { words: &words };
@@ -48,7 +49,9 @@ fn put_first_line(out: &mut String, minor: u8, time: u64) -> Result<(), AllocErr
 }
 
 /// The lines between the first one and the string table.
-fn put_header(out: &mut String, value: &Pex) -> Result<(), AllocError> {
+fn put_header(out: &mut String, value: &Pex) -> Result<(), AllocError>
+    ensures { IfOk result (λ _. string_bytes out.new ≡ string_bytes out.old ++ header_lines value.now.source value.now.user value.now.machine) }
+{
     put_string_line(out, "source", &value.source)?;
     put_string_line(out, "user", &value.user)?;
     put_string_line(out, "machine", &value.machine)
@@ -59,6 +62,7 @@ fn flush<S: Sink>(out: &mut String, sink: &mut S) -> Result<(), ShowFault>
     ensures faults { Shows S.faults result sink.old sink.new }
     ensures appended { AppendsSome (S.written sink.old) (S.written sink.new) }
     ensures all { IfOk result (λ _. Appended (string_bytes out.old) (S.written sink.old) (S.written sink.new)) }
+    ensures emptied { string_bytes out.new ≡ [] }
 {
     let written = sink.write(out.as_bytes());
     out.clear();
@@ -69,12 +73,12 @@ fn flush<S: Sink>(out: &mut String, sink: &mut S) -> Result<(), ShowFault>
     }
 }
 
-/// The header and the string table. The buffer is empty.
+/// The lines up to the end of the string table. The buffer is empty.
 fn show_strings<S: Sink>(out: &mut String, value: &Pex, sink: &mut S) -> Result<(), ShowFault>
     requires { string_bytes out.old ≡ [] }
     ensures faults { Shows S.faults result sink.old sink.new }
     ensures appended { AppendsSome (S.written sink.old) (S.written sink.new) }
-    ensures begun { IfOk result (λ _. Begins (first_line value.now.minor value.now.time) (S.written sink.old) (S.written sink.new)) }
+    ensures all { IfOk result (λ _. Appended (head_lines (plain value.now)) (S.written sink.old) (S.written sink.new)) }
 {
     put_first_line(out, value.minor, value.time)?;
     flush(out, sink)?;
@@ -83,9 +87,12 @@ fn show_strings<S: Sink>(out: &mut String, value: &Pex, sink: &mut S) -> Result<
     show_table(out, &value.strings, sink)
 }
 
+/// The string table. The buffer is empty.
 fn show_table<S: Sink>(out: &mut String, strings: &[Text], sink: &mut S) -> Result<(), ShowFault>
+    requires { string_bytes out.old ≡ [] }
     ensures faults { Shows S.faults result sink.old sink.new }
     ensures appended { AppendsSome (S.written sink.old) (S.written sink.new) }
+    ensures all { IfOk result (λ _. Appended (table_lines strings.now) (S.written sink.old) (S.written sink.new)) }
 {
     for text in strings {
         put_string_line(out, "string", text)?;

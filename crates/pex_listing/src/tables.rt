@@ -5,6 +5,8 @@ ghost use Rattle.pex_values.specs.Fit.{FitsDebug, IsCounted};
 ghost use Rattle.pex_values.specs.Plain.{plain_lines, plain_debug};
 ghost use Rattle.pex_values.specs.Shape.{IsShapedDebug, IsShapedFlag};
 ghost use Rattle.pex_values.specs.Spelling as spell;
+ghost use Rattle.pex_listing.specs.Lines.{string_line, table_lines};
+ghost use Rattle.pex_listing.specs.Opened.{TakesLines, word_of};
 ghost use Rattle.pex_listing.specs.Reading.{ReadsAll, HoldsLines, ReadsDebug, debug_rest};
 
 use crate::faults::LineFault;
@@ -24,7 +26,8 @@ pub(crate) fn read_string(
     room: &mut Room,
     keyword: Keyword,
 ) -> Result<Text, LineFault>
-    ensures { IfOk result (λ text. IsCounted text × (room.new.left + length text ≡ room.old.left)) }
+    ensures room { IfOk result (λ text. IsCounted text × (room.new.left + length text ≡ room.old.left)) }
+    ensures line { IfOk result (λ text. IfSome (word_of keyword) (λ word. TakesLines (string_line word text) listing.old listing.new)) }
 {
     listing.expect(keyword)?;
     let text = listing.string(alloc)?;
@@ -39,7 +42,8 @@ pub(crate) fn read_strings(
     listing: &mut Listing,
     room: &mut Room,
 ) -> Result<Vec<Text>, LineFault>
-    ensures { IfOk result (λ strings. ReadsAll IsCounted spell.string room.old.left room.new.left strings.items) }
+    ensures reads { IfOk result (λ strings. ReadsAll IsCounted spell.string room.old.left room.new.left strings.items) }
+    ensures lines { IfOk result (λ strings. TakesLines (table_lines strings.items) listing.old listing.new) }
 {
     let mut strings = Vec::new(alloc);
     while listing.is_at(Keyword::String) {

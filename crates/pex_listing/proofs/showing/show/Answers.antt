@@ -1,4 +1,4 @@
-use Rattle.pex_listing.proofs.Appending.{appends_more, begins_still, if_ok}
+use Rattle.pex_listing.proofs.Appending.{appends_more, begins, if_ok}
 use Rattle.pex_listing.proofs.showing.show.Goals as goal
 
 pub returns-in_err-show_debug-clause-appended : goal.returns-in_err-show_debug-clause-appended
@@ -22,4 +22,4 @@ pub returns-clause-begun : goal.returns-clause-begun
 returns-clause-begun g c =
     let first = appends_more _ _ _ c.show_debug.ensures.appended c.flush.ensures.appended in
     let behind = appends_more _ _ _ first c.show_objects.ensures.appended in
-    if_ok c.show_objects.result _ (begins_still _ _ _ _ c.in_ok-show_strings.ensures.begun behind)
+    if_ok c.show_objects.result _ (begins _ _ _ _ c.in_ok-show_strings.ensures.all behind)

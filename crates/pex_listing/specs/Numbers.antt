@@ -1,0 +1,28 @@
+-- Which numbers digits spell.
+use Rattle.std.specs.Prelude.{ℕ, ◌^◌, Bool, List, length, Option, Some, None, ◌==◌, ◌&&◌, nat_lt, if◌then◌else◌, slice_index}
+use Rattle.std.specs.Char.{is_ascii_digit, is_digit, digit_value}
+use Rattle.std.specs.List.{list_all}
+use Rattle.std.specs.Str.Parse.{digits_value}
+
+-- one decimal digit or more, and nothing else
+abbrev pub are_digits : List ℕ → Bool
+are_digits bytes = nat_lt 0 (length bytes) && list_all is_ascii_digit bytes
+
+-- the number of decimal digits, where it has at most 64 bits
+abbrev pub decimal_number : List ℕ → Option ℕ
+decimal_number digits = if list_all is_ascii_digit digits && nat_lt (digits_value 10 digits) (2 ^ 64) then Some (digits_value 10 digits) else None
+
+-- a zero stands before another digit
+abbrev pub has_leading_zero : List ℕ → Bool
+has_leading_zero digits = nat_lt 1 (length digits) && (slice_index digits 0 == 48)
+
+abbrev pub is_hex_digit : ℕ → Bool
+is_hex_digit digit = is_digit digit 16
+
+-- the value of a hexadecimal digit of either case
+abbrev pub hex_value : ℕ → Option ℕ
+hex_value digit = if is_hex_digit digit then Some (digit_value digit) else None
+
+-- the number of eight hexadecimal digits of either case
+abbrev pub hex_number : List ℕ → Option ℕ
+hex_number digits = if (length digits == 8) && list_all is_hex_digit digits then Some (digits_value 16 digits) else None

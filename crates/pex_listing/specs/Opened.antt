@@ -1,0 +1,59 @@
+-- What an open line and the text behind it are.
+use Rattle.std.specs.Prelude.{◌≡◌, ℕ, List, [], ◌∷◌, ◌++◌, codes, Option, Some, None, IfSome, IsTrue, unwrap_or, option_map}
+use Rattle.pex_listing.specs.declared.keyword.Keyword.{Keyword}
+use Rattle.pex_listing.specs.declared.keyword.Keyword.TheVariants as word
+use Rattle.pex_listing.specs.declared.listing.Listing.{Listing}
+
+-- how a keyword that stands for one word is spelled
+abbrev pub word_of : Keyword → Option (List ℕ)
+word_of word.Pex = Some (codes "pex")
+word_of word.Source = Some (codes "source")
+word_of word.User = Some (codes "user")
+word_of word.Machine = Some (codes "machine")
+word_of word.String = Some (codes "string")
+word_of word.NoDebug = Some (codes "nodebug")
+word_of word.Debug = Some (codes "debug")
+word_of word.Lines = Some (codes "lines")
+word_of word.Flag = Some (codes "flag")
+word_of word.Object = Some (codes "object")
+word_of word.Variable = Some (codes "variable")
+word_of word.Property = Some (codes "property")
+word_of word.Read = Some (codes "read")
+word_of word.Write = Some (codes "write")
+word_of word.State = Some (codes "state")
+word_of word.Function = Some (codes "function")
+word_of word.Parameter = Some (codes "param")
+word_of word.Local = Some (codes "local")
+word_of word.Opcode = None
+word_of word.Unknown = None
+word_of word.End = None
+
+-- the fields of the open line that weren't read yet, each behind its space
+abbrev pub fields_left : Listing → List ℕ
+fields_left l = unwrap_or (option_map (λ fields. 32 ∷ fields.now) l.fields) []
+
+-- the text begins with the open line, of which no field was read, where that has one of the fixed words
+abbrev pub Opens : List ℕ → Listing → Type 0
+Opens text l = IfSome (word_of l.keyword) (λ word. text ≡ word ++ (fields_left l ++ 10 ∷ l.rest.now))
+
+-- a field of the open line was read; where it and all before it are in their one spelling, it is this text
+pub record TakesField (field : List ℕ) (old new : Listing) : Type 0 where
+  pub keyword : new.keyword ≡ old.keyword
+  pub rest : new.rest.now ≡ old.rest.now
+  pub canonical : IsTrue new.is_canonical → IsTrue old.is_canonical
+  pub taken : IsTrue new.is_canonical → fields_left old ≡ 32 ∷ field ++ fields_left new
+
+-- the text begins with these lines, and what follows them is open
+pub record Remains (lines text : List ℕ) (new : Listing) : Type 0 where
+  pub behind : List ℕ
+  pub whole : text ≡ lines ++ behind
+  pub opened : Opens behind new
+
+-- these lines were read
+abbrev pub TakesLines : List ℕ → Listing → Listing → Type 0
+TakesLines lines old new = (text : List ℕ) → Opens text old → Remains lines text new
+
+-- the text begins with these lines
+pub record BeginsWith (lines text : List ℕ) : Type 0 where
+  pub behind : List ℕ
+  pub whole : text ≡ lines ++ behind
