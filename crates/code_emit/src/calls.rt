@@ -9,7 +9,7 @@ ghost use Rattle.code_emit.specs.Operands.{needs};
 ghost use Rattle.code_emit.specs.Writing.{GoesOn, AreThere};
 
 use crate::acts::up_to_last_act;
-use crate::expressions::value;
+use crate::expressions::kept_value;
 use crate::faults::EmitFault;
 use crate::operand::Operand;
 use crate::writer::Writer;
@@ -17,9 +17,35 @@ use core_tree::{Core, CoreType, FunctionPlace};
 use pex_values::Datum;
 use std::alloc::Global;
 
-/// The operands of the arguments. Each keeps its value while those behind it are evaluated.
+/// What a call has besides what is called.
+#[derive(Clone, Copy)]
+pub(crate) struct Called<'a> {
+    pub arguments: &'a [Core],
+    pub places: &'a [u16],
+    pub kind: Option<CoreType>,
+}
+
+/// Appends the code of a call's arguments, and the call behind them. Its operands are evaluated.
 #[cycle(expression)]
-pub(crate) fn argument_values(
+pub(crate) fn call(
+    writer: &mut Writer<'_>,
+    opcode: u8,
+    operands: &[Operand],
+    called: Called<'_>,
+    depth: u16,
+) -> Result<Operand, EmitFault>
+    requires opcode { operands_of opcode ≡ Some (suc (length operands.now), true) }
+    requires operands { AreThere writer.old.strings operands.now }
+    ensures operand { IfOk result (λ operand. needs operand ≤ writer.new.strings) }
+    ensures goes { GoesOn writer.old writer.new }
+{
+    let values = argument_values(writer, called.arguments, depth)?;
+    add_call(writer, opcode, operands, &values, called)
+}
+
+// The operands of the arguments. Each keeps its value while those behind it are evaluated.
+#[cycle(expression)]
+fn argument_values(
     writer: &mut Writer<'_>,
     arguments: &[Core],
     depth: u16,
@@ -30,22 +56,20 @@ pub(crate) fn argument_values(
     let acting = up_to_last_act(arguments, depth);
     let mut values = Vec::with_capacity(writer.alloc(), arguments.len())?;
     for (place, argument) in arguments.iter().enumerate() {
-        let operand = value(writer, argument, depth)?;
         let is_before = acting > 0 && place < acting - 1;
-        let kept = writer.kept(operand, is_before)?;
+        let kept = kept_value(writer, argument, is_before, depth)?;
         values.push(kept)?;
     }
     Ok(values)
 }
 
-/// Appends a call whose operands and arguments are evaluated.
-pub(crate) fn call(
+// Appends a call whose operands and arguments are evaluated.
+fn add_call(
     writer: &mut Writer<'_>,
     opcode: u8,
     operands: &[Operand],
     values: &[Operand],
-    places: &[u16],
-    kind: Option<CoreType>,
+    called: Called<'_>,
 ) -> Result<Operand, EmitFault>
     requires opcode { operands_of opcode ≡ Some (suc (length operands.now), true) }
     requires operands { AreThere writer.old.strings operands.now }
@@ -53,8 +77,8 @@ pub(crate) fn call(
     ensures operand { IfOk result (λ operand. needs operand ≤ writer.new.strings) }
     ensures goes { GoesOn writer.old writer.new }
 {
-    let more = placed(writer.alloc(), values, places)?;
-    let given = writer.call(opcode, operands, kind, more)?;
+    let more = placed(writer.alloc(), values, called.places)?;
+    let given = writer.call(opcode, operands, called.kind, more)?;
     writer.give_all_back(values)?;
     Ok(given)
 }

@@ -1,9 +1,9 @@
 // Assignments, plain and compound.
 #![tactic(auto, using(crate::proofs::Goes::going))]
 
-ghost use Rattle.std.specs.Prelude.{◌≡◌, ◌≤◌};
+ghost use Rattle.std.specs.Prelude.{◌≡◌, ◌≤◌, ◌∷◌, [], IfOk};
 ghost use Rattle.code_emit.specs.Operands.{needs};
-ghost use Rattle.code_emit.specs.Writing.{GoesOn};
+ghost use Rattle.code_emit.specs.Writing.{GoesOn, AreThere};
 
 use crate::acts::may_act;
 use crate::conditions::store_value;
@@ -91,11 +91,26 @@ pub(crate) fn set_element(
 ) -> Result<(), EmitFault>
     ensures { GoesOn writer.old writer.new }
 {
-    let acts = may_act(to, depth);
-    let array = kept_value(writer, array, acts || may_act(index, depth), depth)?;
-    let index = kept_value(writer, index, acts, depth)?;
+    let (array, index) = element(writer, array, index, to, depth)?;
     let to = value(writer, to, depth)?;
     writer.act(ARRAY_SETELEMENT, &[array, index, to])
+}
+
+// The operands of an array and of an index, with the values that they have before the next expression is evaluated.
+fn element(
+    writer: &mut Writer<'_>,
+    array: &Core,
+    index: &Core,
+    next: &Core,
+    depth: u16,
+) -> Result<(Operand, Operand), EmitFault>
+    ensures operands { IfOk result (λ operands. AreThere writer.new.strings (operands.0 ∷ operands.1 ∷ [])) }
+    ensures goes { GoesOn writer.old writer.new }
+{
+    let acts = may_act(next, depth);
+    let array = kept_value(writer, array, acts || may_act(index, depth), depth)?;
+    let index = kept_value(writer, index, acts, depth)?;
+    Ok((array, index))
 }
 
 /// The element is read, then the right side is evaluated, then it is written.
@@ -110,9 +125,7 @@ pub(crate) fn change_element(
 ) -> Result<(), EmitFault>
     ensures { GoesOn writer.old writer.new }
 {
-    let acts = may_act(right, depth);
-    let array = kept_value(writer, array, acts || may_act(index, depth), depth)?;
-    let index = kept_value(writer, index, acts, depth)?;
+    let (array, index) = element(writer, array, index, right, depth)?;
     let old = writer.compute(ARRAY_GETELEMENT, kind, &[array.lasting(), index.lasting()])?;
     let right = value(writer, right, depth)?;
     let new = writer.compute(arith_opcode(operation), kind, &[old, right])?;

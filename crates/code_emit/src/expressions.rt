@@ -6,7 +6,7 @@ ghost use Rattle.code_emit.specs.Operands.{needs};
 ghost use Rattle.code_emit.specs.Writing.{GoesOn, Takes};
 
 use crate::acts::{may_act, up_to_last_act};
-use crate::calls::{argument_values, call, global_names};
+use crate::calls::{Called, call, global_names};
 use crate::conditions::either;
 use crate::faults::EmitFault;
 use crate::opcodes::{
@@ -58,7 +58,7 @@ pub(crate) fn value(
     form_value(writer, expression, first, depth)
 }
 
-// The value of a form without a first operand.
+// The value of a form without a first operand: one without operands, or a call without a target.
 #[cycle(expression)]
 fn leaf_value(writer: &mut Writer<'_>, form: &Core, depth: u16) -> Result<Operand, EmitFault>
     ensures operand { IfOk result (λ operand. needs operand ≤ writer.new.strings) }
@@ -68,7 +68,10 @@ fn leaf_value(writer: &mut Writer<'_>, form: &Core, depth: u16) -> Result<Operan
         Core::Lit(literal) => constant(writer, literal),
         Core::Local(number) => Ok(Operand::Word(writer.local(*number)?)),
         Core::Field(number) => field(writer, *number),
-        _ => form_value(writer, form, Operand::NoneValue, depth),
+        Core::SelfValue => Ok(Operand::Word(writer.word(Word::OwnInstance)?)),
+        Core::StateText => state_text(writer),
+        Core::NewArray(kind, count) => new_array(writer, *kind, *count),
+        _ => call_value(writer, form, Operand::NoneValue, depth),
     }
 }
 
@@ -87,7 +90,7 @@ fn chain_value(writer: &mut Writer<'_>, expression: &Core, depth: u16) -> Result
     Ok(operand)
 }
 
-// Appends the code of a form whose first operand is evaluated. A form without operands has no use for it.
+// Appends the code of a form whose first operand, where it has one, is evaluated.
 #[cycle(expression)]
 fn form_value(
     writer: &mut Writer<'_>,
@@ -100,11 +103,6 @@ fn form_value(
     ensures goes { GoesOn writer.old writer.new }
 {
     match form {
-        Core::Lit(literal) => constant(writer, literal),
-        Core::Local(number) => Ok(Operand::Word(writer.local(*number)?)),
-        Core::Field(number) => field(writer, *number),
-        Core::SelfValue => Ok(Operand::Word(writer.word(Word::OwnInstance)?)),
-        Core::StateText => state_text(writer),
         Core::Arith(operation, _, right) => {
             let opcode = arith_opcode(*operation);
             with_second(writer, opcode, CoreType::Int, first, right, depth)
@@ -120,16 +118,12 @@ fn form_value(
         Core::And(_, right) => either(writer, false, first, right, depth),
         Core::Or(_, right) => either(writer, true, first, right, depth),
         Core::Cast(to, _) => with_one(writer, CAST, *to, first),
-        Core::CallMethod { .. }
-        | Core::CallParent { .. }
-        | Core::CallGlobal { .. }
-        | Core::CallNative { .. } => call_value(writer, form, first, depth),
+        Core::CallMethod { .. } => call_value(writer, form, first, depth),
         Core::PropGet {
             name,
             result: kind,
             ..
         } => get_property(writer, first, name, *kind),
-        Core::NewArray(kind, count) => new_array(writer, *kind, *count),
         Core::Length(_) => with_one(writer, ARRAY_LENGTH, CoreType::Int, first),
         Core::Element(_, index, kind) => {
             with_second(writer, ARRAY_GETELEMENT, *kind, first, index, depth)
@@ -140,6 +134,7 @@ fn form_value(
         Core::FindBack(_, searched, start) => {
             find(writer, ARRAY_RFINDELEMENT, first, searched, start, depth)
         }
+        _ => leaf_value(writer, form, depth),
     }
 }
 
@@ -166,14 +161,6 @@ fn call_value(
         }
         _ => Ok(target),
     }
-}
-
-// What a call has besides what is called.
-#[derive(Clone, Copy)]
-struct Called<'a> {
-    arguments: &'a [Core],
-    places: &'a [u16],
-    kind: Option<CoreType>,
 }
 
 fn called_by(form: &Core) -> Option<Called<'_>> {
@@ -224,15 +211,12 @@ fn method_call(
 {
     let of = writer.kept(target, up_to_last_act(called.arguments, depth) > 0)?;
     let name = writer.string(name.as_bytes())?;
-    let values = argument_values(writer, called.arguments, depth)?;
-    let operands = [Operand::Word(name), of];
     call(
         writer,
         CALL_METHOD,
-        &operands,
-        &values,
-        called.places,
-        called.kind,
+        &[Operand::Word(name), of],
+        called,
+        depth,
     )
 }
 
@@ -246,16 +230,8 @@ fn parent_call(
     ensures operand { IfOk result (λ operand. needs operand ≤ writer.new.strings) }
     ensures goes { GoesOn writer.old writer.new }
 {
-    let operands = [Operand::Word(writer.string(name.as_bytes())?)];
-    let values = argument_values(writer, called.arguments, depth)?;
-    call(
-        writer,
-        CALL_PARENT,
-        &operands,
-        &values,
-        called.places,
-        called.kind,
-    )
+    let name = writer.string(name.as_bytes())?;
+    call(writer, CALL_PARENT, &[Operand::Word(name)], called, depth)
 }
 
 #[cycle(expression)]
@@ -269,16 +245,7 @@ fn static_call(
     ensures goes { GoesOn writer.old writer.new }
 {
     let (script, function) = global_names(writer, at)?;
-    let values = argument_values(writer, called.arguments, depth)?;
-    let operands = [script, function];
-    call(
-        writer,
-        CALL_STATIC,
-        &operands,
-        &values,
-        called.places,
-        called.kind,
-    )
+    call(writer, CALL_STATIC, &[script, function], called, depth)
 }
 
 /// The operand of a value that the tree has written out.
@@ -320,6 +287,8 @@ pub(crate) fn state_text(writer: &mut Writer<'_>) -> Result<Operand, EmitFault>
 }
 
 /// The operand of an expression. Where acts may come before it is read, it keeps the value that it has now.
+#[cycle(expression)]
+#[inline(always)]
 pub(crate) fn kept_value(
     writer: &mut Writer<'_>,
     expression: &Core,
@@ -401,8 +370,7 @@ fn find(
 {
     let acts = may_act(start, depth);
     let array = writer.kept(array, acts || may_act(searched, depth))?;
-    let searched = value(writer, searched, depth)?;
-    let searched = writer.kept(searched, acts)?;
+    let searched = kept_value(writer, searched, acts, depth)?;
     let start = value(writer, start, depth)?;
     let place = writer.take(CoreType::Int)?;
     writer.act(opcode, &[array, place.lasting(), searched, start])?;

@@ -73,31 +73,16 @@ pub(crate) fn data_behind(
     ensures within { IfOk result (λ found. AllByRecursion IsWithin found.items) }
 {
     match operands {
-        [second] => two_data(alloc, first, *second),
-        [second, third] => three_data(alloc, first, *second, *third),
+        [second] => {
+            let found = vec![in alloc; first.datum(), second.datum()]?;
+            Ok(found)
+        }
+        [second, third] => {
+            let found = vec![in alloc; first.datum(), second.datum(), third.datum()]?;
+            Ok(found)
+        }
         _ => many_behind(alloc, first, operands),
     }
-}
-
-fn two_data(alloc: Global, first: Operand, second: Operand) -> Result<Vec<Datum>, OutOfMemory>
-    ensures values { IfOk result (λ found. found.items ≡ datum_of first ∷ datum_of second ∷ []) }
-    ensures within { IfOk result (λ found. AllByRecursion IsWithin found.items) }
-{
-    let found = vec![in alloc; first.datum(), second.datum()]?;
-    Ok(found)
-}
-
-fn three_data(
-    alloc: Global,
-    first: Operand,
-    second: Operand,
-    third: Operand,
-) -> Result<Vec<Datum>, OutOfMemory>
-    ensures values { IfOk result (λ found. found.items ≡ datum_of first ∷ datum_of second ∷ datum_of third ∷ []) }
-    ensures within { IfOk result (λ found. AllByRecursion IsWithin found.items) }
-{
-    let found = vec![in alloc; first.datum(), second.datum(), third.datum()]?;
-    Ok(found)
 }
 
 #[inline(never)]

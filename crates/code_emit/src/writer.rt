@@ -17,7 +17,7 @@ use crate::opcodes::ASSIGN;
 use crate::operand::{Operand, data, data_before, data_behind};
 use crate::spare::Spare;
 use crate::strings::{Numbered, Strings, Word};
-use crate::type_names::{script_name, type_name};
+use crate::type_names::{element_name, is_array, script_name, type_number};
 use core_tree::{CoreFunction, CoreScript, CoreSet, CoreType, CoreVariable};
 use jump_patch::{Ahead, Code, CodeBuffer, JumpKind, Mark};
 use papy_base::Text;
@@ -159,14 +159,32 @@ impl<'a> Writer<'a> {
         self.noted_string(name, string)
     }
 
-    /// The place of a type's name.
+    /// The place of the name of a type, as of a result or a local. Without a type it is `None`.
     #[inline(always)]
     pub(crate) fn type_name(&mut self, kind: Option<CoreType>) -> Result<u16, EmitFault>
         ensures place { IfOk result (IsReference self.new.strings) }
         ensures goes { GoesOn self.old self.new }
     {
-        let scripts = self.set.scripts.as_slice();
-        type_name(self.alloc, &mut self.strings, scripts, kind)
+        let name = Numbered::Type(type_number(kind));
+        if let Some(place) = self.strings.noted(name) {
+            return Ok(place);
+        }
+        self.new_type_name(name, kind)
+    }
+
+    // The place of a type's name that wasn't looked up before.
+    #[inline(never)]
+    fn new_type_name(&mut self, name: Numbered, kind: Option<CoreType>) -> Result<u16, EmitFault>
+        ensures place { IfOk result (IsReference self.new.strings) }
+        ensures goes { GoesOn self.old self.new }
+    {
+        let element = element_name(self.set.scripts.as_slice(), kind)?;
+        if !is_array(kind) {
+            return self.noted_string(name, element);
+        }
+        let mut array = element.to_vec(self.alloc)?;
+        array.extend_from_slice(b"[]")?;
+        self.noted_string(name, array.as_slice())
     }
 
     /// The variable of this number, and the place of its name.

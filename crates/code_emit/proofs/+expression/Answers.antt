@@ -6,17 +6,19 @@ use Rattle.code_emit.proofs.Goes.{goes_further}
 use Rattle.code_emit.proofs.Landing.{has_landed}
 use Rattle.code_emit.proofs.+expression.Goals as goal
 
+pub calls::call-add_call-requires-clause-operands : goal.calls::call-add_call-requires-clause-operands
+calls::call-add_call-requires-clause-operands t c =
+    there_later c.args.writer.now.strings c.argument_values.new.writer.strings c.in_ok-values.ensures.goes.strings c.args.operands.now c.requires.operands
+
 pub calls::argument_values-loop-place-preserved : goal.calls::argument_values-loop-place-preserved
 calls::argument_values-loop-place-preserved t c =
-    let first = c.loop-place.writer in
-    let second = c.value.new.writer in
-    let third = c.kept.new.self in
-    let valued = c.in_ok-operand.ensures.goes in
+    let before = c.loop-place.writer in
+    let after = c.kept_value.new.writer in
     let kept = c.in_ok-kept.ensures.goes in
-    let P : List Operand → Type 0 = λ os. AreThere third.strings os in
+    let P : List Operand → Type 0 = λ os. AreThere after.strings os in
     record {
-      goes = goes_further c.args.writer.now first third c.loop-place.invariant.goes (goes_further first second third valued kept);
-      there = subst P (sym c.in_ok-push.ensures.items) (there_added third.strings c.loop-place.values.items c.in_ok-kept.kept (there_later first.strings third.strings (omega (arith, valued.strings, kept.strings)) c.loop-place.values.items c.loop-place.invariant.there) c.in_ok-kept.ensures.operand);
+      goes = goes_further c.args.writer.now before after c.loop-place.invariant.goes kept;
+      there = subst P (sym c.in_ok-push.ensures.items) (there_added after.strings c.loop-place.values.items c.in_ok-kept.kept (there_later before.strings after.strings kept.strings c.loop-place.values.items c.loop-place.invariant.there) c.in_ok-kept.ensures.operand);
     }
 
 pub conditions::either-jump_ahead-requires : goal.conditions::either-jump_ahead-requires

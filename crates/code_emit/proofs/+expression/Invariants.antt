@@ -4,43 +4,49 @@ use Rattle.code_emit.specs.Writing.{GoesOn, AreThere}
 use Rattle.code_emit.proofs.+expression.Given as goal
 
 abbrev pub decreases-expressions::value : goal.decreases-expressions::value
-decreases-expressions::value l = 6 * l.depth
+decreases-expressions::value l = 9 * l.depth
 
 abbrev pub decreases-expressions::chain_value : goal.decreases-expressions::chain_value
-decreases-expressions::chain_value l = 6 * l.depth + 5
-
-abbrev pub decreases-expressions::leaf_value : goal.decreases-expressions::leaf_value
-decreases-expressions::leaf_value l = 6 * l.depth + 5
+decreases-expressions::chain_value l = 9 * l.depth + 8
 
 abbrev pub decreases-expressions::form_value : goal.decreases-expressions::form_value
-decreases-expressions::form_value l = 6 * l.depth + 4
+decreases-expressions::form_value l = 9 * l.depth + 7
+
+abbrev pub decreases-expressions::leaf_value : goal.decreases-expressions::leaf_value
+decreases-expressions::leaf_value l = 9 * l.depth + 6
 
 abbrev pub decreases-expressions::call_value : goal.decreases-expressions::call_value
-decreases-expressions::call_value l = 6 * l.depth + 3
+decreases-expressions::call_value l = 9 * l.depth + 5
 
 abbrev pub decreases-expressions::method_call : goal.decreases-expressions::method_call
-decreases-expressions::method_call l = 6 * l.depth + 2
+decreases-expressions::method_call l = 9 * l.depth + 4
 
 abbrev pub decreases-expressions::parent_call : goal.decreases-expressions::parent_call
-decreases-expressions::parent_call l = 6 * l.depth + 2
+decreases-expressions::parent_call l = 9 * l.depth + 4
 
 abbrev pub decreases-expressions::static_call : goal.decreases-expressions::static_call
-decreases-expressions::static_call l = 6 * l.depth + 2
+decreases-expressions::static_call l = 9 * l.depth + 4
+
+abbrev pub decreases-calls::call : goal.decreases-calls::call
+decreases-calls::call l = 9 * l.depth + 3
 
 abbrev pub decreases-calls::argument_values : goal.decreases-calls::argument_values
-decreases-calls::argument_values l = 6 * l.depth + 1
-
-abbrev pub decreases-expressions::with_second : goal.decreases-expressions::with_second
-decreases-expressions::with_second l = 6 * l.depth + 1
+decreases-calls::argument_values l = 9 * l.depth + 2
 
 abbrev pub decreases-expressions::find : goal.decreases-expressions::find
-decreases-expressions::find l = 6 * l.depth + 1
+decreases-expressions::find l = 9 * l.depth + 2
 
 abbrev pub decreases-conditions::either : goal.decreases-conditions::either
-decreases-conditions::either l = 6 * l.depth + 2
+decreases-conditions::either l = 9 * l.depth + 2
+
+abbrev pub decreases-expressions::with_second : goal.decreases-expressions::with_second
+decreases-expressions::with_second l = 9 * l.depth + 1
 
 abbrev pub decreases-conditions::store_value : goal.decreases-conditions::store_value
-decreases-conditions::store_value l = 6 * l.depth + 1
+decreases-conditions::store_value l = 9 * l.depth + 1
+
+abbrev pub decreases-expressions::kept_value : goal.decreases-expressions::kept_value
+decreases-expressions::kept_value l = 9 * l.depth + 1
 
 abbrev pub invariant-expressions::chain_value-forms : goal.invariant-expressions::chain_value-forms
 invariant-expressions::chain_value-forms l = record {

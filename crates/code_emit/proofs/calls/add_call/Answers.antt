@@ -3,7 +3,7 @@ use Rattle.pex_values.specs.Shape.{AgreesWith}
 use Rattle.code_emit.specs.Operands.{needs}
 use Rattle.code_emit.specs.Writing.{Written}
 use Rattle.code_emit.proofs.Data.{there_later}
-use Rattle.code_emit.proofs.calls.call.Goals as goal
+use Rattle.code_emit.proofs.calls.add_call.Goals as goal
 
 pub call-requires-clause-agrees : goal.call-requires-clause-agrees
 call-requires-clause-agrees c =
