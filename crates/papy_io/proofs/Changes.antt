@@ -1,19 +1,14 @@
 -- Changes of one file, one after another.
-use Rattle.std.proofs.Common.{◌≡◌, ℕ, List, [], ◌++◌, length, take, Option, None, Some, Result, Ok, Err, IsErr, refl, sym, ◌∙◌, ap, subst, inl, inr}
+use Rattle.std.proofs.Common.{◌≡◌, ℕ, List, ◌++◌, length, take, Option, None, Some, Result, Ok, Err, IsErr, sym, ◌∙◌, ap, subst, inl}
 use Rattle.std.specs.Option.{option_map}
-use Rattle.std.specs.FinMap.{get}
 use Rattle.std.proofs.Math.Seq.{take-length}
 use Rattle.std.proofs.lemmas.Bool.{false≢true}
-use Rattle.papy_io.specs.Files.{Files, ChangesFile, ChangesTold}
+use Rattle.papy_io.specs.Files.{Files, ChangesTold}
 use Rattle.papy_io.specs.declared.fault.IoFault.{IoFault}
 use Rattle.papy_io.specs.declared.fault.IoFault.TheVariants.{Failed, OutOfMemory}
 use Rattle.papy_io.specs.Activity.{Activity, Writing}
-use Rattle.papy_io.specs.Desk.{Empties, MayEmpty, Appends, AppendsSome, WritesOn}
-use Rattle.papy_io.specs.WriteFile.{HoldsNow, MayHold, WritesFile}
-
-pub unchanged : (name : List ℕ) (R : Option (List ℕ) → Option (List ℕ) → Type 0) → ((a : Option (List ℕ)) → R a a) → (files : Option Files) → ChangesTold name R files files
-unchanged name R h None = tt
-unchanged name R h (Some files) = record { file = h (get files name); others = λ other ne. refl }
+use Rattle.papy_io.specs.Desk.{Empties, Appends, AppendsSome, WritesOn}
+use Rattle.papy_io.specs.WriteFile.{MayHold, WritesFile}
 
 pub weaker : (name : List ℕ) (P R : Option (List ℕ) → Option (List ℕ) → Type 0) → ((a b : Option (List ℕ)) → P a b → R a b) → (old new : Option Files) → ChangesTold name P old new → ChangesTold name R old new
 weaker name P R h None None c = tt
@@ -30,20 +25,11 @@ twice name P Q R h (Some old) (Some mid) None c d = absurd d
 twice name P Q R h (Some old) (Some mid) (Some new) c d =
     record { file = h _ _ _ c.file d.file; others = λ other ne. d.others other ne ∙ c.others other ne }
 
--- an emptied file that grew by these bytes holds them
-pub emptied_then_all : (bytes : List ℕ) (a b c : Option (List ℕ)) → Empties a b → Appends bytes b c → HoldsNow bytes a c
-emptied_then_all bytes a b c e g = g ∙ ap (option_map (λ held. held ++ bytes)) e
-
 pub emptied_then_some : (bytes : List ℕ) (a b c : Option (List ℕ)) → Empties a b → AppendsSome bytes b c → MayHold bytes a c
 emptied_then_some bytes a b c e g = inl (g.0, g.1 ∙ ap (option_map (λ held. held ++ take g.0 bytes)) e)
 
 pub emptied_only : (bytes : List ℕ) (a b : Option (List ℕ)) → Empties a b → MayHold bytes a b
 emptied_only bytes a b e = inl (0, e)
-
-pub may_empty_may_hold : (bytes : List ℕ) (a b : Option (List ℕ)) → MayEmpty a b → MayHold bytes a b
-may_empty_may_hold bytes a b (inl e) = inr (inl e)
-may_empty_may_hold bytes a b (inr (inl e)) = inl (0, e)
-may_empty_may_hold bytes a b (inr (inr e)) = inr (inr e)
 
 -- whatever a write into an emptied file answered, the file may hold these bytes
 pub writes_may_hold : (name bytes : List ℕ) (busy : Activity) (r : Result (Unit {0}) IoFault) (old mid new : Option Files) → busy ≡ Writing name → ChangesTold name Empties old mid → WritesOn busy r bytes mid new → ChangesTold name (MayHold bytes) old new

@@ -1,5 +1,5 @@
 -- What the work of a desk over real files is, seen from outside.
-use Rattle.std.specs.Prelude.{List, ℕ, Bool, true, false, Option, None, Some}
+use Rattle.std.specs.Prelude.{List, ℕ, true, false, Option, None, Some}
 use Rattle.papy_io.specs.declared.folder_desk.Work.{Work}
 use Rattle.papy_io.specs.declared.folder_desk.Work.TheVariants as work
 use Rattle.papy_io.specs.Activity.{Activity, Idle, Reading, Writing}

@@ -1,5 +1,5 @@
 -- The files of a desk in memory, kept in a map.
-use Rattle.std.specs.Prelude.{ℕ, List, [], map, Option, unwrap_or}
+use Rattle.std.specs.Prelude.{ℕ, List, [], map, unwrap_or}
 use Rattle.std.specs.FinMap.{from_entries, get}
 use Rattle.std.specs.declared.alloc.Global.{Global}
 use Rattle.std.specs.declared.vec.Vec.{Vec}

@@ -1,5 +1,5 @@
 -- What the work of a desk in memory is, seen from outside.
-use Rattle.std.specs.Prelude.{◌≡◌, ℕ, ◌≤◌, List, Bool, true, false, length, drop, Option, None, Some, IsSome}
+use Rattle.std.specs.Prelude.{◌≡◌, ℕ, ◌≤◌, List, true, false, length, drop, Option, None, Some, IsSome}
 use Rattle.std.specs.Option.{option_map}
 use Rattle.std.specs.FinMap.{get}
 use Rattle.papy_io.specs.declared.memory_desk.Work.{Work}

@@ -58,11 +58,6 @@ value_word count place file.ReadFault within = omega arith
 value_word count place file.OutOfMemory within = tt
 value_word count place (file.Refused p rule) within = omega arith
 
-pub value_reads : (word : ℕ) (fault : FileFault) (before now : ℕ) → CountsFile {T = PexFile} (Err fault) before now → CountsReads (ending_at word fault) before now
-value_reads word file.ReadFault before now counts = counts
-value_reads word file.OutOfMemory before now counts = counts
-value_reads word (file.Refused p rule) before now counts = counts
-
 -- ---- behind a scene
 
 -- as many values as names

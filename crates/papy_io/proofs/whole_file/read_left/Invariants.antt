@@ -1,4 +1,4 @@
-use Rattle.std.proofs.Common.{◌≡◌, ℕ, ◌-◌, ◌≤◌, length, vec_len}
+use Rattle.std.proofs.Common.{◌≡◌, ◌-◌, ◌≤◌, length, vec_len}
 use Rattle.papy_io.specs.Count.{HasRisenBy}
 use Rattle.papy_io.proofs.Progress.{ReadsSoFar}
 use Rattle.papy_io.proofs.whole_file.read_left.Given as goal

@@ -1,5 +1,5 @@
-use Rattle.std.proofs.Common.{rules, sym, subst}
-use Rattle.papy_io.specs.WriteFile.{WritesFile, MayHold}
+use Rattle.std.proofs.Common.{sym, subst}
+use Rattle.papy_io.specs.WriteFile.{MayHold}
 use Rattle.papy_io.specs.Files.{ChangesTold}
 use Rattle.papy_io.proofs.Changes.{writes_may_hold, writes_file_err}
 use Rattle.papy_io.proofs.whole_file.write_file.Goals as goal

@@ -1,10 +1,5 @@
-use Rattle.std.proofs.Common.{◌++◌, Ok, Some, ap, ◌∙◌, sym, subst}
-use Rattle.std.specs.Prelude.{IsSome}
-use Rattle.std.specs.FinMap.{get, insert}
-use Rattle.papy_io.specs.Activity.{Activity, Writing}
+use Rattle.std.proofs.Common.{Ok, Some, ap, sym, subst}
 use Rattle.papy_io.specs.Desk.{WritesOn}
-use Rattle.papy_io.specs.MemoryFiles.{bytes_in}
-use Rattle.papy_io.specs.MemoryDesk.{MemoryState}
 use Rattle.papy_io.specs.MemoryWork.{WorksOn, activity_in}
 use Rattle.papy_io.proofs.DeskSteps.{append_changes, is_held}
 use Rattle.papy_io.proofs.memory_desk.MemoryDeskDesk.write.Goals as goal

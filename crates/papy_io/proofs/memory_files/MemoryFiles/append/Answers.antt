@@ -1,4 +1,4 @@
-use Rattle.std.proofs.Common.{◌≡◌, ◌++◌, ap, ◌∙◌, sym, subst, cond, Vec, Global, ℕ, List}
+use Rattle.std.proofs.Common.{◌≡◌, ◌++◌, ap, ◌∙◌, sym, subst, cond}
 use Rattle.std.specs.Prelude.{IsSome, is_ok}
 use Rattle.std.specs.Option.{option_copied_mut}
 use Rattle.std.specs.FinMap.{insert, get}
