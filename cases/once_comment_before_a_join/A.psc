@@ -1,0 +1,6 @@
+ScriptName A
+Event OnInit()
+Int n = 1 + ;/ and /; \
+2
+Debug.Trace(n)
+EndEvent

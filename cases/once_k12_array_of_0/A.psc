@@ -1,0 +1,4 @@
+ScriptName A
+Event OnInit()
+Int[] a = new Int[0]
+EndEvent

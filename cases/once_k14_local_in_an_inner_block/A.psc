@@ -1,0 +1,7 @@
+ScriptName A
+Event OnInit()
+Int n
+If True
+Int n
+EndIf
+EndEvent

@@ -1,0 +1,4 @@
+ScriptName A
+Event OnInit()
+Int n = (new Actor[3]).Length
+EndEvent

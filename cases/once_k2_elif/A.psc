@@ -1,0 +1,7 @@
+ScriptName A
+Event OnInit()
+If True
+Bool x
+elif x
+EndIf
+EndEvent

@@ -1,0 +1,6 @@
+ScriptName A
+Event OnInit()
+If True
+elif (False)
+EndIf
+EndEvent

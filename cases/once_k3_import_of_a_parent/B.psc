@@ -1,0 +1,4 @@
+ScriptName B extends A
+Event OnInit()
+Help()
+EndEvent

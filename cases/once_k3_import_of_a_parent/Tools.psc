@@ -1,0 +1,3 @@
+ScriptName Tools
+Function Help() Global
+EndFunction

@@ -1,0 +1,7 @@
+ScriptName A
+Function Info() Global
+EndFunction
+Event OnInit()
+A a
+A.Info()
+EndEvent

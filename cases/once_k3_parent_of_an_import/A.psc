@@ -1,0 +1,6 @@
+ScriptName A
+Import Child
+Event OnInit()
+Child.Help()
+Help()
+EndEvent

@@ -1,0 +1,5 @@
+ScriptName A
+Event OnInit()
+String s = "abc"
+Int n = s.Length
+EndEvent

@@ -1,0 +1,5 @@
+ScriptName A extends Form
+Event OnInit()
+A[] all = new A[2]
+Form[] forms = all
+EndEvent

@@ -1,0 +1,4 @@
+ScriptName A
+Event OnInit()
+Int n = "5"
+EndEvent

@@ -1,0 +1,5 @@
+ScriptName A
+Event OnInit()
+Int n = 1
+n[0] = 2
+EndEvent

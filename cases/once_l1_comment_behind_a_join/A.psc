@@ -1,0 +1,5 @@
+ScriptName A
+Event OnInit()
+Int n = 1 + \ ; and
+2
+EndEvent

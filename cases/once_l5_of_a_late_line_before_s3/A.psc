@@ -1,0 +1,4 @@
+ScriptName A
+EndWhile
+Int n
+Float f

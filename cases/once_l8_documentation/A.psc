@@ -1,0 +1,3 @@
+ScriptName A
+{ A chest of gold.
+Int n

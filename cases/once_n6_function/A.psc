@@ -1,0 +1,5 @@
+ScriptName A
+Function F()
+EndFunction
+Event f()
+EndEvent

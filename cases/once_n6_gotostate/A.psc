@@ -1,0 +1,3 @@
+ScriptName A
+Function GotoState(String asNewState)
+EndFunction

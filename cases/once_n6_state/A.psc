@@ -1,0 +1,5 @@
+ScriptName A
+State Open
+EndState
+State OPEN
+EndState

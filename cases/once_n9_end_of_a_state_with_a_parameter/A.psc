@@ -1,0 +1,3 @@
+ScriptName A
+Event OnEndState(Int x)
+EndEvent

@@ -1,0 +1,6 @@
+ScriptName A
+Int Property P
+String Function Get()
+Return "1"
+EndFunction
+EndProperty

@@ -1,0 +1,7 @@
+ScriptName A
+Function F() Global
+EndFunction
+State S
+Function F() Global
+EndFunction
+EndState

@@ -1,0 +1,4 @@
+ScriptName B extends A
+Int Function Level()
+Return 1
+EndFunction

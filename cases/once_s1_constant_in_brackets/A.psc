@@ -1,0 +1,3 @@
+ScriptName A
+Int n = (5)
+Int Property P = (5) Auto

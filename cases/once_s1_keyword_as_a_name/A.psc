@@ -1,0 +1,4 @@
+ScriptName A
+Event OnInit()
+Int Length = 3
+EndEvent

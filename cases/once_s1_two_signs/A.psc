@@ -1,0 +1,4 @@
+ScriptName A
+Event OnInit()
+Bool b = !!True
+EndEvent

@@ -1,0 +1,3 @@
+ScriptName A
+Int Property P
+Int Property Q Auto

@@ -1,0 +1,2 @@
+ScriptName A
+ScriptName B
