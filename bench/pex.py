@@ -2,10 +2,11 @@
 """Measures `papyrus check` and `papyrus show` beside `sha256sum` on compiled files of 16 MiB.
 
 Every figure is processor time, of the program and of the system for it, so that a busy machine disturbs it little. The status is
-1 where a bound of README.md isn't met.
+1 where a bound of README.md isn't met. At last come a quarter, a half and the whole of the ordinary file, each beside the one before it; no
+file has the double.
 
-  pex.py            every file
-  pex.py NAME..     these files
+  pex.py            every file, and the growth
+  pex.py NAME..     these files, and no growth
 """
 import argparse
 import pathlib
@@ -125,12 +126,12 @@ def ordinary_function(rng, words):
     return function_of([one() for _ in range(rng.randrange(3, 40))], slots, slots)
 
 
-def ordinary():
+def ordinary(limit=LIMIT):
     """Objects with variables, auto properties and functions, and debug lines for each function."""
     rng = random.Random(3)
     texts = NAMES + [b"name_%d" % n for n in range(4_000)]
     objects, entries, size = [], [], 0
-    while size < LIMIT - 200_000:
+    while size < limit - 200_000:
         functions_here = [ordinary_function(rng, len(texts)) for _ in range(30)]
         variables = [u16(rng.randrange(3, len(texts))) + u16(2) + u32(0) + integer(7) for _ in range(20)]
         properties = [u16(rng.randrange(3, len(texts))) + u16(2) * 2 + u32(0) + u8(7) + u16(3) for _ in range(10)]
@@ -142,7 +143,18 @@ def ordinary():
     return file_of(texts, objects, b"\1" + bytes(8) + listed(entries))
 
 
+def quarter():
+    """An ordinary file of 4 MiB."""
+    return ordinary(LIMIT // 4)
+
+
+def half():
+    """An ordinary file of 8 MiB."""
+    return ordinary(LIMIT // 2)
+
+
 FILES = {make.__name__: make for make in (nops, strings, functions, noise, noise_behind_header, ordinary)}
+PARTS = {make.__name__: make for make in (quarter, half, ordinary)}
 
 
 def make_apart(name, path):
@@ -167,17 +179,32 @@ def compare(name):
     return missed
 
 
+def growth():
+    """Prints how the times of both commands grow with an ordinary file."""
+    before = {}
+    for name in PARTS:
+        with tempfile.TemporaryDirectory() as folder:
+            make_apart(name, pathlib.Path(folder) / "B.pex")
+            for command in ("check", "show"):
+                seconds, memory = measure.best([measure.program(), command, "B.pex"], folder)
+                measure.row(f"{name}: {command}", seconds, memory, before.get(command))
+                before[command] = seconds
+
+
 def main():
     arguments = argparse.ArgumentParser()
     arguments.add_argument("--make", nargs=2, help=argparse.SUPPRESS)
     arguments.add_argument("names", nargs="*")
     given = arguments.parse_args()
     if given.make:
-        content = FILES[given.make[0]]()
+        content = {**FILES, **PARTS}[given.make[0]]()
         assert len(content) <= LIMIT
         pathlib.Path(given.make[1]).write_bytes(content)
         return 0
-    return int(any([compare(name) for name in given.names or FILES]))
+    missed = any([compare(name) for name in given.names or FILES])
+    if not given.names:
+        growth()
+    return int(missed)
 
 
 if __name__ == "__main__":
