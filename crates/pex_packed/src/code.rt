@@ -1,6 +1,6 @@
 //! Code without a vector for the operands of each instruction.
 
-ghost use Rattle.std.specs.Prelude.{◌≡◌, ◌<◌, ◌^◌, ◌++◌, ◌∷◌, [], length, map, is_ok, IfOk, OnOk, if◌then◌else◌};
+ghost use Rattle.std.specs.Prelude.{◌≡◌, ◌<◌, ◌^◌, ◌++◌, ◌∷◌, [], length, map, is_ok, IfOk, OnOk, OnErr, if◌then◌else◌};
 ghost use Rattle.pex_values.specs.Plain.{plain_instruction};
 
 use pex_values::{Datum, Instruction};
@@ -73,7 +73,8 @@ impl PackedCode {
 
     /// Adds an instruction without operands, or nothing where no memory is found.
     pub fn push_bare(&mut self, opcode: u8) -> Result<(), AllocError>
-        ensures { OnOk result (self.new ≡ self.old ++ record { opcode = opcode; fixed = []; more = [] } ∷ []) }
+        ensures added { OnOk result (self.new ≡ self.old ++ record { opcode = opcode; fixed = []; more = [] } ∷ []) }
+        ensures kept { OnErr result (self.new ≡ self.old) }
     {
         self.heads.push(Head {
             opcode,
@@ -87,7 +88,8 @@ impl PackedCode {
     pub fn push(&mut self, instruction: &Instruction) -> Result<(), AllocError>
         requires fixed { length instruction.now.fixed.items < 2 ^ 8 }
         requires more { length instruction.now.more.items < 2 ^ 32 }
-        ensures { OnOk result (self.new ≡ self.old ++ plain_instruction instruction.now ∷ []) }
+        ensures added { OnOk result (self.new ≡ self.old ++ plain_instruction instruction.now ∷ []) }
+        ensures kept { OnErr result (self.new ≡ self.old) }
     {
         self.heads.reserve(1)?;
         add_operands(&mut self.operands, &instruction.fixed, &instruction.more)?;

@@ -10,7 +10,7 @@ returns-in-Some-eq0 c =
     let adds = nop_adds c.args.strings c.args.code.now nop refl refl refl in
     record {
       none = λ e. absurd (omega (arith, e));
-      some = λ e. rw c.in_ok-push_bare.ensures adds;
+      some = λ e. rw c.in_ok-push_bare.ensures.added adds;
       most = search rules;
     }
 

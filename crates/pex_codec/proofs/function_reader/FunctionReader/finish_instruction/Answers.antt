@@ -19,7 +19,7 @@ returns-then-self-eq0 c =
     let h = c.requires.holds in
     let old = c.args.self.now.function.code in
     let i = plain_instruction c.args.self.now.instruction in
-    let items = c.in_ok-push.ensures in
+    let items = c.in_ok-push.ensures.added in
     let size = ap code_len items in
     is_whole _ _ _
     (record {

@@ -23,4 +23,4 @@ returns c =
     let row = c.self.inside.operands.items in
     let heads : c.push_reserved.new.self.items ≡ hs ++ h ∷ [] = grind (arith, common_steps) in
     let operands : c.add_operands.new.operands.items ≡ row ++ (i.fixed.items ++ i.more.items) = grind (arith, common_steps) in
-    rw (heads, operands, ← c.self.view_is) (pushed hs row h i.fixed.items i.more.items c.self.invariant refl refl)
+    record { added = rw (heads, operands, ← c.self.view_is) (pushed hs row h i.fixed.items i.more.items c.self.invariant refl refl); kept = tt }

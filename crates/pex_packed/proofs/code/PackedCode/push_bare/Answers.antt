@@ -16,4 +16,4 @@ returns c =
     let h : Head = record { opcode = c.args.opcode; fixed = 0; more = 0 } in
     let hs = c.self.inside.heads.items in
     let heads : c.push.new.self.items ≡ hs ++ h ∷ [] = grind (arith, common_steps) in
-    rw (heads, ← c.self.view_is) (pushed_bare hs c.self.inside.operands.items h c.self.invariant refl refl)
+    record { added = rw (heads, ← c.self.view_is) (pushed_bare hs c.self.inside.operands.items h c.self.invariant refl refl); kept = tt }
