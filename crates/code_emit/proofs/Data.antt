@@ -10,7 +10,7 @@ use Rattle.std.proofs.lemmas.List.{length-map}
 use Rattle.std.proofs.lemmas.List.Elements.{All-from_recursion}
 use Rattle.code_emit.specs.declared.operand.Operand.{Operand}
 use Rattle.code_emit.specs.declared.operand.Operand.TheVariants as operand
-use Rattle.code_emit.specs.Operands.{datum_of, lasting, needs, IsWithin}
+use Rattle.code_emit.specs.Operands.{datum_of, needs, IsWithin}
 use Rattle.code_emit.specs.Writing.{AreThere}
 
 pub datum_shaped : (n : ℕ) (o : Operand) → needs o ≤ n → IsWithin (datum_of o) → IsShapedDatum n (datum_of o)
@@ -39,18 +39,6 @@ there_later n m more (o ∷ os) there = let here = there.0 in (omega arith, ther
 pub there_added : (n : ℕ) (os : List Operand) (o : Operand) → AreThere n os → needs o ≤ n → AreThere n (os ++ o ∷ [])
 there_added n os o there here = each_added (λ (operand : Operand). needs operand ≤ n) os o there here
 
-pub within_added : (ds : List Datum) (d : Datum) → AllByRecursion IsWithin ds → IsWithin d → AllByRecursion IsWithin (ds ++ d ∷ [])
-within_added ds d all here = each_added IsWithin ds d all here
-
-pub lasting_needs : (o : Operand) → needs (lasting o) ≡ needs o
-lasting_needs operand.NoneValue = refl
-lasting_needs (operand.Int number) = refl
-lasting_needs (operand.Bool truth) = refl
-lasting_needs (operand.Text text) = refl
-lasting_needs (operand.Word name) = refl
-lasting_needs (operand.Variable name kind) = refl
-lasting_needs (operand.Temporary name kind) = refl
-
 pub one_datum : (n : ℕ) (o : Operand) (d : Datum) → d ≡ datum_of o → IsWithin d → needs o ≤ n → IsShapedDatum n d
 one_datum n o d is within there =
     let Q : Datum → Type 0 = λ e. IsShapedDatum n e in
@@ -61,11 +49,6 @@ length_of os ds are = ap (λ (l : List Datum). length l) are ∙ length-map os d
 
 pub agrees_with : (opcode : ℕ) (all fixed : ℕ) → operands_of opcode ≡ Some (all, false) → fixed ≡ all → AgreesWith (operands_of opcode) fixed 0
 agrees_with opcode all fixed takes same = subst (λ (o : Option (ℕ × Bool)). AgreesWith o fixed 0) (sym takes) (same, refl)
-
-pub there_at : (n : ℕ) (os : List Operand) (at : ℕ) (o : Operand) → AreThere n os → at < length os → o ≡ get_or os at o → needs o ≤ n
-there_at n os at o all within is =
-    let P : Operand → Type 0 = λ x. needs x ≤ n in
-    subst P (sym is) (All-from_recursion P os all at o within)
 
 pub none_each : (strings n : ℕ) → AllByRecursion (IsShapedDatum strings) (replicate n datum.NoneValue)
 none_each strings zero = tt

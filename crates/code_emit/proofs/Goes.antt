@@ -49,8 +49,3 @@ pub leaps_here : (old : Written) (n count count' : ℕ) (places after : List ℕ
 leaps_here old n count count' places after place is more added is_new =
     let P : Written → Type 0 = λ w. Leaps w place (written n count' after) in
     subst P is record { strings = omega arith; count = omega arith; ahead_are = added; is_new = is_new }
-
-pub goes_count : (old : Written) (n count count' : ℕ) (ahead after : List ℕ) → written n count ahead ≡ old → count' ≡ count + 1 → after ≡ ahead → GoesOn old (written n count' after)
-goes_count old n count count' ahead after is more same =
-    let P : Written → Type 0 = λ w. GoesOn w (written n count' after) in
-    subst P is record { strings = omega arith; count = omega arith; ahead = same }

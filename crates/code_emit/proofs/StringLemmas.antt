@@ -1,5 +1,5 @@
 -- Strings that go into a table.
-use Rattle.std.proofs.Common.{◌≡◌, ℕ, ◌≤◌, Bool, true, false, ◌||◌, cond, List, [], ◌∷◌, ◌++◌, length, map, refl, sym, ap, ◌∙◌, arith, length-append}
+use Rattle.std.proofs.Common.{◌≡◌, ℕ, Bool, true, false, ◌||◌, cond, List, [], ◌∷◌, ◌++◌, map, refl, sym, ap, ◌∙◌}
 use Rattle.std.specs.List.{list_any}
 use Rattle.std.specs.declared.alloc.Global.{Global}
 use Rattle.std.specs.declared.vec.Vec.{Vec}
@@ -30,10 +30,3 @@ shown-insert_key ks k =
 
 pub found_string : (strings : List (List ℕ)) (string : List ℕ) → list_any (same_bytes string) strings ≡ true → strings ≡ with_string strings string
 found_string strings string found = sym (ap (λ (b : Bool). cond b strings (strings ++ string ∷ [])) found)
-
-grows_cases : (b : Bool) (strings : List (List ℕ)) (string : List ℕ) → length strings ≤ length (cond b strings (strings ++ string ∷ []))
-grows_cases true strings string = omega arith
-grows_cases false strings string = omega (arith, length-append strings (string ∷ []))
-
-pub string_grows : (strings : List (List ℕ)) (string : List ℕ) → length strings ≤ length (with_string strings string)
-string_grows strings string = grows_cases (list_any (same_bytes string) strings) strings string

@@ -1,5 +1,5 @@
 -- What is written stays right while parts are added to it.
-use Rattle.std.proofs.Common.{◌≡◌, ℕ, zero, suc, ◌+◌, ◌-◌, ◌<◌, ◌≤◌, ◌^◌, ℤ, List, [], ◌∷◌, ◌++◌, length, map, take, drop, get_or, Option, Some, None, refl, sym, ap, subst, ◌∙◌, w32, FitsSigned, arith, length-append}
+use Rattle.std.proofs.Common.{◌≡◌, ℕ, zero, suc, ◌+◌, ◌-◌, ◌<◌, ◌≤◌, ◌^◌, ℤ, List, [], ◌∷◌, ◌++◌, length, map, take, drop, get_or, Option, Some, None, refl, sym, subst, ◌∙◌, w32, FitsSigned, arith, length-append}
 use Rattle.std.proofs.Math.ListN.{set, length-set}
 use Rattle.std.specs.Prelude.{IfSome}
 use Rattle.std.specs.List.{AllByRecursion, Contains, remove}
@@ -170,20 +170,3 @@ module _ (n count : ℕ) (code : Buffer) (debug : List PexLines) (parameters loc
 -- a jump back
 pub back_shaped : (n from to : ℕ) → from ≤ 65535 → to ≤ 65535 → IsShapedInstruction n (jumps.jump Always (offset from to))
 back_shaped n from to low high = record { opcode = omega arith; operands = (refl, refl); fixed = (offset_fits from to (omega arith) high, tt); more = tt }
-
--- nothing is written of a function, while the debug entries stay
-pub with_nothing : (n : ℕ) (code : Buffer) (debug : List PexLines) (parameters locals spare : List (ℕ × ℕ))
-    → code ≡ record { code = []; lines = []; ahead = [] } → AllByRecursion (IsShapedLines n) (map plain_lines debug) → parameters ≡ [] → locals ≡ [] → spare ≡ []
-    → IsWriting n 0 code debug parameters locals spare None
-with_nothing n code debug parameters locals spare empty entries no_parameters no_locals no_spare = record {
-  count_is = sym (ap (λ (b : Buffer). length b.code) empty);
-  few = omega arith;
-  ahead_are = subst (λ (b : Buffer). AllByRecursion (λ place. place < 0) b.ahead) (sym empty) tt;
-  instructions = subst (λ (b : Buffer). AllByRecursion (IsShapedInstruction n) b.code) (sym empty) tt;
-  lines = subst (λ (b : Buffer). AllByRecursion (λ line. line < 2 ^ 16) b.lines) (sym empty) tt;
-  entries = entries;
-  parameters_are = subst (λ (ps : List (ℕ × ℕ)). AllByRecursion (ArePair n) ps) (sym no_parameters) tt;
-  locals_are = subst (λ (ps : List (ℕ × ℕ)). AllByRecursion (ArePair n) ps) (sym no_locals) tt;
-  spare_are = subst (λ (ps : List (ℕ × ℕ)). AllByRecursion (λ s. s.1 < n) ps) (sym no_spare) tt;
-  none_is = tt;
-}

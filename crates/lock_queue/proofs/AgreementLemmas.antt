@@ -28,10 +28,6 @@ seat_from seats k j s t within differs seat =
     (λ (other : (eqb j k ≡ false) × (j ≢ k)). (other.1, sym (seat_other seats k j s other.1) ∙ seat))
     (eqb_tells j k)
 
--- a stack whose seat isn't this one is another stack
-pub other_stack : (seats : List Seat) (k j : ℕ) (s t : Seat) → seat_at seats k ≡ s → seat_at seats j ≡ t → (s ≡ t → ⊥) → j ≢ k
-other_stack seats k j s t seat_k seat_j differs = λ e. differs (sym seat_k ∙ ap (seat_at seats) (sym e) ∙ seat_j)
-
 pub waits_holds : (a b : ℕ) → Waits a ≡ Holds b → ⊥
 waits_holds a b e = cc
 
@@ -46,9 +42,6 @@ resting_holds a e = cc
 
 pub free_waits : (a : ℕ) → Free ≡ Waits a → ⊥
 free_waits a e = cc
-
-pub free_holds : (a : ℕ) → Free ≡ Holds a → ⊥
-free_holds a e = cc
 
 pub same_waits : (a b : ℕ) → Waits a ≡ Waits b → a ≡ b
 same_waits a b e = cc

@@ -211,9 +211,6 @@ AreQueues-empty room instances = record {
   apart = λ a b k here there. absurd (has_none instances a k here);
 }
 
-pub leads_front : (next firsts lasts : List (Option ℕ)) (room : ℕ) (lists : List (List ℕ)) (i : ℕ) → AreQueues next firsts lasts room lists → link_at firsts i ≡ first_of (queue_at lists i)
-leads_front next firsts lasts room lists i queues = leads_first next (link_at firsts i) (queue_at lists i) (queues.each i).leads
-
 -- ---- the same, of what the code read and wrote
 pub pushed_queues : (next firsts lasts : List (Option ℕ)) (room : ℕ) (lists : List (List ℕ)) (i k queue place : ℕ) (last first : Option ℕ) (next' : List (Option ℕ)) (first' : Option ℕ) → AreQueues next firsts lasts room lists → i < length lists → k < room → ((j : ℕ) → Lacks (queue_at lists j) k) → queue ≡ i → place ≡ k → last ≡ get_or lasts queue last → first ≡ get_or firsts queue first → next' ≡ relinked (set next place None) last (Some k) → first' ≡ end_after first last (Some k) → AreQueues next' (set firsts queue first') (set lasts queue (Some k)) room (set lists i (queue_at lists i ++ k ∷ []))
 pushed_queues next firsts lasts room lists i k queue place last first next' first' queues i_in k_in new queue_is place_is last_read first_read next_is first_is =

@@ -1,7 +1,7 @@
 -- Bits of words, and the first number that passes a test.
 use Rattle.std.proofs.Common.{◌≡◌, ◌≢◌, ℕ, zero, suc, ◌+◌, ◌-◌, ◌*◌, ◌/◌, ◌%◌, ◌^◌, ◌<◌, ◌≤◌, min, List, [], ◌∷◌, ◌++◌, length, Option, Some, None, Bool, true, false, cond, eqb, get_or, sym, refl, ap, ◌∙◌, ⊎_elim, arith, bit_and, bit_or, w64}
 use Rattle.std.proofs.Math.ListN.{set}
-use Rattle.std.proofs.lemmas.List.{get_or-set_other, get_or_past}
+use Rattle.std.proofs.lemmas.List.{get_or-set_other}
 use Rattle.std.proofs.lemmas.Grind.{get_or-set_at}
 use Rattle.std.proofs.lemmas.Bool.{eq-eqb, ne_eqb, false≢true, cases_lt}
 use Rattle.std.proofs.lemmas.Bool.Decides.{eqb_tells}
@@ -82,21 +82,6 @@ lowest_is word from within fits some =
 
     lt_trans : (a b c : ℕ) → a < b → b < c → a < c
     lt_trans a b c h k = omega arith
-
--- ---- members
-pub member_at : (words : List ℕ) (index p j : ℕ) → p < 64 → j ≡ 64 * index + p → is_member words j ≡ eqb (bit_at (get_or words index 0) p) 1
-member_at words index p j within j_is =
-    let quotient : j / 64 ≡ index = omega arith in
-    let remainder : j % 64 ≡ p = omega arith in
-    ap (λ q. eqb (bit_at (get_or words q 0) (j % 64)) 1) quotient ∙ ap (λ r. eqb (bit_at (get_or words index 0) r) 1) remainder
-
-pub not_member : (words : List ℕ) (index j : ℕ) → 64 * index ≤ j → j < 64 * index + 64 → bit_at (get_or words index 0) (j - 64 * index) ≡ 0 → is_member words j ≡ false
-not_member words index j above below bit =
-    member_at words index (j - 64 * index) j (omega arith) (omega arith) ∙ ap (λ b. eqb b 1) bit
-
-pub member_past : (words : List ℕ) (j : ℕ) → 64 * length words ≤ j → is_member words j ≡ false
-member_past words j above =
-    ap (λ w. eqb (bit_at w (j % 64)) 1) (get_or_past words (j / 64) 0 (omega arith)) ∙ ap (λ b. eqb b 1) (bit_at-zero (j % 64))
 
 pub member-set : (words : List ℕ) (place stack word k : ℕ) (is_in : Bool) → place ≡ stack / 64 → place < length words → ((p : ℕ) → p < 64 → eqb (bit_at word p) 1 ≡ cond (eqb p (stack % 64)) is_in (eqb (bit_at (get_or words place 0) p) 1)) → is_member (set words place word) k ≡ cond (eqb k stack) is_in (is_member words k)
 member-set words place stack word k is_in place_is within bits =

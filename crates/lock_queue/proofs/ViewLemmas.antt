@@ -108,10 +108,6 @@ first_waiter-of : (seats : List Seat) (xs : List ℕ) → first_waiter (waiters_
 first_waiter-of seats [] = refl
 first_waiter-of seats (x ∷ xs) = refl
 
-pub waiter_after-first : (seats : List Seat) (xs : List ℕ) → waiter_after (waiters_of seats xs) None ≡ first_of xs
-waiter_after-first seats [] = refl
-waiter_after-first seats (x ∷ xs) = refl
-
 pub waiter_after-of : (seats : List Seat) (xs : List ℕ) (k : ℕ) → waiter_after (waiters_of seats xs) (Some k) ≡ stack_after xs k
 waiter_after-of seats [] k = refl
 waiter_after-of seats (x ∷ xs) k =

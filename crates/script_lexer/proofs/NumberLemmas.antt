@@ -1,5 +1,5 @@
 -- Numbers.
-use Rattle.std.proofs.Common.{◌≡◌, ℕ, suc, ◌+◌, ◌<◌, ◌≤◌, ◌^◌, Bool, true, false, List, [], ◌∷◌, ◌++◌, length, take, drop, refl, sym, ap, subst, ◌∙◌, ⊎_elim, inl, inr, one-add, arith, lit≤}
+use Rattle.std.proofs.Common.{◌≡◌, ℕ, suc, ◌+◌, ◌<◌, ◌≤◌, ◌^◌, Bool, true, false, List, [], ◌∷◌, ◌++◌, length, take, drop, refl, sym, ap, subst, ◌∙◌, ⊎_elim, one-add, arith, lit≤}
 use Rattle.std.specs.Prelude.{◌⊎◌}
 use Rattle.std.specs.List.{prefix_len}
 use Rattle.std.proofs.lemmas.Bool.{eqb-true, cases_Bool, and_parts}
@@ -115,29 +115,6 @@ hexadecimal_stands (b ∷ x ∷ hs) behind digits after k n opens hex is_behind 
     (subst (λ (m : ℕ). Stands (b ∷ x ∷ hs) (piece.Token (token.Int (cast_signed w32 (digits_value 16 (take (prefix_len is_ascii_hexdigit hs) hs))))) (m + 2)) (sym r)
     (hex_at b x hs opens hex (omega arith) (subst (λ (t : List ℕ). BeginsWith is_word_start t → ⊥) a no_word)))
 
-hex_least : (b : ℕ) (bs : List ℕ) → is_hexadecimal b bs ≡ true → (r : LexRule) → BreaksFrom opening.Number r b bs → 6 ≤ rule_number r
-hex_least b bs hex rule.BadByte broken = absurd broken
-hex_least b bs hex rule.OpenText broken = absurd broken
-hex_least b bs hex rule.BadEscape broken = absurd broken
-hex_least b bs hex rule.FloatLiteral broken = absurd (let e : 16 ≡ numeral_base (numeral b bs) = rw hex refl in omega (arith, e, broken.0))
-hex_least b bs hex rule.FloatWord broken = absurd broken
-hex_least b bs hex rule.NumberRange broken = lit≤ tt
-hex_least b bs hex rule.TextTooLong broken = lit≤ tt
-hex_least b bs hex rule.OpenComment broken = lit≤ tt
-hex_least b bs hex rule.TooLarge broken = lit≤ tt
-
-pub hexadecimal_refused : (rest behind digits after : List ℕ) (k : ℕ) → Opens opening.Number rest → is_hexadecimal_at rest ≡ true → behind ≡ drop 2 rest → k ≡ prefix_len is_ascii_hexdigit behind → digits ≡ take k behind → after ≡ drop k behind
-    → (2 ^ 32 ≤ digits_value 16 digits) ⊎ BeginsWith is_word_start after → IsLowest rest rule.NumberRange
-hexadecimal_refused [] behind digits after k opens hex is_behind run ds rest_is bad = absurd opens
-hexadecimal_refused (b ∷ []) behind digits after k opens hex is_behind run ds rest_is bad = absurd cc
-hexadecimal_refused (b ∷ x ∷ hs) behind digits after k opens hex is_behind run ds rest_is bad =
-    let r : k ≡ prefix_len is_ascii_hexdigit hs = run ∙ ap (prefix_len is_ascii_hexdigit) is_behind in
-    let d : take (prefix_len is_ascii_hexdigit hs) hs ≡ digits = cc in
-    let a : drop (prefix_len is_ascii_hexdigit hs) hs ≡ after = cc in
-    lowest opening.Number b (x ∷ hs) rule.NumberRange opens
-    (rw (hex, d, a) (⊎_elim (λ big. inl (omega arith)) inr bad))
-    (hex_least b (x ∷ hs) hex)
-
 -- ---- decimal
 
 dec_take : (b : ℕ) (bs : List ℕ) → is_hexadecimal b bs ≡ false → (k : ℕ) → is_hexadecimal b (take k bs) ≡ false
@@ -201,24 +178,6 @@ decimal_stands (b ∷ bs) behind digits after k n opens dec is_behind run ds res
     subst (λ (m : ℤ). Stands (b ∷ bs) (piece.Token (token.Int m)) (1 + k)) (sym z)
     (subst (λ (m : ℕ). Stands (b ∷ bs) (piece.Token (token.Int (pos (digits_value 10 (b ∷ take (prefix_len is_ascii_digit bs) bs))))) (1 + m)) (sym r)
     (dec_at b bs opens dec (omega arith) (subst (λ (t : List ℕ). IsFraction t → ⊥) a no_fraction) (subst (λ (t : List ℕ). BeginsWith is_word_start t → ⊥) a no_word)))
-
-dec_least_fraction : (b : ℕ) (bs : List ℕ) → (r : LexRule) → BreaksFrom opening.Number r b bs → 4 ≤ rule_number r
-dec_least_fraction b bs rule.BadByte broken = absurd broken
-dec_least_fraction b bs rule.OpenText broken = absurd broken
-dec_least_fraction b bs rule.BadEscape broken = absurd broken
-dec_least_fraction b bs rule.FloatLiteral broken = lit≤ tt
-dec_least_fraction b bs rule.FloatWord broken = lit≤ tt
-dec_least_fraction b bs rule.NumberRange broken = lit≤ tt
-dec_least_fraction b bs rule.TextTooLong broken = lit≤ tt
-dec_least_fraction b bs rule.OpenComment broken = lit≤ tt
-dec_least_fraction b bs rule.TooLarge broken = lit≤ tt
-
-pub decimal_fraction : (rest behind after : List ℕ) (k : ℕ) → Opens opening.Number rest → is_hexadecimal_at rest ≡ false → behind ≡ drop 1 rest → k ≡ prefix_len is_ascii_digit behind → after ≡ drop (1 + k) rest → IsFraction after → IsLowest rest rule.FloatLiteral
-decimal_fraction [] behind after k opens dec is_behind run rest_is h = absurd opens
-decimal_fraction (b ∷ bs) behind after k opens dec is_behind run rest_is h =
-    let r : k ≡ prefix_len is_ascii_digit bs = run ∙ ap (prefix_len is_ascii_digit) is_behind in
-    let a : drop (prefix_len is_ascii_digit bs) bs ≡ after = sym (after_is b bs after k rest_is ∙ ap (λ (m : ℕ). drop m bs) r) in
-    lowest opening.Number b bs rule.FloatLiteral opens (rw (dec, a) (refl, h)) (dec_least_fraction b bs)
 
 dec_least : (b : ℕ) (bs : List ℕ) → is_hexadecimal b bs ≡ false → (IsFraction (drop (prefix_len is_ascii_digit bs) bs) → ⊥) → (r : LexRule) → BreaksFrom opening.Number r b bs → 6 ≤ rule_number r
 dec_least b bs dec no_fraction rule.BadByte broken = absurd broken

@@ -6,9 +6,9 @@ use Rattle.script_lexer.specs.declared.token.Token.TheVariants as token
 use Rattle.script_lexer.specs.declared.piece.Piece.TheVariants as piece
 use Rattle.script_lexer.specs.declared.fault.LexRule.{LexRule}
 use Rattle.script_lexer.specs.declared.fault.LexRule.TheVariants as rule
-use Rattle.script_lexer.specs.Rules.{rule_number, BreaksFrom}
-use Rattle.script_lexer.specs.Answers.{Opens, Stands, IsLowest, pair_at}
-use Rattle.script_lexer.proofs.Standing.{stands, lowest}
+use Rattle.script_lexer.specs.Rules.{BreaksFrom}
+use Rattle.script_lexer.specs.Answers.{Opens, Stands, pair_at}
+use Rattle.script_lexer.proofs.Standing.{stands}
 use Rattle.script_lexer.specs.declared.sign.Sign.{Sign}
 use Rattle.script_lexer.specs.declared.sign.Sign.TheVariants as sign
 use Rattle.script_lexer.specs.Words.{sign_spelling, sign_of_byte, sign_before_equal, sign_of_bytes}
@@ -195,34 +195,3 @@ one_byte_sign (b ∷ bs) s opens none h =
     (s, byte_found s b h, refl)
     (λ os back q same w. one_byte_most b bs os back w.0 none same w.1)
     (no_sign_rule b bs s bs (ap (λ (t : List ℕ). t ++ bs) (byte_found s b h)))
-
-sign_least : (b : ℕ) (bs : List ℕ) → (r : LexRule) → BreaksFrom opening.Sign r b bs → 1 ≤ rule_number r
-sign_least b bs rule.BadByte broken = lit≤ tt
-sign_least b bs rule.OpenText broken = lit≤ tt
-sign_least b bs rule.BadEscape broken = lit≤ tt
-sign_least b bs rule.FloatLiteral broken = lit≤ tt
-sign_least b bs rule.FloatWord broken = lit≤ tt
-sign_least b bs rule.NumberRange broken = lit≤ tt
-sign_least b bs rule.TextTooLong broken = lit≤ tt
-sign_least b bs rule.OpenComment broken = lit≤ tt
-sign_least b bs rule.TooLarge broken = lit≤ tt
-
-no_sign_here : (b : ℕ) (bs : List ℕ) → pair_at (b ∷ bs) ≡ None → sign_of_byte b ≡ None → (s : Sign) (after : List ℕ) → b ∷ bs ≡ sign_spelling s ++ after → ⊥
-no_sign_here b bs none none_short s after e = by_form (form_of s)
-  where
-    by_form : Form s → ⊥
-    by_form (one_byte x g h) =
-        let whole : b ∷ bs ≡ x ∷ after = e ∙ ap (λ (t : List ℕ). t ++ after) g in
-        let first : b ≡ x = cc in
-        absurd cc
-    by_form (two_bytes x y g h) =
-        let whole : b ∷ bs ≡ x ∷ y ∷ after = e ∙ ap (λ (t : List ℕ). t ++ after) g in
-        let first : b ≡ x = cc in
-        let tail : bs ≡ y ∷ after = cc in
-        let there : pair_at (b ∷ bs) ≡ Some s = pair_at-of b bs y after tail ∙ ap (λ (n : ℕ). sign_of_bytes n y) first ∙ h in
-        let no : None ≡ Some s = sym none ∙ there in
-        absurd cc
-
-pub sign_refused : (rest : List ℕ) → Opens opening.Sign rest → pair_at rest ≡ None → sign_of_byte (get_or rest 0 0) ≡ None → IsLowest rest rule.BadByte
-sign_refused [] opens none h = absurd opens
-sign_refused (b ∷ bs) opens none h = lowest opening.Sign b bs rule.BadByte opens (no_sign_here b bs none h) (sign_least b bs)

@@ -2,7 +2,7 @@
 use Rattle.std.proofs.Common.{◌≡◌, ℕ, ◌+◌, ◌-◌, ◌<◌, ◌≤◌, Bool, true, false, List, [], ◌∷◌, ◌++◌, length, get_or, take, drop, map, refl, sym, ap, subst, ◌∙◌, inl, inr, arith, append_assoc, lit≤}
 use Rattle.std.specs.Prelude.{◌&&◌}
 use Rattle.std.proofs.lemmas.Bool.{false≢true}
-use Rattle.std.proofs.lemmas.List.{length-drop, length-append, drop_more, drop_at, take_at, append-nil, length-map, map_push}
+use Rattle.std.proofs.lemmas.List.{length-drop, length-append, drop_more, take_at, append-nil, length-map, map_push}
 use Rattle.script_lexer.specs.declared.opening.Opening.TheVariants as opening
 use Rattle.script_lexer.specs.declared.token.Token.TheVariants as token
 use Rattle.script_lexer.specs.declared.piece.Piece.{Piece}
@@ -58,24 +58,6 @@ reads_more bytes meant good rest i meant' good' after so_far begins value goodne
   value = value ∙ ap (λ (t : List ℕ). t ++ item_value i ∷ []) so_far.value ∙ sym (map_push item_value so_far.items i);
   goodness = goodness ∙ ap (λ (t : Bool). t && is_good_item i) so_far.goodness ∙ sym (are_good-push so_far.items i);
 }
-
-pub reads_none : (bytes : List ℕ) → ReadSoFar bytes [] true bytes
-reads_none bytes = record { items = []; are_items = tt; split = refl; value = refl; goodness = refl }
-
-pub reads_all : (bytes meant : List ℕ) (good : Bool) (rest : List ℕ) (len : ℕ) → ReadSoFar bytes meant good rest → Stops rest → len ≡ length bytes - length rest → ReadsItems bytes meant good len
-reads_all bytes meant good rest len so_far stops is_len =
-    let sum = ap length so_far.split in
-    let size : length bytes ≡ length (items_bytes so_far.items) + length rest = sum ∙ length-append (items_bytes so_far.items) rest in
-    let left : drop len bytes ≡ rest = ap (drop len) so_far.split ∙ drop_at (items_bytes so_far.items) rest len (omega arith) in
-    record {
-      items = so_far.items;
-      are_items = so_far.are_items;
-      within = omega arith;
-      split = so_far.split ∙ ap (λ (t : List ℕ). items_bytes so_far.items ++ t) (sym left);
-      stops = subst Stops (sym left) stops;
-      value = so_far.value;
-      goodness = so_far.goodness;
-    }
 
 -- ---- bytes have one reading as items, up to where it stops
 

@@ -296,23 +296,6 @@ block_comment_stands (b ∷ []) body n opens block is_body le e = absurd cc
 block_comment_stands (b ∷ x ∷ bs) body n opens block is_body le e =
     block_at b x bs n opens (eqb-true _ _ block) (subst (λ (t : List ℕ). n ≤ length t) is_body le) (subst (λ (t : List ℕ). behind_close t ≡ Some (drop n t)) is_body e)
 
-comment_least : (b : ℕ) (bs : List ℕ) → (r : LexRule) → BreaksFrom opening.Comment r b bs → 8 ≤ rule_number r
-comment_least b bs rule.BadByte broken = absurd broken
-comment_least b bs rule.OpenText broken = absurd broken
-comment_least b bs rule.BadEscape broken = absurd broken
-comment_least b bs rule.FloatLiteral broken = absurd broken
-comment_least b bs rule.FloatWord broken = absurd broken
-comment_least b bs rule.NumberRange broken = absurd broken
-comment_least b bs rule.TextTooLong broken = absurd broken
-comment_least b bs rule.OpenComment broken = lit≤ tt
-comment_least b bs rule.TooLarge broken = lit≤ tt
-
-pub block_comment_open : (rest body : List ℕ) → Opens opening.Comment rest → begins_block (drop 1 rest) ≡ true → body ≡ drop 2 rest → behind_close body ≡ None → IsLowest rest rule.OpenComment
-block_comment_open [] body opens block is_body e = absurd opens
-block_comment_open (b ∷ []) body opens block is_body e = absurd cc
-block_comment_open (b ∷ x ∷ bs) body opens block is_body e =
-    lowest opening.Comment b (x ∷ bs) rule.OpenComment opens (eqb-true _ _ block, ap behind_close (sym is_body) ∙ e) (comment_least b (x ∷ bs))
-
 -- ---- the search for a close
 
 close_step : (b c : ℕ) (bs : List ℕ) → (b ≡ 47 → c ≡ 59 → ⊥) → behind_close (b ∷ c ∷ bs) ≡ behind_close (c ∷ bs)

@@ -51,24 +51,6 @@ word_stands (b ∷ bs) behind word k t opens is_behind run short is_word h not_f
     subst (λ (n : ℕ). Stands (b ∷ bs) (piece.Token t) (1 + n)) (sym r)
     (word_at b bs t opens (omega arith) (subst (λ (x : List ℕ). IsWord x t) w h) (subst (λ (x : List ℕ). folded x ≡ keyword_spelling keyword.Float → ⊥) w not_float))
 
-word_least : (b : ℕ) (bs : List ℕ) → (r : LexRule) → BreaksFrom opening.Word r b bs → 5 ≤ rule_number r
-word_least b bs rule.BadByte broken = absurd broken
-word_least b bs rule.OpenText broken = absurd broken
-word_least b bs rule.BadEscape broken = absurd broken
-word_least b bs rule.FloatLiteral broken = absurd broken
-word_least b bs rule.FloatWord broken = lit≤ tt
-word_least b bs rule.NumberRange broken = lit≤ tt
-word_least b bs rule.TextTooLong broken = lit≤ tt
-word_least b bs rule.OpenComment broken = lit≤ tt
-word_least b bs rule.TooLarge broken = lit≤ tt
-
-pub word_is_float : (rest behind word : List ℕ) (k : ℕ) → Opens opening.Word rest → behind ≡ drop 1 rest → k ≡ prefix_len is_word_byte behind → word ≡ take (1 + k) rest → folded word ≡ keyword_spelling keyword.Float → IsLowest rest rule.FloatWord
-word_is_float [] behind word k opens is_behind run is_word h = absurd opens
-word_is_float (b ∷ bs) behind word k opens is_behind run is_word h =
-    let r : k ≡ prefix_len is_word_byte bs = run ∙ ap (prefix_len is_word_byte) is_behind in
-    let w : word ≡ b ∷ take (prefix_len is_word_byte bs) bs = word_is b bs word k is_word ∙ ap (λ (n : ℕ). b ∷ take n bs) r in
-    lowest opening.Word b bs rule.FloatWord opens (ap folded (sym w) ∙ h) (word_least b bs)
-
 float_is_short : (b : ℕ) (bs : List ℕ) → folded (b ∷ take (prefix_len is_word_byte bs) bs) ≡ keyword_spelling keyword.Float → 1 + prefix_len is_word_byte bs ≤ 5
 float_is_short b bs e =
     let n = prefix_len is_word_byte bs in

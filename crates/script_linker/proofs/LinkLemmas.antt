@@ -1,5 +1,5 @@
 -- What completing files keeps.
-use Rattle.std.proofs.Common.{ℕ, ◌≡◌, ◌+◌, ◌-◌, ◌<◌, ◌≤◌, List, [], ◌++◌, length, map, take, drop, get_or, All, Contains, Option, Some, None, IfSome, append_assoc, append-nil, Result, Ok, Err, IfOk, set, length-set, length-take, ◌≢◌, refl, sym, ap, subst, ◌∙◌, ⊎_elim, arith}
+use Rattle.std.proofs.Common.{ℕ, ◌≡◌, ◌+◌, ◌-◌, ◌<◌, ◌≤◌, List, ◌++◌, length, map, take, drop, get_or, All, Contains, Option, Some, None, IfSome, append_assoc, Result, Ok, Err, IfOk, set, length-set, length-take, ◌≢◌, sym, ap, subst, ◌∙◌, ⊎_elim, arith}
 use Rattle.std.proofs.lemmas.List.{get_or-drop, get_or-map, get_or_default, get_or-set_same, get_or-set_other, get_or-take, take-append-le, take_all}
 use Rattle.std.proofs.lemmas.Bool.{cases_eq, cases_lt}
 use Rattle.script_parser.specs.declared.script.Script.{Script}
@@ -12,14 +12,6 @@ use Rattle.script_linker.specs.Lines.{lines_of, lines_with, own_lines}
 use Rattle.script_linker.specs.Link.{IsCompleted, AreCompleted, AreFilesOf, IsFaultOf, IsFaultOn, declared_lines, function_count}
 use Rattle.script_linker.specs.Lookup.{HasNumbers, HasSmallScript}
 use Rattle.script_linker.proofs.FoundLemmas.{AreAmong}
-
-pub IsCompleted-refl : (file : SourceFile) → IsCompleted file file
-IsCompleted-refl file = record {
-  name = refl;
-  rest = refl;
-  added = [];
-  functions = sym (append-nil file.script.functions.items);
-}
 
 pub IsCompleted-trans : (a b c : SourceFile) → IsCompleted a b → IsCompleted b c → IsCompleted a c
 IsCompleted-trans a b c p q = record {

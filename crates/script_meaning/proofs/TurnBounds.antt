@@ -10,9 +10,6 @@ use Rattle.script_meaning.specs.Source.{Body, home_of, stop_at, reply_or_none, r
 use Rattle.script_meaning.specs.Stacks.{Stop}
 use Rattle.script_meaning.proofs.StepBounds.{resumed_bound, all_left_grown, StopsWithin, resumed_within}
 
-inner_of : Body → Sight → Inner
-inner_of body sight = record { locals = body.locals; line = body.line; sight = sight }
-
 pub run_bounded : (scripts : List Script) (setting : Setting) (most : ℕ) (body : Body) (reply : Option Value) (sight : Sight) → FitsIn most body → run_steps scripts setting body reply sight ≤ step_limit most
 run_bounded scripts setting most body reply sight fits =
     let b = resumed_bound (home_of scripts setting body) body.pending (reply_or_none reply) (record { locals = body.locals; line = body.line; sight = sight }) in

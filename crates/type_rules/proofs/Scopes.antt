@@ -1,5 +1,5 @@
 -- What trees may name in a scope that grows.
-use Rattle.std.proofs.Common.{◌≡◌, ◌<◌, ◌+◌, ℕ, [], ◌∷◌, ◌++◌, length, min, arith, refl, sym, ap, ◌∙◌, subst, vec_len, length-append}
+use Rattle.std.proofs.Common.{◌≡◌, ◌<◌, ◌+◌, ℕ, [], ◌∷◌, ◌++◌, length, min, arith, sym, ap, ◌∙◌, subst, vec_len, length-append}
 use Rattle.std.specs.Prelude.{Option}
 use Rattle.std.proofs.lemmas.List.Elements.{All-push}
 use Rattle.core_tree.specs.declared.core_type.CoreType.{CoreType}
@@ -32,9 +32,6 @@ keeps-grows a b k = record {
 }
 
 -- ---- locals are added
-
-pub grows-here : (a : Scope) → Grows a a
-grows-here a = record { catalog = refl; layout = refl; script = refl; locals = omega arith; in_range = λ r. r }
 
 pub grows-further : (a b c : Scope) → Grows a b → Grows b c → Grows a c
 grows-further a b c first second = record {
