@@ -26,6 +26,8 @@ Expected files are written by hand: this program never writes one.
   run.py            every case
   run.py NAME..     these cases
   run.py -j N       N cases at a time
+
+Where the environment has PAPYRUS_PROGRAM, that program is run, and else the one that was built last.
 """
 import concurrent.futures
 import difflib
@@ -36,7 +38,10 @@ import sys
 import tempfile
 
 CASES = pathlib.Path(__file__).resolve().parent
-PROGRAM = CASES.parent / "crates" / "papyrus" / "out" / "papyrus"
+BUILT = CASES.parent / "crates" / "papyrus" / "out"
+# The program that PAPYRUS_PROGRAM names, else the one that was built last, with proofs or without.
+LAST_BUILT = max(BUILT / "papyrus", BUILT / "unproved" / "papyrus", key=lambda path: path.stat().st_mtime if path.exists() else 0)
+PROGRAM = pathlib.Path(os.environ.get("PAPYRUS_PROGRAM") or LAST_BUILT).resolve()
 EXPECTED = {"args", "status", "out", "notes", "after", "listed", "made", "judge", "closed", "room", "memory", "generate", "earlier"}
 SECONDS = 60
 LIMITS = {"room": "RLIMIT_FSIZE", "memory": "RLIMIT_DATA"}
@@ -177,7 +182,7 @@ def main():
         del words[at : at + 2]
     cases = [CASES / name for name in words] or sorted(path for path in CASES.iterdir() if (path / "args").exists())
     if not PROGRAM.exists():
-        print("the program isn't built: run ./papyrus --version or ./test first")
+        print("the program isn't built: run ./papyrus --version first")
         return 2
     failed = 0
     with concurrent.futures.ThreadPoolExecutor(jobs) as pool:
