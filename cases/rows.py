@@ -1,7 +1,7 @@
 """Files of rows: black-box cases of one line each. The head of run.py says what stands in them."""
 import re
 
-HEADING = re.compile(r"\[(file|words|earlier|rows|anew)(?: (.+))?\]|\[(words|earlier)\] (.+)")
+HEADING = re.compile(r"\[(file) (\S+)\](?: (.*))?|\[(words|earlier|out)\] (.+)|\[(rows|anew)\]")
 PLACE = re.compile(r"@([1-9])")
 ESCAPE = re.compile(r"\\\{((?:[^\\{}]|\\[^{])*)\*(\d+)\}|\\x([0-9A-Fa-f]{2})|\\(.?)", re.DOTALL)
 SINGLE = {"n": "\n", "t": "\t", "\\": "\\", "|": "|"}
@@ -83,6 +83,7 @@ class Reader:
         self.files = {}
         self.earlier = []
         self.words = None
+        self.out = "@0"
         self.file = None
         self.in_rows = False
 
@@ -90,19 +91,17 @@ class Reader:
         found = HEADING.fullmatch(line)
         if not found:
             raise Malformed("there is no such heading")
-        kind, name, command, words = found.groups()
-        if (kind == "file") != (name is not None) or kind in ("words", "earlier"):
-            raise Malformed("the heading isn't whole")
-        self.file = name
-        self.in_rows = kind == "rows"
-        if kind == "anew":
+        file, name, text, setting, value, single = found.groups()
+        self.file = name if text is None else None
+        self.in_rows = single == "rows"
+        if file:
+            self.files[name] = text or ""
+        elif setting == "earlier":
+            self.earlier.append(value)
+        elif setting:
+            setattr(self, setting, value)
+        elif single == "anew":
             self.start_over()
-        elif kind == "file":
-            self.files[name] = ""
-        elif command == "words":
-            self.words = words
-        elif command == "earlier":
-            self.earlier.append(words)
         elif self.words is None:
             raise Malformed("no [words] stand before these rows")
 
@@ -115,6 +114,8 @@ class Reader:
             [[unescaped(word) for word in filled(command, written, used).split()] for command in commands]
             for commands in (self.earlier, [self.words])
         )
+        if status == "0":
+            answer = unescaped(self.out).replace("@0", answer)
         for at, field in enumerate(fields, 1):
             if field and at not in used:
                 raise Malformed(f"no file and no word has a place @{at}")

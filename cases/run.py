@@ -36,14 +36,16 @@ A file NAME.rows here has cases of one line each, which differ in little and are
 
   [file NAME]      the text of a file that each row below is laid with, to the next line that begins with `[`. `@1` to `@9` stand for the
                    fields of the row. NAME.hex is as above. A second section of the same name takes the place of the first.
+  [file NAME] ..   such a text of one line, without a line feed behind it
   [words] ..       the program's words for the rows below, with blanks between them; they may hold fields too
   [earlier] ..     a command that runs before, as above; it may stand several times
+  [out] ..         the standard output of rows that end with 0, with `@0` for the answer that stands in the row
   [rows]           the rows follow
   [anew]           drops all files and words that stand above
 
 A row is its fields with ` | ` between them, `  =>  `, the status, a blank, and without its last line feed all that is written to
 standard output where the status is 0, and else to standard error; the other of them has nothing. Each field is used, but for empty
-ones. In fields, answers and words `\\n`, `\\t`, `\\\\`, `\\|` and `\\xNN` are escapes, and `\\{ab\\n*300}` is a text 300 times. Files are
+ones. In fields, answers, words and [out] `\\n`, `\\t`, `\\\\`, `\\|` and `\\xNN` are escapes, and `\\{ab\\n*300}` is a text 300 times. Files are
 there afterwards as they were before, but for those that `compile`, `asm` and `upgrade` write where they end with 0.
 
   run.py            every case
