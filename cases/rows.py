@@ -4,7 +4,7 @@ import re
 HEADING = re.compile(r"\[(file) (\S+)\](?: (.*))?|\[(words|earlier|out)\] (.+)|\[(rows|anew)\]")
 PLACE = re.compile(r"@([1-9])")
 ESCAPE = re.compile(r"\\\{((?:[^\\{}]|\\[^{])*)\*(\d+)\}|\\x([0-9A-Fa-f]{2})|\\(.?)", re.DOTALL)
-SINGLE = {"n": "\n", "t": "\t", "\\": "\\", "|": "|"}
+SINGLE = {"n": "\n", "r": "\r", "t": "\t", "\\": "\\", "|": "|"}
 
 
 class Malformed(Exception):

@@ -45,7 +45,7 @@ A file NAME.rows here has cases of one line each, which differ in little and are
 
 A row is its fields with ` | ` between them, `  =>  `, the status, a blank, and without its last line feed all that is written to
 standard output where the status is 0, and else to standard error; the other of them has nothing. Each field is used, but for empty
-ones. In fields, answers, words and [out] `\\n`, `\\t`, `\\\\`, `\\|` and `\\xNN` are escapes, and `\\{ab\\n*300}` is a text 300 times. Files are
+ones. In fields, answers, words and [out] `\\n`, `\\r`, `\\t`, `\\\\`, `\\|` and `\\xNN` are escapes, and `\\{ab\\n*300}` is a text 300 times. Files are
 there afterwards as they were before, but for those that `compile`, `asm` and `upgrade` write where they end with 0.
 
   run.py            every case
