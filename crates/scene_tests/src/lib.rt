@@ -1,10 +1,10 @@
-//! Tests of scenes: how their texts are read, bound to scripts, and reported. They stand in a crate of their own, so that the proofs of the
-//! crates below aren't made twice.
+//! Tests of which compiled files run together, of the turns of their machine, and of scenes: what no command shows. They stand in a crate of
+//! their own, so that the proofs of the crates below aren't made twice.
 #![tactic(auto)]
 
 #[cfg(test)]
-mod binding;
+mod files;
 #[cfg(test)]
-mod reading;
+mod turns;
 #[cfg(test)]
-mod running;
+mod verifying;

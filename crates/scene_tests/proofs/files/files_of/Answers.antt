@@ -2,7 +2,7 @@ use Rattle.std.proofs.Common.{List, All, sym, subst}
 use Rattle.std.proofs.lemmas.List.Elements.{All-push}
 use Rattle.pex_values.specs.declared.values.Pex.{Pex}
 use Rattle.pex_verify.specs.Files.{IsFile}
-use Rattle.verify_tests.proofs.test_sets.files_of.Goals as goal
+use Rattle.scene_tests.proofs.files.files_of.Goals as goal
 
 pub loop-part-preserved : goal.loop-part-preserved
 loop-part-preserved c =

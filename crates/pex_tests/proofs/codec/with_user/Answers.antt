@@ -1,4 +1,4 @@
-use Rattle.codec_tests.proofs.tests.with_user.Goals as goal
+use Rattle.pex_tests.proofs.codec.with_user.Goals as goal
 
 pub returns : goal.returns
 returns c = record {
