@@ -1,5 +1,4 @@
-//! Tests of the top call, on files in memory of which single calls fail, and without devices. They stand in a crate of
-//! their own, so that the proofs of the commands aren't made twice.
+//! Tests of the top call on files in memory of which single calls fail, and of a sample without devices.
 #![tactic(auto)]
 
 #[cfg(test)]

@@ -108,11 +108,8 @@ fn the_longest_chains_are_written(rt: HostRuntime) -> Result<(), Fail> {
 #[test]
 fn numbers_that_name_nothing_are_refused(rt: HostRuntime) -> Result<(), Fail> {
     let alloc = rt.alloc();
-    for of in [
-        Core::Local(1),
-        Core::Field(0),
-        Core::Lit(Value::Instance(0)),
-    ] {
+    let instance = Core::Lit(Value::Instance(0));
+    for of in [Core::Local(1), Core::Field(0), instance] {
         let found = fault(alloc, CoreStatement::Plain(of));
         assert_eq!(rt; found, Some(EmitFault::OutOfRange));
     }

@@ -1,5 +1,4 @@
-//! Tests of which compiled files run together, of the turns of their machine, and of scenes: what no command shows. They stand in a crate of
-//! their own, so that the proofs of the crates below aren't made twice.
+//! Tests of which compiled files run together, and of the turns of their machine: what no command shows.
 #![tactic(auto)]
 
 #[cfg(test)]
