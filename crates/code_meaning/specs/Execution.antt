@@ -18,7 +18,7 @@ use Rattle.script_meaning.specs.Stacks.{Stop}
 use Rattle.script_meaning.specs.Values.{Result, number_of, instance_of, array_of, default_result, is_true, cast_to, equal, in_order, calculated, lineage}
 use Rattle.code_meaning.specs.Code.{Operand, Instruction, Function, Script}
 use Rattle.code_meaning.specs.Code as op
-use Rattle.code_meaning.specs.LookUp.{BodyPlace, Body, script_of, function_at, Method as FoundMethod, first_method, native_at}
+use Rattle.code_meaning.specs.LookUp.{BodyPlace, Body, script_of, function_at, FoundMethod, first_method, native_at}
 use Rattle.code_meaning.specs.Operands.{Home, Inner, worth, kind_of, default_at, stored, place_of, noted}
 
 -- what an instruction comes to

@@ -70,38 +70,38 @@ numbered test (first ∷ rest) = if test first then Some (0, first) else one_on 
 
 -- ---- methods
 -- a function of a state that was found, by the numbers of its place
-pub record Method : Type 0 where
+pub record FoundMethod : Type 0 where
   pub script : ℕ
   pub state : ℕ
   pub number : ℕ
   pub function : Function
 
-abbrev pub method_at : ℕ → ℕ → Option (ℕ × Function) → Option Method
+abbrev pub method_at : ℕ → ℕ → Option (ℕ × Function) → Option FoundMethod
 method_at script state None = None
 method_at script state (Some (number, function)) =
     Some (record { script = script; state = state; number = number; function = function })
 
-abbrev pub method_of_state : ℕ → List ℕ → Option (ℕ × State) → Option Method
+abbrev pub method_of_state : ℕ → List ℕ → Option (ℕ × State) → Option FoundMethod
 method_of_state script name None = None
 method_of_state script name (Some (number, state)) =
     method_at script number (numbered (λ function. str_eq_ignore_ascii_case function.name name) state.functions)
 
-abbrev pub method_of_script : List Script → List ℕ → List ℕ → ℕ → Option Method
+abbrev pub method_of_script : List Script → List ℕ → List ℕ → ℕ → Option FoundMethod
 method_of_script scripts state name script =
     method_of_state script name (numbered (λ found. str_eq_ignore_ascii_case found.name state) (states_in (slice_get scripts script)))
 
 -- the function that the state of this name has in the first of these scripts that has one
-abbrev pub first_method : List Script → List ℕ → List ℕ → List ℕ → Option Method
+abbrev pub first_method : List Script → List ℕ → List ℕ → List ℕ → Option FoundMethod
 first_method scripts [] state name = None
 first_method scripts (script ∷ above) state name =
     option_or (method_of_script scripts state name script) (first_method scripts above state name)
 
 -- in the state of this name from the first script upward, and then in the empty states
-abbrev pub method_in : List Script → List ℕ → List ℕ → List ℕ → Option Method
+abbrev pub method_in : List Script → List ℕ → List ℕ → List ℕ → Option FoundMethod
 method_in scripts upward state name = option_or (first_method scripts upward state name) (first_method scripts upward [] name)
 
 -- a native function is known by its script and its number in the empty state
-abbrev pub native_at : Method → FunctionPlace
+abbrev pub native_at : FoundMethod → FunctionPlace
 native_at method = record { script = method.script; place = method.number }
 
 -- the arguments are the parameters' values, and the locals begin with their defaults
@@ -109,7 +109,7 @@ abbrev pub opened : BodyPlace → List Value → Function → Entered Body
 opened place arguments function =
     Opened (record { place = place; instruction = 0; slots = arguments ++ map default_result function.locals })
 
-abbrev pub method_entered : List Value → Option Method → Entered Body
+abbrev pub method_entered : List Value → Option FoundMethod → Entered Body
 method_entered arguments None = NothingThere
 method_entered arguments (Some method) =
     if method.function.is_native then NativeThere (native_at method) else opened (OfState method.script method.state method.number) arguments method.function
