@@ -1,12 +1,14 @@
 #!/usr/bin/env python3
-"""Runs the examples of these pages and of README.md with the built program, and prints where a page says something else.
+"""Runs the examples of these pages, of README.md and of the examples' own pages with the built program, and prints where a page
+says something else.
 
   check_examples.py                   every page
   check_examples.py PAGE..            these pages
   check_examples.py --program PATH    another program than crates/papyrus/out/papyrus
 
 What is run is in the fences of a page, in their order. Under each heading of the second level a new folder begins, with the
-launcher `papyrus` and the folder `examples` in it, unless the page has changed to another folder by `cd`.
+launcher `papyrus` and the folder `examples` in it, unless the page has changed to another folder by `cd`. A page of an example
+begins in the folder of that example.
 
   papyrus A.psc, json s.json,     the file of this name
   listing J.txt
@@ -28,6 +30,7 @@ import tempfile
 
 DOCS = pathlib.Path(__file__).resolve().parent
 PROGRAM = DOCS.parent / "crates" / "papyrus" / "out" / "papyrus"
+EXAMPLES = DOCS.parent / "examples"
 REFUSAL = re.compile(r"[^ ]+: (?:[^ ]+ )?([LSNKPGVC])\d+ [A-Za-z]+")
 SECONDS = 60
 
@@ -73,7 +76,9 @@ class Page:
     def enter(self, room):
         """Begins a new folder."""
         self.room = self.place = room
-        shutil.copytree(DOCS.parent / "examples", room / "examples")
+        if EXAMPLES in self.path.resolve().parents:
+            self.place = room / self.path.resolve().parent.relative_to(EXAMPLES.parent)
+        shutil.copytree(EXAMPLES, room / "examples", ignore=shutil.ignore_patterns("*.pex"))
         (room / "papyrus").write_text(f'#!/bin/sh\nexec "{self.program}" "$@"\n')
         (room / "papyrus").chmod(0o755)
 
@@ -173,7 +178,7 @@ def main():
     parser.add_argument("--program", type=pathlib.Path, default=PROGRAM)
     words = parser.parse_args()
     count, wrong = 0, []
-    for path in words.pages or [DOCS.parent / "README.md", *sorted(DOCS.glob("*.md"))]:
+    for path in words.pages or [DOCS.parent / "README.md", *sorted(DOCS.glob("*.md")), *sorted(EXAMPLES.rglob("*.md"))]:
         page = Page(path, words.program.resolve())
         page.run()
         count += page.count
