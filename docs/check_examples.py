@@ -18,6 +18,8 @@ begins in the folder of that example.
   console                         commands behind `$ `, each with what it prints; `..` stands for lines that are left out
   (nothing)                       where it begins with `$ `, the same, but that what isn't shown isn't compared
   (nothing)                       where it is one line of a refusal: what a command tells of the files since the last heading
+
+A table that begins with a column of turns is compared with the page's last command `run` (turn_tables.py).
 """
 import argparse
 import os
@@ -27,6 +29,7 @@ import shutil
 import subprocess
 import sys
 import tempfile
+import turn_tables
 
 DOCS = pathlib.Path(__file__).resolve().parent
 PROGRAM = DOCS.parent / "crates" / "papyrus" / "out" / "papyrus"
@@ -36,7 +39,7 @@ SECONDS = 60
 
 
 def fences(text):
-    """The fences of a page with their first words, and None for each heading: (line, kind, name, lines)."""
+    """The fences of a page with their first words, its headings and its tables of turns: (line, kind, name, lines)."""
     lines = text.splitlines()
     at = 0
     while at < len(lines):
@@ -47,6 +50,10 @@ def fences(text):
             end = lines.index("```", at + 1)
             kind, _, name = lines[at][3:].partition(" ")
             yield at + 1, kind, name, lines[at + 1 : end]
+            at = end
+        elif turn_tables.TABLE.match(lines[at]):
+            end = next((place for place in range(at, len(lines)) if not lines[place].startswith("|")), len(lines))
+            yield at + 1, "turns", "", lines[at:end]
             at = end
         at += 1
 
@@ -69,6 +76,7 @@ class Page:
         self.room = None
         self.place = None
         self.base = []
+        self.last_run = None
         self.names = []
         self.wrong = []
         self.count = 0
@@ -101,6 +109,8 @@ class Page:
             self.place = (self.place / command[3:]).resolve()
             return
         self.count += 1
+        if re.match(r"(\S*/)?papyrus run ", command):
+            self.last_run = command
         found = self.shell(command)
         if not agrees(wanted, found):
             self.wrong.append(f"{self.path}:{line}: {command}")
@@ -135,6 +145,13 @@ class Page:
             command = " ".join(["papyrus compile", *files])
         self.compare(line, command, [text])
 
+    def turns(self, line, lines):
+        self.count += 1
+        faults = turn_tables.faults(self.program, self.place, self.last_run, lines)
+        if faults:
+            self.wrong.append(f"{self.path}:{line}: a table of turns of {self.last_run}")
+            self.wrong += [f"  {fault}" for fault in faults]
+
     def script(self, name, lines):
         if not name and not lines[0].lower().startswith("scriptname"):
             lines = ["ScriptName A", "Event OnInit()", *lines, "EndEvent"]
@@ -148,7 +165,9 @@ class Page:
         self.lay(name, "".join(text + "\n" for text in lines).encode())
 
     def fence(self, line, kind, name, lines):
-        if kind == "papyrus":
+        if kind == "turns":
+            self.turns(line, lines)
+        elif kind == "papyrus":
             self.script(name, lines)
         elif kind == "listing":
             self.listing(name, lines)
