@@ -1,13 +1,14 @@
 #!/usr/bin/env python3
-"""Runs the examples of these pages and of README.md with the built program, and prints where a page says something else, and last
-'N passed, M failed'.
+"""Runs the examples of these pages, of README.md and of the examples' own pages with the built program, and prints where a page
+says something else, and last 'N passed, M failed'.
 
   check_examples.py                   every page
   check_examples.py PAGE..            these pages
   check_examples.py --program PATH    another program than PAPYRUS_PROGRAM in the environment, or the one that was built last
 
 What is run is in the fences of a page, in their order. Under each heading of the second level a new folder begins, with the
-launcher `papyrus` and the folder `examples` in it, unless the page has changed to another folder by `cd`.
+launcher `papyrus` and the folder `examples` in it, unless the page has changed to another folder by `cd`. A page of an example
+begins in the folder of that example.
 
   papyrus A.psc, json s.json,     the file of this name
   listing J.txt
@@ -17,6 +18,8 @@ launcher `papyrus` and the folder `examples` in it, unless the page has changed 
   console                         commands behind `$ `, each with what it prints; `..` stands for lines that are left out
   (nothing)                       where it begins with `$ `, the same, but that what isn't shown isn't compared
   (nothing)                       where it is one line of a refusal: what a command tells of the files since the last heading
+
+A table that begins with a column of turns is compared with the page's last command `run` (turn_tables.py).
 """
 import argparse
 import os
@@ -26,17 +29,19 @@ import shutil
 import subprocess
 import sys
 import tempfile
+import turn_tables
 
 DOCS = pathlib.Path(__file__).resolve().parent
 BUILT = DOCS.parent / "crates" / "papyrus" / "out"
 LAST_BUILT = max(BUILT / "papyrus", BUILT / "unproved" / "papyrus", key=lambda path: path.stat().st_mtime if path.exists() else 0)
 PROGRAM = pathlib.Path(os.environ.get("PAPYRUS_PROGRAM") or LAST_BUILT)
+EXAMPLES = DOCS.parent / "examples"
 REFUSAL = re.compile(r"[^ ]+: (?:[^ ]+ )?([LSNKPGVC])\d+ [A-Za-z]+")
 SECONDS = 60
 
 
 def fences(text):
-    """The fences of a page with their first words, and None for each heading: (line, kind, name, lines)."""
+    """The fences of a page with their first words, its headings and its tables of turns: (line, kind, name, lines)."""
     lines = text.splitlines()
     at = 0
     while at < len(lines):
@@ -47,6 +52,10 @@ def fences(text):
             end = lines.index("```", at + 1)
             kind, _, name = lines[at][3:].partition(" ")
             yield at + 1, kind, name, lines[at + 1 : end]
+            at = end
+        elif turn_tables.TABLE.match(lines[at]):
+            end = next((place for place in range(at, len(lines)) if not lines[place].startswith("|")), len(lines))
+            yield at + 1, "turns", "", lines[at:end]
             at = end
         at += 1
 
@@ -69,6 +78,7 @@ class Page:
         self.room = None
         self.place = None
         self.base = []
+        self.last_run = None
         self.names = []
         self.wrong = []
         self.count = 0
@@ -76,7 +86,9 @@ class Page:
     def enter(self, room):
         """Begins a new folder."""
         self.room = self.place = room
-        shutil.copytree(DOCS.parent / "examples", room / "examples")
+        if EXAMPLES in self.path.resolve().parents:
+            self.place = room / self.path.resolve().parent.relative_to(EXAMPLES.parent)
+        shutil.copytree(EXAMPLES, room / "examples", ignore=shutil.ignore_patterns("*.pex"))
         (room / "papyrus").write_text(f'#!/bin/sh\nexec "{self.program}" "$@"\n')
         (room / "papyrus").chmod(0o755)
 
@@ -99,6 +111,8 @@ class Page:
             self.place = (self.place / command[3:]).resolve()
             return
         self.count += 1
+        if re.match(r"(\S*/)?papyrus run ", command):
+            self.last_run = command
         found = self.shell(command)
         if not agrees(wanted, found):
             self.wrong.append(f"{self.path}:{line}: {command}")
@@ -133,6 +147,13 @@ class Page:
             command = " ".join(["papyrus compile", *files])
         self.compare(line, command, [text])
 
+    def turns(self, line, lines):
+        self.count += 1
+        faults = turn_tables.faults(self.program, self.place, self.last_run, lines)
+        if faults:
+            self.wrong.append(f"{self.path}:{line}: a table of turns of {self.last_run}")
+            self.wrong += [f"  {fault}" for fault in faults]
+
     def script(self, name, lines):
         if not name and not lines[0].lower().startswith("scriptname"):
             lines = ["ScriptName A", "Event OnInit()", *lines, "EndEvent"]
@@ -146,7 +167,9 @@ class Page:
         self.lay(name, "".join(text + "\n" for text in lines).encode())
 
     def fence(self, line, kind, name, lines):
-        if kind == "papyrus":
+        if kind == "turns":
+            self.turns(line, lines)
+        elif kind == "papyrus":
             self.script(name, lines)
         elif kind == "listing":
             self.listing(name, lines)
@@ -179,7 +202,7 @@ def main():
         print("the program isn't built: run ./papyrus --version first")
         return 2
     count, wrong = 0, []
-    for path in words.pages or [DOCS.parent / "README.md", *sorted(DOCS.glob("*.md"))]:
+    for path in words.pages or [DOCS.parent / "README.md", *sorted(DOCS.glob("*.md")), *sorted(EXAMPLES.rglob("*.md"))]:
         page = Page(path, words.program.resolve())
         page.run()
         count += page.count

@@ -1,0 +1,195 @@
+#!/usr/bin/env python3
+"""Checks what the pages rest on beside their examples, prints what is wrong, and ends with 'N passed, M failed'.
+
+  check_pages.py                   all of these
+  check_pages.py --program PATH    another program than crates/papyrus/out/papyrus
+
+  links      each link of a page leads to a file or folder that is there, and to a heading that is there; and each file that
+             a page names is a link
+  index      rule_index.md is what make_rule_index.py makes, and each rule is told, and shown by a test or a case
+  scenes     scene.schema.json agrees with each scene of the cases and the examples, but for those that C2 and C3 refuse
+  commands   the completions and the man page are what tools/shell/make.py makes, and its table is that of `papyrus --help` and README.md
+"""
+import argparse
+import functools
+import json
+import pathlib
+import re
+import subprocess
+import sys
+
+DOCS = pathlib.Path(__file__).resolve().parent
+ROOT = DOCS.parent
+sys.path[:0] = [str(DOCS), str(ROOT / "tools" / "shell")]
+import json_schema
+import make
+import make_rule_index
+import scene_files
+
+PROGRAM = ROOT / "crates" / "papyrus" / "out" / "papyrus"
+LINK = re.compile(r"\[((?:[^\[\]]|\[[^\[\]]*\])*)\]\(([^()\s]+)\)")
+NAMED = re.compile(r"`([\w.-]*/[\w./-]*|[\w-]+\.md)`")
+SCENE_LIMIT = 16 * 1024 * 1024
+# What may be such a spelling of a number, or stand in a text.
+UNPLAIN = re.compile(rb"\d[.eE]|-0")
+
+
+def pages():
+    """All pages but those of crates."""
+    found = [path for path in ROOT.rglob("*.md") if not {"crates", ".git"} & set(path.relative_to(ROOT).parts)]
+    return sorted(found)
+
+
+def prose(text):
+    """The text without its fences, with as many lines."""
+    lines, inside = [], False
+    for line in text.split("\n"):
+        edge = line.startswith("```")
+        lines.append("" if inside or edge else line)
+        inside ^= edge
+    return "\n".join(lines)
+
+
+@functools.lru_cache(maxsize=None)
+def anchors(path):
+    """The headings of a page as links name them."""
+    found = set()
+    for heading in re.findall(r"^#+ (.*)$", prose(path.read_text()), re.MULTILINE):
+        slug = re.sub(r"[^\w\- ]", "", heading.lower()).replace(" ", "-")
+        number = sum(one == slug or re.fullmatch(re.escape(slug) + r"-\d+", one) is not None for one in found)
+        found.add(f"{slug}-{number}" if slug in found else slug)
+    return found
+
+
+class Tally:
+    """What was checked, and what of it is wrong."""
+
+    def __init__(self):
+        self.passed = 0
+        self.wrong = []
+
+    def note(self, fault):
+        """One thing that was checked, with what is wrong with it, or nothing."""
+        if fault:
+            self.wrong.append(fault)
+        else:
+            self.passed += 1
+
+
+def link_fault(page, target):
+    if re.match(r"[a-z]+:", target):
+        return ""
+    file, _, anchor = target.partition("#")
+    path = (page.parent / file).resolve() if file else page
+    if not path.exists():
+        return f"leads to {file}, which isn't there"
+    if anchor and anchor not in anchors(path):
+        return f"leads to a heading that {path.name} doesn't have: {anchor}"
+    return ""
+
+
+def check_links(tally):
+    for page in pages():
+        text = prose(page.read_text())
+        name = page.relative_to(ROOT)
+        for found in LINK.finditer(text):
+            line = text.count("\n", 0, found.start()) + 1
+            fault = link_fault(page, found.group(2))
+            tally.note(fault and f"{name}:{line}: {found.group(2)} {fault}")
+        bare = LINK.sub(lambda found: "\n" * found.group(0).count("\n"), text)
+        for found in NAMED.finditer(bare):
+            spelled = found.group(1)
+            if spelled.strip("./") and "out" not in spelled.split("/") and any((base / spelled).exists() for base in (ROOT, page.parent)):
+                line = bare.count("\n", 0, found.start()) + 1
+                tally.note(f"{name}:{line}: names {spelled} without a link")
+
+
+def check_index(tally):
+    there = (DOCS / "rule_index.md").read_text() if (DOCS / "rule_index.md").exists() else ""
+    sources, shown = make_rule_index.Sources(), make_rule_index.Shown()
+    tally.note("" if there == make_rule_index.page(sources, shown) else "docs/rule_index.md isn't up to date: call docs/make_rule_index.py")
+    for fault in make_rule_index.bare(sources, shown):
+        tally.note(fault)
+
+
+class Spelling:
+    """Reads a scene, and notes what a schema can't see: how a number is spelled."""
+
+    def __init__(self, text):
+        self.plain = True
+        hooks = {"parse_float": self.fraction, "parse_int": self.whole} if UNPLAIN.search(text) else {}
+        self.value = json.loads(text, **hooks)
+
+    def fraction(self, text):
+        self.plain = False
+        return float(text)
+
+    def whole(self, text):
+        self.plain &= text != "-0"
+        return int(text)
+
+
+def texts_of(value):
+    """All texts of a JSON value, keys too."""
+    if isinstance(value, str):
+        yield value
+    for below in [*value, *value.values()] if isinstance(value, dict) else value if isinstance(value, list) else []:
+        yield from texts_of(below)
+
+
+def unsayable(scene):
+    """What the scene breaks that a schema can't say, or nothing."""
+    if not scene.plain:
+        return "a whole number that is spelled with a fraction, an exponent or as -0"
+    if any(len(text.encode()) > 1024 >= len(text) for text in texts_of(scene.value)):
+        return "a text of over 1,024 bytes and fewer signs"
+    return ""
+
+
+def scene_fault(schema, text, rule):
+    """How the schema and the program differ on a scene, or nothing."""
+    if rule == "C1" or len(text) > SCENE_LIMIT:
+        return ""
+    scene = Spelling(text)
+    fault = schema.fault(scene.value)
+    if rule not in ("C2", "C3"):
+        return fault and f"the schema refuses it, and the program doesn't: {fault}"
+    return "" if fault or unsayable(scene) else f"the schema accepts it, and it breaks {rule}"
+
+
+def check_scenes(tally):
+    schema = json_schema.Schema(json.loads((DOCS / "scene.schema.json").read_text()))
+    for name, text, rule in scene_files.scenes():
+        fault = scene_fault(schema, text, rule)
+        tally.note(fault and f"{name}: {fault}")
+
+
+def check_commands(tally, program):
+    table = make.Table((make.HERE / "commands.table").read_text())
+    for name, text in make.made().items():
+        path = make.HERE / name
+        same = path.exists() and path.read_text() == text
+        tally.note("" if same else f"tools/shell/{name} isn't up to date: call tools/shell/make.py")
+    shown = subprocess.run([str(program), "--help"], stdout=subprocess.PIPE, check=True).stdout.decode().splitlines()
+    listed = [line for line in shown if line.startswith("  papyrus ")]
+    tally.note("" if listed == make.help_lines(table) else "tools/shell/commands.table has other commands than `papyrus --help`")
+    readme = (ROOT / "README.md").read_text()
+    for status, meaning in table.statuses:
+        tally.note("" if f"| {status} | {meaning} |" in readme else f"README.md doesn't tell status {status} as tools/shell/commands.table does")
+
+
+def main():
+    parser = argparse.ArgumentParser(description=__doc__, formatter_class=argparse.RawDescriptionHelpFormatter)
+    parser.add_argument("--program", type=pathlib.Path, default=PROGRAM)
+    words = parser.parse_args()
+    tally = Tally()
+    check_links(tally)
+    check_index(tally)
+    check_scenes(tally)
+    check_commands(tally, words.program.resolve())
+    print("\n".join([*tally.wrong, f"{tally.passed} passed, {len(tally.wrong)} failed"]))
+    return 1 if tally.wrong else 0
+
+
+if __name__ == "__main__":
+    sys.exit(main())

@@ -1,0 +1,124 @@
+#!/usr/bin/env python3
+"""Makes papyrus.bash, _papyrus (of zsh) and papyrus.1 of commands.table."""
+import pathlib
+import sys
+
+HERE = pathlib.Path(__file__).resolve().parent
+MADE = "made by make.py of commands.table: change that"
+
+
+class Table:
+    """The rows of commands.table, by section."""
+
+    def __init__(self, text):
+        sections = {}
+        for line in text.splitlines():
+            if line.startswith("["):
+                rows = sections.setdefault(line.strip("[]"), [])
+            elif line and not line.startswith("#"):
+                rows.append([cell.strip() for cell in line.split("|")])
+        self.commands = sections["commands"]
+        self.words = {name: (pattern, meaning) for name, pattern, meaning in sections["words"]}
+        self.statuses = sections["statuses"]
+
+    def pattern(self, word):
+        return self.words[word.rstrip(".")][0]
+
+
+def help_lines(table):
+    """The lines of commands in `papyrus --help`."""
+    spelled = [" ".join(["papyrus", command, words]).rstrip() for command, words, _, _ in table.commands]
+    width = max(len(text) for text in spelled)
+    return [f"  {text:{width}}  {row[2]}" for text, row in zip(spelled, table.commands)]
+
+
+def bash(table):
+    lines = [f"# Completion of papyrus for bash, {MADE}.", "", "_papyrus() {",
+             "    local word=${COMP_WORDS[COMP_CWORD]} pattern=",
+             "    COMPREPLY=()",
+             "    if [ \"$COMP_CWORD\" -eq 1 ]; then",
+             f"        COMPREPLY=($(compgen -W \"{' '.join(row[0] for row in table.commands)}\" -- \"$word\"))",
+             "        return",
+             "    fi",
+             "    case ${COMP_WORDS[1]} in"]
+    for command, words, _, _ in table.commands:
+        lines += bash_arm(command, words.split(), table)
+    lines += ["    esac",
+              "    [ -n \"$pattern\" ] || return",
+              "    local IFS=$'\\n'",
+              "    COMPREPLY=($(compgen -f -X \"!$pattern\" -- \"$word\") $(compgen -d -- \"$word\"))",
+              "    compopt -o filenames 2>/dev/null",
+              "}", "",
+              "complete -F _papyrus papyrus ./papyrus"]
+    return "\n".join(lines) + "\n"
+
+
+def bash_arm(command, words, table):
+    """The arm of a command: which files stand at which place."""
+    patterns = [table.pattern(word) for word in words]
+    if not any(patterns):
+        return []
+    if len(words) == 1 and words[0].endswith(".."):
+        return [f"    {command}) pattern='{patterns[0]}' ;;"]
+    lines = [f"    {command})", "        case $COMP_CWORD in"]
+    for at, (word, pattern) in enumerate(zip(words, patterns), 2):
+        lines.append(f"        {'*' if word.endswith('..') else at}) pattern='{pattern}' ;;")
+    return [*lines, "        esac", "        ;;"]
+
+
+def zsh(table):
+    lines = ["#compdef papyrus", f"# Completion of papyrus for zsh, {MADE}.", "", "local -a commands", "commands=("]
+    for command, _, line, _ in table.commands:
+        escaped = line.replace("'", "'\\''")
+        lines.append(f"    '{command}:{escaped}'")
+    lines += [")", "if (( CURRENT == 2 )); then", "    _describe command commands", "    return", "fi", "case $words[2] in"]
+    for command, words, _, _ in table.commands:
+        spec = []
+        for word in words.split():
+            pattern, meaning = table.words[word.rstrip(".")]
+            action = f"_files -g \"{pattern}\"" if pattern else ""
+            spec.append(f"'{'*' if word.endswith('..') else ''}:{meaning.split(',')[0]}:{action}'")
+        if spec:
+            lines.append(f"    {command}) shift words; (( CURRENT-- )); _arguments {' '.join(spec)} ;;")
+    return "\n".join([*lines, "esac"]) + "\n"
+
+
+def roff(text):
+    """A text as roff takes it at a line's start."""
+    text = text.replace("\\", "\\e").replace("-", "\\-")
+    return "\\&" + text if text[:1] in (".", "'") else text
+
+
+def man(table):
+    lines = [f'.\\" {MADE}', ".TH PAPYRUS 1", ".SH NAME", roff("papyrus") + " \\- compiles Papyrus scripts and runs them under instance locks",
+             ".SH SYNOPSIS"]
+    for command, words, _, _ in table.commands:
+        lines += [".B papyrus " + roff(command), *([".I " + roff(words)] if words else []), ".br"]
+    lines += [".SH DESCRIPTION", "Works on files, each of which is named by its path from the current folder, or from the root.",
+              "What a command is for goes to standard output. Where it ends otherwise than well, one line goes to standard error.", ".SH COMMANDS"]
+    for command, words, _, sentence in table.commands:
+        lines += [".TP", f".B {roff(command)}" + (f" \\fI{roff(words)}\\fR" if words else ""), roff(sentence)]
+    lines += [".SH WORDS"]
+    for word, (_, meaning) in table.words.items():
+        lines += [".TP", f".I {roff(word)}", roff(meaning[0].upper() + meaning[1:]) + "."]
+    lines += [".SH EXIT STATUS"]
+    for status, meaning in table.statuses:
+        lines += [".TP", f".B {status}", roff(meaning[0].upper() + meaning[1:]) + "."]
+    lines += [".SH SEE ALSO", "The pages in the folder docs of the repository: commands.md, scenes.md, rules.md and locking.md first."]
+    return "\n".join(lines) + "\n"
+
+
+def made():
+    """The files that are made, by name."""
+    table = Table((HERE / "commands.table").read_text())
+    return {"papyrus.bash": bash(table), "_papyrus": zsh(table), "papyrus.1": man(table)}
+
+
+def main():
+    for name, text in made().items():
+        (HERE / name).write_text(text)
+    return 0
+
+
+if __name__ == "__main__":
+    sys.exit(main())
