@@ -28,7 +28,7 @@ import scene_files
 
 PROGRAM = ROOT / "crates" / "papyrus" / "out" / "papyrus"
 LINK = re.compile(r"\[((?:[^\[\]]|\[[^\[\]]*\])*)\]\(([^()\s]+)\)")
-NAMED = re.compile(r"`([\w.-]*/[\w./-]*|[\w-]+\.md)`")
+NAMED = re.compile(r"`([\w.-]+/[\w./-]*|[\w-]+\.md)`")
 SCENE_LIMIT = 16 * 1024 * 1024
 # What may be such a spelling of a number, or stand in a text.
 UNPLAIN = re.compile(rb"\d[.eE]|-0")
@@ -99,7 +99,7 @@ def check_links(tally):
         bare = LINK.sub(lambda found: "\n" * found.group(0).count("\n"), text)
         for found in NAMED.finditer(bare):
             spelled = found.group(1)
-            if spelled.strip("./") and "out" not in spelled.split("/") and any((base / spelled).exists() for base in (ROOT, page.parent)):
+            if "out" not in spelled.split("/") and any((base / spelled).exists() for base in (ROOT, page.parent)):
                 line = bare.count("\n", 0, found.start()) + 1
                 tally.note(f"{name}:{line}: names {spelled} without a link")
 
