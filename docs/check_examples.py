@@ -1,10 +1,10 @@
 #!/usr/bin/env python3
 """Runs the examples of these pages, of README.md and of the examples' own pages with the built program, and prints where a page
-says something else.
+says something else, and last 'N passed, M failed'.
 
   check_examples.py                   every page
   check_examples.py PAGE..            these pages
-  check_examples.py --program PATH    another program than crates/papyrus/out/papyrus
+  check_examples.py --program PATH    another program than PAPYRUS_PROGRAM in the environment, or the one that was built last
 
 What is run is in the fences of a page, in their order. Under each heading of the second level a new folder begins, with the
 launcher `papyrus` and the folder `examples` in it, unless the page has changed to another folder by `cd`. A page of an example
@@ -32,7 +32,9 @@ import tempfile
 import turn_tables
 
 DOCS = pathlib.Path(__file__).resolve().parent
-PROGRAM = DOCS.parent / "crates" / "papyrus" / "out" / "papyrus"
+BUILT = DOCS.parent / "crates" / "papyrus" / "out"
+LAST_BUILT = max(BUILT / "papyrus", BUILT / "unproved" / "papyrus", key=lambda path: path.stat().st_mtime if path.exists() else 0)
+PROGRAM = pathlib.Path(os.environ.get("PAPYRUS_PROGRAM") or LAST_BUILT)
 EXAMPLES = DOCS.parent / "examples"
 REFUSAL = re.compile(r"[^ ]+: (?:[^ ]+ )?([LSNKPGVC])\d+ [A-Za-z]+")
 SECONDS = 60
@@ -200,14 +202,18 @@ def main():
     parser.add_argument("pages", nargs="*", type=pathlib.Path)
     parser.add_argument("--program", type=pathlib.Path, default=PROGRAM)
     words = parser.parse_args()
+    if not words.program.exists():
+        print("the program isn't built: run ./papyrus --version first")
+        return 2
     count, wrong = 0, []
     for path in words.pages or [DOCS.parent / "README.md", *sorted(DOCS.glob("*.md")), *sorted(EXAMPLES.rglob("*.md"))]:
         page = Page(path, words.program.resolve())
         page.run()
         count += page.count
         wrong += page.wrong
-    print("\n".join([*wrong, f"{count} examples, {sum(not text.startswith('  ') for text in wrong)} wrong"]))
-    return 1 if wrong else 0
+    failed = sum(not text.startswith("  ") for text in wrong)
+    print("\n".join([*wrong, f"{count - failed} passed, {failed} failed"]))
+    return 1 if failed or not count else 0
 
 
 if __name__ == "__main__":

@@ -2,7 +2,7 @@
 """Checks what the pages rest on beside their examples, prints what is wrong, and ends with 'N passed, M failed'.
 
   check_pages.py                   all of these
-  check_pages.py --program PATH    another program than crates/papyrus/out/papyrus
+  check_pages.py --program PATH    another program than PAPYRUS_PROGRAM in the environment, or the one that was built last
 
   links      each link of a page leads to a file or folder that is there, and to a heading that is there; and each file that
              a page names is a link
@@ -21,12 +21,12 @@ import sys
 DOCS = pathlib.Path(__file__).resolve().parent
 ROOT = DOCS.parent
 sys.path[:0] = [str(DOCS), str(ROOT / "tools" / "shell")]
+import check_examples
 import json_schema
 import make
 import make_rule_index
 import scene_files
 
-PROGRAM = ROOT / "crates" / "papyrus" / "out" / "papyrus"
 LINK = re.compile(r"\[((?:[^\[\]]|\[[^\[\]]*\])*)\]\(([^()\s]+)\)")
 NAMED = re.compile(r"`([\w.-]+/[\w./-]*|[\w-]+\.md)`")
 SCENE_LIMIT = 16 * 1024 * 1024
@@ -180,8 +180,11 @@ def check_commands(tally, program):
 
 def main():
     parser = argparse.ArgumentParser(description=__doc__, formatter_class=argparse.RawDescriptionHelpFormatter)
-    parser.add_argument("--program", type=pathlib.Path, default=PROGRAM)
+    parser.add_argument("--program", type=pathlib.Path, default=check_examples.PROGRAM)
     words = parser.parse_args()
+    if not words.program.exists():
+        print("the program isn't built: run ./papyrus --version first")
+        return 2
     tally = Tally()
     check_links(tally)
     check_index(tally)
