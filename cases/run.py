@@ -23,9 +23,36 @@ What is expected:
 
 Expected files are written by hand: this program never writes one.
 
+A file NAME.rows here has cases of one line each, which differ in little and are run as the folders are. It looks like this:
+
+  # a comment; blank lines are skipped outside of [file ..]
+  [file A.psc]
+  ScriptName A
+  @1
+  [words] compile A.psc
+  [rows]
+  Int x = 1.5  =>  5 A.psc:2: L4 FloatLiteral
+  Int x  =>  0
+
+  [file NAME]      the text of a file that each row below is laid with, to the next line that begins with `[`. `@1` to `@9` stand for the
+                   fields of the row. NAME.hex is as above. A second section of the same name takes the place of the first.
+  [file NAME] ..   such a text of one line, without a line feed behind it
+  [words] ..       the program's words for the rows below, with blanks between them; they may hold fields too
+  [earlier] ..     a command that runs before, as above; it may stand several times
+  [out] ..         the standard output of rows that end with 0, with `@0` for the answer that stands in the row
+  [rows]           the rows follow
+  [anew]           drops all files and words that stand above
+
+A row is its fields with ` | ` between them, `  =>  `, the status, a blank, and without its last line feed all that is written to
+standard output where the status is 0, and else to standard error; the other of them has nothing. Each field is used, but for empty
+ones. In fields, answers, words and [out] `\\n`, `\\r`, `\\t`, `\\\\`, `\\|` and `\\xNN` are escapes, and `\\{ab\\n*300}` is a text 300 times. Files are
+there afterwards as they were before, but for those that `compile`, `asm` and `upgrade` write where they end with 0.
+
   run.py            every case
-  run.py NAME..     these cases
+  run.py NAME..     these cases: NAME of a folder or of a file of rows, NAME:LINE of a row
   run.py -j N       N cases at a time
+
+Where the environment has PAPYRUS_PROGRAM, that program is run, and else the one that was built last.
 """
 import concurrent.futures
 import difflib
@@ -35,10 +62,16 @@ import subprocess
 import sys
 import tempfile
 
+import rows
+
 CASES = pathlib.Path(__file__).resolve().parent
-PROGRAM = CASES.parent / "crates" / "papyrus" / "out" / "papyrus"
+BUILT = CASES.parent / "crates" / "papyrus" / "out"
+# The program that PAPYRUS_PROGRAM names, else the one that was built last, with proofs or without.
+LAST_BUILT = max(BUILT / "papyrus", BUILT / "unproved" / "papyrus", key=lambda path: path.stat().st_mtime if path.exists() else 0)
+PROGRAM = pathlib.Path(os.environ.get("PAPYRUS_PROGRAM") or LAST_BUILT).resolve()
 EXPECTED = {"args", "status", "out", "notes", "after", "listed", "made", "judge", "closed", "room", "memory", "generate", "earlier"}
 SECONDS = 60
+WRITING = {"compile", "asm", "upgrade"}
 LIMITS = {"room": "RLIMIT_FSIZE", "memory": "RLIMIT_DATA"}
 # Runs the words behind the first two, with the limit that these give.
 WITH_LIMIT = """import os, resource, sys
@@ -119,10 +152,16 @@ def lay(case, room):
             (room / name).write_bytes(content)
     if (case / "generate").exists():
         subprocess.run([sys.executable, str(case / "generate")], cwd=room, check=True)
-    for line in expected_of(case, "earlier").decode().splitlines():
-        ran = subprocess.run([str(PROGRAM), *line.split()], cwd=room, capture_output=True, timeout=SECONDS)
+    return prepared(room, [line.split() for line in expected_of(case, "earlier").decode().splitlines()])
+
+
+def prepared(room, commands):
+    """Runs the commands that come before, and tells which of them doesn't do well."""
+    for words in commands:
+        ran = subprocess.run([str(PROGRAM), *words], cwd=room, capture_output=True, timeout=SECONDS)
         if ran.returncode != 0:
-            return [f"{line}: status {ran.returncode}"] + ran.stderr.decode("utf-8", "backslashreplace").splitlines()
+            refusal = ran.stderr.decode("utf-8", "backslashreplace").splitlines()
+            return [f"{' '.join(map(os.fsdecode, words))}: status {ran.returncode}"] + refusal
     return []
 
 
@@ -148,24 +187,69 @@ def answer_of(case, room, through=()):
         return ran.returncode, out.read(), ran.stderr or b""
 
 
+def wrong_in_folder(case, room):
+    wrong = lay(case, room)
+    if wrong:
+        return wrong
+    before = files_in(room)
+    status, out, notes = answer_of(case, room)
+    wanted = (expected_of(case, "status") or b"0").strip().decode()
+    wrong = [] if str(status) == wanted else [f"status {status}, and {wanted} is expected"]
+    wrong += difference("out", expected_of(case, "out"), out)
+    wrong += difference("notes", expected_of(case, "notes"), notes)
+    wrong += wrong_files(case, before, room)
+    return wrong or judged(case, room)
+
+
+def changed_files(before, after):
+    names = sorted(name for name in before.keys() | after.keys() if before.get(name) != after.get(name))
+    return [f"the file {name} isn't as it was before" for name in names]
+
+
+def wrong_in_row(row, room):
+    for name, text in row.files.items():
+        name, content = laid(name, text.encode("latin-1"))
+        (room / name).write_bytes(content)
+    earlier, (words,) = ([[word.encode("latin-1") for word in words] for words in each] for each in (row.earlier, [row.words]))
+    wrong = prepared(room, earlier)
+    if wrong:
+        return wrong
+    before = files_in(room)
+    ran = subprocess.run([str(PROGRAM), *words], cwd=room, stdin=subprocess.DEVNULL, capture_output=True, timeout=SECONDS)
+    wrong = [] if str(ran.returncode) == row.status else [f"status {ran.returncode}, and {row.status} is expected"]
+    answer = row.answer.encode("latin-1") + b"\n" if row.answer else b""
+    out, notes = (answer, b"") if row.status == "0" else (b"", answer)
+    wrong += difference("out", out, ran.stdout) + difference("notes", notes, ran.stderr)
+    if row.status == "0" and row.words[:1] and row.words[0] in WRITING:
+        return wrong
+    return wrong + changed_files(before, files_in(room))
+
+
 def run(case):
     """Returns what is wrong with a case, as lines, none where it passes."""
+    if isinstance(case, rows.MalformedRow):
+        return [case.fault]
     with tempfile.TemporaryDirectory(prefix="papyrus-case-") as room:
-        room = pathlib.Path(room)
+        wrong_in = wrong_in_row if isinstance(case, rows.Row) else wrong_in_folder
         try:
-            wrong = lay(case, room)
-            if wrong:
-                return wrong
-            before = files_in(room)
-            status, out, notes = answer_of(case, room)
+            return wrong_in(case, pathlib.Path(room))
         except subprocess.TimeoutExpired:
             return [f"no end within {SECONDS} seconds"]
-        wanted = (expected_of(case, "status") or b"0").strip().decode()
-        wrong = [] if str(status) == wanted else [f"status {status}, and {wanted} is expected"]
-        wrong += difference("out", expected_of(case, "out"), out)
-        wrong += difference("notes", expected_of(case, "notes"), notes)
-        wrong += wrong_files(case, before, room)
-        return wrong or judged(case, room)
+
+
+def all_cases():
+    folders = sorted(path for path in CASES.iterdir() if (path / "args").exists())
+    return folders + [row for path in sorted(CASES.glob("*.rows")) for row in rows.rows_of(path)]
+
+
+def cases_named(name):
+    """The cases of a name that may have the line of a row behind it."""
+    file, _, line = name.partition(":")
+    path = CASES / f"{file}.rows"
+    found = [CASES / name] if (CASES / name / "args").exists() else []
+    if path.exists():
+        found += [row for row in rows.rows_of(path) if not line or row.name == name]
+    return found or [rows.MalformedRow(name, "there is no such case")]
 
 
 def main():
@@ -175,9 +259,9 @@ def main():
         at = words.index("-j")
         jobs = int(words[at + 1])
         del words[at : at + 2]
-    cases = [CASES / name for name in words] or sorted(path for path in CASES.iterdir() if (path / "args").exists())
+    cases = [case for name in words for case in cases_named(name)] or all_cases()
     if not PROGRAM.exists():
-        print("the program isn't built: run ./papyrus --version or ./test first")
+        print("the program isn't built: run ./papyrus --version first")
         return 2
     failed = 0
     with concurrent.futures.ThreadPoolExecutor(jobs) as pool:

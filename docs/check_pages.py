@@ -8,6 +8,7 @@
              a page names is a link
   index      rule_index.md is what make_rule_index.py makes, and each rule is told, and shown by a test or a case
   scenes     scene.schema.json agrees with each scene of the cases and the examples, but for those that C2 and C3 refuse
+  crates     crates.txt and architecture.md have the same crates under the same headings
   commands   the completions and the man page are what tools/shell/make.py makes, and its table is that of `papyrus --help` and README.md
 """
 import argparse
@@ -178,6 +179,27 @@ def check_commands(tally, program):
         tally.note("" if f"| {status} | {meaning} |" in readme else f"README.md doesn't tell status {status} as tools/shell/commands.table does")
 
 
+def groups_of(text, heading, crate):
+    """The names of crates by the heading that they stand under."""
+    groups, under = {}, None
+    for line in text.splitlines():
+        found = re.fullmatch(heading, line)
+        under = found[1] if found else under
+        named = re.match(crate, line)
+        if named and under:
+            groups.setdefault(under, []).append(named[1])
+    return groups
+
+
+def check_crates(tally):
+    listed = groups_of((ROOT / "crates.txt").read_text(), r"# ([\w ]+)", r"(\w+):")
+    page = (DOCS / "architecture.md").read_text()
+    told = groups_of(page[: page.index("## Inside a crate")], r"### ([\w ]+)", r"\| `(\w+)` \|")
+    for group in {**listed, **told}:
+        same = listed.get(group) == told.get(group)
+        tally.note("" if same else f"crates.txt and docs/architecture.md differ in the crates of {group}")
+
+
 def main():
     parser = argparse.ArgumentParser(description=__doc__, formatter_class=argparse.RawDescriptionHelpFormatter)
     parser.add_argument("--program", type=pathlib.Path, default=check_examples.PROGRAM)
@@ -190,6 +212,7 @@ def main():
     check_index(tally)
     check_scenes(tally)
     check_commands(tally, words.program.resolve())
+    check_crates(tally)
     print("\n".join([*tally.wrong, f"{tally.passed} passed, {len(tally.wrong)} failed"]))
     return 1 if tally.wrong else 0
 

@@ -1,13 +1,11 @@
 use papy_io::{
-    FolderDesk, IoFault, MemoryDesk, MemorySink, ReadAllFault, Sink, StreamSink, read_all,
-    write_file,
+    FolderDesk, IoFault, MemoryDesk, MemorySink, ReadAllFault, Sink, read_all, write_file,
 };
 use std::alloc::Global;
 use std::fs;
-use std::fs::File;
 use std::test::Fail;
 
-/// The file that the tests over real files make in the folder where they run.
+/// The file that the test over a real file makes in the folder where it runs.
 const FILE: &str = "papy_io-test.tmp";
 
 #[test]
@@ -85,65 +83,11 @@ fn a_failed_write_leaves_what_the_call_left(rt: HostRuntime) -> Result<(), Fail>
 }
 
 #[test]
-fn a_stream_gets_the_bytes(rt: HostRuntime) -> Result<(), Fail> {
-    let mut written = Vec::new(rt.alloc());
-    let mut sink = StreamSink::over(&mut written);
-    sink.write(b"one ")?;
-    sink.write(b"two")?;
-    drop(sink);
-    assert!(rt; written.as_slice() == b"one two".as_slice());
-
-    // A slice takes no more than its length.
-    let mut room = [0u8; 4];
-    let mut sink = StreamSink::over(room.as_mut_slice());
-    assert!(rt; sink.write(b"abc") == Ok(()));
-    assert!(rt; sink.write(b"def") == Err(IoFault::Failed));
-    assert!(rt; sink.write(b"") == Ok(()));
-    drop(sink);
-    assert!(rt; room == *b"abcd");
-
-    let mut sink = StreamSink::over(File::options().write(true).open(&rt, "/dev/full")?);
-    assert!(rt; sink.write(b"a") == Err(IoFault::Failed));
-    Ok(())
-}
-
-/// Reads a file of the current folder.
-fn read_real(rt: &HostRuntime, name: &[u8]) -> Result<Vec<u8>, ReadAllFault> {
-    let mut desk = FolderDesk::over(rt.clone()?, rt.alloc());
-    read_all(rt.alloc(), &mut desk, name, 100_000)
-}
-
-/// Writes a file of the current folder.
-fn write_real(rt: &HostRuntime, name: &[u8], bytes: &[u8]) -> Result<(), IoFault> {
-    let mut desk = FolderDesk::over(rt.clone()?, rt.alloc());
-    write_file(&mut desk, name, bytes)
-}
-
-#[test]
 fn a_real_file_gives_the_bytes_that_were_written(rt: HostRuntime) -> Result<(), Fail> {
-    for written in [b"longer than a line\n".as_slice(), b"short", b""] {
-        write_real(&rt, FILE.as_bytes(), written)?;
-        let read = read_real(&rt, FILE.as_bytes())?;
-        assert!(rt; read.as_slice() == written);
-    }
+    let mut desk = FolderDesk::over(rt.clone()?, rt.alloc());
+    write_file(&mut desk, FILE.as_bytes(), b"bytes")?;
+    let read = read_all(rt.alloc(), &mut desk, FILE.as_bytes(), 5)?;
+    assert!(rt; read.as_slice() == b"bytes".as_slice());
     fs::remove_file(&rt, FILE)?;
-    assert!(rt; write_real(&rt, b"papy_io-none/a", b"a") == Err(IoFault::Failed));
-    assert!(rt; write_real(&rt, b"/dev/full", b"a") == Err(IoFault::Failed));
     Ok(())
-}
-
-#[test]
-fn a_file_that_cannot_be_read_fails(rt: HostRuntime) {
-    let unreadable: [(&[u8], ReadAllFault); 4] = [
-        (b"papy_io-missing.tmp", ReadAllFault::ReadFault),
-        (b"\xff", ReadAllFault::ReadFault),
-        (b".", ReadAllFault::ReadFault),
-        (b"/dev/zero", ReadAllFault::TooLarge),
-    ];
-    for (name, fault) in unreadable {
-        match read_real(&rt, name) {
-            Ok(_) => panic!(rt; "read"),
-            Err(answer) => assert!(rt; answer == fault),
-        }
-    }
 }

@@ -1,16 +1,13 @@
-//! Tests of `papy_base`, `papy_io`, `core_tree`, `pex_values`, `pex_names` and `jump_patch`. They stand in a crate of their own, so that
-//! the proofs of those crates aren't made twice.
+//! Tests of what the other crates stand on, through public calls: desks and sinks of which a call fails, names of compiled files, devices,
+//! and the calls of `papy_base`, `core_tree`, `jump_patch`, `instance_store` and `lock_queue` with ample memory. What the program shows stands
+//! in `cases/`. They stand in a crate of their own, so that the proofs of those crates aren't made twice.
 #![tactic(auto)]
 
 #[cfg(test)]
 mod desks;
 #[cfg(test)]
-mod jumps;
-#[cfg(test)]
-mod names_and_numbers;
+mod devices;
 #[cfg(test)]
 mod objects;
 #[cfg(test)]
-mod opcodes;
-#[cfg(test)]
-mod outlines;
+mod values;

@@ -57,11 +57,3 @@ pub(crate) fn call_failing(
     let status = papyrus(alloc, words, desk, &mut out, &mut notes, &mut devices);
     Ok(Answer { status, out, notes })
 }
-
-/// Runs the command of these words.
-pub(crate) fn call(alloc: Global, desk: &mut MemoryDesk, words: &[String]) -> Result<Answer, Fail>
-    requires { desk.old.busy ≡ Idle }
-    ensures { desk.new.busy ≡ Idle }
-{
-    call_failing(alloc, desk, words, &[], &[])
-}

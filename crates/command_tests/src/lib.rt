@@ -1,14 +1,7 @@
-//! Tests of the top call and of the commands that run scripts, on files in memory and with the devices that the program has. They stand in a crate of their own, so that the
-//! proofs of the commands aren't made twice.
+//! Tests of the top call on files in memory of which single calls fail, and of a sample without devices.
 #![tactic(auto)]
 
 #[cfg(test)]
 mod calls;
 #[cfg(test)]
-mod compile_tests;
-#[cfg(test)]
-mod run_tests;
-#[cfg(test)]
-mod sample_tests;
-#[cfg(test)]
-mod top_tests;
+mod failing_calls;

@@ -1,10 +1,12 @@
-//! Tests of what judges sets of scripts: their linking, the rules of expressions, line by line, and the rules of whole sets. They stand in a
-//! crate of their own, so that the proofs of the crates below aren't made twice.
+//! Tests of what reads and judges scripts: each of its public calls with ample memory, and a limit that no script of a command reaches. What
+//! the program shows of scripts stands in `cases/`. They stand in a crate of their own, so that the proofs of the crates below aren't made twice.
 #![tactic(auto)]
 
 #[cfg(test)]
-mod expression_tests;
+mod elaborating;
 #[cfg(test)]
-mod linker_tests;
+mod linking;
 #[cfg(test)]
-mod script_tests;
+mod reading;
+#[cfg(test)]
+mod sources;

@@ -1,10 +1,9 @@
-//! Tests of scenes: how their texts are read, bound to scripts, and reported. They stand in a crate of their own, so that the proofs of the
-//! crates below aren't made twice.
+//! Tests of which compiled files run together, and of the turns of their machine: what no command shows.
 #![tactic(auto)]
 
 #[cfg(test)]
-mod binding;
+mod files;
 #[cfg(test)]
-mod reading;
+mod turns;
 #[cfg(test)]
-mod running;
+mod verifying;

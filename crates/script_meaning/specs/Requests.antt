@@ -14,7 +14,7 @@ use Rattle.core_tree.specs.Device.{DeviceState, device_at, device_step}
 use Rattle.core_tree.specs.Outlines.{ScriptShape, FunctionShape}
 use Rattle.papy_base.specs.declared.faults.StackFault.{StackFault}
 use Rattle.papy_base.specs.declared.faults.StackFault.TheVariants as faults
-use Rattle.script_meaning.specs.Values.{int_of, number_of, text_of}
+use Rattle.script_meaning.specs.Values.{number_of}
 use Rattle.script_meaning.specs.World.{Variables, ArrayState, Place, Line, Traced, Faulted}
 
 -- what a body may read and write: the variables and the state of its own instance, the arrays, the
@@ -112,17 +112,22 @@ reply_as (Some _) reply = values.Int reply
 abbrev pub stepped : Sight → ℕ → ℤ × DeviceState → Sight
 stepped sight device step = record sight { devices = slice_set sight.devices device step.1 }
 
+-- the line of a trace, whose argument is a text
+abbrev pub traced : Setting → Value → Sight → Sight
+traced setting (values.Text text) sight = with_line sight (Traced setting.stack text)
+traced setting _ sight = sight
+
 -- a native is performed: its reply, and what it changed
 abbrev pub performed : Setting → Option Binding → Option CoreType → List Value → Sight → Value × Sight
 performed setting (Some (bindings.Trace latency)) result arguments sight =
-    (values.NoneValue, with_line sight (Traced setting.stack (text_of (first_argument arguments))))
+    (values.NoneValue, traced setting (first_argument arguments) sight)
 performed setting (Some bindings.PromptTrace) result arguments sight =
-    (values.NoneValue, with_line sight (Traced setting.stack (text_of (first_argument arguments))))
+    (values.NoneValue, traced setting (first_argument arguments) sight)
 performed setting (Some (bindings.Device device latency)) result arguments sight =
-    let step = device_step (device_at sight.devices device) (map int_of arguments) in
+    let step = device_step (device_at sight.devices device) (map number_of arguments) in
     (reply_as result step.0, stepped sight device step)
 performed setting (Some (bindings.PromptDevice device)) result arguments sight =
-    let step = device_step (device_at sight.devices device) (map int_of arguments) in
+    let step = device_step (device_at sight.devices device) (map number_of arguments) in
     (reply_as result step.0, stepped sight device step)
 performed setting _ result arguments sight = (values.NoneValue, sight)
 

@@ -19,8 +19,10 @@ use Rattle.papy_base.specs.declared.faults.StackFault.{StackFault}
 use Rattle.papy_base.specs.declared.faults.StackFault.TheVariants as faults
 
 -- ---- parts of a value, where it is of that type
+-- a Bool counts as 1 or 0, as a device takes it
 abbrev pub number_of : Value → ℤ
 number_of (values.Int number) = number
+number_of (values.Bool truth) = if truth then pos 1 else pos 0
 number_of _ = pos 0
 
 abbrev pub text_of : Value → List ℕ
@@ -110,7 +112,7 @@ written outline instances (values.Int number) = signed_decimal number
 written outline instances (values.Bool truth) = if truth then codes "True" else codes "False"
 written outline instances (values.Text text) = text
 written outline instances (values.Instance number) = instance_text outline (slice_index_or instances number (0, []))
-written outline instances (values.Array number) = []
+written outline instances (values.Array number) = codes "None"
 
 abbrev pub instance_as : List ScriptShape → List (ℕ × List ℕ) → ℕ → Value → Value
 instance_as outline instances script (values.Instance number) =
