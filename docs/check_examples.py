@@ -8,9 +8,9 @@ says something else, and last 'N passed, M failed'.
 
 What is run is in the fences of a page, in their order. Under each heading of the second level a new folder begins, with the
 launcher `papyrus` and the folder `examples` in it, unless the page has changed to another folder by `cd`. A page of an example
-begins in the folder of that example.
+begins in the folder of that example. The launcher is on the PATH.
 
-  papyrus A.psc, json s.json,     the file of this name
+  papyrus A.psc, json s.json,     the file of this name; sh, makefile and yaml likewise
   listing J.txt
   hex A.pex                       the file with these bytes
   papyrus                         A.psc, whose OnInit has these lines; or, where they begin with ScriptName, A.psc itself
@@ -38,6 +38,8 @@ PROGRAM = pathlib.Path(os.environ.get("PAPYRUS_PROGRAM") or LAST_BUILT)
 EXAMPLES = DOCS.parent / "examples"
 REFUSAL = re.compile(r"[^ ]+: (?:[^ ]+ )?([LSNKPGVC])\d+ [A-Za-z]+")
 SECONDS = 60
+# Tools that a page may use where the machine has them.
+OPTIONAL = {"make"}
 
 
 def fences(text):
@@ -93,22 +95,24 @@ class Page:
         (room / "papyrus").chmod(0o755)
 
     def lay(self, name, content):
-        (self.room / name).parent.mkdir(parents=True, exist_ok=True)
-        (self.room / name).write_bytes(content)
+        (self.place / name).parent.mkdir(parents=True, exist_ok=True)
+        (self.place / name).write_bytes(content)
         if name not in self.names:
             self.names.append(name)
 
     def shell(self, command):
         ran = subprocess.run(
-            ["sh", "-c", 'papyrus() { "$PROGRAM" "$@"; }\n' + command],
+            ["sh", "-c", command],
             cwd=self.place, stdout=subprocess.PIPE, stderr=subprocess.STDOUT, stdin=subprocess.DEVNULL, timeout=SECONDS,
-            env={**os.environ, "PROGRAM": str(self.program)},
+            env={**os.environ, "PATH": f"{self.room}:{os.environ['PATH']}"},
         )
         return ran.stdout.decode("utf-8", "backslashreplace").splitlines()
 
     def compare(self, line, command, wanted):
         if command.startswith("cd "):
             self.place = (self.place / command[3:]).resolve()
+            return
+        if command.split()[0] in OPTIONAL and not shutil.which(command.split()[0]):
             return
         self.count += 1
         if re.match(r"(\S*/)?papyrus run ", command):
@@ -175,7 +179,7 @@ class Page:
             self.listing(name, lines)
         elif kind == "hex":
             self.lay(name, bytes.fromhex("".join(text.split("#")[0] for text in lines)))
-        elif kind == "json" and name:
+        elif kind in ("json", "sh", "makefile", "yaml") and name:
             self.lay(name, "".join(text + "\n" for text in lines).encode())
         elif kind == "console" or (kind == "" and lines and lines[0].startswith("$ ")):
             self.console(line, lines, kind == "console")

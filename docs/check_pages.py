@@ -2,12 +2,13 @@
 """Checks what the pages rest on beside their examples, prints what is wrong, and ends with 'N passed, M failed'.
 
   check_pages.py                   all of these
-  check_pages.py --program PATH    another program than crates/papyrus/out/papyrus
+  check_pages.py --program PATH    another program than PAPYRUS_PROGRAM in the environment, or the one that was built last
 
   links      each link of a page leads to a file or folder that is there, and to a heading that is there; and each file that
              a page names is a link
   index      rule_index.md is what make_rule_index.py makes, and each rule is told, and shown by a test or a case
   scenes     scene.schema.json agrees with each scene of the cases and the examples, but for those that C2 and C3 refuse
+  crates     crates.txt and architecture.md have the same crates under the same headings
   commands   the completions and the man page are what tools/shell/make.py makes, and its table is that of `papyrus --help` and README.md
 """
 import argparse
@@ -21,14 +22,14 @@ import sys
 DOCS = pathlib.Path(__file__).resolve().parent
 ROOT = DOCS.parent
 sys.path[:0] = [str(DOCS), str(ROOT / "tools" / "shell")]
+import check_examples
 import json_schema
 import make
 import make_rule_index
 import scene_files
 
-PROGRAM = ROOT / "crates" / "papyrus" / "out" / "papyrus"
 LINK = re.compile(r"\[((?:[^\[\]]|\[[^\[\]]*\])*)\]\(([^()\s]+)\)")
-NAMED = re.compile(r"`([\w.-]*/[\w./-]*|[\w-]+\.md)`")
+NAMED = re.compile(r"`([\w.-]+/[\w./-]*|[\w-]+\.md)`")
 SCENE_LIMIT = 16 * 1024 * 1024
 # What may be such a spelling of a number, or stand in a text.
 UNPLAIN = re.compile(rb"\d[.eE]|-0")
@@ -99,7 +100,7 @@ def check_links(tally):
         bare = LINK.sub(lambda found: "\n" * found.group(0).count("\n"), text)
         for found in NAMED.finditer(bare):
             spelled = found.group(1)
-            if spelled.strip("./") and "out" not in spelled.split("/") and any((base / spelled).exists() for base in (ROOT, page.parent)):
+            if "out" not in spelled.split("/") and any((base / spelled).exists() for base in (ROOT, page.parent)):
                 line = bare.count("\n", 0, found.start()) + 1
                 tally.note(f"{name}:{line}: names {spelled} without a link")
 
@@ -178,15 +179,40 @@ def check_commands(tally, program):
         tally.note("" if f"| {status} | {meaning} |" in readme else f"README.md doesn't tell status {status} as tools/shell/commands.table does")
 
 
+def groups_of(text, heading, crate):
+    """The names of crates by the heading that they stand under."""
+    groups, under = {}, None
+    for line in text.splitlines():
+        found = re.fullmatch(heading, line)
+        under = found[1] if found else under
+        named = re.match(crate, line)
+        if named and under:
+            groups.setdefault(under, []).append(named[1])
+    return groups
+
+
+def check_crates(tally):
+    listed = groups_of((ROOT / "crates.txt").read_text(), r"# ([\w ]+)", r"(\w+):")
+    page = (DOCS / "architecture.md").read_text()
+    told = groups_of(page[: page.index("## Inside a crate")], r"### ([\w ]+)", r"\| `(\w+)` \|")
+    for group in {**listed, **told}:
+        same = listed.get(group) == told.get(group)
+        tally.note("" if same else f"crates.txt and docs/architecture.md differ in the crates of {group}")
+
+
 def main():
     parser = argparse.ArgumentParser(description=__doc__, formatter_class=argparse.RawDescriptionHelpFormatter)
-    parser.add_argument("--program", type=pathlib.Path, default=PROGRAM)
+    parser.add_argument("--program", type=pathlib.Path, default=check_examples.PROGRAM)
     words = parser.parse_args()
+    if not words.program.exists():
+        print("the program isn't built: run ./papyrus --version first")
+        return 2
     tally = Tally()
     check_links(tally)
     check_index(tally)
     check_scenes(tally)
     check_commands(tally, words.program.resolve())
+    check_crates(tally)
     print("\n".join([*tally.wrong, f"{tally.passed} passed, {len(tally.wrong)} failed"]))
     return 1 if tally.wrong else 0
 
