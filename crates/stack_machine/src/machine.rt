@@ -69,27 +69,17 @@ impl Machine {
         ensures fresh { IfOk result (λ machine. (machine.turns ≡ 0) × (machine.started ≡ 0) × (machine.fault ≡ None) × (machine.done ≡ 0)) }
         ensures kinds { SameKinds (map (λ d. device_state d) devices.old.items) (map (λ d. device_state d) devices.new.items) }
     {
-        let plan = Plan::of(alloc, &loaded, &scene)?;
-        let store = Store::create(alloc, &loaded, loaded.outline(), &scene)?;
-        let (instances, stacks) = (scene.instances.len() as u16, scene.calls.len() as u16);
-        let threads = Threads::with_room(alloc, instances, stacks)?;
-        let no_state = Text::try_from_bytes(alloc, &[])?;
-        load_devices(&scene.tapes, devices)?;
+        let first = initial(alloc, &loaded, &scene, devices)?;
         Ok(Machine {
             setting: Setting {
                 loaded,
                 scene,
-                plan,
+                plan: first.plan,
             },
-            world: World {
-                alloc,
-                store,
-                threads,
-                last: None,
-            },
+            world: first.world,
             turns: 0,
             fault: None,
-            no_state,
+            no_state: first.no_state,
         })
     }
 
@@ -260,6 +250,52 @@ impl Machine {
     pub fn arrays(&self) -> &Arrays {
         &self.world.store.arrays
     }
+}
+
+// What a machine has before its first turn, beside the scripts and the scene.
+#[derive(Drop)]
+struct FirstState {
+    plan: Plan,
+    world: World,
+    no_state: Text,
+}
+
+fn initial(
+    alloc: Global,
+    loaded: &Loaded,
+    scene: &Scene,
+    devices: &mut Vec<Box<dyn Device>>,
+) -> Result<FirstState, OutOfMemory>
+    requires instances { vec_len scene.now.instances < 65536 }
+    requires calls { vec_len scene.now.calls < 65536 }
+    ensures fresh { IfOk result (λ first. (first.world.threads.started ≡ 0) × (first.world.threads.done ≡ 0)) }
+    ensures kinds { SameKinds (map (λ d. device_state d) devices.old.items) (map (λ d. device_state d) devices.new.items) }
+{
+    load_devices(&scene.tapes, devices)?;
+    let no_state = Text::try_from_bytes(alloc, &[])?;
+    let plan = Plan::of(alloc, loaded, scene)?;
+    let world = initial_world(alloc, loaded, scene)?;
+    Ok(FirstState {
+        plan,
+        world,
+        no_state,
+    })
+}
+
+fn initial_world(alloc: Global, loaded: &Loaded, scene: &Scene) -> Result<World, OutOfMemory>
+    requires instances { vec_len scene.now.instances < 65536 }
+    requires calls { vec_len scene.now.calls < 65536 }
+    ensures fresh { IfOk result (λ world. (world.threads.started ≡ 0) × (world.threads.done ≡ 0)) }
+{
+    let (instances, stacks) = (scene.instances.len() as u16, scene.calls.len() as u16);
+    let store = Store::create(alloc, loaded, loaded.outline(), scene)?;
+    let threads = Threads::with_room(alloc, instances, stacks)?;
+    Ok(World {
+        alloc,
+        store,
+        threads,
+        last: None,
+    })
 }
 
 // The end of a turn in which this stack ran, or none.

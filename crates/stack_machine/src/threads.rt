@@ -126,6 +126,7 @@ impl Threads {
         ensures { IsSameSize self.old self.new }
     {
         let Some(found) = self.stacks.get_mut(usize::from(stack)) else {
+            drop(frame);
             return Ok(());
         };
         if !found.is_done() {

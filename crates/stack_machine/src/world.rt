@@ -8,7 +8,7 @@ ghost use Rattle.papy_io.specs.Sink.{AppendsSome};
 
 use crate::begin::{begin, choose};
 use crate::entry::{Found, look_up, open};
-use crate::frame::{Call, Frame, Way};
+use crate::frame::{Body, Call, Frame, Way};
 use crate::natives::{Performed, perform};
 use crate::operands::Turn;
 use crate::run::{Ending, run_frame};
@@ -20,6 +20,7 @@ use core_tree::Value;
 use latent_natives::Device;
 use papy_base::OutOfMemory;
 use papy_io::Sink;
+use pex_verify::MethodPlace;
 use std::alloc::Global;
 
 /// What turns change.
@@ -124,30 +125,70 @@ impl World {
         ensures count { CountsTurn result (S.faults sink.old) (S.faults sink.new) }
         ensures kinds { SameKinds (map (λ d. device_state d) devices.old.items) (map (λ d. device_state d) devices.new.items) }
     {
-        let Some(Frame::Pending(call)) = self.threads.pop(turn.stack) else {
-            return Ok(false);
-        };
-        match look_up(turn.setting, &self.store, &call) {
-            Some(Found::Body(body)) => {
-                let running = open(turn.alloc, turn.setting, call, body)?;
-                self.threads.push(turn.stack, Frame::Running(running))?;
-                Ok(true)
-            }
-            Some(Found::Variable { script, variable }) => {
-                self.enter_variable(turn.stack, call, script, variable)?;
-                Ok(false)
-            }
-            Some(Found::Native(native)) => {
-                let performed = perform(turn, native, call.arguments.as_slice(), sink, devices)?;
-                self.leave_native(turn, call.instance, performed);
-                Ok(false)
-            }
-            None => {
-                self.threads
-                    .return_from(turn.stack, call.instance, Value::NoneValue);
+        match self.threads.pop(turn.stack) {
+            Some(Frame::Pending(call)) => self.enter_call(turn, call, sink, devices),
+            other => {
+                drop(other);
                 Ok(false)
             }
         }
+    }
+
+    // The same of this call, whose frame was popped.
+    fn enter_call<S: Sink>(
+        &mut self,
+        turn: &Turn<'_>,
+        call: Call,
+        sink: &mut S,
+        devices: &mut Vec<Box<dyn Device>>,
+    ) -> Result<bool, TurnFault>
+        ensures appended { AppendsSome (S.written sink.old) (S.written sink.new) }
+        ensures count { CountsTurn result (S.faults sink.old) (S.faults sink.new) }
+        ensures kinds { SameKinds (map (λ d. device_state d) devices.old.items) (map (λ d. device_state d) devices.new.items) }
+    {
+        match look_up(turn.setting, &self.store, &call) {
+            Some(Found::Body(body)) => Ok(self.enter_body(turn, call, body)?),
+            Some(Found::Variable { script, variable }) => {
+                Ok(self.enter_variable(turn.stack, call, script, variable)?)
+            }
+            Some(Found::Native(native)) => {
+                let entered = self.enter_native(turn, native, &call, sink, devices);
+                drop(call);
+                entered
+            }
+            None => {
+                let instance = call.instance;
+                drop(call);
+                self.threads
+                    .return_from(turn.stack, instance, Value::NoneValue);
+                Ok(false)
+            }
+        }
+    }
+
+    // The body's frame takes the place of the call's.
+    fn enter_body(&mut self, turn: &Turn<'_>, call: Call, body: Body) -> Result<bool, OutOfMemory> {
+        let running = open(turn.alloc, turn.setting, call, body)?;
+        self.threads.push(turn.stack, Frame::Running(running))?;
+        Ok(true)
+    }
+
+    // A native method is performed, and the call ends.
+    fn enter_native<S: Sink>(
+        &mut self,
+        turn: &Turn<'_>,
+        native: MethodPlace,
+        call: &Call,
+        sink: &mut S,
+        devices: &mut Vec<Box<dyn Device>>,
+    ) -> Result<bool, TurnFault>
+        ensures appended { AppendsSome (S.written sink.old) (S.written sink.new) }
+        ensures count { CountsTurn result (S.faults sink.old) (S.faults sink.new) }
+        ensures kinds { SameKinds (map (λ d. device_state d) devices.old.items) (map (λ d. device_state d) devices.new.items) }
+    {
+        let performed = perform(turn, native, call.arguments.as_slice(), sink, devices)?;
+        self.leave_native(turn, call.instance, performed);
+        Ok(false)
     }
 
     // A native method was performed, and its frame, which was popped, has ended.
@@ -166,23 +207,43 @@ impl World {
     fn enter_variable(
         &mut self,
         stack: u16,
-        call: Call,
+        mut call: Call,
         script: u16,
         variable: u16,
-    ) -> Result<(), OutOfMemory> {
-        let Some(instance) = call.instance else {
-            return Ok(());
+    ) -> Result<bool, OutOfMemory> {
+        let (instance, way) = (call.instance, call.way);
+        let last = call.arguments.pop();
+        drop(call);
+        let Some(instance) = instance else {
+            drop(last);
+            return Ok(false);
         };
-        let mut arguments = call.arguments;
-        let value = match (call.way, arguments.pop()) {
-            (Way::Set(_), Some(value)) => {
-                self.store.set_variable(instance, script, variable, value);
-                Value::NoneValue
+        let value = match way {
+            Way::Set(_) => self.set_or_get(instance, script, variable, last)?,
+            _ => {
+                drop(last);
+                self.store.variable(instance, script, variable)?
             }
-            _ => self.store.variable(instance, script, variable)?,
         };
         self.threads.return_from(stack, Some(instance), value);
-        Ok(())
+        Ok(false)
+    }
+
+    // Writes a variable, or reads it where nothing is to be written.
+    fn set_or_get(
+        &mut self,
+        instance: u16,
+        script: u16,
+        variable: u16,
+        written: Option<Value>,
+    ) -> Result<Value, OutOfMemory> {
+        match written {
+            Some(value) => {
+                self.store.set_variable(instance, script, variable, value);
+                Ok(Value::NoneValue)
+            }
+            None => self.store.variable(instance, script, variable),
+        }
     }
 
     // Runs the innermost frame's body. Where none runs, the stack passes.
