@@ -4,7 +4,7 @@
 ghost use Rattle.std.specs.Prelude.{◌≡◌, ◌↔◌, ℕ, ◌+◌, ◌<◌, ◌≤◌, ◌^◌, false, Ok, Err, None, IfOk, IfSome, IsTrue, MatchOption, map, vec_len};
 ghost use Rattle.latent_natives.specs.Devices.{SameKinds};
 ghost use Rattle.stack_machine.specs.Casts.{IsTextOf};
-ghost use Rattle.stack_machine.specs.Machine.{turns_after, fault_after, CountsTurn, HasEnded, HasNothingLeft};
+ghost use Rattle.stack_machine.specs.Machine.{turns_after, fault_after, CountsTurn, HasEnded, HasNothingLeft, HasStarted};
 ghost use Rattle.papy_io.specs.Sink.{AppendsSome};
 
 use crate::casts::text_of;
@@ -107,6 +107,7 @@ impl Machine {
         ensures count { self.old.fault ≡ None → CountsTurn result (S.faults sink.old) (S.faults sink.new) }
         ensures appended { AppendsSome (S.written sink.old) (S.written sink.new) }
         ensures kinds { SameKinds (map (λ d. device_state d) devices.old.items) (map (λ d. device_state d) devices.new.items) }
+        ensures ran { HasStarted result self.new.started }
 
         // After a fault.
         ensures same_fault { IfSome self.old.fault (λ fault. result ≡ Err fault) }
@@ -303,6 +304,7 @@ fn end_of(ran: Option<u16>) -> TurnEnd
     ensures end { MatchOption ran (result ≡ TurnEnd.Idle) (λ stack. result ≡ TurnEnd.Ran stack) }
     ensures counts { (turns : ℕ) → turns_after (Ok result) turns ≡ turns + 1 }
     ensures goes_on { ¬ (result ≡ TurnEnd.Ended) }
+    ensures ran { (started : ℕ) → IfSome ran (λ stack. stack < started) → HasStarted (Ok result) started }
 {
     match ran {
         Some(stack) => TurnEnd::Ran(stack),

@@ -1,7 +1,7 @@
 //! What turns change, and what a turn does.
 #![tactic(auto, using(crate::proofs::Sinks::sinks))]
 
-ghost use Rattle.std.specs.Prelude.{map};
+ghost use Rattle.std.specs.Prelude.{◌≡◌, ◌<◌, IfOk, IfSome, map};
 ghost use Rattle.latent_natives.specs.Devices.{SameKinds};
 ghost use Rattle.stack_machine.specs.Machine.{CountsTurn};
 ghost use Rattle.papy_io.specs.Sink.{AppendsSome};
@@ -13,6 +13,7 @@ use crate::natives::{Performed, perform};
 use crate::operands::Turn;
 use crate::run::{Ending, run_frame};
 use crate::setting::Setting;
+use crate::stack::Stack;
 use crate::status::TurnFault;
 use crate::store::Store;
 use crate::threads::Threads;
@@ -46,6 +47,7 @@ impl World {
         ensures appended { AppendsSome (S.written sink.old) (S.written sink.new) }
         ensures count { CountsTurn result (S.faults sink.old) (S.faults sink.new) }
         ensures kinds { SameKinds (map (λ d. device_state d) devices.old.items) (map (λ d. device_state d) devices.new.items) }
+        ensures ran { IfOk result (λ ran. IfSome ran (λ stack. stack < self.new.threads.started)) }
     {
         begin(self.alloc, setting, &mut self.threads, number)?;
         let chosen = choose(&setting.scene, &self.threads, number, self.last);
@@ -73,6 +75,7 @@ impl World {
         ensures appended { AppendsSome (S.written sink.old) (S.written sink.new) }
         ensures count { CountsTurn result (S.faults sink.old) (S.faults sink.new) }
         ensures kinds { SameKinds (map (λ d. device_state d) devices.old.items) (map (λ d. device_state d) devices.new.items) }
+        ensures started { self.new.threads.started ≡ self.old.threads.started }
     {
         self.threads.take(turn.stack);
         if self.threads.is_pending(turn.stack) {
@@ -91,6 +94,7 @@ impl World {
         ensures appended { AppendsSome (S.written sink.old) (S.written sink.new) }
         ensures count { CountsTurn result (S.faults sink.old) (S.faults sink.new) }
         ensures kinds { SameKinds (map (λ d. device_state d) devices.old.items) (map (λ d. device_state d) devices.new.items) }
+        ensures started { self.new.threads.started ≡ self.old.threads.started }
     {
         if self.enter(turn, sink, devices)? {
             return self.run_and_act(turn, sink, devices);
@@ -108,6 +112,7 @@ impl World {
         ensures appended { AppendsSome (S.written sink.old) (S.written sink.new) }
         ensures count { CountsTurn result (S.faults sink.old) (S.faults sink.new) }
         ensures kinds { SameKinds (map (λ d. device_state d) devices.old.items) (map (λ d. device_state d) devices.new.items) }
+        ensures started { self.new.threads.started ≡ self.old.threads.started }
     {
         let ending = self.run_innermost(turn, sink, devices)?;
         self.threads.act(turn.stack, turn.number, ending)?;
@@ -124,6 +129,7 @@ impl World {
         ensures appended { AppendsSome (S.written sink.old) (S.written sink.new) }
         ensures count { CountsTurn result (S.faults sink.old) (S.faults sink.new) }
         ensures kinds { SameKinds (map (λ d. device_state d) devices.old.items) (map (λ d. device_state d) devices.new.items) }
+        ensures started { self.new.threads.started ≡ self.old.threads.started }
     {
         match self.threads.pop(turn.stack) {
             Some(Frame::Pending(call)) => self.enter_call(turn, call, sink, devices),
@@ -145,6 +151,7 @@ impl World {
         ensures appended { AppendsSome (S.written sink.old) (S.written sink.new) }
         ensures count { CountsTurn result (S.faults sink.old) (S.faults sink.new) }
         ensures kinds { SameKinds (map (λ d. device_state d) devices.old.items) (map (λ d. device_state d) devices.new.items) }
+        ensures started { self.new.threads.started ≡ self.old.threads.started }
     {
         match look_up(turn.setting, &self.store, &call) {
             Some(Found::Body(body)) => Ok(self.enter_body(turn, call, body)?),
@@ -167,7 +174,9 @@ impl World {
     }
 
     // The body's frame takes the place of the call's.
-    fn enter_body(&mut self, turn: &Turn<'_>, call: Call, body: Body) -> Result<bool, OutOfMemory> {
+    fn enter_body(&mut self, turn: &Turn<'_>, call: Call, body: Body) -> Result<bool, OutOfMemory>
+        ensures started { self.new.threads.started ≡ self.old.threads.started }
+    {
         let running = open(turn.alloc, turn.setting, call, body)?;
         self.threads.push(turn.stack, Frame::Running(running))?;
         Ok(true)
@@ -185,6 +194,7 @@ impl World {
         ensures appended { AppendsSome (S.written sink.old) (S.written sink.new) }
         ensures count { CountsTurn result (S.faults sink.old) (S.faults sink.new) }
         ensures kinds { SameKinds (map (λ d. device_state d) devices.old.items) (map (λ d. device_state d) devices.new.items) }
+        ensures started { self.new.threads.started ≡ self.old.threads.started }
     {
         let performed = perform(turn, native, call.arguments.as_slice(), sink, devices)?;
         self.leave_native(turn, call.instance, performed);
@@ -192,7 +202,9 @@ impl World {
     }
 
     // A native method was performed, and its frame, which was popped, has ended.
-    fn leave_native(&mut self, turn: &Turn<'_>, instance: Option<u16>, performed: Performed) {
+    fn leave_native(&mut self, turn: &Turn<'_>, instance: Option<u16>, performed: Performed)
+        ensures started { self.new.threads.started ≡ self.old.threads.started }
+    {
         let reply = performed.reply;
         match performed.rest {
             Some(latency) => {
@@ -210,7 +222,9 @@ impl World {
         mut call: Call,
         script: u16,
         variable: u16,
-    ) -> Result<bool, OutOfMemory> {
+    ) -> Result<bool, OutOfMemory>
+        ensures started { self.new.threads.started ≡ self.old.threads.started }
+    {
         let (instance, way) = (call.instance, call.way);
         let last = call.arguments.pop();
         drop(call);
@@ -236,7 +250,9 @@ impl World {
         script: u16,
         variable: u16,
         written: Option<Value>,
-    ) -> Result<Value, OutOfMemory> {
+    ) -> Result<Value, OutOfMemory>
+        ensures started { self.new.threads.started ≡ self.old.threads.started }
+    {
         match written {
             Some(value) => {
                 self.store.set_variable(instance, script, variable, value);
@@ -256,16 +272,31 @@ impl World {
         ensures appended { AppendsSome (S.written sink.old) (S.written sink.new) }
         ensures count { CountsTurn result (S.faults sink.old) (S.faults sink.new) }
         ensures kinds { SameKinds (map (λ d. device_state d) devices.old.items) (map (λ d. device_state d) devices.new.items) }
+        ensures started { self.new.threads.started ≡ self.old.threads.started }
     {
         let has_room = self.threads.has_room(turn.stack);
         let Some(stack) = self.threads.stack_mut(turn.stack) else {
             return Ok(Ending::Pass);
         };
-        match stack.innermost_mut() {
-            Some(Frame::Running(running)) => {
-                run_frame(turn, &mut self.store, running, has_room, sink, devices)
-            }
-            _ => Ok(Ending::Pass),
-        }
+        run_stack_body(turn, &mut self.store, stack, has_room, sink, devices)
+    }
+}
+
+// Runs the body of a stack's innermost frame. Where none runs, the stack passes.
+fn run_stack_body<S: Sink>(
+    turn: &Turn<'_>,
+    store: &mut Store,
+    stack: &mut Stack,
+    has_room: bool,
+    sink: &mut S,
+    devices: &mut Vec<Box<dyn Device>>,
+) -> Result<Ending, TurnFault>
+    ensures appended { AppendsSome (S.written sink.old) (S.written sink.new) }
+    ensures count { CountsTurn result (S.faults sink.old) (S.faults sink.new) }
+    ensures kinds { SameKinds (map (λ d. device_state d) devices.old.items) (map (λ d. device_state d) devices.new.items) }
+{
+    match stack.innermost_mut() {
+        Some(Frame::Running(running)) => run_frame(turn, store, running, has_room, sink, devices),
+        _ => Ok(Ending::Pass),
     }
 }
