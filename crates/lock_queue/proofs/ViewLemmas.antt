@@ -92,6 +92,7 @@ pairs_is seats owners order queues words k agree = decide (seat_at seats k) refl
   none e =
       pairs-lacking seats k order.stacks (lacks_from order.stacks k (λ h. let w = agree.waiting k h in none_some w.0 (sym e ∙ ap waits_for w.1)))
       ∙ ap (pairs_if k) (sym e)
+
   decide : (s : Seat) → seat_at seats k ≡ s → filter (λ (w : ℕ × ℕ). eqb w.1 k) (waiters_of seats order.stacks) ≡ pairs_if k (waits_for (seat_at seats k))
   decide (Waits i) e =
       pairs-having seats k order.stacks agree.differ (agree.listed k i e)
