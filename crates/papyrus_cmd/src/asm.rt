@@ -52,7 +52,11 @@ fn file_of(alloc: Global, text: &[u8]) -> Result<Vec<u8>, FileFault>
     ensures { Assembles result }
 {
     match assemble(alloc, text) {
-        Ok(value) => spelled(alloc, &value),
+        Ok(value) => {
+            let bytes = spelled(alloc, &value);
+            drop(value);
+            bytes
+        }
         Err(ListingFault::OutOfMemory) => Err(FileFault::OutOfMemory),
         Err(ListingFault::Broken { line, rule }) => Err(FileFault::Refused {
             place: Place::Line(line),

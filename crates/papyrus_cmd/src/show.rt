@@ -37,7 +37,13 @@ pub fn show<D: Desk, S: Sink>(alloc: Global, files: &[String], desk: &mut D, out
             mem::forget(pex);
             Ending::Done
         }
-        Err(ShowFault::WriteFault) => Ending::WriteFault,
-        Err(ShowFault::OutOfMemory) => Ending::OutOfMemory,
+        Err(ShowFault::WriteFault) => {
+            drop(pex);
+            Ending::WriteFault
+        }
+        Err(ShowFault::OutOfMemory) => {
+            drop(pex);
+            Ending::OutOfMemory
+        }
     }
 }
