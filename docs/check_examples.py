@@ -18,6 +18,7 @@ begins in the folder of that example. The launcher is on the PATH.
   console                         commands behind `$ `, each with what it prints; `..` stands for lines that are left out
   (nothing)                       where it begins with `$ `, the same, but that what isn't shown isn't compared
   (nothing)                       where it is one line of a refusal: what a command tells of the files since the last heading
+  (nothing)                       else, where the page has changed to another folder: lines of a file of that folder
 
 A table that begins with a column of turns is compared with the page's last command `run` (turn_tables.py).
 """
@@ -69,6 +70,11 @@ def agrees(wanted, found):
     if wanted[0] == "..":
         return any(agrees(wanted[1:], found[at:]) for at in range(len(found) + 1))
     return bool(found) and wanted[0] == found[0] and agrees(wanted[1:], found[1:])
+
+
+def stripped(text):
+    """The lines that aren't empty, without blanks before and behind, each with a line feed before and behind it."""
+    return "\n" + "".join(f"{line.strip()}\n" for line in text.splitlines() if line.strip())
 
 
 class Page:
@@ -151,6 +157,14 @@ class Page:
             command = " ".join(["papyrus compile", *files])
         self.compare(line, command, [text])
 
+    def excerpt(self, line, lines):
+        """Compares the lines with those of the files of the folder, whatever blanks they begin with."""
+        self.count += 1
+        wanted = stripped("\n".join(lines))
+        files = [path for path in self.place.rglob("*") if path.suffix in (".psc", ".json", ".txt")]
+        if not any(wanted in stripped(path.read_text()) for path in files):
+            self.wrong.append(f"{self.path}:{line}: these lines stand in no file of {self.place.name}")
+
     def turns(self, line, lines):
         self.count += 1
         faults = turn_tables.faults(self.program, self.place, self.last_run, lines)
@@ -185,6 +199,8 @@ class Page:
             self.console(line, lines, kind == "console")
         elif kind == "" and len(lines) == 1 and self.names and REFUSAL.fullmatch(lines[0]):
             self.refusal(line, lines[0], REFUSAL.fullmatch(lines[0]).group(1))
+        elif kind == "" and self.place != self.room:
+            self.excerpt(line, lines)
 
     def run(self):
         with tempfile.TemporaryDirectory(prefix="papyrus-docs-") as top:

@@ -29,7 +29,7 @@ import make_rule_index
 import scene_files
 
 LINK = re.compile(r"\[((?:[^\[\]]|\[[^\[\]]*\])*)\]\(([^()\s]+)\)")
-NAMED = re.compile(r"`([\w.-]+/[\w./-]*|[\w-]+\.md)`")
+NAMED = re.compile(r"`([\w.-]+/[\w./-]*|[\w-]+\.\w+)`")
 SCENE_LIMIT = 16 * 1024 * 1024
 # What may be such a spelling of a number, or stand in a text.
 UNPLAIN = re.compile(rb"\d[.eE]|-0")
