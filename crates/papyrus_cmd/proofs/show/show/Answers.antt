@@ -25,8 +25,8 @@ returns-in-Err-WriteFault-clause-output g c =
     let ends = partly_shown (g.D.Desk.holds c.args.desk.now) (string_bytes file) c.in-Ok.pex wrote.bytes read c.in-Ok.ensures.decoded in
     rw named (wrote.bytes, wrote.appended, ends)
 
-pub returns-clause-output : goal.returns-clause-output
-returns-clause-output g c =
+pub returns-in-Err-OutOfMemory-clause-output : goal.returns-in-Err-OutOfMemory-clause-output
+returns-in-Err-OutOfMemory-clause-output g c =
     let file = c.index-files-0.result in
     let named : word_at (map string_bytes c.args.files.now) 0 ≡ string_bytes file =
     get_or-map string_bytes c.args.files.now 0 file [] c.requires.some ∙ ap string_bytes (sym c.index-files-0.is) in
