@@ -82,6 +82,8 @@ def link_fault(page, target):
         return ""
     file, _, anchor = target.partition("#")
     path = (page.parent / file).resolve() if file else page
+    if "out" in path.parts:
+        return f"leads to {file}, which a build makes"
     if not path.exists():
         return f"leads to {file}, which isn't there"
     if anchor and anchor not in anchors(path):
