@@ -14,6 +14,7 @@
 import argparse
 import functools
 import json
+import os
 import pathlib
 import re
 import subprocess
@@ -82,6 +83,8 @@ def link_fault(page, target):
         return ""
     file, _, anchor = target.partition("#")
     path = (page.parent / file).resolve() if file else page
+    if "out" in os.path.relpath(path, ROOT).split(os.sep):
+        return f"leads to {file}, which a build makes"
     if not path.exists():
         return f"leads to {file}, which isn't there"
     if anchor and anchor not in anchors(path):
