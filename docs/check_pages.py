@@ -103,7 +103,8 @@ def check_links(tally):
         bare = LINK.sub(lambda found: "\n" * found.group(0).count("\n"), text)
         for found in NAMED.finditer(bare):
             spelled = found.group(1)
-            if "out" not in spelled.split("/") and any((base / spelled).exists() for base in (ROOT, page.parent)):
+            there = any((base / spelled).exists() for base in (ROOT, page.parent))
+            if "out" not in spelled.split("/") and (there or spelled.endswith(".antt")):
                 line = bare.count("\n", 0, found.start()) + 1
                 tally.note(f"{name}:{line}: names {spelled} without a link")
 
