@@ -19,6 +19,7 @@ begins in the folder of that example. The launcher is on the PATH.
   (nothing)                       where it begins with `$ `, the same, but that what isn't shown isn't compared
   (nothing)                       where it is one line of a refusal: what a command tells of the files since the last heading
   (nothing)                       else, where the page has changed to another folder: lines of a file of that folder
+  (another word)                  isn't looked at
 
 A table that begins with a column of turns is compared with the page's last command `run` (turn_tables.py).
 """
@@ -167,7 +168,9 @@ class Page:
 
     def turns(self, line, lines):
         self.count += 1
-        faults = turn_tables.faults(self.program, self.place, self.last_run, lines)
+        faults = ["no run stands before it"]
+        if self.last_run:
+            faults = turn_tables.faults(self.program, self.place, self.last_run, lines)
         if faults:
             self.wrong.append(f"{self.path}:{line}: a table of turns of {self.last_run}")
             self.wrong += [f"  {fault}" for fault in faults]
