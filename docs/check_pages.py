@@ -9,7 +9,8 @@
   index      rule_index.md is what make_rule_index.py makes, and each rule is told, and shown by a test or a case
   scenes     scene.schema.json agrees with each scene of the cases and the examples, but for those that C2 and C3 refuse
   crates     crates.txt and architecture.md have the same crates under the same headings
-  commands   the completions and the man page are what tools/shell/make.py makes, and its table is that of `papyrus --help` and README.md
+  commands   the completions, the man page and the launcher's lines on helpers are what tools/shell/make.py makes, and its table is that of
+             `papyrus --help`, README.md and, for helpers, commands.md
 """
 import argparse
 import functools
@@ -177,6 +178,9 @@ def check_commands(tally, program):
     shown = subprocess.run([str(program), "--help"], stdout=subprocess.PIPE, check=True).stdout.decode().splitlines()
     listed = [line for line in shown if line.startswith("  papyrus ")]
     tally.note("" if listed == make.help_lines(table) else "tools/shell/commands.table has other commands than `papyrus --help`")
+    page = (DOCS / "commands.md").read_text()
+    for helper, words, _, _ in table.helpers:
+        tally.note("" if f"\n### `{helper} {words}`\n" in page else f"docs/commands.md has no heading of the helper `{helper} {words}`")
     readme = (ROOT / "README.md").read_text()
     for status, meaning in table.statuses:
         tally.note("" if f"| {status} | {meaning} |" in readme else f"README.md doesn't tell status {status} as tools/shell/commands.table does")
