@@ -24,12 +24,14 @@ RULES, SCENES = "docs/rules.md", "docs/scenes.md"
 # A code in a text, which stays as it is, or a link.
 LINK = re.compile(r"`[^`]*`|\[((?:`[^`]*`|[^\[\]`])*)\]\(([^()\s]+)\)")
 RULE = re.compile(r"[A-Z]\d+ \w+")
+# Before an item of a list.
+ITEM = re.compile(r"\n(?=- |\d+\. )")
 # The fewest letters of a part of a name that is looked for.
 PART = 3
 DOTS = "..."
 FEWEST_COLUMNS, MOST_COLUMNS = 80, 100
 
-# A paragraph, whose lines are joined to one; the rows of a table; or a fence with its words.
+# A paragraph, whose lines are joined to one, or the items of a list; the rows of a table; or a fence with its words.
 Block = collections.namedtuple("Block", "form lines kind name", defaults=("", ""))
 Rule = collections.namedtuple("Rule", "code name blocks")
 
@@ -72,8 +74,8 @@ def blocks(lines, page):
         elif lines[at]:
             end = next((place for place in range(at, len(lines)) if not lines[place] or lines[place].startswith("```")), len(lines))
             table = lines[at].startswith("|")
-            texts = lines[at:end] if table else [" ".join(lines[at:end])]
-            found.append(Block("table" if table else "prose", [unlinked(text, page) for text in texts]))
+            texts = lines[at:end] if table else ITEM.split("\n".join(lines[at:end]))
+            found.append(Block("table" if table else "prose", [unlinked(re.sub(r"\n\s*", " ", text), page) for text in texts]))
         at = end
     return found
 
@@ -122,9 +124,9 @@ class Pages:
     def of_row(self, columns, row):
         """The rule of a row of a table."""
         code, name = row[0].split()
-        cells = [prose(f"{column}: {cell}") for column, cell in list(zip(columns, row))[2:]]
+        told = [prose(sentence(row[1])), *(prose(f"{column}: {cell}") for column, cell in list(zip(columns, row))[2:])]
         whole = prose(f"A whole example: {SCENES}#{code.lower()}-{name.lower()}")
-        return Rule(code, name, [prose(sentence(row[1])), *cells, whole, *self.how_to_find(code)])
+        return Rule(code, name, [*told, whole, *self.how_to_find(code)])
 
     def how_to_find(self, code):
         """The blocks on finding the entry that a rule's line doesn't tell: the row of the rule, and the paragraph behind the table."""
