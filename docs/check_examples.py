@@ -38,6 +38,7 @@ BUILT = DOCS.parent / "crates" / "papyrus" / "out"
 LAST_BUILT = max(BUILT / "papyrus", BUILT / "unproved" / "papyrus", key=lambda path: path.stat().st_mtime if path.exists() else 0)
 PROGRAM = pathlib.Path(os.environ.get("PAPYRUS_PROGRAM") or LAST_BUILT)
 EXAMPLES = DOCS.parent / "examples"
+EXPLAIN = DOCS.parent / "tools" / "explain.py"
 REFUSAL = re.compile(r"[^ ]+: (?:[^ ]+ )?([LSNKPGVC])\d+ [A-Za-z]+")
 SECONDS = 60
 # Tools that a page may use where the machine has them.
@@ -98,7 +99,8 @@ class Page:
         if EXAMPLES in self.path.resolve().parents:
             self.place = room / self.path.resolve().parent.relative_to(EXAMPLES.parent)
         shutil.copytree(EXAMPLES, room / "examples", ignore=shutil.ignore_patterns("*.pex"))
-        (room / "papyrus").write_text(f'#!/bin/sh\nexec "{self.program}" "$@"\n')
+        helper = f'[ "${{1-}}" != explain ] || {{ shift; exec python3 "{EXPLAIN}" "$@"; }}'
+        (room / "papyrus").write_text(f'#!/bin/sh\n{helper}\nexec "{self.program}" "$@"\n')
         (room / "papyrus").chmod(0o755)
 
     def lay(self, name, content):
@@ -111,7 +113,7 @@ class Page:
         ran = subprocess.run(
             ["sh", "-c", command],
             cwd=self.place, stdout=subprocess.PIPE, stderr=subprocess.STDOUT, stdin=subprocess.DEVNULL, timeout=SECONDS,
-            env={**os.environ, "PATH": f"{self.room}:{os.environ['PATH']}"},
+            env={**os.environ, "COLUMNS": "100", "PATH": f"{self.room}:{os.environ['PATH']}"},
         )
         return ran.stdout.decode("utf-8", "backslashreplace").splitlines()
 

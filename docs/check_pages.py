@@ -9,7 +9,9 @@
   index      rule_index.md is what make_rule_index.py makes, and each rule is told, and shown by a test or a case
   scenes     scene.schema.json agrees with each scene of the cases and the examples, but for those that C2 and C3 refuse
   crates     crates.txt and architecture.md have the same crates under the same headings
-  commands   the completions and the man page are what tools/shell/make.py makes, and its table is that of `papyrus --help` and README.md
+  commands   the completions, the man page and the launcher's lines on helpers are what tools/shell/make.py makes, and its table is that of
+             `papyrus --help`, README.md and, for helpers, commands.md
+  editors    the files that highlight scripts have the keywords of language.md
 """
 import argparse
 import functools
@@ -178,9 +180,23 @@ def check_commands(tally, program):
     shown = subprocess.run([str(program), "--help"], stdout=subprocess.PIPE, check=True).stdout.decode().splitlines()
     listed = [line for line in shown if line.startswith("  papyrus ")]
     tally.note("" if listed == make.help_lines(table) else "tools/shell/commands.table has other commands than `papyrus --help`")
+    page = (DOCS / "commands.md").read_text()
+    for helper, words, _, _ in table.helpers:
+        tally.note("" if f"\n### `{helper} {words}`\n" in page else f"docs/commands.md has no heading of the helper `{helper} {words}`")
     readme = (ROOT / "README.md").read_text()
     for status, meaning in table.statuses:
         tally.note("" if f"| {status} | {meaning} |" in readme else f"README.md doesn't tell status {status} as tools/shell/commands.table does")
+
+
+def check_editors(tally):
+    """Each file has the keywords once, and the two flags that are names."""
+    listed = re.search(r"every other word is a name:\n\n(.*)\.\n", (DOCS / "language.md").read_text())[1].split(", ")
+    editors = ROOT / "tools" / "editors"
+    vim = re.findall(r"^syntax keyword papyrus(?!Todo)\w+ (.*?)(?: nextgroup=.*)?$", (editors / "vim/syntax/papyrus.vim").read_text(), re.MULTILINE)
+    emacs = re.findall(r"^\(defconst papyrus-\w+\s+'\(([^()]*)\)\)$", (editors / "emacs/papyrus-mode.el").read_text(), re.MULTILINE)
+    for name, found in (("vim", " ".join(vim)), ("emacs", " ".join(emacs).replace('"', ""))):
+        same = sorted(found.split()) == sorted([*listed, "Hidden", "Conditional"])
+        tally.note("" if same else f"tools/editors/{name} has other keywords than docs/language.md")
 
 
 def groups_of(text, heading, crate):
@@ -216,6 +232,7 @@ def main():
     check_index(tally)
     check_scenes(tally)
     check_commands(tally, words.program.resolve())
+    check_editors(tally)
     check_crates(tally)
     print("\n".join([*tally.wrong, f"{tally.passed} passed, {len(tally.wrong)} failed"]))
     return 1 if tally.wrong else 0
