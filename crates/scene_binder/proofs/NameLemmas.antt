@@ -1,5 +1,6 @@
 -- What a change of a table at one name leaves at other names, and what a table of names has after one more.
 use Rattle.std.proofs.Common.{ℕ, ◌≡◌, ◌<◌, ◌≤◌, Bool, true, false, cond, List, [], ◌∷◌, ◌++◌, ◌+◌, take, length, length-append, length-take, get_or, nat_lt, Option, Some, None, is_some, IfSome, Bor, not, refl, sym, ap, subst, ◌∙◌, ⊎_elim, arith}
+use Rattle.std.proofs.Math.ListN.{set}
 use Rattle.std.specs.HashMap as hash
 use Rattle.std.specs.HashMap.{HashMap}
 use Rattle.std.specs.List.{position, position_or_len, slice_get}
@@ -9,8 +10,8 @@ use Rattle.std.specs.Str.{bytes_eq}
 use Rattle.std.specs.Cmp.Lexicographic.{bytes_decides, nat_list_eq_equiv}
 use Rattle.std.proofs.lemmas.Bool.{cases_Bool, cases_lt, cond-true, cond-false, le-ltb, lt-ltb, ltb-false, ltb-true}
 use Rattle.std.proofs.lemmas.Bool.Decides.{nat_tests}
-use Rattle.std.proofs.lemmas.List.{take_more}
-use Rattle.std.proofs.lemmas.List.Folds.{find_at, position_or_len_push}
+use Rattle.std.proofs.lemmas.List.{length-set, take_more}
+use Rattle.std.proofs.lemmas.List.Folds.{find_at, position_or_len-set, position_or_len_push}
 use Rattle.std.proofs.lemmas.List.Quantifiers.{position-Some}
 use Rattle.std.proofs.lemmas.List.Sums.{prefix_len-le-length}
 use Rattle.std.proofs.lemmas.Option.{slice_get-get_or, slice_get_past}
@@ -120,3 +121,9 @@ IsTableOf-notes_next key items place item old new is_new lt is h noted =
     let count : length (take place items) ≡ place = simp length-take (omega arith) in
     let here = subst (λ n. Notes old new (key item) n is_new) (sym count) noted in
     subst (λ xs. IsTableOf key xs new) (sym grown) (IsTableOf-notes key (take place items) item old new is_new h here)
+
+-- a thing may be replaced by another one of its name
+pub IsTableOf-set : {X : Type 0} (key : X → List ℕ) (items : List X) (n : ℕ) (y d : X) (table : NameTable) → key y ≡ key (get_or items n d) → IsTableOf key items table → IsTableOf key (set items n y) table
+IsTableOf-set key items n y d table same h = λ bytes.
+    let kept = position_or_len-set (λ x. bytes_eq bytes (key x)) items n y d (ap (bytes_eq bytes) same) in
+    h bytes ∙ sym (rw kept (rw (length-set items n y) refl))

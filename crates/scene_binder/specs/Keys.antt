@@ -4,6 +4,7 @@ use Rattle.papy_base.specs.Case.{folded}
 use Rattle.core_tree.specs.declared.outline.OutlineFunction.{OutlineFunction}
 use Rattle.core_tree.specs.declared.outline.OutlineProperty.{OutlineProperty}
 use Rattle.core_tree.specs.declared.outline.OutlineScript.{OutlineScript}
+use Rattle.core_tree.specs.declared.scene_tree.Binding.{Binding}
 use Rattle.core_tree.specs.declared.scene_tree.SceneInstance.{SceneInstance}
 
 abbrev pub script_key : OutlineScript → List ℕ
@@ -17,3 +18,7 @@ function_key function = folded function.name
 
 abbrev pub instance_key : SceneInstance → List ℕ
 instance_key instance = folded instance.name
+
+-- of an entry of `natives`
+abbrev pub entry_key : List ℕ × Binding → List ℕ
+entry_key entry = folded entry.0

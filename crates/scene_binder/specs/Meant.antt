@@ -1,12 +1,17 @@
 -- What the names of a scene mean, and that a bound scene has in their place what they mean.
-use Rattle.std.specs.Prelude.{ℕ, ◌≡◌, List, Option, Some, option_map}
+use Rattle.std.specs.Prelude.{ℕ, ◌≡◌, List, [], ◌∷◌, ◌++◌, codes, Option, Some, option_map, slice_get}
 use Rattle.std.specs.List.{All, AllZip}
+use Rattle.std.specs.Option.{option_or}
 use Rattle.papy_base.specs.Case.{folded}
+use Rattle.core_tree.specs.declared.outline.OutlineFunction.{OutlineFunction}
 use Rattle.core_tree.specs.declared.outline.OutlineProperty.{OutlineProperty}
 use Rattle.core_tree.specs.declared.outline.OutlineScript.{OutlineScript}
 use Rattle.core_tree.specs.declared.scene.BoundCall.{BoundCall}
 use Rattle.core_tree.specs.declared.scene.BoundInstance.{BoundInstance}
+use Rattle.core_tree.specs.declared.scene.BoundNative.{BoundNative}
 use Rattle.core_tree.specs.declared.scene.Scene.{Scene}
+use Rattle.core_tree.specs.declared.scene_tree.Binding.{Binding}
+use Rattle.core_tree.specs.declared.scene_tree.Binding.TheVariants as bindings
 use Rattle.core_tree.specs.declared.scene_tree.SceneCall.{SceneCall}
 use Rattle.core_tree.specs.declared.scene_tree.SceneInstance.{SceneInstance}
 use Rattle.core_tree.specs.declared.scene_tree.SceneTree.{SceneTree}
@@ -14,9 +19,10 @@ use Rattle.core_tree.specs.declared.scene_tree.SceneValue.{SceneValue}
 use Rattle.core_tree.specs.declared.scene_tree.SceneValue.TheVariants as written
 use Rattle.core_tree.specs.declared.value.Value.{Value}
 use Rattle.core_tree.specs.declared.value.Value.TheVariants as values
-use Rattle.scene_binder.specs.Keys.{instance_key}
-use Rattle.scene_binder.specs.Members.{IsNearestProperty, script_named}
-use Rattle.scene_binder.specs.Names.{place_in}
+use Rattle.scene_binder.specs.Keys.{entry_key, instance_key}
+use Rattle.scene_binder.specs.Members.{IsNearestProperty, name_in, script_named}
+use Rattle.scene_binder.specs.Names.{first_of, place_in}
+use Rattle.scene_binder.specs.Natives.{IsFunctionAt}
 
 -- the number of the instance of this name, where these are the instances of the scene
 abbrev pub instance_named : List SceneInstance → List ℕ → Option ℕ
@@ -51,7 +57,31 @@ pub record IsCallMeant (instances : List SceneInstance) (call : SceneCall) (boun
   pub instance : instance_named instances call.instance ≡ Some bound.instance
   pub arguments : AllZip (IsValueMeant instances) call.arguments.items bound.arguments.items
 
--- the instances and calls of a bound scene are those that were read, each in its place
+-- how a scene names a native function: its script, a dot, and itself
+abbrev pub full_name : List ℕ → List ℕ → List ℕ
+full_name script function = script ++ codes "." ++ function
+
+-- what the native function of this name does without an entry of the scene
+abbrev pub default_entries : List (List ℕ × Binding)
+default_entries =
+    (codes "Debug.Trace", bindings.Trace 0) ∷ (codes "Scene.Sleep", bindings.Sleep) ∷ (codes "Utility.RandomInt", bindings.Device 3 0) ∷ []
+
+-- the binding of the first of these entries whose folded name has these bytes
+abbrev pub binding_in : List (List ℕ × Binding) → List ℕ → Option Binding
+binding_in entries bytes = option_map (λ entry. entry.1) (first_of entry_key entries bytes)
+
+-- the binding of the native function of this name: that of the scene's entry, or else the one without an entry
+abbrev pub binding_meant : List (List ℕ × Binding) → List ℕ → Option Binding
+binding_meant entries bytes = option_or (binding_in entries bytes) (binding_in default_entries bytes)
+
+-- a native function does what is said of its name
+pub record IsNativeMeant (scripts : List OutlineScript) (entries : List (List ℕ × Binding)) (native : BoundNative) : Type 0 where
+  pub function : OutlineFunction
+  pub there : IsFunctionAt scripts native.script native.function function
+  pub binding : binding_meant entries (folded (full_name (name_in (slice_get scripts native.script)) function.name)) ≡ Some native.binding
+
+-- the instances and calls of a bound scene are those that were read, each in its place, and so are the bindings of natives
 pub record IsMeant (tree : SceneTree) (scripts : List OutlineScript) (scene : Scene) : Type 0 where
   pub instances : AllZip (IsInstanceMeant scripts tree.instances.items) tree.instances.items scene.instances.items
+  pub natives : All (IsNativeMeant scripts tree.natives.items) scene.natives.items
   pub calls : AllZip (IsCallMeant tree.instances.items) tree.calls.items scene.calls.items

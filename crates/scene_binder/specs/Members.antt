@@ -21,6 +21,10 @@ pub data StandsAbove (scripts : List OutlineScript) : ℕ → ℕ → Type 0 whe
   itself : (n : ℕ) → StandsAbove scripts n n
   further : (n p a : ℕ) → parent_in (slice_get scripts n) ≡ Some p → StandsAbove scripts p a → StandsAbove scripts n a
 
+abbrev pub name_in : Option OutlineScript → List ℕ
+name_in None = []
+name_in (Some script) = script.name
+
 abbrev pub functions_in : Option OutlineScript → List OutlineFunction
 functions_in None = []
 functions_in (Some script) = script.functions.items

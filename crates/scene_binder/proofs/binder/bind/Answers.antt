@@ -48,5 +48,6 @@ returns-clause-meant c =
     let numbers = subst (λ ss. map Some known.scripts.items ≡ map (tree_script ss) instances) same (subst (λ xs. map Some known.scripts.items ≡ map (tree_script c.in_ok-scripts.scripts) xs) c.deref.ensures.value found.scripts_named) in
     record {
       instances = instances_meant scripts instances instances bound sets (ap (map (λ n. Some n)) c.in_ok-bound.ensures.scripts ∙ numbers);
+      natives = c.in_ok-natives.ensures.meant;
       calls = subst (λ xs. AllZip (IsCallMeant instances) xs c.in_ok-calls.calls.items) c.deref-3.ensures.value (c.in_ok-calls.ensures.meant instances named);
     }

@@ -1,4 +1,4 @@
-use Rattle.std.proofs.Common.{◌≡◌, ◌+◌, ◌∷◌, ◌++◌, Some, [], length, length-append, subst, sym, arith}
+use Rattle.std.proofs.Common.{Some, length-append, subst, sym, arith}
 use Rattle.std.proofs.lemmas.List.Elements.{All-push}
 use Rattle.papy_base.specs.Case.{folded}
 use Rattle.scene_binder.specs.Instances.{IsInstantiable, tree_script}

@@ -1,9 +1,8 @@
-use Rattle.std.proofs.Common.{◌≡◌, Some, sym, ap, subst, get_or, ◌∙◌}
+use Rattle.std.proofs.Common.{◌≡◌, sym, ap, subst, ◌∙◌}
 use Rattle.std.specs.List.{slice_get}
 use Rattle.std.specs.Option.{option_and_then, option_copied}
-use Rattle.std.proofs.lemmas.Option.{IfSome_then}
 use Rattle.scene_binder.specs.Keys.{property_key}
-use Rattle.scene_binder.proofs.NameLemmas.{IsTableOf-first, IsTableOf-key, copied_read}
+use Rattle.scene_binder.proofs.NameLemmas.{IsTableOf-first, copied_read}
 use Rattle.scene_binder.proofs.members.Members.find_property.Goals as goal
 
 pub returns-in_err-place-clause-first : goal.returns-in_err-place-clause-first
