@@ -1,16 +1,8 @@
 -- Lists that grow beside the one that they are made from, and items by their places.
 use Rattle.std.proofs.Common.{ℕ, ◌≡◌, ◌<◌, ◌≤◌, ◌+◌, List, [], ◌∷◌, ◌++◌, map, take, length, get_or, Some, sym, ap, subst, ◌∙◌}
-use Rattle.std.specs.List.{AllZip, slice_get}
-use Rattle.std.specs.Option.{option_map}
-use Rattle.std.proofs.lemmas.List.{length-map, map-append, take_all, take_more}
-use Rattle.std.proofs.lemmas.Option.{same_Some, slice_get-get_or, slice_get-map, slice_get_within}
-
--- the key of an item, where the list of keys has it
-pub key_at : {X Y : Type 0} (key : X → Y) (xs : List X) (i : ℕ) (x : X) (y : Y) → slice_get (map key xs) i ≡ Some y → x ≡ get_or xs i x → key x ≡ y
-key_at key xs i x y e is =
-    let lt = simp length-map at (slice_get_within (map key xs) i y e) in
-    let there : Some (key (get_or xs i x)) ≡ Some y = ap (option_map key) (sym (slice_get-get_or xs i x lt)) ∙ (sym (slice_get-map key xs i) ∙ e) in
-    ap key is ∙ same_Some (key (get_or xs i x)) y there
+use Rattle.std.specs.List.{AllZip}
+use Rattle.std.proofs.lemmas.List.{map-append, take_all, take_more}
+use Rattle.std.proofs.lemmas.Option.{same_Some, slice_get-get_or}
 
 -- two readings of one place are one item
 pub same_item : {X : Type 0} (xs : List X) (i : ℕ) (a b : X) → i < length xs → a ≡ get_or xs i a → b ≡ get_or xs i b → a ≡ b

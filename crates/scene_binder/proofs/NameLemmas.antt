@@ -71,11 +71,8 @@ pub copied_read : {X : Type 0} (read : Option (Bor X)) (items : List X) (n : ℕ
 copied_read None items n e h = sym (slice_get_past items n (ltb-false n (length items) (sym e)))
 copied_read (Some x) items n e h = ap Some h ∙ sym (slice_get-get_or items n x.now (ltb-true n (length items) (sym e)))
 
--- a place that a table has is one of the list, and what stands there has the name
+-- what stands at a place that a table has for a name has the name
 module _ {X : Type 0} (key : X → List ℕ) (items : List X) (table : NameTable) where
-  pub IsTableOf-within : (bytes : List ℕ) (n : ℕ) (d : X) → IsTableOf key items table → number_in table bytes ≡ Some n → n < length items
-  IsTableOf-within bytes n d h is = (position-Some (λ x. bytes_eq bytes (key x)) items n d (sym (h bytes) ∙ is)).0
-
   pub IsTableOf-key : (bytes : List ℕ) (n : ℕ) (d : X) → IsTableOf key items table → number_in table bytes ≡ Some n → key (get_or items n d) ≡ bytes
   IsTableOf-key bytes n d h is =
       sym ((bytes_decides bytes (key (get_or items n d))).0 (position-Some (λ x. bytes_eq bytes (key x)) items n d (sym (h bytes) ∙ is)).1)

@@ -41,13 +41,6 @@ HasFunction scripts n function = Contains (functions_in (slice_get scripts n)) f
 abbrev pub HasProperty : List OutlineScript → ℕ → OutlineProperty → Type 0
 HasProperty scripts n property = Contains (properties_in (slice_get scripts n)) property
 
--- the script n or one above it has this function in its empty state, under this name
-pub record HasFunctionNamed (scripts : List OutlineScript) (n : ℕ) (name : List ℕ) (function : OutlineFunction) : Type 0 where
-  pub owner : ℕ
-  pub above : StandsAbove scripts n owner
-  pub there : HasFunction scripts owner function
-  pub named : SameIgnoringCase function.name name
-
 -- the Auto property that the script n has of its own under a name with these folded bytes
 abbrev pub own_property : List OutlineScript → List ℕ → ℕ → Option OutlineProperty
 own_property scripts bytes n = first_of property_key (properties_in (slice_get scripts n)) bytes
@@ -70,3 +63,11 @@ IsNearestProperty scripts name n owner property =
 abbrev pub IsNearestFunction : List OutlineScript → List ℕ → ℕ → ℕ → OutlineFunction → Type 0
 IsNearestFunction scripts name n owner function =
     Nearest {X = OutlineFunction} scripts (own_function scripts (folded name)) n owner function
+
+-- the script n or one above it has this function in its empty state, under this name, and none nearer has the name
+pub record HasFunctionNamed (scripts : List OutlineScript) (n : ℕ) (name : List ℕ) (function : OutlineFunction) : Type 0 where
+  pub owner : ℕ
+  pub above : StandsAbove scripts n owner
+  pub there : HasFunction scripts owner function
+  pub named : SameIgnoringCase function.name name
+  pub nearest : IsNearestFunction scripts name n owner function

@@ -7,7 +7,7 @@ ghost use Rattle.core_tree.specs.declared.scene_tree.Binding.{Binding as NativeB
 ghost use Rattle.scene_reader.specs.Limits.{BindingKeeps, NativeKeeps};
 ghost use Rattle.scene_binder.specs.Bound.{AreBoundNatives};
 ghost use Rattle.scene_binder.specs.Limits.{NativeKeepsLimits, NativesKeepLimits};
-ghost use Rattle.scene_binder.specs.Natives.{AllowsBinding, BeginsWithText, HasDevice, IsCell, IsFunctionAt, IsReply, MayCall, MaySleep, MayTrace, native_place_here, native_places_from, native_places_in};
+ghost use Rattle.scene_binder.specs.Natives.{AllowsBinding, BeginsWithText, HasDevice, IsCell, IsReply, MayCall, MaySleep, MayTrace, native_place_here, native_places_from, native_places_in};
 ghost use Rattle.scene_binder.specs.Meant.{IsNativeMeant, binding_in, default_entries, full_name as named_in};
 ghost use Rattle.scene_binder.specs.Names.{number_in};
 ghost use Rattle.scene_binder.specs.NativeList.{Adds, AreBoundBy, AreMeant, AreNatives, IsFunctionOf, IsUnbound};
