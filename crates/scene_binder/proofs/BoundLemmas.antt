@@ -1,17 +1,25 @@
 -- Values of types one by one, and the members of scripts.
 use Rattle.std.proofs.Common.{ℕ, ◌≡◌, ◌≤◌, length, List, [], ◌∷◌, ◌++◌, map, Option, Some, None, IfSome, ap, sym, subst, ◌∙◌}
-use Rattle.std.specs.List.{All, Contains, slice_get}
+use Rattle.std.specs.List.{All, AllZip, Contains, slice_get}
 use Rattle.std.specs.Option.{option_map}
-use Rattle.std.proofs.lemmas.Option.{slice_get-map}
+use Rattle.std.proofs.lemmas.List.{length-map}
+use Rattle.std.proofs.lemmas.Option.{slice_get-map, slice_get_past}
 use Rattle.core_tree.specs.declared.core_type.CoreType.{CoreType}
 use Rattle.core_tree.specs.declared.outline.OutlineFunction.{OutlineFunction}
 use Rattle.core_tree.specs.declared.outline.OutlineProperty.{OutlineProperty}
 use Rattle.core_tree.specs.declared.outline.OutlineScript.{OutlineScript}
+use Rattle.core_tree.specs.declared.scene.BoundInstance.{BoundInstance}
 use Rattle.core_tree.specs.declared.scene.Scene.{Scene}
+use Rattle.core_tree.specs.declared.scene_tree.SceneInstance.{SceneInstance}
 use Rattle.core_tree.specs.declared.value.Value.{Value}
 use Rattle.scene_binder.specs.declared.members.Members.{Members}
 use Rattle.scene_binder.specs.Bound.{AreBoundNatives, AreOfTypes, IsBound, IsBoundCall, IsBoundInstance, IsOfType, script_of}
-use Rattle.scene_binder.specs.Members.{HasFunction, HasProperty, StandsAbove, further, functions_in, itself, parent_in, properties_in}
+use Rattle.scene_binder.specs.Instances.{tree_script}
+use Rattle.scene_binder.specs.Keys.{function_key, property_key}
+use Rattle.scene_binder.specs.Meant.{IsInstanceMeant}
+use Rattle.scene_binder.specs.Members.{HasFunction, HasProperty, Nearest, StandsAbove, further, functions_in, itself, of_its_own, of_one_above, own_function, own_property, parent_in, properties_in, script_named}
+use Rattle.scene_binder.specs.Names.{first_of}
+use Rattle.scene_binder.specs.Scope.{IsSetOf}
 
 -- one more type with a value of it
 pub AreOfTypes-push : (scripts : List OutlineScript) (instances : List ℕ) (ks : List CoreType) (vs : List Value) (k : CoreType) (v : Value) → AreOfTypes scripts instances ks vs → IsOfType scripts instances k v → AreOfTypes scripts instances (ks ++ k ∷ []) (vs ++ v ∷ [])
@@ -32,6 +40,38 @@ HasFunction-from list n m f is own = subst (λ o. Contains (functions_in o) f) (
 
 pub HasProperty-from : (list : List Members) (n : ℕ) (m : Members) (p : OutlineProperty) → slice_get list n ≡ Some m → Contains m.script.now.properties.items p → HasProperty (scripts_in list) n p
 HasProperty-from list n m p is own = subst (λ o. Contains (properties_in o) p) (sym (script_at list n m is)) own
+
+-- what the script of a number has of its own under a name
+pub own_property-there : (list : List Members) (n : ℕ) (m : Members) (bytes : List ℕ) → slice_get list n ≡ Some m → own_property (scripts_in list) bytes n ≡ first_of property_key m.script.now.properties.items bytes
+own_property-there list n m bytes is = ap (λ o. first_of property_key (properties_in o) bytes) (script_at list n m is)
+
+pub own_function-there : (list : List Members) (n : ℕ) (m : Members) (bytes : List ℕ) → slice_get list n ≡ Some m → own_function (scripts_in list) bytes n ≡ first_of function_key m.script.now.functions.items bytes
+own_function-there list n m bytes is = ap (λ o. first_of function_key (functions_in o) bytes) (script_at list n m is)
+
+no_script : (list : List Members) (n : ℕ) → length list ≤ n → slice_get (scripts_in list) n ≡ None
+no_script list n past = slice_get_past (scripts_in list) n (simp length-map past)
+
+pub own_property-nowhere : (list : List Members) (n : ℕ) (bytes : List ℕ) → length list ≤ n → own_property (scripts_in list) bytes n ≡ None
+own_property-nowhere list n bytes past = ap (λ o. first_of property_key (properties_in o) bytes) (no_script list n past)
+
+pub own_function-nowhere : (list : List Members) (n : ℕ) (bytes : List ℕ) → length list ≤ n → own_function (scripts_in list) bytes n ≡ None
+own_function-nowhere list n bytes past = ap (λ o. first_of function_key (functions_in o) bytes) (no_script list n past)
+
+-- a walk from the first script upward, past scripts that have nothing of their own
+module _ {X : Type 0} (scripts : List OutlineScript) (own : ℕ → Option X) (first : ℕ) where
+  -- what is nearest to the script that is next is nearest to the first one
+  abbrev pub LeadsTo : Option ℕ → Type 0
+  LeadsTo next = IfSome next (λ n. (owner : ℕ) (x : X) → Nearest {X = X} scripts own n owner x → Nearest {X = X} scripts own first owner x)
+
+  pub nearest-here : (n : ℕ) (next : Option ℕ) (x : X) → next ≡ Some n → own n ≡ Some x → LeadsTo next → Nearest {X = X} scripts own first n x
+  nearest-here n next x e is h = subst LeadsTo e h n x (of_its_own n x is)
+
+  nearest-step : (n : ℕ) (next : Option ℕ) → next ≡ parent_in (slice_get scripts n) → own n ≡ None → LeadsTo (Some n) → LeadsTo next
+  nearest-step n None e none h = tt
+  nearest-step n (Some p) e none h = λ owner x up. h owner x (of_one_above n p owner x none (sym e) up)
+
+  pub nearest-next : (n : ℕ) (now next : Option ℕ) → now ≡ Some n → next ≡ parent_in (slice_get scripts n) → own n ≡ None → LeadsTo now → LeadsTo next
+  nearest-next n now next is e none h = nearest-step n next e none (subst LeadsTo is h)
 
 -- a step of a walk from the first script upward: what stands above the parent stands above the first one
 pub upward-step : (scripts : List OutlineScript) (first here : ℕ) (next : Option ℕ) → next ≡ parent_in (slice_get scripts here) → ((a : ℕ) → StandsAbove scripts here a → StandsAbove scripts first a) → IfSome next (λ n. (a : ℕ) → StandsAbove scripts n a → StandsAbove scripts first a)
@@ -58,3 +98,13 @@ IsBound-from scripts instances scene same bound natives tapes calls = record {
   tapes = tapes;
   calls = subst (λ ns. All (IsBoundCall scripts ns) scene.calls.items) (sym same) calls;
 }
+
+-- instances whose sets are meant, and whose scripts are the named ones, are meant
+pub instances_meant : (scripts : List OutlineScript) (instances : List SceneInstance) (xs : List SceneInstance) (ys : List BoundInstance) → AllZip (IsSetOf scripts instances) xs ys → map (λ n. Some n) (map script_of ys) ≡ map (tree_script scripts) xs → AllZip (IsInstanceMeant scripts instances) xs ys
+instances_meant scripts instances [] [] h same = tt
+instances_meant scripts instances [] (y ∷ ys) h same = absurd h
+instances_meant scripts instances (x ∷ xs) [] h same = absurd h
+instances_meant scripts instances (x ∷ xs) (y ∷ ys) h same =
+    let here : script_named scripts x.script ≡ Some y.script = cc in
+    let others : map (λ n. Some n) (map script_of ys) ≡ map (tree_script scripts) xs = cc in
+    (record { script = here; set = h.0 }, instances_meant scripts instances xs ys h.1 others)

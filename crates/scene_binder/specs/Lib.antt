@@ -3,7 +3,9 @@ pub mod Instances
 pub mod Keys
 pub mod Kept
 pub mod Limits
+pub mod Meant
 pub mod Members
 pub mod Names
 pub mod NativeList
 pub mod Natives
+pub mod Scope

@@ -1,10 +1,16 @@
 -- The scripts of an outline: what stands above one, and what they have.
 use Rattle.std.specs.Prelude.{ℕ, ◌≡◌, List, [], Option, Some, None, slice_get}
 use Rattle.std.specs.List.{Contains}
-use Rattle.papy_base.specs.Case.{SameIgnoringCase}
+use Rattle.papy_base.specs.Case.{SameIgnoringCase, folded}
 use Rattle.core_tree.specs.declared.outline.OutlineFunction.{OutlineFunction}
 use Rattle.core_tree.specs.declared.outline.OutlineProperty.{OutlineProperty}
 use Rattle.core_tree.specs.declared.outline.OutlineScript.{OutlineScript}
+use Rattle.scene_binder.specs.Keys.{function_key, property_key, script_key}
+use Rattle.scene_binder.specs.Names.{first_of, place_in}
+
+-- the number of the script of this name, the first where there are more
+abbrev pub script_named : List OutlineScript → List ℕ → Option ℕ
+script_named scripts name = place_in script_key scripts (folded name)
 
 abbrev pub parent_in : Option OutlineScript → Option ℕ
 parent_in None = None
@@ -14,6 +20,10 @@ parent_in (Some script) = script.parent
 pub data StandsAbove (scripts : List OutlineScript) : ℕ → ℕ → Type 0 where
   itself : (n : ℕ) → StandsAbove scripts n n
   further : (n p a : ℕ) → parent_in (slice_get scripts n) ≡ Some p → StandsAbove scripts p a → StandsAbove scripts n a
+
+abbrev pub name_in : Option OutlineScript → List ℕ
+name_in None = []
+name_in (Some script) = script.name
 
 abbrev pub functions_in : Option OutlineScript → List OutlineFunction
 functions_in None = []
@@ -31,9 +41,33 @@ HasFunction scripts n function = Contains (functions_in (slice_get scripts n)) f
 abbrev pub HasProperty : List OutlineScript → ℕ → OutlineProperty → Type 0
 HasProperty scripts n property = Contains (properties_in (slice_get scripts n)) property
 
--- the script n or one above it has this function in its empty state, under this name
+-- the Auto property that the script n has of its own under a name with these folded bytes
+abbrev pub own_property : List OutlineScript → List ℕ → ℕ → Option OutlineProperty
+own_property scripts bytes n = first_of property_key (properties_in (slice_get scripts n)) bytes
+
+-- and the function of its empty state
+abbrev pub own_function : List OutlineScript → List ℕ → ℕ → Option OutlineFunction
+own_function scripts bytes n = first_of function_key (functions_in (slice_get scripts n)) bytes
+
+-- from the script n upward, the first script that has something of its own, and what it has
+pub data Nearest {X : Type 0} (scripts : List OutlineScript) (own : ℕ → Option X) : ℕ → ℕ → X → Type 0 where
+  of_its_own : (n : ℕ) (x : X) → own n ≡ Some x → Nearest scripts own n n x
+  of_one_above : (n p owner : ℕ) (x : X) → own n ≡ None → parent_in (slice_get scripts n) ≡ Some p → Nearest scripts own p owner x → Nearest scripts own n owner x
+
+-- of the Auto properties of this name that the script n and those above it have, the nearest, after the number of its script
+abbrev pub IsNearestProperty : List OutlineScript → List ℕ → ℕ → ℕ → OutlineProperty → Type 0
+IsNearestProperty scripts name n owner property =
+    Nearest {X = OutlineProperty} scripts (own_property scripts (folded name)) n owner property
+
+-- the same of functions of the empty states
+abbrev pub IsNearestFunction : List OutlineScript → List ℕ → ℕ → ℕ → OutlineFunction → Type 0
+IsNearestFunction scripts name n owner function =
+    Nearest {X = OutlineFunction} scripts (own_function scripts (folded name)) n owner function
+
+-- the script n or one above it has this function in its empty state, under this name, and none nearer has the name
 pub record HasFunctionNamed (scripts : List OutlineScript) (n : ℕ) (name : List ℕ) (function : OutlineFunction) : Type 0 where
   pub owner : ℕ
   pub above : StandsAbove scripts n owner
   pub there : HasFunction scripts owner function
   pub named : SameIgnoringCase function.name name
+  pub nearest : IsNearestFunction scripts name n owner function

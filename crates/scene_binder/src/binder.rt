@@ -5,6 +5,7 @@ ghost use Rattle.scene_reader.specs.Limits.{KeepsLimits, NativeKeeps};
 ghost use Rattle.scene_binder.specs.Bound.{IsBound, AreBoundNatives};
 ghost use Rattle.scene_binder.specs.Kept.{IsOfTree};
 ghost use Rattle.scene_binder.specs.Limits.{NativeKeepsLimits, SceneKeepsLimits};
+ghost use Rattle.scene_binder.specs.Meant.{IsMeant, IsNativeMeant};
 
 use crate::calls::bind_calls;
 use crate::instances::Instances;
@@ -34,6 +35,7 @@ pub fn bind(
 ) -> Result<Scene, SceneFault>
     ensures bound { IfOk result (IsBound outline.now.scripts.items) }
     ensures kept { IfOk result (IsOfTree tree devices) }
+    ensures meant { IfOk result (IsMeant tree outline.now.scripts.items) }
     ensures limits { IfOk result (λ scene. KeepsLimits tree → SceneKeepsLimits scene) }
 {
     let scripts = Scripts::new(alloc, outline)?;
@@ -64,6 +66,7 @@ fn bind_natives(
     devices: u16,
 ) -> Result<Vec<BoundNative>, SceneFault>
     ensures natives { IfOk result (λ natives. AreBoundNatives outline.now.scripts.items devices natives.items) }
+    ensures meant { IfOk result (λ natives. All (IsNativeMeant outline.now.scripts.items tree.now.natives.items) natives.items) }
     ensures tapes { IfOk result (λ _. length tree.now.tapes.items ≤ devices) }
     ensures limits { IfOk result (λ natives. All NativeKeeps tree.now.natives.items → All NativeKeepsLimits natives.items) }
 {

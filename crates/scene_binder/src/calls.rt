@@ -5,6 +5,7 @@ ghost use Rattle.scene_reader.specs.Limits.{CallKeeps, ValueKeeps};
 ghost use Rattle.scene_binder.specs.Bound.{IsBoundCall, IsCallableOn, AreOfTypes, call_parts};
 ghost use Rattle.scene_binder.specs.Instances.{tree_call_parts};
 ghost use Rattle.scene_binder.specs.Limits.{CallKeepsLimits, IsShortValue};
+ghost use Rattle.scene_binder.specs.Scope.{CallIs, CallsAre, ValuesAre};
 
 use crate::values::{Scope, value_for};
 use core_tree::{BoundCall, CoreType, OutlineFunction, SceneCall, SceneValue, Value};
@@ -21,6 +22,7 @@ pub(crate) fn bind_calls(
     ensures bound { IfOk result (λ bound. All (IsBoundCall scope.entry.scripts.now scope.entry.instances.now.scripts.items) bound.items) }
     ensures parts { IfOk result (λ bound. map call_parts bound.items ≡ map tree_call_parts calls.now) }
     ensures limits { IfOk result (λ bound. All CallKeeps calls.now → All CallKeepsLimits bound.items) }
+    ensures meant { IfOk result (λ bound. CallsAre scope.entry.instances.now calls.now bound.items) }
 {
     let mut bound = Vec::with_capacity(alloc, calls.len())?;
     for call in calls {
@@ -33,6 +35,7 @@ fn bind_call(alloc: Global, scope: Scope<'_, '_>, call: &SceneCall) -> Result<Bo
     ensures bound { IfOk result (IsBoundCall scope.entry.scripts.now scope.entry.instances.now.scripts.items) }
     ensures parts { IfOk result (λ bound. call_parts bound ≡ tree_call_parts call.now) }
     ensures limits { IfOk result (λ bound. CallKeeps call.now → CallKeepsLimits bound) }
+    ensures meant { IfOk result (CallIs scope.entry.instances.now call.now) }
 {
     let Some(instance) = scope.instances.find(alloc, &call.instance)? else {
         return Err(SceneFault::of(SceneRule::NoFunction));
@@ -74,6 +77,7 @@ fn bind_arguments(
 ) -> Result<Vec<Value>, SceneFault>
     ensures typed { IfOk result (λ values. AreOfTypes scope.entry.scripts.now scope.entry.instances.now.scripts.items parameters.now values.items) }
     ensures short { IfOk result (λ values. All ValueKeeps arguments.now → All IsShortValue values.items) }
+    ensures meant { IfOk result (λ values. ValuesAre scope.entry.instances.now arguments.now values.items) }
 {
     if arguments.len() != parameters.len() {
         return Err(SceneFault::of(SceneRule::Arguments));

@@ -1,7 +1,11 @@
 // The instances of a scene by name, each with the number of its script.
-ghost use Rattle.std.specs.Prelude.{◌≡◌, ◌<◌, ◌≤◌, ℕ, length, IfOk, IfSome, slice_get};
+ghost use Rattle.std.specs.Prelude.{◌≡◌, length, map, Some, IfOk, IfSome, slice_get};
 ghost use Rattle.std.specs.List.{All};
-ghost use Rattle.scene_binder.specs.Instances.{IsInstantiable};
+ghost use Rattle.papy_base.specs.Case.{folded};
+ghost use Rattle.scene_binder.specs.Instances.{IsInstantiable, tree_script};
+ghost use Rattle.scene_binder.specs.Members.{script_named};
+ghost use Rattle.scene_binder.specs.Names.{number_in};
+ghost use Rattle.scene_binder.specs.Scope.{AreNamed};
 
 use crate::name_table::NameTable;
 use crate::scripts::Scripts;
@@ -27,6 +31,8 @@ impl Instances {
     ) -> Result<Instances, SceneFault>
         ensures count { IfOk result (λ found. length found.scripts.items ≡ length instances.now) }
         ensures scripts { IfOk result (λ found. All (IsInstantiable scripts.now) found.scripts.items) }
+        ensures named { IfOk result (λ found. AreNamed found instances.now) }
+        ensures scripts_named { IfOk result (λ found. map Some found.scripts.items ≡ map (tree_script scripts.now) instances.now) }
     {
         let mut names = NameTable::new(alloc);
         let mut numbers = Vec::with_capacity(alloc, instances.len())?;
@@ -43,7 +49,9 @@ impl Instances {
     }
 
     /// The number of the instance of this name.
-    pub(crate) fn find(&self, alloc: Global, name: &Text) -> Result<Option<u16>, OutOfMemory> {
+    pub(crate) fn find(&self, alloc: Global, name: &Text) -> Result<Option<u16>, OutOfMemory>
+        ensures { IfOk result (λ found. IfSome found (λ n. number_in self.now.names (folded name.now) ≡ Some n)) }
+    {
         match self.names.find(alloc, name.as_bytes())? {
             Some(number) => Ok(u16::try_from(number).ok()),
             None => Ok(None),
@@ -63,7 +71,8 @@ fn script_of(
     scripts: &Scripts<'_>,
     instance: &SceneInstance,
 ) -> Result<u16, SceneFault>
-    ensures { IfOk result (IsInstantiable scripts.now) }
+    ensures there { IfOk result (IsInstantiable scripts.now) }
+    ensures named { IfOk result (λ script. script_named scripts.now instance.now.script ≡ Some script) }
 {
     match scripts.find_instantiable(alloc, instance.script.as_bytes())? {
         Some(script) => Ok(script),

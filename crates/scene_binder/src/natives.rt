@@ -1,12 +1,16 @@
 // What the native functions of an outline do.
-ghost use Rattle.std.specs.Prelude.{◌≡◌, ◌↔◌, ◌<◌, ℕ, List, [], ◌∷◌, length, IsTrue, IfOk, OnOk, IfSome, Some, slice_get};
+ghost use Rattle.std.specs.Prelude.{◌≡◌, ◌↔◌, ◌<◌, ℕ, List, [], ◌∷◌, ◌++◌, length, IsTrue, IfOk, OnOk, IfSome, Some, slice_get};
 ghost use Rattle.std.specs.List.{All};
+ghost use Rattle.papy_base.specs.Case.{folded};
 ghost use Rattle.core_tree.specs.declared.outline.OutlineScript.{OutlineScript};
+ghost use Rattle.core_tree.specs.declared.scene_tree.Binding.{Binding as NativeBinding};
 ghost use Rattle.scene_reader.specs.Limits.{BindingKeeps, NativeKeeps};
 ghost use Rattle.scene_binder.specs.Bound.{AreBoundNatives};
 ghost use Rattle.scene_binder.specs.Limits.{NativeKeepsLimits, NativesKeepLimits};
-ghost use Rattle.scene_binder.specs.Natives.{AllowsBinding, BeginsWithText, HasDevice, IsCell, IsFunctionAt, IsReply, MayCall, MaySleep, MayTrace, native_place_here, native_places_from, native_places_in};
-ghost use Rattle.scene_binder.specs.NativeList.{AreNatives, Adds};
+ghost use Rattle.scene_binder.specs.Natives.{AllowsBinding, BeginsWithText, HasDevice, IsCell, IsReply, MayCall, MaySleep, MayTrace, native_place_here, native_places_from, native_places_in};
+ghost use Rattle.scene_binder.specs.Meant.{IsNativeMeant, binding_in, default_entries, full_name as named_in};
+ghost use Rattle.scene_binder.specs.Names.{number_in};
+ghost use Rattle.scene_binder.specs.NativeList.{Adds, AreBoundBy, AreMeant, AreNatives, IsFunctionOf, IsUnbound};
 
 use crate::name_table::NameTable;
 use core_tree::{Binding, BoundNative, CoreType, Outline, OutlineFunction, OutlineScript};
@@ -39,6 +43,7 @@ impl<'a> Natives<'a> {
         devices: u16,
     ) -> Result<Natives<'a>, OutOfMemory>
         ensures natives { IfOk result (AreNatives outline.now.scripts.items) }
+        ensures unbound { IfOk result (λ natives. All IsUnbound natives.natives.items) }
         ensures devices { IfOk result (λ natives. natives.devices ≡ devices) }
         ensures limits { IfOk result NativesKeepLimits }
     {
@@ -92,7 +97,7 @@ impl<'a> Natives<'a> {
         place: usize,
         function: &'a OutlineFunction,
     ) -> Result<(), OutOfMemory>
-        ensures { OnOk result (Adds self.old self.new (native_place_here number place function.now) (λ scripts. IsFunctionAt scripts number place function.now)) }
+        ensures { OnOk result (Adds self.old self.new (native_place_here number place function.now) (λ scripts. IsFunctionOf scripts number script.now place function.now)) }
     {
         let Ok(at) = u16::try_from(place) else {
             return Ok(());
@@ -121,6 +126,7 @@ impl<'a> Natives<'a> {
         ensures natives { (scripts : List OutlineScript) → AreNatives scripts self.old → AreNatives scripts self.new }
         ensures devices { self.new.devices ≡ self.old.devices }
         ensures limits { All NativeKeeps entries.now → NativesKeepLimits self.old → NativesKeepLimits self.new }
+        ensures bound { OnOk result ((scripts : List OutlineScript) → AreNatives scripts self.old → AreBoundBy scripts [] self.old → AreBoundBy scripts entries.now self.new) }
     {
         for entry in entries {
             self.bind(alloc, entry.0.as_bytes(), entry.1)?;
@@ -133,6 +139,7 @@ impl<'a> Natives<'a> {
         ensures natives { (scripts : List OutlineScript) → AreNatives scripts self.old → AreNatives scripts self.new }
         ensures devices { self.new.devices ≡ self.old.devices }
         ensures limits { BindingKeeps binding → NativesKeepLimits self.old → NativesKeepLimits self.new }
+        ensures bound { OnOk result ((scripts : List OutlineScript) (entries : List (List ℕ × NativeBinding)) → AreNatives scripts self.old → AreBoundBy scripts entries self.old → AreBoundBy scripts (entries ++ (name.now, binding) ∷ []) self.new) }
     {
         let Some(number) = self.find(alloc, name)? else {
             return Err(SceneFault::of(SceneRule::NoFunction));
@@ -152,7 +159,8 @@ impl<'a> Natives<'a> {
 
     // The number of the native of this name.
     fn find(&self, alloc: Global, name: &[u8]) -> Result<Option<usize>, OutOfMemory>
-        ensures { IfOk result (λ found. IfSome found (λ number. number < length self.now.natives.items)) }
+        ensures there { IfOk result (λ found. IfSome found (λ number. number < length self.now.natives.items)) }
+        ensures named { IfOk result (λ found. IfSome found (λ number. number_in self.now.names (folded name.now) ≡ Some number)) }
     {
         match self.names.find(alloc, name)? {
             Some(number) if number < self.natives.len() => Ok(Some(number)),
@@ -166,6 +174,7 @@ impl<'a> Natives<'a> {
         ensures natives { (scripts : List OutlineScript) → AreNatives scripts self.old → AreNatives scripts self.new }
         ensures devices { self.new.devices ≡ self.old.devices }
         ensures limits { NativesKeepLimits self.old → NativesKeepLimits self.new }
+        ensures meant { (scripts : List OutlineScript) (entries : List (List ℕ × NativeBinding)) → AreNatives scripts self.old → AreMeant scripts entries self.old → AreMeant scripts entries self.new }
     {
         self.bind_default(alloc, b"Debug.Trace", Binding::Trace { latency: 0 })?;
         self.bind_default(alloc, b"Scene.Sleep", Binding::Sleep)?;
@@ -185,6 +194,7 @@ impl<'a> Natives<'a> {
         ensures natives { (scripts : List OutlineScript) → AreNatives scripts self.old → AreNatives scripts self.new }
         ensures devices { self.new.devices ≡ self.old.devices }
         ensures limits { BindingKeeps binding → NativesKeepLimits self.old → NativesKeepLimits self.new }
+        ensures meant { (scripts : List OutlineScript) (entries : List (List ℕ × NativeBinding)) → binding_in default_entries (folded name.now) ≡ Some binding → AreNatives scripts self.old → AreMeant scripts entries self.old → AreMeant scripts entries self.new }
     {
         let Some(number) = self.find(alloc, name)? else {
             return Ok(());
@@ -205,6 +215,7 @@ impl<'a> Natives<'a> {
     pub(crate) fn finish(&self, alloc: Global) -> Result<Vec<BoundNative>, SceneFault>
         ensures natives { (scripts : List OutlineScript) → AreNatives scripts self.now → IfOk result (λ bound. AreBoundNatives scripts self.now.devices bound.items) }
         ensures limits { IfOk result (λ bound. NativesKeepLimits self.now → All NativeKeepsLimits bound.items) }
+        ensures meant { (scripts : List OutlineScript) (entries : List (List ℕ × NativeBinding)) → AreNatives scripts self.now → AreMeant scripts entries self.now → IfOk result (λ bound. All (IsNativeMeant scripts entries) bound.items) }
     {
         let mut bound = Vec::with_capacity(alloc, self.natives.len())?;
         for native in &self.natives {
@@ -226,7 +237,9 @@ fn full_name(
     alloc: Global,
     script: &OutlineScript,
     function: &OutlineFunction,
-) -> Result<Vec<u8>, OutOfMemory> {
+) -> Result<Vec<u8>, OutOfMemory>
+    ensures { IfOk result (λ name. name.items ≡ named_in script.now.name function.now.name) }
+{
     let mut name = script.name.as_bytes().to_vec(alloc)?;
     name.push(b'.')?;
     name.extend_from_slice(function.name.as_bytes())?;

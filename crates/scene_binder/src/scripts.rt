@@ -1,8 +1,8 @@
 // The scripts of an outline and their members, by name.
-ghost use Rattle.std.specs.Prelude.{◌≡◌, ℕ, List, IsTrue, IfOk, IfSome, slice_get};
+ghost use Rattle.std.specs.Prelude.{◌≡◌, Some, IsTrue, IfOk, IfSome, option_copied, slice_get};
 ghost use Rattle.scene_binder.specs.Instances.{IsInstantiable};
 ghost use Rattle.scene_binder.specs.Keys.{function_key};
-ghost use Rattle.scene_binder.specs.Members.{StandsAbove, HasFunction, HasFunctionNamed, HasProperty, parent_in};
+ghost use Rattle.scene_binder.specs.Members.{StandsAbove, HasFunction, HasFunctionNamed, HasProperty, IsNearestProperty, own_function, own_property, parent_in, script_named};
 
 use crate::members::Members;
 use crate::name_table::{NameTable, folded};
@@ -28,6 +28,11 @@ impl<'a> Model for Scripts<'a> {
     ghost Value = { List OutlineScript };
 
     ghost view = { λ s. map (λ members. members.script.now) s.scripts.items };
+
+    ghost use Rattle.scene_binder.specs.Keys.{script_key};
+    ghost use Rattle.scene_binder.specs.Names.{IsTableOf};
+
+    ghost invariant = { λ s. IsTableOf script_key (map (λ members. members.script.now) s.scripts.items) s.numbers };
 }
 
 impl<'a> Scripts<'a> {
@@ -50,7 +55,8 @@ impl<'a> Scripts<'a> {
         alloc: Global,
         name: &[u8],
     ) -> Result<Option<u16>, OutOfMemory>
-        ensures { IfOk result (λ found. IfSome found (IsInstantiable self.now)) }
+        ensures there { IfOk result (λ found. IfSome found (IsInstantiable self.now)) }
+        ensures named { IfOk result (λ found. IfSome found (λ n. script_named self.now name.now ≡ Some n)) }
     {
         match self.numbers.find(alloc, name)? {
             Some(number) if LIBRARY_COUNT <= number && number < self.scripts.len() => {
@@ -67,7 +73,8 @@ impl<'a> Scripts<'a> {
         first: u16,
         name: &[u8],
     ) -> Result<Option<(u16, &'a OutlineProperty)>, OutOfMemory>
-        ensures { IfOk result (λ found. IfSome found (λ f. StandsAbove self.now first f.0 × HasProperty self.now f.0 f.1.now)) }
+        ensures there { IfOk result (λ found. IfSome found (λ f. StandsAbove self.now first f.0 × HasProperty self.now f.0 f.1.now)) }
+        ensures nearest { IfOk result (λ found. IfSome found (λ f. IsNearestProperty self.now name.now first f.0 f.1.now)) }
     {
         let folded = folded(alloc, name)?;
         let mut next = Some(first);
@@ -84,7 +91,8 @@ impl<'a> Scripts<'a> {
     }
 
     fn own_property(&self, script: u16, folded: &[u8]) -> Option<&'a OutlineProperty>
-        ensures { IfSome result (λ property. HasProperty self.now script property.now) }
+        ensures there { IfSome result (λ property. HasProperty self.now script property.now) }
+        ensures first { option_copied result ≡ own_property self.now folded.now script }
     {
         self.scripts.get(usize::from(script))?.find_property(folded)
     }
@@ -115,6 +123,7 @@ impl<'a> Scripts<'a> {
     fn own_function(&self, script: u16, folded: &[u8]) -> Option<&'a OutlineFunction>
         ensures there { IfSome result (λ function. HasFunction self.now script function.now) }
         ensures named { IfSome result (λ function. function_key function.now ≡ folded.now) }
+        ensures first { option_copied result ≡ own_function self.now folded.now script }
     {
         self.scripts.get(usize::from(script))?.find_function(folded)
     }

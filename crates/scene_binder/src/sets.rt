@@ -5,6 +5,7 @@ ghost use Rattle.scene_reader.specs.Limits.{EntryKeeps, InstanceKeeps, ValueKeep
 ghost use Rattle.scene_binder.specs.Bound.{IsBoundEntry, IsBoundInstance, script_of, instance_name};
 ghost use Rattle.scene_binder.specs.Instances.{IsInstantiable, tree_name};
 ghost use Rattle.scene_binder.specs.Limits.{InstanceKeepsLimits, IsShortEntry};
+ghost use Rattle.scene_binder.specs.Scope.{EntriesAre, EntryIs, SetIs, SetsAre};
 
 use crate::name_table::NameTable;
 use crate::values::{Scope, value_for};
@@ -26,6 +27,7 @@ pub(crate) fn bind_instances(
     ensures scripts { IfOk result (λ bound. map script_of bound.items ≡ scope.entry.instances.now.scripts.items) }
     ensures names { IfOk result (λ bound. map instance_name bound.items ≡ map tree_name instances.now) }
     ensures limits { IfOk result (λ bound. All InstanceKeeps instances.now → All InstanceKeepsLimits bound.items) }
+    ensures meant { IfOk result (λ bound. SetsAre scope.entry.scripts.now scope.entry.instances.now instances.now bound.items) }
 {
     let mut bound = Vec::with_capacity(alloc, instances.len())?;
     for (number, instance) in instances.iter().enumerate() {
@@ -46,6 +48,7 @@ fn bind_instance(
     ensures script { IfOk result (λ bound. script_of bound ≡ script) }
     ensures name { IfOk result (λ bound. instance_name bound ≡ tree_name instance.now) }
     ensures limits { IfOk result (λ bound. InstanceKeeps instance.now → InstanceKeepsLimits bound) }
+    ensures meant { IfOk result (SetIs scope.entry.scripts.now scope.entry.instances.now instance.now) }
 {
     Ok(BoundInstance {
         name: instance.name.try_clone(alloc)?,
@@ -62,6 +65,7 @@ fn bind_entries(
 ) -> Result<Vec<(u16, u16, Value)>, SceneFault>
     ensures bound { IfOk result (λ bound. All (IsBoundEntry scope.entry.scripts.now scope.entry.instances.now.scripts.items script) bound.items) }
     ensures short { IfOk result (λ bound. All EntryKeeps entries.now → All IsShortEntry bound.items) }
+    ensures meant { IfOk result (λ bound. EntriesAre scope.entry.scripts.now scope.entry.instances.now script entries.now bound.items) }
 {
     let mut names = NameTable::new(alloc);
     let mut bound = Vec::with_capacity(alloc, entries.len())?;
@@ -83,6 +87,7 @@ fn bind_entry(
 ) -> Result<(u16, u16, Value), SceneFault>
     ensures bound { IfOk result (IsBoundEntry scope.entry.scripts.now scope.entry.instances.now.scripts.items script) }
     ensures short { IfOk result (λ bound. ValueKeeps value.now → IsShortEntry bound) }
+    ensures meant { IfOk result (EntryIs scope.entry.scripts.now scope.entry.instances.now script (name.now, value.now)) }
 {
     let found = scope.scripts.find_property(alloc, script, name.as_bytes())?;
     let Some((owner, property)) = found else {

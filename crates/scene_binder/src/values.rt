@@ -1,8 +1,9 @@
 // Values of a scene by the types that their places ask for.
-ghost use Rattle.std.specs.Prelude.{◌≡◌, ◌↔◌, IsTrue, IfOk};
+ghost use Rattle.std.specs.Prelude.{◌↔◌, IsTrue, IfOk};
 ghost use Rattle.scene_reader.specs.Limits.{ValueKeeps};
 ghost use Rattle.scene_binder.specs.Bound.{IsOfType, IsInstanceOf, MayBeNone};
 ghost use Rattle.scene_binder.specs.Limits.{IsShortValue};
+ghost use Rattle.scene_binder.specs.Scope.{InstanceIs, ValueIs};
 
 use crate::instances::Instances;
 use crate::scripts::Scripts;
@@ -31,6 +32,7 @@ pub(crate) fn value_for(
 ) -> Result<Value, SceneFault>
     ensures typed { IfOk result (IsOfType scope.entry.scripts.now scope.entry.instances.now.scripts.items kind) }
     ensures short { IfOk result (λ bound. ValueKeeps value.now → IsShortValue bound) }
+    ensures meant { IfOk result (ValueIs scope.entry.instances.now value.now) }
 {
     match (kind, value) {
         (CoreType::Int, SceneValue::Int(number)) => Ok(Value::Int(*number)),
@@ -66,6 +68,7 @@ fn instance_for(
 ) -> Result<Value, SceneFault>
     ensures typed { IfOk result (IsOfType scope.entry.scripts.now scope.entry.instances.now.scripts.items (CoreType.Script script)) }
     ensures short { IfOk result IsShortValue }
+    ensures meant { IfOk result (InstanceIs scope.entry.instances.now name.now) }
 {
     match scope.instances.find(alloc, name)? {
         Some(instance) if is_instance_of(scope, instance, script) => Ok(Value::Instance(instance)),

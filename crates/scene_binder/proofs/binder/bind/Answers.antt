@@ -1,9 +1,12 @@
-use Rattle.std.proofs.Common.{length, ap, sym, subst, arith}
-use Rattle.std.specs.List.{All}
+use Rattle.std.proofs.Common.{◌≡◌, ◌∙◌, Some, map, length, ap, sym, subst, arith}
+use Rattle.std.specs.List.{All, AllZip}
 use Rattle.std.proofs.lemmas.List.{length-map}
 use Rattle.scene_reader.specs.Limits.{CallKeeps, InstanceKeeps}
 use Rattle.scene_binder.specs.Bound.{IsBoundCall, IsBoundInstance}
-use Rattle.scene_binder.proofs.BoundLemmas.{IsBound-from}
+use Rattle.scene_binder.specs.Instances.{tree_script}
+use Rattle.scene_binder.specs.Meant.{IsCallMeant}
+use Rattle.scene_binder.specs.Scope.{AreNamed, IsSetOf}
+use Rattle.scene_binder.proofs.BoundLemmas.{IsBound-from, instances_meant}
 use Rattle.scene_binder.proofs.binder.bind.Goals as goal
 
 pub returns-clause-bound : goal.returns-clause-bound
@@ -29,4 +32,22 @@ returns-clause-limits c = λ h.
       order = h.order;
       turns = h.turns;
       quantum = h.quantum;
+    }
+
+pub returns-clause-meant : goal.returns-clause-meant
+returns-clause-meant c =
+    let known = c.in_ok-instances.instances in
+    let instances = c.args.tree.instances.items in
+    let calls = c.args.tree.calls.items in
+    let bound = c.in_ok-bound.bound.items in
+    let scripts = c.args.outline.now.scripts.items in
+    let found = c.in_ok-instances.ensures in
+    let same = c.in_ok-scripts.ensures in
+    let named = subst (AreNamed known) c.deref.ensures.value found.named in
+    let sets = subst (λ ss. AllZip (IsSetOf ss instances) instances bound) same (subst (λ xs. AllZip (IsSetOf c.in_ok-scripts.scripts instances) xs bound) c.deref-2.ensures.value (c.in_ok-bound.ensures.meant instances named)) in
+    let numbers = subst (λ ss. map Some known.scripts.items ≡ map (tree_script ss) instances) same (subst (λ xs. map Some known.scripts.items ≡ map (tree_script c.in_ok-scripts.scripts) xs) c.deref.ensures.value found.scripts_named) in
+    record {
+      instances = instances_meant scripts instances instances bound sets (ap (map (λ n. Some n)) c.in_ok-bound.ensures.scripts ∙ numbers);
+      natives = c.in_ok-natives.ensures.meant;
+      calls = subst (λ xs. AllZip (IsCallMeant instances) xs c.in_ok-calls.calls.items) c.deref-3.ensures.value (c.in_ok-calls.ensures.meant instances named);
     }

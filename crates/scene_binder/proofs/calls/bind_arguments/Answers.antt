@@ -4,6 +4,8 @@ use Rattle.std.proofs.lemmas.List.Elements.{All-get_or, All-push}
 use Rattle.scene_reader.specs.Limits.{ValueKeeps}
 use Rattle.scene_binder.specs.Bound.{AreOfTypes}
 use Rattle.scene_binder.specs.Limits.{IsShortValue}
+use Rattle.scene_binder.specs.Meant.{IsValueMeant}
+use Rattle.scene_binder.proofs.ListLemmas.{AllZip-done, AllZip-next}
 use Rattle.scene_binder.proofs.BoundLemmas.{AreOfTypes-push}
 use Rattle.scene_binder.proofs.calls.bind_arguments.Goals as goal
 
@@ -24,4 +26,10 @@ loop-place-preserved c =
       short = λ h.
           let own = subst ValueKeeps (sym c.index-arguments-place.is) (All-get_or ValueKeeps arguments place argument c.loop-place-test.true h) in
           All-push IsShortValue c.loop-place.bound.items value (before.short h) (last.short own);
+      meant = λ named_instances named.
+          AllZip-next (IsValueMeant named_instances) arguments c.loop-place.bound.items place argument value c.loop-place-test.true c.index-arguments-place.is (before.meant named_instances named) (last.meant named_instances named);
     })
+
+pub returns-clause-meant : goal.returns-clause-meant
+returns-clause-meant c = λ instances named.
+    AllZip-done (IsValueMeant instances) c.args.arguments.now c.loop-place.bound.items c.loop-place.place c.loop-place-test.false (c.loop-place.invariant.meant instances named)

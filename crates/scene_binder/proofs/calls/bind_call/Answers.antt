@@ -1,7 +1,10 @@
-use Rattle.std.proofs.Common.{◌∙◌, sym, subst}
-use Rattle.std.specs.List.{All}
+use Rattle.std.proofs.Common.{◌≡◌, ◌∙◌, IfSome, Some, sym, subst}
+use Rattle.std.specs.List.{All, AllZip}
 use Rattle.scene_reader.specs.Limits.{IsShort, ValueKeeps}
 use Rattle.scene_binder.specs.Bound.{AreOfTypes, IsCallableOn}
+use Rattle.papy_base.specs.Case.{folded}
+use Rattle.scene_binder.specs.Meant.{IsValueMeant}
+use Rattle.scene_binder.specs.Names.{number_in}
 use Rattle.scene_binder.proofs.calls.bind_call.Goals as goal
 
 pub returns-clause-bound : goal.returns-clause-bound
@@ -21,3 +24,12 @@ returns-clause-limits c = λ h. record {
   function = subst IsShort (sym (c.in_ok-from_bytes.ensures ∙ c.as_bytes-name.ensures)) h.function;
   arguments = c.in_ok-arguments.ensures.short (subst (All ValueKeeps) (sym c.deref-2.ensures.value) h.arguments);
 }
+
+pub returns-clause-meant : goal.returns-clause-meant
+returns-clause-meant c = λ instances named.
+    let bytes = folded c.args.call.now.instance in
+    let found = subst (λ o. IfSome o (λ n. number_in c.args.scope.instances.now.names bytes ≡ Some n)) c.in-Some.is c.in_ok-instance.ensures in
+    record {
+      instance = sym (named bytes) ∙ found;
+      arguments = subst (λ written. AllZip (IsValueMeant instances) written c.in_ok-arguments.arguments.items) c.deref-2.ensures.value (c.in_ok-arguments.ensures.meant instances named);
+    }

@@ -4,7 +4,8 @@ use Rattle.scene_reader.specs.Limits.{CallKeeps}
 use Rattle.scene_binder.specs.Bound.{IsBoundCall, call_parts}
 use Rattle.scene_binder.specs.Instances.{tree_call_parts}
 use Rattle.scene_binder.specs.Limits.{CallKeepsLimits}
-use Rattle.scene_binder.proofs.ListLemmas.{map-push}
+use Rattle.scene_binder.specs.Meant.{IsCallMeant}
+use Rattle.scene_binder.proofs.ListLemmas.{AllZip-done, AllZip-next, map-push}
 use Rattle.scene_binder.proofs.calls.bind_calls.Goals as goal
 
 pub loop-call-preserved : goal.loop-call-preserved
@@ -24,4 +25,10 @@ loop-call-preserved c =
       limits = λ h.
           let own = subst CallKeeps (sym c.call-item.is) (All-get_or CallKeeps calls place call lt h) in
           All-push CallKeepsLimits bound last.field-0 (before.limits h) (last.ensures.limits own);
+      meant = λ named_instances named.
+          AllZip-next (IsCallMeant named_instances) calls bound place call last.field-0 lt c.call-item.is (before.meant named_instances named) (last.ensures.meant named_instances named);
     })
+
+pub returns-clause-meant : goal.returns-clause-meant
+returns-clause-meant c = λ instances named.
+    AllZip-done (IsCallMeant instances) c.args.calls.now c.loop-call.bound.items c.loop-call.call-index c.loop-call-test.false (c.loop-call.invariant.meant instances named)

@@ -3,6 +3,8 @@ use Rattle.std.proofs.lemmas.List.Elements.{All-get_or, All-push}
 use Rattle.scene_reader.specs.Limits.{EntryKeeps}
 use Rattle.scene_binder.specs.Bound.{IsBoundEntry}
 use Rattle.scene_binder.specs.Limits.{IsShortEntry}
+use Rattle.scene_binder.specs.Meant.{IsEntryMeant}
+use Rattle.scene_binder.proofs.ListLemmas.{AllZip-done, AllZip-next}
 use Rattle.scene_binder.proofs.sets.bind_entries.Goals as goal
 
 pub loop-place-preserved : goal.loop-place-preserved
@@ -18,4 +20,10 @@ loop-place-preserved c =
       short = λ h.
           let own = subst EntryKeeps (sym c.index-entries-place.is) (All-get_or EntryKeeps c.args.entries.now c.loop-place.place entry c.loop-place-test.true h) in
           All-push IsShortEntry bound last.field-0 (before.short h) (last.ensures.short own.1);
+      meant = λ named_instances named.
+          AllZip-next (IsEntryMeant scripts named_instances c.args.script) c.args.entries.now bound c.loop-place.place entry last.field-0 c.loop-place-test.true c.index-entries-place.is (before.meant named_instances named) (last.ensures.meant named_instances named);
     })
+
+pub returns-clause-meant : goal.returns-clause-meant
+returns-clause-meant c = λ instances named.
+    AllZip-done (IsEntryMeant c.args.scope.scripts.now instances c.args.script) c.args.entries.now c.loop-place.bound.items c.loop-place.place c.loop-place-test.false (c.loop-place.invariant.meant instances named)

@@ -4,7 +4,8 @@ use Rattle.scene_reader.specs.Limits.{InstanceKeeps}
 use Rattle.scene_binder.specs.Bound.{IsBoundInstance, instance_name, script_of}
 use Rattle.scene_binder.specs.Instances.{tree_name}
 use Rattle.scene_binder.specs.Limits.{InstanceKeepsLimits}
-use Rattle.scene_binder.proofs.ListLemmas.{map-push, take-push}
+use Rattle.scene_binder.specs.Scope.{IsSetOf}
+use Rattle.scene_binder.proofs.ListLemmas.{AllZip-done, AllZip-next, map-push, take-push}
 use Rattle.scene_binder.proofs.sets.bind_instances.Goals as goal
 
 pub loop-number-preserved : goal.loop-number-preserved
@@ -27,4 +28,10 @@ loop-number-preserved c =
       limits = λ h.
           let own = subst InstanceKeeps (sym c.index-instances-number.is) (All-get_or InstanceKeeps listed number instance lt h) in
           All-push InstanceKeepsLimits bound last.field-0 (before.limits h) (last.ensures.limits own);
+      meant = λ named_instances named.
+          AllZip-next (IsSetOf scripts named_instances) listed bound number instance last.field-0 lt c.index-instances-number.is (before.meant named_instances named) (last.ensures.meant named_instances named);
     })
+
+pub returns-clause-meant : goal.returns-clause-meant
+returns-clause-meant c = λ instances named.
+    AllZip-done (IsSetOf c.args.scope.scripts.now instances) c.args.instances.now c.loop-number.bound.items c.loop-number.number c.loop-number-test.false (c.loop-number.invariant.meant instances named)

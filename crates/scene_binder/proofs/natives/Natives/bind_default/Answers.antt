@@ -1,9 +1,11 @@
-use Rattle.std.proofs.Common.{◌≡◌, ◌<◌, length, get_or, IfSome, refl, subst}
+use Rattle.std.proofs.Common.{◌≡◌, ◌<◌, Some, None, false, is_some, length, get_or, IfSome, refl, subst}
 use Rattle.std.proofs.lemmas.List.Elements.{All-set}
 use Rattle.scene_binder.specs.Limits.{MayKeepLimits}
+use Rattle.papy_base.specs.Case.{folded}
+use Rattle.scene_binder.specs.Names.{number_in}
 use Rattle.scene_binder.specs.NativeList.{MayDo}
 use Rattle.scene_binder.proofs.ListLemmas.{same_item}
-use Rattle.scene_binder.proofs.NativeLemmas.{AreNatives-bind}
+use Rattle.scene_binder.proofs.NativeLemmas.{AreMeant-bind, AreNatives-bind, none_from}
 use Rattle.scene_binder.proofs.natives.Natives.bind_default.Goals as goal
 
 pub returns-then-types_allow-clause-natives : goal.returns-then-types_allow-clause-natives
@@ -14,13 +16,28 @@ returns-then-types_allow-clause-natives c =
     let tested = c.index-2.result.now in
     let binding = c.args.binding in
     let devices = c.args.self.now.devices in
-    let lt = subst (λ o. IfSome o (λ n. n < length natives)) c.in-Some.is c.in_ok-number.ensures in
+    let lt = subst (λ o. IfSome o (λ n. n < length natives)) c.in-Some.is c.in_ok-number.ensures.there in
     let is : native ≡ get_or natives number native = cc in
     let also : tested ≡ get_or natives number tested = cc in
     let own : MayDo devices tested.function.now binding = record { types = c.types_allow.ensures c.if-types_allow.true; device = c.has_device.ensures.0 c.if-not-has_device.false } in
     let may = subst (λ n. MayDo devices n.function.now binding) (same_item natives number tested native lt also is) own in
-    λ scripts h. AreNatives-bind scripts c.args.self.now _ number native binding lt is refl refl may h
+    λ scripts h. AreNatives-bind scripts c.args.self.now _ number native binding lt is refl refl refl may h
 
 pub returns-then-types_allow-clause-limits : goal.returns-then-types_allow-clause-limits
 returns-then-types_allow-clause-limits c = λ kept h.
     All-set MayKeepLimits c.args.self.now.natives.items c.in-Some.number _ kept h
+
+pub returns-then-types_allow-clause-meant : goal.returns-then-types_allow-clause-meant
+returns-then-types_allow-clause-meant c =
+    let old = c.args.self.now in
+    let natives = old.natives.items in
+    let number = c.in-Some.number in
+    let native = c.index_mut.result.now in
+    let tested = c.index.result.now in
+    let lt = subst (λ o. IfSome o (λ n. n < length natives)) c.in-Some.is c.in_ok-number.ensures.there in
+    let found = subst (λ o. IfSome o (λ n. number_in old.names (folded c.args.name.now) ≡ Some n)) c.in-Some.is c.in_ok-number.ensures.named in
+    let is : native ≡ get_or natives number native = cc in
+    let also : tested ≡ get_or natives number tested = cc in
+    let clear : is_some tested.binding ≡ false = cc in
+    let none = subst (λ x. x.binding ≡ None) (same_item natives number tested native lt also is) (none_from tested.binding clear) in
+    λ scripts entries default h meant. AreMeant-bind scripts entries old _ number native c.args.name.now c.args.binding lt is refl refl found none h.tabled default meant

@@ -5,9 +5,10 @@ use Rattle.core_tree.specs.declared.scene.BoundNative.{BoundNative}
 use Rattle.scene_binder.specs.Bound.{IsBoundNative, place_of}
 use Rattle.scene_reader.specs.Limits.{BindingKeeps}
 use Rattle.scene_binder.specs.Limits.{MayKeepLimits, NativeKeepsLimits}
-use Rattle.scene_binder.specs.NativeList.{HoldsNative, native_place}
+use Rattle.scene_binder.specs.Meant.{IsNativeMeant}
+use Rattle.scene_binder.specs.NativeList.{HasMeaning, HoldsNative, native_place}
 use Rattle.scene_binder.proofs.ListLemmas.{map-push}
-use Rattle.scene_binder.proofs.NativeLemmas.{IsBoundNative-from}
+use Rattle.scene_binder.proofs.NativeLemmas.{IsBoundNative-from, IsNativeMeant-from}
 use Rattle.scene_binder.proofs.natives.Natives.finish.Goals as goal
 
 pub loop-native-preserved : goal.loop-native-preserved
@@ -24,6 +25,10 @@ loop-native-preserved c =
       allowed = λ scripts h.
           let own : HoldsNative scripts devices native = subst (HoldsNative scripts devices) (sym is) (All-get_or (HoldsNative scripts devices) natives place native lt h.hold) in
           All-push (IsBoundNative scripts devices) c.loop-native.bound.items bound (c.loop-native.invariant.allowed scripts h) (IsBoundNative-from scripts devices native c.in-Some.binding c.in-Some.is own);
+      meant = λ scripts entries h says.
+          let own : HoldsNative scripts devices native = subst (HoldsNative scripts devices) (sym is) (All-get_or (HoldsNative scripts devices) natives place native lt h.hold) in
+          let meaning = subst (HasMeaning scripts entries) (sym is) (All-get_or (HasMeaning scripts entries) natives place native lt says.bound) in
+          All-push (IsNativeMeant scripts entries) c.loop-native.bound.items bound (c.loop-native.invariant.meant scripts entries h says) (IsNativeMeant-from scripts devices entries native c.in-Some.binding c.in-Some.is own meaning);
       limits = λ h.
           let own = subst MayKeepLimits (sym is) (All-get_or MayKeepLimits natives place native lt h) in
           All-push NativeKeepsLimits c.loop-native.bound.items bound (c.loop-native.invariant.limits h) (subst (λ o. IfSome o BindingKeeps) c.in-Some.is own);

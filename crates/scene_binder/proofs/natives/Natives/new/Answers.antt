@@ -20,6 +20,8 @@ loop-number-preserved c =
     record {
       each_once = scripts-step (map native_place found.natives.items) (map native_place c.add_script.new.self.natives.items) number scripts script lt is added.each_once ∙ before.each_once;
       hold = subst (λ d. All (HoldsNative scripts d) c.add_script.new.self.natives.items) before.devices (added.hold scripts there old);
+      tabled = added.tabled scripts there before.tabled;
+      unbound = added.unbound before.unbound;
       devices = added.devices ∙ before.devices;
       limits = added.limits before.limits;
     }
