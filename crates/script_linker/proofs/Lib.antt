@@ -1,4 +1,5 @@
 pub mod FoundLemmas
+pub mod GeneratedLemmas
 pub mod LinkLemmas
 pub mod LookupLemmas
 pub mod TableLemmas

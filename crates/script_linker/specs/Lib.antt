@@ -1,4 +1,5 @@
 pub mod Found
+pub mod Generated
 pub mod Index
 pub mod Lines
 pub mod Link

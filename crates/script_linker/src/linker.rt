@@ -1,6 +1,7 @@
 ghost use Rattle.std.specs.Prelude.{◌≡◌, ℕ, ◌+◌, ◌-◌, ◌<◌, ◌≤◌, All, drop, length, map, slice_index, slice_index_or, take, IfOk, IfErr, OnOk, vec_len};
 ghost use Rattle.script_linker.specs.declared.fault.LinkFault.TheVariants.{Broken};
 ghost use Rattle.script_linker.specs.declared.set.SourceFile.{SourceFile};
+ghost use Rattle.script_linker.specs.Generated.{AreStandard, HaveGiven, standard_scripts};
 ghost use Rattle.script_linker.specs.Lookup.{HasSmallScript, IsRanked, StartsWithPrelude, parents_of, script_name};
 ghost use Rattle.script_linker.specs.Table.{IsPlaceTable};
 ghost use Rattle.script_linker.specs.Lines.{heading_lines};
@@ -26,7 +27,9 @@ use std::alloc::Global;
 pub fn link(alloc: Global, mut files: Vec<SourceFile>) -> Result<ScriptSet, LinkFault>
     requires { vec_len files < 65530 }
     ensures files { IfOk result (AreFilesOf files.items) }
+    ensures given { IfOk result (λ set. HaveGiven files.items (drop 6 set)) }
     ensures prelude { IfOk result StartsWithPrelude }
+    ensures standard { IfOk result (λ set. AreStandard standard_scripts (take 6 set)) }
     ensures resolved { IfOk result AreResolved }
     ensures broken { IfErr result (IsFaultOf files.items) }
 {
@@ -49,6 +52,7 @@ fn function_counts(alloc: Global, files: &[SourceFile]) -> Result<Vec<usize>, Ou
 // The prelude's files, and then these.
 fn behind_prelude(alloc: Global, mut files: Vec<SourceFile>) -> Result<Vec<SourceFile>, OutOfMemory>
     ensures start { IfOk result (λ set. StartsWithPrelude set.items) }
+    ensures standard { IfOk result (λ set. AreStandard standard_scripts (take 6 set.items)) }
     ensures small { IfOk result (λ set. All HasSmallScript (take 6 set.items)) }
     ensures count { IfOk result (λ set. vec_len set ≡ vec_len files + 6) }
     ensures files { IfOk result (λ set. drop 6 set.items ≡ files.items) }
