@@ -1,0 +1,5 @@
+mod Digits
+mod NumbersLemmas
+mod SplitLemmas
+mod TextLemmas
+mod WaiterLemmas

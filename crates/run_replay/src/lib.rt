@@ -1,0 +1,17 @@
+//! Journals of runs: their text, and what can be said of the locks from the text alone.
+#![tactic(auto)]
+
+mod arguments;
+mod book;
+mod fault;
+mod keyword;
+mod line;
+mod lock_move;
+mod number;
+mod place;
+mod text;
+mod waiter;
+
+pub use fault::{JournalFault, JournalRule};
+pub use lock_move::LockMove;
+pub use text::{ending, heading, turn_text};
