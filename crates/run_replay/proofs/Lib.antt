@@ -1,4 +1,5 @@
 mod Digits
+mod LineLemmas
 mod NumbersLemmas
 mod SplitLemmas
 mod TextLemmas

@@ -1,5 +1,6 @@
 -- Numbers, each behind a blank.
-use Rattle.std.proofs.Common.{◌≡◌, ◌≢◌, ℕ, ◌<◌, ◌^◌, List, [], ◌∷◌, ◌++◌, refl, sym, ap, ◌∙◌, append-nil, arith}
+use Rattle.std.proofs.Common.{◌≡◌, ◌≢◌, ℕ, ◌<◌, ◌^◌, List, [], ◌∷◌, ◌++◌, refl, sym, ap, ◌∙◌, append-nil, length, nat_eq, false, arith}
+use Rattle.std.proofs.lemmas.Bool.{eqb-false}
 use Rattle.std.specs.Fmt.{decimal}
 use Rattle.std.proofs.lemmas.Fmt.{decimal_injective}
 use Rattle.run_replay.specs.declared.arguments.Numbers.{Numbers}
@@ -19,6 +20,12 @@ pub record Front (bytes behind : List ℕ) (n : ℕ) : Type 0 where
   pub is : bytes ≡ 32 ∷ decimal n ++ behind
   pub small : n < 2 ^ 32
   pub ends : Ends 32 behind
+
+pub front : (bytes behind : List ℕ) (n : ℕ) → (bytes ≡ 32 ∷ decimal n ++ behind) × (n < 2 ^ 32) × Ends 32 behind → Front bytes behind n
+front bytes behind n facts = record { is = facts.0; small = facts.1; ends = facts.2 }
+
+pub nonempty : (bytes : List ℕ) → nat_eq (length bytes) 0 ≡ false → bytes ≡ [] → ⊥
+nonempty bytes test none = eqb-false (length bytes) 0 test (ap length none)
 
 -- a number in front is one alone
 pub same_front : (bytes behind after : List ℕ) (m n : ℕ) → Front bytes behind m → n < 2 ^ 32 → Ends 32 after → bytes ≡ 32 ∷ decimal n ++ after → (decimal m ≡ decimal n) × (behind ≡ after)

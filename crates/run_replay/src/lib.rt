@@ -9,6 +9,7 @@ mod line;
 mod lock_move;
 mod number;
 mod place;
+mod reader;
 mod text;
 mod waiter;
 
