@@ -1,4 +1,7 @@
 mod Digits
+mod DisciplineLemmas
+mod JournalLemmas
+mod LegalLemmas
 mod LineLemmas
 mod NumbersLemmas
 mod SplitLemmas

@@ -1,5 +1,5 @@
 -- Which lines may stand after those before them.
-use Rattle.std.specs.Prelude.{ℕ, ◌≡◌, ◌+◌, ◌==◌, ◌&&◌, ◌||◌, Bool, true, false, not, List, [], ◌∷◌, ◌++◌, length, Option, Some, None, nat_lt, slice_get, slice_set, if◌then◌else◌}
+use Rattle.std.specs.Prelude.{ℕ, ◌≡◌, ◌≢◌, ◌+◌, ◌<◌, ◌≤◌, ◌⊎◌, ◌==◌, ◌&&◌, ◌||◌, Bool, true, false, not, List, [], ◌∷◌, ◌++◌, length, Option, Some, None, nat_lt, slice_get, slice_set, if◌then◌else◌}
 use Rattle.std.specs.List.{list_all}
 use Rattle.run_replay.specs.declared.lock_move.LockMove.{LockMove}
 use Rattle.run_replay.specs.declared.lock_move.LockMove.TheVariants as moves
@@ -8,13 +8,15 @@ use Rattle.run_replay.specs.declared.place.Place.TheVariants as places
 use Rattle.run_replay.specs.declared.book.Stage.{Stage}
 use Rattle.run_replay.specs.declared.book.Stage.TheVariants as stages
 use Rattle.run_replay.specs.declared.waiter.Waiter.{Waiter}
-use Rattle.run_replay.specs.Lines.{JournalLine, Heading, Instance, Turn, End, Moved}
+use Rattle.run_replay.specs.Lines.{JournalLine, Heading, Instance, Turn, End, Moved, LineFits, ended_line, journal_text}
+use Rattle.run_replay.specs.declared.fault.JournalRule.{JournalRule}
+use Rattle.run_replay.specs.declared.fault.JournalRule.TheVariants as rules
 
 -- what the lines so far leave
 pub record Standing : Type 0 where
   pub stage : Stage
-  -- the number of instances
-  pub instances : ℕ
+  -- the names of the instances
+  pub names : List (List ℕ)
   -- how many turns have begun
   pub turns : ℕ
   -- where each stack is that has begun
@@ -23,7 +25,7 @@ pub record Standing : Type 0 where
   pub waiters : List Waiter
 
 abbrev pub start : Standing
-start = record { stage = stages.Start; instances = 0; turns = 0; places = []; waiters = [] }
+start = record { stage = stages.Start; names = []; turns = 0; places = []; waiters = [] }
 
 -- where a stack is; a new stack is nowhere
 abbrev pub place_of : Standing → ℕ → Option Place
@@ -98,17 +100,17 @@ is_first instance stack (waiter ∷ waiters) =
     if waiter.instance == instance then waiter.stack == stack else is_first instance stack waiters
 
 -- It is free or holds an instance; or nobody holds the one that it waits for, and nobody joined that one before it.
-abbrev pub ready_at : Standing → ℕ → Option Place → Bool
-ready_at s stack (Some places.Free) = true
-ready_at s stack (Some (places.Holds instance)) = true
-ready_at s stack (Some (places.Waits instance)) = nobody_holds instance s.places && is_first instance stack s.waiters
-ready_at s stack (Some (places.Asleep until)) = false
-ready_at s stack (Some places.Done) = false
-ready_at s stack (Some places.Between) = false
-ready_at s stack None = false
+abbrev pub ready_at : List Place → List Waiter → ℕ → Option Place → Bool
+ready_at ps waiters stack (Some places.Free) = true
+ready_at ps waiters stack (Some (places.Holds instance)) = true
+ready_at ps waiters stack (Some (places.Waits instance)) = nobody_holds instance ps && is_first instance stack waiters
+ready_at ps waiters stack (Some (places.Asleep until)) = false
+ready_at ps waiters stack (Some places.Done) = false
+ready_at ps waiters stack (Some places.Between) = false
+ready_at ps waiters stack None = false
 
 abbrev pub is_ready : Standing → ℕ → Bool
-is_ready s stack = ready_at s stack (place_of s stack)
+is_ready s stack = ready_at s.places s.waiters stack (place_of s stack)
 
 -- a turn may begin, or the journal end
 abbrev pub between_turns : Stage → Bool
@@ -150,9 +152,9 @@ abbrev pub in_turn : Stage → Bool
 in_turn stage = before_run stage || after_run stage
 
 abbrev pub move_may_stand : Standing → LockMove → Bool
-move_may_stand s (moves.Join k i) = in_turn s.stage && nat_lt i s.instances
-move_may_stand s (moves.Take k i) = in_turn s.stage && nat_lt i s.instances
-move_may_stand s (moves.Release k i) = in_turn s.stage && nat_lt i s.instances
+move_may_stand s (moves.Join k i) = in_turn s.stage && nat_lt i (length s.names)
+move_may_stand s (moves.Take k i) = in_turn s.stage && nat_lt i (length s.names)
+move_may_stand s (moves.Release k i) = in_turn s.stage && nat_lt i (length s.names)
 move_may_stand s (moves.Free k) = in_turn s.stage
 move_may_stand s (moves.Leave k) = in_turn s.stage
 move_may_stand s (moves.Sleep k until) = in_turn s.stage
@@ -186,7 +188,7 @@ is_instances stages.Ended = false
 -- `run` or `idle`, and nothing but a turn or the end follows `idle`.
 abbrev pub may_stand : Standing → JournalLine → Bool
 may_stand s Heading = is_start s.stage
-may_stand s (Instance name) = is_instances s.stage && nat_lt s.instances 256
+may_stand s (Instance name) = is_instances s.stage && nat_lt (length s.names) 256
 may_stand s (Turn turn) = between_turns s.stage && (turn == s.turns)
 may_stand s (End turns) = between_turns s.stage && (turns == s.turns)
 may_stand s (Moved move) = move_may_stand s move
@@ -303,10 +305,16 @@ abbrev pub without_stack : ℕ → List Waiter → List Waiter
 without_stack stack [] = []
 without_stack stack (waiter ∷ waiters) = if is_other stack waiter then waiter ∷ without_stack stack waiters else waiters
 
+-- a stack that begins stands behind all others
+abbrev pub places_with : Standing → ℕ → Place → List Place
+places_with s stack place = if stack == length s.places then s.places ++ place ∷ [] else placed s stack place
+
+abbrev pub stage_with : Standing → ℕ → Stage
+stage_with s stack = if stack == length s.places then stages.Begun else stage_after s.stage stack
+
 abbrev pub joined : Standing → ℕ → ℕ → Standing
 joined s stack instance =
-    if stack == length s.places then record s { places = s.places ++ places.Waits instance ∷ []; waiters = queued s stack instance }
-    else record s { stage = stage_after s.stage stack; places = placed s stack (places.Waits instance); waiters = queued s stack instance }
+    record s { stage = stage_with s stack; places = places_with s stack (places.Waits instance); waiters = queued s stack instance }
 
 -- what a move that is allowed leaves
 abbrev pub moved : Standing → LockMove → Standing
@@ -322,7 +330,48 @@ moved s moves.Idle = record s { stage = stages.Idle }
 
 abbrev pub after : Standing → JournalLine → Standing
 after s Heading = record s { stage = stages.Instances }
-after s (Instance name) = record s { instances = s.instances + 1 }
+after s (Instance name) = record s { names = s.names ++ name ∷ [] }
 after s (Turn turn) = record s { stage = stages.Begun; turns = s.turns + 1 }
 after s (End turns) = record s { stage = stages.Ended }
 after s (Moved move) = moved s move
+
+-- the lines may stand one after another, each allowed, and leave this
+abbrev pub Leave : Standing → List JournalLine → Standing → Type 0
+Leave s [] end = end ≡ s
+Leave s (line ∷ lines) end = LineFits line × (may_stand s line ≡ true) × (is_allowed s line ≡ true) × Leave (after s line) lines end
+
+-- the lines of a whole journal, all of them allowed
+pub record AreLegal (lines : List JournalLine) : Type 0 where
+  pub end : Standing
+  pub leave : Leave start lines end
+  pub ended : end.stage ≡ stages.Ended
+
+-- the bytes are those of such lines, and at most 128 MiB
+pub record IsLegal (bytes : List ℕ) : Type 0 where
+  pub few : length bytes ≤ 134217728
+  pub lines : List JournalLine
+  pub text : bytes ≡ journal_text lines
+  pub legal : AreLegal lines
+
+-- The next line breaks the rule. A line that lacks its end is no line; where no line is left, one must come unless the
+-- journal has ended.
+abbrev pub BreaksHere : Standing → List ℕ → JournalRule → Type 0
+BreaksHere s rest rules.BadLine =
+    ((line : JournalLine) (behind : List ℕ) → LineFits line → rest ≡ ended_line line ++ behind → may_stand s line ≡ false) × (rest ≡ [] → s.stage ≢ stages.Ended)
+BreaksHere s rest rules.BadMove =
+    (line : JournalLine) × (behind : List ℕ) × LineFits line × (rest ≡ ended_line line ++ behind) × (may_stand s line ≡ true) × (is_allowed s line ≡ false)
+
+-- the first line that breaks a rule, and the rule
+pub record FirstBreak (bytes : List ℕ) (number : ℕ) (rule : JournalRule) : Type 0 where
+  pub lines : List JournalLine
+  pub rest : List ℕ
+  pub standing : Standing
+  pub split : bytes ≡ journal_text lines ++ rest
+  pub before : Leave start lines standing
+  pub number_is : number ≡ length lines + 1
+  pub breaks : BreaksHere standing rest rule
+
+-- a journal of more than 128 MiB breaks the first rule at line 0
+abbrev pub JournalBreak : List ℕ → ℕ → JournalRule → Type 0
+JournalBreak bytes number rule =
+    ((134217728 < length bytes) × (number ≡ 0) × (rule ≡ rules.BadLine)) ⊎ ((length bytes ≤ 134217728) × FirstBreak bytes number rule)

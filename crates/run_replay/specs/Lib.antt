@@ -1,3 +1,6 @@
 pub mod Book
+pub mod Discipline
+pub mod Journal
 pub mod Lines
+pub mod Outline
 pub mod Reading

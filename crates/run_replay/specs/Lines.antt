@@ -94,9 +94,13 @@ abbrev pub Ends : ℕ → List ℕ → Type 0
 Ends sign [] = Unit {0}
 Ends sign (byte ∷ bytes) = byte ≡ sign
 
--- not a blank
-abbrev pub is_in_word : ℕ → Bool
-is_in_word byte = not (byte == 32)
+abbrev pub is_not : ℕ → ℕ → Bool
+is_not sign byte = not (byte == sign)
+
+-- this byte doesn't stand in the bytes
+abbrev pub Lacks : ℕ → List ℕ → Type 0
+Lacks sign [] = Unit {0}
+Lacks sign (byte ∷ bytes) = (byte ≡ sign → ⊥) × Lacks sign bytes
 
 -- a zero stands before another digit
 abbrev pub has_leading_zero : List ℕ → Bool

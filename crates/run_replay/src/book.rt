@@ -1,13 +1,15 @@
 //! What the lines of a journal leave, and which may follow them.
 
-ghost use Rattle.std.specs.Prelude.{◌≡◌, IsTrue, OnOk, Some};
+ghost use Rattle.std.specs.Prelude.{◌≡◌, OnOk, true, slice_set};
+ghost use Rattle.run_replay.specs.Lines.{LineFits};
 ghost use Rattle.run_replay.specs.Book.{Standing, start, place_of, nobody_due, nobody_holds, is_ready, before_run, after_run, between_turns, in_turn, is_start, is_instances, just_ran, acts, begins, wakes, arrives, is_settled, stage_after, may_stand, move_may_stand, is_allowed, move_is_allowed, joined, settled_at, moved, after};
 
 use crate::line::Line;
 use crate::lock_move::LockMove;
+use crate::outline::Outline;
 use crate::place::{Place, holds, is_between, is_due, is_free, is_waiting, waits};
 use crate::waiter::{Waiter, is_first, remove_stack};
-use papy_base::OutOfMemory;
+use papy_base::{OutOfMemory, Text};
 use std::alloc::Global;
 use std::marker::Model;
 
@@ -133,11 +135,20 @@ fn nobody_holds(instance: u16, places: &[Place]) -> bool
     places.iter().all(|place| !holds(Some(*place), instance))
 }
 
+fn put(stack: u16, place: Place, places: &mut Vec<Place>)
+    ensures { places.new.items ≡ slice_set places.old.items stack place }
+{
+    let at = usize::from(stack);
+    if at < places.len() {
+        places[at] = place;
+    }
+}
+
 /// What the lines so far leave.
 #[derive(Drop)]
 pub(crate) struct Book {
     stage: Stage,
-    instances: usize,
+    names: Vec<Text>,
     turns: u32,
     places: Vec<Place>,
     waiters: Vec<Waiter>,
@@ -148,11 +159,13 @@ impl Model for Book {
 
     ghost Value = { Standing };
 
-    ghost view = { λ b. record { stage = b.stage; instances = b.instances; turns = b.turns; places = b.places.items; waiters = b.waiters.items } };
+    ghost view = { λ b. record { stage = b.stage; names = b.names.items; turns = b.turns; places = b.places.items; waiters = b.waiters.items } };
 }
 
 impl Book {
     ghost use Rattle.run_replay.specs.Reading.{seen};
+    ghost use Rattle.std.specs.Prelude.{◌↔◌, IsTrue};
+    ghost use Rattle.run_replay.specs.declared.book.Stage.TheVariants as stages;
 
     /// No line was read.
     pub(crate) fn new(alloc: Global) -> Book
@@ -160,7 +173,7 @@ impl Book {
     {
         Book {
             stage: Stage::Start,
-            instances: 0,
+            names: Vec::new(alloc),
             turns: 0,
             places: Vec::new(alloc),
             waiters: Vec::new(alloc),
@@ -193,7 +206,7 @@ impl Book {
             LockMove::Join(_, instance)
             | LockMove::Take(_, instance)
             | LockMove::Release(_, instance) => {
-                in_turn(self.stage) && usize::from(instance) < self.instances
+                in_turn(self.stage) && usize::from(instance) < self.names.len()
             }
             LockMove::Free(_) | LockMove::Leave(_) | LockMove::Sleep(_, _) | LockMove::Done(_) => {
                 in_turn(self.stage)
@@ -208,7 +221,7 @@ impl Book {
     {
         match line {
             Line::Heading => is_start(self.stage),
-            Line::Instance(_) => is_instances(self.stage) && self.instances < INSTANCE_LIMIT,
+            Line::Instance(_) => is_instances(self.stage) && self.names.len() < INSTANCE_LIMIT,
             Line::Turn(turn) => between_turns(self.stage) && turn == self.turns,
             Line::End(turns) => between_turns(self.stage) && turns == self.turns,
             Line::Move(moved) => self.move_may_stand(moved),
@@ -286,6 +299,103 @@ impl Book {
             Line::Heading | Line::Instance(_) => true,
             Line::Turn(_) | Line::End(_) => self.is_settled(),
             Line::Move(moved) => self.move_is_allowed(moved),
+        }
+    }
+
+    // A stack moves to a place.
+    fn settle(&mut self, stack: u16, place: Place)
+        ensures { self.new ≡ settled_at self.old stack place }
+    {
+        self.stage = stage_after(self.stage, stack);
+        put(stack, place, &mut self.places);
+    }
+
+    fn join(&mut self, stack: u16, instance: u16) -> Result<(), OutOfMemory>
+        ensures { OnOk result (self.new ≡ joined self.old stack instance) }
+    {
+        let place = Place::Waits(instance);
+        if usize::from(stack) == self.places.len() {
+            self.stage = Stage::Begun;
+            self.places.push(place)?;
+        } else {
+            self.settle(stack, place);
+        }
+        self.waiters.push(Waiter {
+            stack,
+            instance,
+            since: self.turns,
+        })?;
+        Ok(())
+    }
+
+    // What a move that is allowed leaves.
+    fn apply_move(&mut self, step: LockMove) -> Result<(), OutOfMemory>
+        ensures { OnOk result (self.new ≡ moved self.old step) }
+    {
+        match step {
+            LockMove::Join(stack, instance) => self.join(stack, instance)?,
+            LockMove::Take(stack, instance) => {
+                self.stage = Stage::Acting(stack);
+                put(stack, Place::Holds(instance), &mut self.places);
+                remove_stack(stack, &mut self.waiters);
+            }
+            LockMove::Release(stack, _) | LockMove::Leave(stack) => {
+                self.stage = Stage::Left(stack);
+                put(stack, Place::Between, &mut self.places);
+            }
+            LockMove::Free(stack) => self.settle(stack, Place::Free),
+            LockMove::Sleep(stack, until) => self.settle(stack, Place::Asleep(until)),
+            LockMove::Done(stack) => self.settle(stack, Place::Done),
+            LockMove::Run(stack) => self.stage = Stage::Ran(stack),
+            LockMove::Idle => self.stage = Stage::Idle,
+        }
+        Ok(())
+    }
+
+    /// Goes past a line that is allowed.
+    pub(crate) fn apply(&mut self, alloc: Global, line: Line) -> Result<(), OutOfMemory>
+        requires fits { LineFits (seen line) }
+        requires stands { may_stand self.old (seen line) ≡ true }
+        ensures { OnOk result (self.new ≡ after self.old (seen line.entry)) }
+    {
+        match line {
+            Line::Heading => self.stage = Stage::Instances,
+            Line::Instance(name) => self.names.push(Text::try_from_bytes(alloc, name)?)?,
+            Line::Turn(_) => {
+                self.stage = Stage::Begun;
+                self.turns += 1;
+            }
+            Line::End(_) => self.stage = Stage::Ended,
+            Line::Move(moved) => self.apply_move(moved)?,
+        }
+        Ok(())
+    }
+
+    /// Whether the journal has ended.
+    pub(crate) fn has_ended(&self) -> bool
+        ensures { IsTrue result ↔ self.now.stage ≡ stages.Ended }
+    {
+        match self.stage {
+            Stage::Ended => true,
+            _ => false,
+        }
+    }
+
+    /// What is given of the journal.
+    pub(crate) fn into_outline(self) -> Outline
+        ensures turns { result.turns ≡ self.turns }
+        ensures instances { result.instances.items ≡ self.names }
+    {
+        let Book {
+            stage: _,
+            names,
+            turns,
+            places: _,
+            waiters: _,
+        } = self;
+        Outline {
+            turns,
+            instances: names,
         }
     }
 }

@@ -4,15 +4,19 @@
 mod arguments;
 mod book;
 mod fault;
+mod journal;
 mod keyword;
 mod line;
 mod lock_move;
 mod number;
+mod outline;
 mod place;
 mod reader;
 mod text;
 mod waiter;
 
 pub use fault::{JournalFault, JournalRule};
+pub use journal::check_journal;
 pub use lock_move::LockMove;
+pub use outline::Outline;
 pub use text::{ending, heading, turn_text};

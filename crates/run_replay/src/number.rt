@@ -3,15 +3,15 @@
 ghost use Rattle.std.specs.Prelude.{◌≡◌, ◌≢◌, ◌<◌, ◌≤◌, ◌^◌, ◌++◌, ◌∷◌, ℕ, List, MatchOption, length};
 ghost use Rattle.std.specs.List.{prefix_len};
 ghost use Rattle.std.specs.Fmt.{decimal};
-ghost use Rattle.run_replay.specs.Lines.{Ends, has_leading_zero, decimal_number, is_in_word};
+ghost use Rattle.run_replay.specs.Lines.{Ends, has_leading_zero, decimal_number, is_not};
 
-// How many bytes stand before the first blank.
-pub(crate) fn word_len(bytes: &[u8]) -> usize
-    ensures run { result ≡ prefix_len is_in_word bytes.now }
+/// How many bytes stand before the first such byte.
+pub(crate) fn len_before(sign: u8, bytes: &[u8]) -> usize
+    ensures run { result ≡ prefix_len (is_not sign) bytes.now }
     ensures within { result ≤ length bytes.now }
 {
     for (at, byte) in bytes.iter().enumerate() {
-        if *byte == b' ' {
+        if *byte == sign {
             return at;
         }
     }
@@ -71,7 +71,7 @@ pub(crate) fn number_at(bytes: &[u8]) -> Option<(u32, &[u8])>
         (λ found. (bytes.now ≡ 32 ∷ decimal found.0 ++ found.1.now) × (found.0 < 2 ^ 32) × Ends 32 found.1.now) }
 {
     let field = behind_blank(bytes)?;
-    let (digits, after) = field.split_at(word_len(field));
+    let (digits, after) = field.split_at(len_before(b' ', field));
     let number = magnitude(digits)?;
     Some((number, after))
 }

@@ -10,7 +10,7 @@ use crate::arguments::{Numbers, numbers_of};
 use crate::keyword::{Keyword, keyword_of};
 use crate::line::Line;
 use crate::lock_move::LockMove;
-use crate::number::{behind_blank, word_len};
+use crate::number::{behind_blank, len_before};
 
 /// The most bytes of an instance's name.
 const NAME_LIMIT: usize = 64;
@@ -125,7 +125,7 @@ pub(crate) fn line_of(text: &[u8]) -> Option<Line<'_>>
         ((l : JournalLine) → LineFits l → text.now ≢ line_text l)
         (λ l. (text.now ≡ line_text (seen l)) × LineFits (seen l)) }
 {
-    let (word, rest) = text.split_at(word_len(text));
+    let (word, rest) = text.split_at(len_before(b' ', text));
     let keyword = keyword_of(word)?;
     if keyword == Keyword::Instance {
         let name = name_at(rest)?;
