@@ -175,7 +175,7 @@ holds_move s (moves.Release k n) j i allowed here = ⊎_elim
   where
     released : j ≡ k → moves.Release k n ≡ moves.Release j i
     released same =
-        let held : slice_get s.places k ≡ Some (places.Holds n) = holds_is n (place_of s k) (and_parts _ _ allowed).1 in
+        let held : slice_get s.places k ≡ Some (places.Holds n) = holds_is n (place_of s k) (and_parts (acts s.stage k) (holds n (place_of s k)) allowed).1 in
         let both : Some (places.Holds i) ≡ Some (places.Holds n) = sym here ∙ ap (slice_get s.places) same ∙ held in
         cc
 holds_move s (moves.Free k) j i allowed here = inr (stays away s.places j k (places.Holds i) places.Free here refl (was_away s k allowed).away)
@@ -195,7 +195,7 @@ waits_move s (moves.Take k n) j i allowed here = ⊎_elim
   where
     took : j ≡ k → moves.Take k n ≡ moves.Take j i
     took same =
-        let awaited : slice_get s.places k ≡ Some (places.Waits n) = waits_is n (place_of s k) (and_parts _ _ allowed).1 in
+        let awaited : slice_get s.places k ≡ Some (places.Waits n) = waits_is n (place_of s k) (and_parts (just_ran s.stage k) (waits n (place_of s k)) allowed).1 in
         let both : Some (places.Waits i) ≡ Some (places.Waits n) = sym here ∙ ap (slice_get s.places) same ∙ awaited in
         cc
 waits_move s (moves.Release k n) j i allowed here = inr (stays (holds n) s.places j k (places.Waits i) places.Between here refl (and_parts _ _ allowed).1)
@@ -475,7 +475,7 @@ not_first i j k (w ∷ ws) ahead first =
 
 took : (s : Standing) (k n i j : ℕ) → Good s → move_is_allowed s (moves.Take k n) ≡ true → Among i j s.waiters → j ≡ k → moves.Take k n ≡ moves.Take j i
 took s k n i j good allowed among same =
-    let awaited : slice_get s.places k ≡ Some (places.Waits n) = waits_is n (place_of s k) (and_parts _ _ allowed).1 in
+    let awaited : slice_get s.places k ≡ Some (places.Waits n) = waits_is n (place_of s k) (and_parts (just_ran s.stage k) (waits n (place_of s k)) allowed).1 in
     let both : Some (places.Waits i) ≡ Some (places.Waits n) = sym (among_waits s.places i j s.waiters good.waiting among) ∙ ap (slice_get s.places) same ∙ awaited in
     cc
 

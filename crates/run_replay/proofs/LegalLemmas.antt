@@ -8,7 +8,9 @@ use Rattle.run_replay.specs.declared.lock_move.LockMove.{LockMove}
 use Rattle.run_replay.specs.declared.lock_move.LockMove.TheVariants as moves
 use Rattle.run_replay.specs.Lines.{JournalLine, Heading, Instance, Turn, End, Moved, line_text, LineFits, ended_line, journal_text}
 use Rattle.run_replay.specs.Book.{Standing, start, may_stand, is_allowed, moved, after, Leave, AreLegal, IsLegal, BreaksHere, FirstBreak}
-use Rattle.run_replay.specs.Journal.{IsWhole}
+use Rattle.run_replay.specs.declared.fault.JournalFault.{JournalFault}
+use Rattle.run_replay.specs.declared.fault.JournalFault.TheVariants as faults
+use Rattle.run_replay.specs.Journal.{IsWhole, FaultIs, IsRefused}
 use Rattle.run_replay.specs.Outline.{AllFit, AreLines, turns_in, names_in}
 use Rattle.run_replay.proofs.SplitLemmas.{one_split}
 use Rattle.run_replay.proofs.LineLemmas.{text_lacks, same_line}
@@ -45,10 +47,13 @@ all_fit : (s end : Standing) (lines : List JournalLine) → Leave s lines end �
 all_fit s end [] leave = tt
 all_fit s end (l ∷ lines) leave = (leave.0, all_fit (after s l) end lines leave.3)
 
-pub are_legal : (bytes : List ℕ) (end : Standing) (lines : List JournalLine) → IsWhole bytes end → AreLines bytes lines → AreLegal lines
-are_legal bytes end lines whole are =
+leaves : (bytes : List ℕ) (end : Standing) (lines : List JournalLine) → IsWhole bytes end → AreLines bytes lines → Leave start lines end
+leaves bytes end lines whole are =
     let same : whole.lines ≡ lines = same_lines whole.lines lines (all_fit start end whole.lines whole.leave) are.fit (sym whole.text ∙ are.text) in
-    record { end = end; leave = subst (λ (ls : List JournalLine). Leave start ls end) same whole.leave; ended = whole.ended }
+    subst (λ (ls : List JournalLine). Leave start ls end) same whole.leave
+
+pub are_legal : (bytes : List ℕ) (end : Standing) (lines : List JournalLine) → IsWhole bytes end → AreLines bytes lines → AreLegal lines
+are_legal bytes end lines whole are = record { end = end; leave = leaves bytes end lines whole are; ended = whole.ended }
 
 pub is_legal : (bytes : List ℕ) (end : Standing) → length bytes ≤ 134217728 → IsWhole bytes end → IsLegal bytes
 is_legal bytes end few whole = record { few = few; lines = whole.lines; text = whole.text; legal = record { end = end; leave = whole.leave; ended = whole.ended } }
@@ -113,7 +118,11 @@ names_after s end (End turns ∷ lines) leave = names_after (after s (End turns)
 names_after s end (Moved m ∷ lines) leave = names_after (moved s m) end lines leave.3 ∙ ap (λ (ns : List (List ℕ)). ns ++ names_in lines) (moved_names s m)
 
 pub turns_are : (bytes : List ℕ) (end : Standing) (lines : List JournalLine) → IsWhole bytes end → AreLines bytes lines → end.turns ≡ turns_in lines
-turns_are bytes end lines whole are = let legal = are_legal bytes end lines whole are in turns_after start end lines legal.leave
+turns_are bytes end lines whole are = let counted = turns_after start end lines (leaves bytes end lines whole are) in omega (arith, counted)
 
 pub names_are : (bytes : List ℕ) (end : Standing) (lines : List JournalLine) → IsWhole bytes end → AreLines bytes lines → end.names ≡ names_in lines
-names_are bytes end lines whole are = let legal = are_legal bytes end lines whole are in names_after start end lines legal.leave
+names_are bytes end lines whole are = names_after start end lines (leaves bytes end lines whole are)
+
+pub refused : (bytes : List ℕ) (fault : JournalFault) → FaultIs bytes fault → IsRefused bytes fault
+refused bytes (faults.Broken line rule) broken = not_legal bytes line rule broken
+refused bytes faults.OutOfMemory broken = tt

@@ -121,8 +121,7 @@ pub fn check_journal(alloc: Global, bytes: &[u8]) -> Result<Outline, JournalFaul
     }
     let mut book = Book::new(alloc);
     match read_all(alloc, &mut book, bytes) {
-        Ok(()) => {}
-        Err(fault) => return Err(fault),
+        Ok(()) => Ok(book.into_outline()),
+        Err(fault) => Err(fault),
     }
-    Ok(book.into_outline())
 }

@@ -1,20 +1,24 @@
-use Rattle.std.proofs.Common.{◌≡◌, refl, sym, ◌∙◌, arith, length}
-use Rattle.std.proofs.lemmas.Bool.{eqb-true}
+use Rattle.std.proofs.Common.{◌≡◌, List, ℕ, [], refl, sym, ◌∙◌, arith, length}
+use Rattle.std.proofs.lemmas.Bool.{eqb-true, false≢true}
 use Rattle.std.proofs.lemmas.List.{nil_from_length}
-use Rattle.run_replay.proofs.JournalLemmas.{read_none, read_more, read_fault, cut_short, read_all, shorter}
+use Rattle.run_replay.proofs.JournalLemmas.{read_none, read_more, read_fault, cut_short, read_all}
 use Rattle.run_replay.proofs.journal.read_all.Goals as goal
 
 pub loop-rest-init : goal.loop-rest-init
 loop-rest-init c = read_none c.args.bytes.now c.args.book.now c.requires.new
 
 pub loop-rest-preserved : goal.loop-rest-preserved
-loop-rest-preserved c = read_more c.args.bytes.now c.loop-rest.rest.now c.in-Ok.behind.now c.loop-rest.book.now c.step.new.book.now c.loop-rest.number c.loop-rest.invariant c.in-Ok.ensures
+loop-rest-preserved c = read_more c.args.bytes.now c.loop-rest.rest.now c.in-Ok.behind.now c.loop-rest.book c.step.new.book c.loop-rest.number c.loop-rest.invariant c.in-Ok.ensures
 
 pub returns-in-Err : goal.returns-in-Err
-returns-in-Err c = read_fault c.args.bytes.now c.loop-rest.rest.now c.loop-rest.book.now c.loop-rest.number c.in-Err.fault c.loop-rest.invariant c.in-Err.ensures
+returns-in-Err c = read_fault c.args.bytes.now c.loop-rest.rest.now c.loop-rest.book c.loop-rest.number c.in-Err.fault c.loop-rest.invariant c.in-Err.ensures
 
 pub returns-then-not-has_ended : goal.returns-then-not-has_ended
-returns-then-not-has_ended c = ?
+returns-then-not-has_ended c =
+    let none : c.loop-rest.rest.now ≡ [] = nil_from_length c.loop-rest.rest.now (eqb-true (length c.loop-rest.rest.now) 0 (sym c.is_empty.ensures ∙ c.loop-rest-test.false)) in
+    rw c.bad_line.ensures (cut_short c.args.bytes.now c.loop-rest.rest.now c.loop-rest.book c.loop-rest.number c.loop-rest.invariant none (λ over. false≢true (sym c.if-not-has_ended.true ∙ c.has_ended.ensures.1 over)))
 
 pub returns : goal.returns
-returns c = ?
+returns c =
+    let none : c.loop-rest.rest.now ≡ [] = nil_from_length c.loop-rest.rest.now (eqb-true (length c.loop-rest.rest.now) 0 (sym c.is_empty.ensures ∙ c.loop-rest-test.false)) in
+    read_all c.args.bytes.now c.loop-rest.rest.now c.loop-rest.book c.loop-rest.number c.loop-rest.invariant none (c.has_ended.ensures.0 c.if-not-has_ended.false)
