@@ -47,7 +47,7 @@ stays : (T : Option Place → Bool) (ps : List Place) (j k : ℕ) (p q : Place) 
 stays T ps j k p q here fails passes = get_other ps k j q (differ T ps j k p here fails passes) ∙ here
 
 -- neither waiting nor holding nor free
-abbrev away : Option Place → Bool
+abbrev pub away : Option Place → Bool
 away (Some places.Free) = false
 away (Some (places.Waits n)) = false
 away (Some (places.Holds n)) = false
@@ -208,18 +208,18 @@ waits_move s moves.Idle j i allowed here = inr here
 
 -- the list of waiters
 
-abbrev WaitsAt : List Place → Waiter → Type 0
+abbrev pub WaitsAt : List Place → Waiter → Type 0
 WaitsAt ps w = slice_get ps w.stack ≡ Some (places.Waits w.instance)
 
-abbrev AllWait : List Place → List Waiter → Type 0
+abbrev pub AllWait : List Place → List Waiter → Type 0
 AllWait ps [] = Unit {0}
 AllWait ps (w ∷ ws) = WaitsAt ps w × AllWait ps ws
 
-abbrev NoStack : ℕ → List Waiter → Type 0
+abbrev pub NoStack : ℕ → List Waiter → Type 0
 NoStack k [] = Unit {0}
 NoStack k (w ∷ ws) = (w.stack ≡ k → ⊥) × NoStack k ws
 
-abbrev Differ : List Waiter → Type 0
+abbrev pub Differ : List Waiter → Type 0
 Differ [] = Unit {0}
 Differ (w ∷ ws) = NoStack w.stack ws × Differ ws
 
@@ -263,7 +263,7 @@ wait_without ps k q (w ∷ ws) all apart = cond_both (is_other k w) (w ∷ witho
     (λ t. wait_others ps k q ws all.1 (subst (λ (n : ℕ). NoStack n ws) (eqb-true w.stack k (not-false (w.stack == k) t)) apart.0))
 
 -- the runner was ready, and nothing has moved since
-abbrev ReadyIfRan : List Place → List Waiter → Stage → Type 0
+abbrev pub ReadyIfRan : List Place → List Waiter → Stage → Type 0
 ReadyIfRan ps ws stages.Start = Unit {0}
 ReadyIfRan ps ws stages.Instances = Unit {0}
 ReadyIfRan ps ws stages.Begun = Unit {0}
@@ -286,10 +286,10 @@ calm ps ws stages.Idle k = tt
 calm ps ws stages.Ended k = tt
 
 -- what holds after each line
-record Good (s : Standing) : Type 0 where
-  waiting : AllWait s.places s.waiters
-  apart : Differ s.waiters
-  ran : ReadyIfRan s.places s.waiters s.stage
+pub record Good (s : Standing) : Type 0 where
+  pub waiting : AllWait s.places s.waiters
+  pub apart : Differ s.waiters
+  pub ran : ReadyIfRan s.places s.waiters s.stage
 
 wait_after : (s : Standing) (m : LockMove) → Good s → move_is_allowed s m ≡ true → ((j i : ℕ) → m ≡ moves.Take j i → ⊥) → AllWait (moved s m).places s.waiters
 wait_after s m good allowed other = all_wait s.places (moved s m).places s.waiters
@@ -314,14 +314,14 @@ good_move s (moves.Done k) good allowed = record { waiting = wait_after s (moves
 good_move s (moves.Run k) good allowed = record { waiting = good.waiting; apart = good.apart; ran = (and_parts _ _ allowed).1 }
 good_move s moves.Idle good allowed = record { waiting = good.waiting; apart = good.apart; ran = tt }
 
-good_after : (s : Standing) (l : JournalLine) → Good s → is_allowed s l ≡ true → Good (after s l)
+pub good_after : (s : Standing) (l : JournalLine) → Good s → is_allowed s l ≡ true → Good (after s l)
 good_after s Heading good allowed = record { waiting = good.waiting; apart = good.apart; ran = tt }
 good_after s (Instance name) good allowed = record { waiting = good.waiting; apart = good.apart; ran = good.ran }
 good_after s (Turn turn) good allowed = record { waiting = good.waiting; apart = good.apart; ran = tt }
 good_after s (End turns) good allowed = record { waiting = good.waiting; apart = good.apart; ran = tt }
 good_after s (Moved m) good allowed = good_move s m good allowed
 
-good_start : Good start
+pub good_start : Good start
 good_start = record { waiting = tt; apart = tt; ran = tt }
 
 -- from here the rest follows
@@ -356,10 +356,10 @@ holds_step j i s (End turns) good allowed here = inr here
 holds_step j i s (Moved m) good allowed here = ⊎_elim (λ e. inl (ap (λ (n : LockMove). Moved n) e)) (λ on. inr on) (holds_move s m j i allowed here)
 
 -- what a take needs
-record Takes (s : Standing) (k i : ℕ) : Type 0 where
-  waited : place_of s k ≡ Some (places.Waits i)
-  free : nobody_holds i s.places ≡ true
-  first : is_first i k s.waiters ≡ true
+pub record Takes (s : Standing) (k i : ℕ) : Type 0 where
+  pub waited : place_of s k ≡ Some (places.Waits i)
+  pub free : nobody_holds i s.places ≡ true
+  pub first : is_first i k s.waiters ≡ true
 
 ran_ready : (ps : List Place) (ws : List Waiter) (stage : Stage) (k : ℕ) → ReadyIfRan ps ws stage → just_ran stage k ≡ true → ready_at ps ws k (slice_get ps k) ≡ true
 ran_ready ps ws stages.Start k ready e = absurd (false≢true e)
@@ -372,7 +372,7 @@ ran_ready ps ws (stages.Left n) k ready e = absurd (false≢true e)
 ran_ready ps ws stages.Idle k ready e = absurd (false≢true e)
 ran_ready ps ws stages.Ended k ready e = absurd (false≢true e)
 
-takes : (s : Standing) (k i : ℕ) → Good s → is_allowed s (Moved (moves.Take k i)) ≡ true → Takes s k i
+pub takes : (s : Standing) (k i : ℕ) → Good s → is_allowed s (Moved (moves.Take k i)) ≡ true → Takes s k i
 takes s k i good allowed =
     let parts = and_parts _ _ allowed in
     let waited = waits_is i (place_of s k) parts.1 in
@@ -399,7 +399,7 @@ one_holder lines legal before between behind j k i is =
     let held = taken r.at j i (takes r.at j i r.good r.leave.2) in
     ⊎_elim (λ there. there)
     (λ (u : Reached (next ∷ behind) legal.end (λ s. place_of s j ≡ Some (places.Holds i))).
-        absurd (holder_shows i u.at.places j u.holds (takes u.at k i u.good u.leave.2).free))
+    absurd (holder_shows i u.at.places j u.holds (takes u.at k i u.good u.leave.2).free))
     (goes_on (λ s. place_of s j ≡ Some (places.Holds i)) (Moved (moves.Release j i)) (holds_step j i) between (next ∷ behind) (after r.at taker) legal.end (good_after r.at taker r.good r.leave.2) held r.leave.3)
 
 pub lets_go : (lines : List JournalLine) → AreLegal lines → LetsGo lines
@@ -410,15 +410,15 @@ lets_go lines legal before between behind k i j is =
     let held = taken r.at k i (takes r.at k i r.good r.leave.2) in
     ⊎_elim (λ there. there)
     (λ (u : Reached (next ∷ behind) legal.end (λ s. place_of s k ≡ Some (places.Holds i))).
-        absurd (differ away u.at.places k k (places.Holds i) u.holds refl (joins_away u.at k u.leave.2) refl))
+    absurd (differ away u.at.places k k (places.Holds i) u.holds refl (joins_away u.at k u.leave.2) refl))
     (goes_on (λ s. place_of s k ≡ Some (places.Holds i)) (Moved (moves.Release k i)) (holds_step k i) between (next ∷ behind) (after r.at taker) legal.end (good_after r.at taker r.good r.leave.2) held r.leave.3)
 
 -- order of joining
 
-abbrev IsEntry : ℕ → ℕ → Waiter → Type 0
+abbrev pub IsEntry : ℕ → ℕ → Waiter → Type 0
 IsEntry i j w = (w.instance ≡ i) × (w.stack ≡ j)
 
-abbrev Among : ℕ → ℕ → List Waiter → Type 0
+abbrev pub Among : ℕ → ℕ → List Waiter → Type 0
 Among i j [] = ⊥
 Among i j (w ∷ ws) = IsEntry i j w ⊎ Among i j ws
 
@@ -526,9 +526,9 @@ in_order lines legal before between until behind j k i is =
     let entered : Among i j (after r.at first).waiters = among_last i j r.at.waiters _ (refl, refl) in
     ⊎_elim (λ (there : Stands stop between). inl there)
     (λ (u : Reached (second ∷ rest) legal.end (λ s. Among i j s.waiters)).
-        let none = nobody u.at.places k u.at.waiters u.good.waiting (joins_away u.at k u.leave.2) in
-        let ahead : Ahead i j k (after u.at second).waiters = ahead_last i j k u.at.waiters _ none u.holds in
-        ⊎_elim (λ (there : Stands stop until). inr there)
-        (λ (v : Reached (take ∷ behind) legal.end (λ s. Ahead i j k s.waiters)). absurd (not_first i j k v.at.waiters v.holds (takes v.at k i v.good v.leave.2).first))
-        (goes_on (λ s. Ahead i j k s.waiters) stop (ahead_step i j k) until (take ∷ behind) (after u.at second) legal.end (good_after u.at second u.good u.leave.2) ahead u.leave.3))
+    let none = nobody u.at.places k u.at.waiters u.good.waiting (joins_away u.at k u.leave.2) in
+    let ahead : Ahead i j k (after u.at second).waiters = ahead_last i j k u.at.waiters _ none u.holds in
+    ⊎_elim (λ (there : Stands stop until). inr there)
+    (λ (v : Reached (take ∷ behind) legal.end (λ s. Ahead i j k s.waiters)). absurd (not_first i j k v.at.waiters v.holds (takes v.at k i v.good v.leave.2).first))
+    (goes_on (λ s. Ahead i j k s.waiters) stop (ahead_step i j k) until (take ∷ behind) (after u.at second) legal.end (good_after u.at second u.good u.leave.2) ahead u.leave.3))
     (goes_on (λ s. Among i j s.waiters) stop (among_step i j) between (second ∷ rest) (after r.at first) legal.end (good_after r.at first r.good r.leave.2) entered r.leave.3)

@@ -13,6 +13,7 @@ use Rattle.run_replay.specs.Book.{Standing, start, may_stand, is_allowed, after,
 use Rattle.run_replay.specs.Journal.{Passes, StepFault, IsWhole, FaultIs}
 use Rattle.run_replay.proofs.SplitLemmas.{one_split, stands_there}
 use Rattle.run_replay.proofs.LineLemmas.{text_lacks, same_line}
+use Rattle.run_replay.proofs.WaitedLemmas.{Bounded, bounded_start, bounded_after}
 
 -- a line with its end
 ended : (line : JournalLine) (behind : List ℕ) → ended_line line ++ behind ≡ line_text line ++ 10 ∷ behind
@@ -36,11 +37,12 @@ no_form s rest text behind some split lacks none =
     ((λ line other fits is. absurd (none line fits (first_line rest text behind other line fits split lacks is))), some_left rest s some)
 
 pub no_place : (s : Standing) (rest text behind : List ℕ) (l : JournalLine) → 0 < length rest → rest ≡ text ++ 10 ∷ behind → Lacks 10 text → text ≡ line_text l → LineFits l → may_stand s l ≡ false → BreaksHere s rest rules.BadLine
-no_place s rest text behind l some split lacks is_line fits refused =
-    ((λ line other fits_too is.
-        let same : l ≡ line = same_line l line fits fits_too (sym is_line ∙ first_line rest text behind other line fits_too split lacks is) in
-        ap (may_stand s) (sym same) ∙ refused),
-    some_left rest s some)
+no_place s rest text behind l some split lacks is_line fits refused = (
+  (λ line other fits_too is.
+      let same : l ≡ line = same_line l line fits fits_too (sym is_line ∙ first_line rest text behind other line fits_too split lacks is) in
+      ap (may_stand s) (sym same) ∙ refused),
+  some_left rest s some,
+)
 
 line_first : (rest text behind : List ℕ) (l : JournalLine) → rest ≡ text ++ 10 ∷ behind → text ≡ line_text l → rest ≡ ended_line l ++ behind
 line_first rest text behind l split is_line = split ∙ ap (λ (t : List ℕ). t ++ 10 ∷ behind) is_line ∙ sym (ended l behind)
@@ -59,9 +61,10 @@ pub record ReadSoFar (bytes : List ℕ) (now : Standing) (number : ℕ) (rest : 
   pub leave : Leave start lines now
   pub number_is : number ≡ length lines + 1
   pub within : number + length rest ≤ length bytes + 1
+  pub bounded : Bounded number now
 
 pub read_none : (bytes : List ℕ) (now : Standing) → now ≡ start → ReadSoFar bytes now 1 bytes
-read_none bytes now is = record { lines = []; split = refl; leave = is; number_is = refl; within = omega arith }
+read_none bytes now is = record { lines = []; split = refl; leave = is; number_is = refl; within = omega arith; bounded = bounded_start now is }
 
 leave_more : (s : Standing) (lines : List JournalLine) (now new : Standing) (l : JournalLine) → Leave s lines now → LineFits l → may_stand now l ≡ true → is_allowed now l ≡ true → new ≡ after now l → Leave s (lines ++ l ∷ []) new
 leave_more s [] now new l leave fits stands allowed is =
@@ -83,6 +86,7 @@ read_more bytes rest behind now new number read p =
       leave = leave_more start read.lines now new p.line read.leave p.fits p.stands p.allowed p.now;
       number_is = omega (arith, read.number_is, length-append read.lines (p.line ∷ []));
       within = omega (arith, read.within, lengths);
+      bounded = subst (λ (t : Standing). Bounded (number + 1) t) (sym p.now) (bounded_after number now p.line p.fits read.bounded);
     }
 
 pub shorter : (rest behind : List ℕ) (now new : Standing) → Passes now new rest behind → length behind < length rest

@@ -47,7 +47,7 @@ all_fit : (s end : Standing) (lines : List JournalLine) → Leave s lines end �
 all_fit s end [] leave = tt
 all_fit s end (l ∷ lines) leave = (leave.0, all_fit (after s l) end lines leave.3)
 
-leaves : (bytes : List ℕ) (end : Standing) (lines : List JournalLine) → IsWhole bytes end → AreLines bytes lines → Leave start lines end
+pub leaves : (bytes : List ℕ) (end : Standing) (lines : List JournalLine) → IsWhole bytes end → AreLines bytes lines → Leave start lines end
 leaves bytes end lines whole are =
     let same : whole.lines ≡ lines = same_lines whole.lines lines (all_fit start end whole.lines whole.leave) are.fit (sym whole.text ∙ are.text) in
     subst (λ (ls : List JournalLine). Leave start ls end) same whole.leave

@@ -1,3 +1,4 @@
+mod CountLemmas
 mod Digits
 mod DisciplineLemmas
 mod JournalLemmas
@@ -7,3 +8,4 @@ mod NumbersLemmas
 mod SplitLemmas
 mod TextLemmas
 mod WaiterLemmas
+mod WaitedLemmas

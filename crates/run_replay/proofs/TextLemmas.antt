@@ -22,10 +22,10 @@ one_more {X = X} line first xs i d inside =
 pub named_more : (names items : List (List ℕ)) (i : ℕ) (text one two three name bytes : List ℕ) → items ≡ names → i < length items → name ≡ get_or items i name → bytes ≡ name → text ≡ journal_text (Heading ∷ map Instance (take i names)) → one ≡ text ++ codes "instance " → two ≡ one ++ bytes → three ≡ two ++ 10 ∷ [] → three ≡ journal_text (Heading ∷ map Instance (take (i + 1) names))
 named_more names items i text one two three name bytes whole inside item same so_far e1 e2 e3 =
     let joined : three ≡ text ++ (codes "instance " ++ (bytes ++ 10 ∷ [])) =
-        e3 ∙ ap (λ (t : List ℕ). t ++ 10 ∷ []) (e2 ∙ ap (λ (t : List ℕ). t ++ bytes) e1)
-        ∙ append_assoc (text ++ codes "instance ") bytes (10 ∷ []) ∙ append_assoc text (codes "instance ") (bytes ++ 10 ∷ []) in
+    e3 ∙ ap (λ (t : List ℕ). t ++ 10 ∷ []) (e2 ∙ ap (λ (t : List ℕ). t ++ bytes) e1)
+    ∙ append_assoc (text ++ codes "instance ") bytes (10 ∷ []) ∙ append_assoc text (codes "instance ") (bytes ++ 10 ∷ []) in
     let line : text ++ (codes "instance " ++ (bytes ++ 10 ∷ [])) ≡ text ++ ended_line (Instance (get_or names i name)) =
-        ap (λ (n : List ℕ). text ++ (codes "instance " ++ (n ++ 10 ∷ []))) (same ∙ item ∙ ap (λ (ns : List (List ℕ)). get_or ns i name) whole) in
+    ap (λ (n : List ℕ). text ++ (codes "instance " ++ (n ++ 10 ∷ []))) (same ∙ item ∙ ap (λ (ns : List (List ℕ)). get_or ns i name) whole) in
     joined ∙ line ∙ ap (λ (t : List ℕ). t ++ ended_line (Instance (get_or names i name))) so_far ∙ sym (one_more Instance Heading names i name (omega (arith, ap length whole)))
 
 -- all lines

@@ -1,5 +1,5 @@
 -- Which lines may stand after those before them.
-use Rattle.std.specs.Prelude.{ℕ, ◌≡◌, ◌≢◌, ◌+◌, ◌<◌, ◌≤◌, ◌⊎◌, ◌==◌, ◌&&◌, ◌||◌, Bool, true, false, not, List, [], ◌∷◌, ◌++◌, length, Option, Some, None, nat_lt, slice_get, slice_set, if◌then◌else◌}
+use Rattle.std.specs.Prelude.{ℕ, ◌≡◌, ◌≢◌, ◌+◌, ◌-◌, ◌<◌, ◌≤◌, ◌⊎◌, ◌==◌, ◌&&◌, ◌||◌, Bool, true, false, not, List, [], ◌∷◌, ◌++◌, length, Option, Some, None, nat_lt, slice_get, slice_set, slice_index, if◌then◌else◌}
 use Rattle.std.specs.List.{list_all}
 use Rattle.run_replay.specs.declared.lock_move.LockMove.{LockMove}
 use Rattle.run_replay.specs.declared.lock_move.LockMove.TheVariants as moves
@@ -19,13 +19,17 @@ pub record Standing : Type 0 where
   pub names : List (List ℕ)
   -- how many turns have begun
   pub turns : ℕ
+  -- the number of the last of them
+  pub turn : ℕ
+  -- for how many turns stacks waited for each instance, up to their takes
+  pub waited : List ℕ
   -- where each stack is that has begun
   pub places : List Place
   -- the stacks that wait, in order of joining
   pub waiters : List Waiter
 
 abbrev pub start : Standing
-start = record { stage = stages.Start; names = []; turns = 0; places = []; waiters = [] }
+start = record { stage = stages.Start; names = []; turns = 0; turn = 0; waited = []; places = []; waiters = [] }
 
 -- where a stack is; a new stack is nowhere
 abbrev pub place_of : Standing → ℕ → Option Place
@@ -295,7 +299,7 @@ abbrev pub settled_at : Standing → ℕ → Place → Standing
 settled_at s stack place = record s { stage = stage_after s.stage stack; places = placed s stack place }
 
 abbrev pub queued : Standing → ℕ → ℕ → List Waiter
-queued s stack instance = s.waiters ++ record { stack = stack; instance = instance; since = s.turns } ∷ []
+queued s stack instance = s.waiters ++ record { stack = stack; instance = instance; since = s.turn } ∷ []
 
 abbrev pub is_other : ℕ → Waiter → Bool
 is_other stack waiter = not (waiter.stack == stack)
@@ -304,6 +308,20 @@ is_other stack waiter = not (waiter.stack == stack)
 abbrev pub without_stack : ℕ → List Waiter → List Waiter
 without_stack stack [] = []
 without_stack stack (waiter ∷ waiters) = if is_other stack waiter then waiter ∷ without_stack stack waiters else waiters
+
+-- the turn in which a stack joined that waits
+abbrev pub since_of : ℕ → List Waiter → ℕ
+since_of stack [] = 0
+since_of stack (waiter ∷ waiters) = if waiter.stack == stack then waiter.since else since_of stack waiters
+
+-- a count grows
+abbrev pub added : List ℕ → ℕ → ℕ → List ℕ
+added counts instance amount = slice_set counts instance (slice_index counts instance + amount)
+
+-- the counts with those that wait to the end
+abbrev pub counted : List Waiter → ℕ → List ℕ → List ℕ
+counted [] turns counts = counts
+counted (waiter ∷ waiters) turns counts = counted waiters turns (added counts waiter.instance (turns - waiter.since))
 
 -- a stack that begins stands behind all others
 abbrev pub places_with : Standing → ℕ → Place → List Place
@@ -319,7 +337,7 @@ joined s stack instance =
 -- what a move that is allowed leaves
 abbrev pub moved : Standing → LockMove → Standing
 moved s (moves.Join k i) = joined s k i
-moved s (moves.Take k i) = record s { stage = stages.Acting k; places = placed s k (places.Holds i); waiters = without_stack k s.waiters }
+moved s (moves.Take k i) = record s { stage = stages.Acting k; waited = added s.waited i (s.turn - since_of k s.waiters); places = placed s k (places.Holds i); waiters = without_stack k s.waiters }
 moved s (moves.Release k i) = record s { stage = stages.Left k; places = placed s k places.Between }
 moved s (moves.Free k) = settled_at s k places.Free
 moved s (moves.Leave k) = record s { stage = stages.Left k; places = placed s k places.Between }
@@ -330,8 +348,8 @@ moved s moves.Idle = record s { stage = stages.Idle }
 
 abbrev pub after : Standing → JournalLine → Standing
 after s Heading = record s { stage = stages.Instances }
-after s (Instance name) = record s { names = s.names ++ name ∷ [] }
-after s (Turn turn) = record s { stage = stages.Begun; turns = s.turns + 1 }
+after s (Instance name) = record s { names = s.names ++ name ∷ []; waited = s.waited ++ 0 ∷ [] }
+after s (Turn turn) = record s { stage = stages.Begun; turns = s.turns + 1; turn = turn }
 after s (End turns) = record s { stage = stages.Ended }
 after s (Moved move) = moved s move
 

@@ -4,3 +4,4 @@ pub mod Journal
 pub mod Lines
 pub mod Outline
 pub mod Reading
+pub mod Waiting

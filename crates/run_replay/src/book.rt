@@ -6,9 +6,9 @@ ghost use Rattle.run_replay.specs.Book.{Standing, start, place_of, nobody_due, n
 
 use crate::line::Line;
 use crate::lock_move::LockMove;
-use crate::outline::Outline;
 use crate::place::{Place, holds, is_between, is_due, is_free, is_waiting, waits};
-use crate::waiter::{Waiter, is_first, remove_stack};
+use crate::waiter::{Waiter, is_first, remove_stack, since_of};
+use crate::waits::{Waits, add_to};
 use papy_base::{OutOfMemory, Text};
 use std::alloc::Global;
 use std::marker::Model;
@@ -148,23 +148,28 @@ fn put(stack: u16, place: Place, places: &mut Vec<Place>)
 #[derive(Drop)]
 pub(crate) struct Book {
     stage: Stage,
-    names: Vec<Text>,
+    instances: Vec<(Text, u64)>,
     turns: u32,
+    turn: u32,
     places: Vec<Place>,
     waiters: Vec<Waiter>,
 }
 
 impl Model for Book {
     ghost use Rattle.run_replay.specs.Book.{Standing};
+    ghost use Rattle.std.specs.Prelude.{map};
 
     ghost Value = { Standing };
 
-    ghost view = { λ b. record { stage = b.stage; names = b.names.items; turns = b.turns; places = b.places.items; waiters = b.waiters.items } };
+    ghost view = { λ b. record { stage = b.stage; names = map (λ p. p.0) b.instances.items; turns = b.turns; turn = b.turn; waited = map (λ p. p.1) b.instances.items; places = b.places.items; waiters = b.waiters.items } };
 }
 
 impl Book {
     ghost use Rattle.run_replay.specs.Reading.{seen};
     ghost use Rattle.std.specs.Prelude.{◌↔◌, IsTrue};
+    ghost use Rattle.std.specs.Prelude.{◌<◌, ◌^◌, ℕ, length, map, slice_index};
+    ghost use Rattle.run_replay.specs.declared.lock_move.LockMove.TheVariants as moves;
+    ghost use Rattle.run_replay.specs.Book.{counted};
     ghost use Rattle.run_replay.specs.declared.book.Stage.TheVariants as stages;
 
     /// No line was read.
@@ -173,8 +178,9 @@ impl Book {
     {
         Book {
             stage: Stage::Start,
-            names: Vec::new(alloc),
+            instances: Vec::new(alloc),
             turns: 0,
+            turn: 0,
             places: Vec::new(alloc),
             waiters: Vec::new(alloc),
         }
@@ -206,7 +212,7 @@ impl Book {
             LockMove::Join(_, instance)
             | LockMove::Take(_, instance)
             | LockMove::Release(_, instance) => {
-                in_turn(self.stage) && usize::from(instance) < self.names.len()
+                in_turn(self.stage) && usize::from(instance) < self.instances.len()
             }
             LockMove::Free(_) | LockMove::Leave(_) | LockMove::Sleep(_, _) | LockMove::Done(_) => {
                 in_turn(self.stage)
@@ -221,7 +227,7 @@ impl Book {
     {
         match line {
             Line::Heading => is_start(self.stage),
-            Line::Instance(_) => is_instances(self.stage) && self.names.len() < INSTANCE_LIMIT,
+            Line::Instance(_) => is_instances(self.stage) && self.instances.len() < INSTANCE_LIMIT,
             Line::Turn(turn) => between_turns(self.stage) && turn == self.turns,
             Line::End(turns) => between_turns(self.stage) && turns == self.turns,
             Line::Move(moved) => self.move_may_stand(moved),
@@ -323,22 +329,34 @@ impl Book {
         self.waiters.push(Waiter {
             stack,
             instance,
-            since: self.turns,
+            since: self.turn,
         })?;
         Ok(())
     }
 
+    fn take(&mut self, stack: u16, instance: u16)
+        requires room { (i : ℕ) → slice_index self.old.waited i < 2 ^ 63 }
+        ensures { self.new ≡ moved self.old (moves.Take stack instance) }
+    {
+        let since = since_of(stack, self.waiters.as_slice());
+        add_to(
+            instance,
+            self.turn.saturating_sub(since),
+            &mut self.instances,
+        );
+        self.stage = Stage::Acting(stack);
+        put(stack, Place::Holds(instance), &mut self.places);
+        remove_stack(stack, &mut self.waiters);
+    }
+
     // What a move that is allowed leaves.
     fn apply_move(&mut self, step: LockMove) -> Result<(), OutOfMemory>
+        requires room { (i : ℕ) → slice_index self.old.waited i < 2 ^ 63 }
         ensures { OnOk result (self.new ≡ moved self.old step) }
     {
         match step {
             LockMove::Join(stack, instance) => self.join(stack, instance)?,
-            LockMove::Take(stack, instance) => {
-                self.stage = Stage::Acting(stack);
-                put(stack, Place::Holds(instance), &mut self.places);
-                remove_stack(stack, &mut self.waiters);
-            }
+            LockMove::Take(stack, instance) => self.take(stack, instance),
             LockMove::Release(stack, _) | LockMove::Leave(stack) => {
                 self.stage = Stage::Left(stack);
                 put(stack, Place::Between, &mut self.places);
@@ -356,14 +374,19 @@ impl Book {
     pub(crate) fn apply(&mut self, alloc: Global, line: Line) -> Result<(), OutOfMemory>
         requires fits { LineFits (seen line) }
         requires stands { may_stand self.old (seen line) ≡ true }
+        requires room { (i : ℕ) → slice_index self.old.waited i < 2 ^ 63 }
         ensures { OnOk result (self.new ≡ after self.old (seen line.entry)) }
     {
         match line {
             Line::Heading => self.stage = Stage::Instances,
-            Line::Instance(name) => self.names.push(Text::try_from_bytes(alloc, name)?)?,
-            Line::Turn(_) => {
+            Line::Instance(name) => {
+                self.instances
+                    .push((Text::try_from_bytes(alloc, name)?, 0))?;
+            }
+            Line::Turn(turn) => {
                 self.stage = Stage::Begun;
                 self.turns += 1;
+                self.turn = turn;
             }
             Line::End(_) => self.stage = Stage::Ended,
             Line::Move(moved) => self.apply_move(moved)?,
@@ -381,21 +404,29 @@ impl Book {
         }
     }
 
-    /// What is given of the journal.
-    pub(crate) fn into_outline(self) -> Outline
+    /// What is counted of the journal, with those that wait to its end.
+    pub(crate) fn into_waits(self) -> Waits
+        requires room { (i : ℕ) → slice_index self.waited i < 2 ^ 62 }
+        requires few { length self.waiters < 2 ^ 29 }
         ensures turns { result.turns ≡ self.turns }
-        ensures instances { result.instances.items ≡ self.names }
+        ensures instances { map (λ p. p.0) result.instances.items ≡ self.names }
+        ensures counts { map (λ p. p.1) result.instances.items ≡ counted self.waiters self.turns self.waited }
     {
         let Book {
             stage: _,
-            names,
+            mut instances,
             turns,
+            turn: _,
             places: _,
-            waiters: _,
+            waiters,
         } = self;
-        Outline {
-            turns,
-            instances: names,
+        for waiter in &waiters {
+            add_to(
+                waiter.instance,
+                turns.saturating_sub(waiter.since),
+                &mut instances,
+            );
         }
+        Waits { turns, instances }
     }
 }

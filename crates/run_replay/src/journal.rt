@@ -1,19 +1,20 @@
 //! Journals, checked.
 
-ghost use Rattle.std.specs.Prelude.{◌≡◌, ◌+◌, ◌<◌, ◌≤◌, ◌++◌, ◌∷◌, length, List, MatchOption, OnOk, IfOk, IfErr};
+ghost use Rattle.std.specs.Prelude.{◌≡◌, ◌+◌, ◌<◌, ◌≤◌, ◌++◌, ◌∷◌, ◌^◌, ℕ, length, map, slice_index, List, MatchOption, OnOk, IfOk, IfErr};
 ghost use Rattle.run_replay.specs.Book.{Standing, start, IsLegal};
 ghost use Rattle.run_replay.specs.Journal.{StepAnswer, ReadAnswer, JournalFaultIs, IsRefused};
 ghost use Rattle.run_replay.specs.Discipline.{OneHolder, InOrder, LetsGo};
 ghost use Rattle.run_replay.specs.Lines.{JournalLine, Lacks};
 ghost use Rattle.run_replay.specs.Outline.{AreLines, turns_in, names_in};
+ghost use Rattle.run_replay.specs.Waiting.{waited};
 ghost use Rattle.run_replay.specs.declared.fault.JournalFault.TheVariants as faults;
 ghost use Rattle.run_replay.specs.declared.fault.JournalRule.TheVariants as rules;
 
 use crate::book::Book;
 use crate::fault::{JournalFault, JournalRule};
 use crate::number::len_before;
-use crate::outline::Outline;
 use crate::reader::line_of;
+use crate::waits::Waits;
 use std::alloc::Global;
 
 /// The most bytes of a journal.
@@ -39,7 +40,8 @@ fn step<'a>(
     number: u32,
     rest: &'a [u8],
 ) -> Result<&'a [u8], JournalFault>
-    requires { 0 < length rest.now }
+    requires some { 0 < length rest.now }
+    requires room { (i : ℕ) → slice_index book.old.waited i < 2 ^ 63 }
     ensures { StepAnswer book.old book.new number rest.now result }
 {
     let Some((text, behind)) = cut_line(rest) else {
@@ -74,7 +76,9 @@ fn bad_line(number: u32) -> JournalFault
 fn read_all(alloc: Global, book: &mut Book, bytes: &[u8]) -> Result<(), JournalFault>
     requires new { book.old ≡ start }
     requires few { length bytes.now ≤ 134217728 }
-    ensures { ReadAnswer book.new bytes.now result }
+    ensures read { ReadAnswer book.new bytes.now result }
+    ensures room { OnOk result ((i : ℕ) → slice_index book.new.waited i < 2 ^ 62) }
+    ensures few { OnOk result (length book.new.waiters < 2 ^ 29) }
 {
     let mut rest = bytes;
     let mut number: u32 = 1;
@@ -103,14 +107,16 @@ fn read_all(alloc: Global, book: &mut Book, bytes: &[u8]) -> Result<(), JournalF
 ///
 /// `Broken` comes exactly where the journal isn't legal, with the first line that breaks a rule. In one line `BadLine`
 /// stands before `BadMove`. A journal of more than 128 MiB is refused at line 0.
-pub fn check_journal(alloc: Global, bytes: &[u8]) -> Result<Outline, JournalFault>
+pub fn check_journal(alloc: Global, bytes: &[u8]) -> Result<Waits, JournalFault>
     // The journal is legal, or it isn't, and that is the first line that breaks a rule.
     ensures legal { OnOk result (IsLegal bytes.now) }
     ensures refused { IfErr result (IsRefused bytes.now) }
     ensures broken { IfErr result (JournalFaultIs bytes.now) }
     // What is given is what its lines say.
-    ensures turns { IfOk result (λ outline. (lines : List JournalLine) → AreLines bytes.now lines → outline.turns ≡ turns_in lines) }
-    ensures instances { IfOk result (λ outline. (lines : List JournalLine) → AreLines bytes.now lines → outline.instances.items ≡ names_in lines) }
+    ensures turns { IfOk result (λ waits. (lines : List JournalLine) → AreLines bytes.now lines → waits.turns ≡ turns_in lines) }
+    ensures instances { IfOk result (λ waits. (lines : List JournalLine) → AreLines bytes.now lines → map (λ p. p.0) waits.instances.items ≡ names_in lines) }
+    ensures waited { IfOk result (λ waits. (lines : List JournalLine) → AreLines bytes.now lines
+        → (i : ℕ) → i < length (names_in lines) → slice_index (map (λ p. p.1) waits.instances.items) i ≡ waited lines i) }
     // Its lines alone show that the rules of locks were kept.
     ensures one_holder { OnOk result ((lines : List JournalLine) → AreLines bytes.now lines → OneHolder lines) }
     ensures in_order { OnOk result ((lines : List JournalLine) → AreLines bytes.now lines → InOrder lines) }
@@ -121,7 +127,7 @@ pub fn check_journal(alloc: Global, bytes: &[u8]) -> Result<Outline, JournalFaul
     }
     let mut book = Book::new(alloc);
     match read_all(alloc, &mut book, bytes) {
-        Ok(()) => Ok(book.into_outline()),
+        Ok(()) => Ok(book.into_waits()),
         Err(fault) => Err(fault),
     }
 }

@@ -9,14 +9,14 @@ mod keyword;
 mod line;
 mod lock_move;
 mod number;
-mod outline;
 mod place;
 mod reader;
 mod text;
 mod waiter;
+mod waits;
 
 pub use fault::{JournalFault, JournalRule};
 pub use journal::check_journal;
 pub use lock_move::LockMove;
-pub use outline::Outline;
 pub use text::{ending, heading, turn_text};
+pub use waits::Waits;

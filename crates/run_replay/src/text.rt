@@ -41,11 +41,7 @@ pub fn heading(alloc: Global, names: &Vec<Text>) -> Result<Vec<u8>, OutOfMemory>
 }
 
 /// The lines of a turn: its number, and then its moves in order.
-pub fn turn_text(
-    alloc: Global,
-    turn: u32,
-    moves: &Vec<LockMove>,
-) -> Result<Vec<u8>, OutOfMemory>
+pub fn turn_text(alloc: Global, turn: u32, moves: &Vec<LockMove>) -> Result<Vec<u8>, OutOfMemory>
     ensures { IfOk result (λ text. text.items ≡ journal_text (Turn turn ∷ map Moved moves.now.items)) }
 {
     let line = format!(in alloc; "turn {turn}\n")?;

@@ -2,14 +2,14 @@
 
 ghost use Rattle.std.specs.Prelude.{◌≡◌, ◌≤◌, length};
 ghost use Rattle.std.specs.List.{prefix_len};
-ghost use Rattle.run_replay.specs.Book.{is_first, is_other, without_stack};
+ghost use Rattle.run_replay.specs.Book.{is_first, is_other, since_of, without_stack};
 
 /// A stack that waits for an instance.
 #[derive(Clone, Copy)]
 pub(crate) struct Waiter {
     pub(crate) stack: u16,
     pub(crate) instance: u16,
-    /// How many turns had begun when it joined.
+    /// The turn in which it joined.
     pub(crate) since: u32,
 }
 
@@ -23,6 +23,18 @@ pub(crate) fn is_first(instance: u16, stack: u16, waiters: &[Waiter]) -> bool
         }
     }
     false
+}
+
+/// The turn in which a stack joined that waits.
+pub(crate) fn since_of(stack: u16, waiters: &[Waiter]) -> u32
+    ensures { result ≡ since_of stack waiters.now }
+{
+    for waiter in waiters {
+        if waiter.stack == stack {
+            return waiter.since;
+        }
+    }
+    0
 }
 
 // The place of a stack among the waiters, or their number where it is none of them.
