@@ -1,8 +1,7 @@
 -- What a legal journal's lines show of the locks.
-use Rattle.std.proofs.Common.{◌≡◌, ℕ, zero, suc, ◌+◌, ◌<◌, ◌≤◌, ◌⊎◌, ◌&&◌, ◌||◌, Bool, true, false, List, [], ◌∷◌, ◌++◌, length, cond, eqb, Option, Some, None, refl, sym, ap, subst, ◌∙◌, inl, inr, ⊎_elim, arith}
+use Rattle.std.proofs.Common.{◌≡◌, ℕ, zero, suc, ◌<◌, ◌⊎◌, ◌&&◌, ◌||◌, Bool, true, false, List, [], ◌∷◌, ◌++◌, length, Option, Some, None, refl, sym, ap, subst, ◌∙◌, inl, inr, ⊎_elim, arith}
 use Rattle.std.specs.Prelude.{not, ◌==◌, slice_get, slice_set}
-use Rattle.std.specs.List.{list_all}
-use Rattle.std.proofs.lemmas.Bool.{false≢true, cond_both, cond-true, cond-false, and_parts, or_cases, eqb-true, eqb-false, eq-eqb, not-true, not-false, cases_eq}
+use Rattle.std.proofs.lemmas.Bool.{false≢true, cond_both, and_parts, or_cases, eqb-true, eqb-false, eq-eqb, not-true, not-false, cases_eq}
 use Rattle.std.proofs.lemmas.Option.{slice_get_past, slice_get_within}
 use Rattle.run_replay.specs.declared.lock_move.LockMove.{LockMove}
 use Rattle.run_replay.specs.declared.lock_move.LockMove.TheVariants as moves
@@ -11,8 +10,8 @@ use Rattle.run_replay.specs.declared.place.Place.TheVariants as places
 use Rattle.run_replay.specs.declared.book.Stage.{Stage}
 use Rattle.run_replay.specs.declared.book.Stage.TheVariants as stages
 use Rattle.run_replay.specs.declared.waiter.Waiter.{Waiter}
-use Rattle.run_replay.specs.Lines.{JournalLine, Heading, Instance, Turn, End, Moved, LineFits}
-use Rattle.run_replay.specs.Book.{Standing, start, place_of, is_due, is_between, is_free, holds, waits, nobody_holds, is_first, ready_at, wakes, begins, arrives, acts, just_ran, after_run, stage_after, may_stand, move_is_allowed, is_allowed, is_other, without_stack, moved, after, Leave, AreLegal}
+use Rattle.run_replay.specs.Lines.{JournalLine, Heading, Instance, Turn, End, Moved}
+use Rattle.run_replay.specs.Book.{Standing, start, place_of, is_due, is_between, is_free, holds, waits, nobody_holds, is_first, ready_at, wakes, begins, arrives, acts, just_ran, stage_after, move_is_allowed, is_allowed, is_other, without_stack, moved, after, Leave, AreLegal}
 use Rattle.run_replay.specs.Discipline.{Stands, OneHolder, InOrder, LetsGo}
 
 -- places

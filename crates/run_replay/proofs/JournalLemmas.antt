@@ -1,14 +1,11 @@
 -- A journal read line by line.
-use Rattle.std.proofs.Common.{◌≡◌, ◌≢◌, ℕ, ◌+◌, ◌<◌, ◌≤◌, ◌⊎◌, Bool, true, false, List, [], ◌∷◌, ◌++◌, length, append_assoc, length-append, append-nil, refl, sym, ap, subst, ◌∙◌, Result, Ok, Err, inl, inr, arith}
-use Rattle.std.proofs.lemmas.Bool.{false≢true}
+use Rattle.std.proofs.Common.{◌≡◌, ◌≢◌, ℕ, ◌+◌, ◌<◌, ◌≤◌, true, false, List, [], ◌∷◌, ◌++◌, length, append_assoc, length-append, append-nil, refl, sym, ap, subst, ◌∙◌, arith}
 use Rattle.std.proofs.lemmas.List.Concat.{flat_map-append}
-use Rattle.std.proofs.lemmas.List.{nil_from_length}
 use Rattle.run_replay.specs.declared.book.Stage.TheVariants as stages
 use Rattle.run_replay.specs.declared.fault.JournalFault.{JournalFault}
 use Rattle.run_replay.specs.declared.fault.JournalFault.TheVariants as faults
-use Rattle.run_replay.specs.declared.fault.JournalRule.{JournalRule}
 use Rattle.run_replay.specs.declared.fault.JournalRule.TheVariants as rules
-use Rattle.run_replay.specs.Lines.{JournalLine, line_text, LineFits, Lacks, Ends, ended_line, journal_text}
+use Rattle.run_replay.specs.Lines.{JournalLine, line_text, LineFits, Lacks, ended_line, journal_text}
 use Rattle.run_replay.specs.Book.{Standing, start, may_stand, is_allowed, after, Leave, BreaksHere, FirstBreak}
 use Rattle.run_replay.specs.Journal.{Passes, StepFault, IsWhole, FaultIs}
 use Rattle.run_replay.proofs.SplitLemmas.{one_split, stands_there}

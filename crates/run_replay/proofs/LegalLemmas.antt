@@ -1,5 +1,5 @@
 -- Which journals are legal.
-use Rattle.std.proofs.Common.{◌≡◌, ◌≢◌, ℕ, suc, ◌+◌, ◌<◌, ◌≤◌, ◌⊎◌, Bool, true, false, List, [], ◌∷◌, ◌++◌, length, append_assoc, length-append, append-nil, refl, sym, ap, subst, ◌∙◌, inl, inr, ⊎_elim, arith}
+use Rattle.std.proofs.Common.{◌≡◌, ℕ, ◌+◌, ◌≤◌, List, [], ◌∷◌, ◌++◌, length, append_assoc, length-append, append-nil, refl, sym, ap, subst, ◌∙◌, arith}
 use Rattle.std.proofs.lemmas.Bool.{false≢true}
 use Rattle.run_replay.specs.declared.book.Stage.TheVariants as stages
 use Rattle.run_replay.specs.declared.fault.JournalRule.{JournalRule}
@@ -7,7 +7,7 @@ use Rattle.run_replay.specs.declared.fault.JournalRule.TheVariants as rules
 use Rattle.run_replay.specs.declared.lock_move.LockMove.{LockMove}
 use Rattle.run_replay.specs.declared.lock_move.LockMove.TheVariants as moves
 use Rattle.run_replay.specs.Lines.{JournalLine, Heading, Instance, Turn, End, Moved, line_text, LineFits, ended_line, journal_text}
-use Rattle.run_replay.specs.Book.{Standing, start, may_stand, is_allowed, moved, after, Leave, AreLegal, IsLegal, BreaksHere, FirstBreak}
+use Rattle.run_replay.specs.Book.{Standing, start, is_allowed, moved, after, Leave, AreLegal, IsLegal, BreaksHere, FirstBreak}
 use Rattle.run_replay.specs.declared.fault.JournalFault.{JournalFault}
 use Rattle.run_replay.specs.declared.fault.JournalFault.TheVariants as faults
 use Rattle.run_replay.specs.Journal.{IsWhole, FaultIs, IsRefused}

@@ -1,13 +1,12 @@
 -- The words and numbers of lines.
-use Rattle.std.proofs.Common.{◌≡◌, ◌≢◌, ℕ, ◌+◌, ◌*◌, ◌<◌, ◌≤◌, ◌^◌, Bool, true, false, List, [], ◌∷◌, ◌++◌, length, take, drop, get_or, ◌⊎◌, ⊎_elim, inl, inr, Option, Some, None, MatchOption, IfSome, cond, eqb, refl, sym, ap, subst, ◌∙◌, arith, lit<}
-use Rattle.std.specs.Prelude.{not, ◌==◌, option_map, nat_le, nat_lt, codes, if◌then◌else◌}
+use Rattle.std.proofs.Common.{◌≡◌, ◌≢◌, ℕ, ◌+◌, ◌*◌, true, List, [], ◌∷◌, ◌++◌, take, drop, get_or, ◌⊎◌, ⊎_elim, inl, inr, Option, Some, None, MatchOption, IfSome, refl, sym, ap, subst, ◌∙◌, arith, lit<}
+use Rattle.std.specs.Prelude.{◌==◌, option_map, codes, if◌then◌else◌}
 use Rattle.std.specs.Fmt.{decimal}
-use Rattle.std.specs.List.{prefix_len, list_all}
-use Rattle.std.proofs.lemmas.Bool.{false≢true, cond-true, cond-false, le-ltb, leb-true, le-leb, eqb-false, not-true, and_parts}
+use Rattle.std.specs.List.{prefix_len}
+use Rattle.std.proofs.lemmas.Bool.{cond-true, cond-false, le-ltb, le-leb, and_parts}
 use Rattle.std.proofs.lemmas.Fmt.{decimal_digit}
 use Rattle.std.proofs.lemmas.List.{take-append-drop}
 use Rattle.run_replay.specs.declared.line.Line.{Line}
-use Rattle.run_replay.specs.declared.lock_move.LockMove.{LockMove}
 use Rattle.run_replay.specs.declared.lock_move.LockMove.TheVariants as moves
 use Rattle.run_replay.specs.declared.keyword.Keyword.{Keyword}
 use Rattle.run_replay.specs.declared.keyword.Keyword.TheVariants as keyword

@@ -1,16 +1,16 @@
 -- How long stacks waited.
-use Rattle.std.proofs.Common.{◌≡◌, ℕ, zero, suc, ◌+◌, ◌-◌, ◌*◌, ◌<◌, ◌≤◌, ◌⊎◌, ◌^◌, Bool, true, false, List, [], ◌∷◌, ◌++◌, length, get_or, cond, eqb, length-append, refl, sym, ap, subst, ◌∙◌, inl, inr, ⊎_elim, arith}
-use Rattle.std.specs.Prelude.{not, ◌==◌, slice_index, slice_set, nat_lt}
+use Rattle.std.proofs.Common.{◌≡◌, ℕ, zero, suc, ◌+◌, ◌-◌, ◌*◌, ◌<◌, ◌≤◌, Bool, true, false, List, [], ◌∷◌, ◌++◌, length, get_or, cond, length-append, refl, sym, ap, subst, ◌∙◌, inl, inr, ⊎_elim, arith}
+use Rattle.std.specs.Prelude.{not, ◌==◌, slice_index, slice_set}
 use Rattle.std.proofs.Math.ListN.{length-set}
 use Rattle.std.proofs.lemmas.List.{get_or-set_same, get_or-set_other, get_or_past}
-use Rattle.std.proofs.lemmas.Bool.{false≢true, cond_both, cond-true, cond-false, and_parts, eqb-true, eqb-false, eq-eqb, ne_eqb, ltb-true, not-true, not-false, cases_eq, cases_lt}
+use Rattle.std.proofs.lemmas.Bool.{false≢true, cond_both, cond-true, cond-false, and_parts, eqb-true, eq-eqb, ne_eqb, ltb-true, cases_eq, cases_lt}
 use Rattle.run_replay.specs.declared.lock_move.LockMove.{LockMove}
 use Rattle.run_replay.specs.declared.lock_move.LockMove.TheVariants as moves
 use Rattle.run_replay.specs.declared.waiter.Waiter.{Waiter}
 use Rattle.run_replay.specs.Lines.{JournalLine, Heading, Instance, Turn, End, Moved, LineFits}
-use Rattle.run_replay.specs.Book.{Standing, start, may_stand, is_allowed, move_is_allowed, move_may_stand, is_first, is_other, without_stack, since_of, added, counted, moved, after, Leave}
+use Rattle.run_replay.specs.Book.{Standing, start, move_is_allowed, move_may_stand, is_first, is_other, without_stack, since_of, added, counted, moved, after, Leave}
 use Rattle.run_replay.specs.Outline.{AreLines, turns_in, names_in}
-use Rattle.run_replay.specs.Waiting.{next_take, waits_from, waited_from, waited}
+use Rattle.run_replay.specs.Waiting.{next_take, waited_from, waited}
 use Rattle.run_replay.specs.Journal.{IsWhole}
 use Rattle.run_replay.proofs.DisciplineLemmas.{Good, good_after, good_start, NoStack, Differ, Among, IsEntry, takes}
 use Rattle.run_replay.proofs.LegalLemmas.{leaves, turns_are, names_are}
@@ -85,12 +85,12 @@ pending_take i n k now f g (w ∷ ws) here same apart among = ⊎_elim
 added_at : (counts : List ℕ) (n x i : ℕ) → n < length counts → slice_index (added counts n x) i ≡ slice_index counts i + cond (n == i) x 0
 added_at counts n x i inside = ⊎_elim
     (λ (same : n ≡ i).
-        ap (λ (m : ℕ). get_or (slice_set counts n (get_or counts n 0 + x)) m 0) (sym same) ∙ get_or-set_same counts n (get_or counts n 0 + x) 0 inside
-        ∙ ap (λ (m : ℕ). get_or counts m 0 + x) same ∙ ap (λ (y : ℕ). get_or counts i 0 + y) (sym (cond-true (n == i) x 0 (eq-eqb n i same))))
+    ap (λ (m : ℕ). get_or (slice_set counts n (get_or counts n 0 + x)) m 0) (sym same) ∙ get_or-set_same counts n (get_or counts n 0 + x) 0 inside
+    ∙ ap (λ (m : ℕ). get_or counts m 0 + x) same ∙ ap (λ (y : ℕ). get_or counts i 0 + y) (sym (cond-true (n == i) x 0 (eq-eqb n i same))))
     (λ (other : n ≡ i → ⊥).
-        let stays : get_or (slice_set counts n (get_or counts n 0 + x)) i 0 ≡ get_or counts i 0 = get_or-set_other counts n i (get_or counts n 0 + x) 0 (λ e. other (sym e)) in
-        let none : cond (n == i) x 0 ≡ 0 = cond-false (n == i) x 0 (ne_eqb n i other) in
-        omega (arith, stays, none))
+    let stays : get_or (slice_set counts n (get_or counts n 0 + x)) i 0 ≡ get_or counts i 0 = get_or-set_other counts n i (get_or counts n 0 + x) 0 (λ e. other (sym e)) in
+    let none : cond (n == i) x 0 ≡ 0 = cond-false (n == i) x 0 (ne_eqb n i other) in
+    omega (arith, stays, none))
     (cases_eq n i)
 
 -- a count that nobody has
@@ -98,9 +98,9 @@ added_past : (counts : List ℕ) (n x i : ℕ) → i < length counts → slice_i
 added_past counts n x i inside = ⊎_elim
     (λ (same : n ≡ i). added_at counts n x i (omega arith))
     (λ (other : n ≡ i → ⊥).
-        let stays : get_or (slice_set counts n (get_or counts n 0 + x)) i 0 ≡ get_or counts i 0 = get_or-set_other counts n i (get_or counts n 0 + x) 0 (λ e. other (sym e)) in
-        let none : cond (n == i) x 0 ≡ 0 = cond-false (n == i) x 0 (ne_eqb n i other) in
-        omega (arith, stays, none))
+    let stays : get_or (slice_set counts n (get_or counts n 0 + x)) i 0 ≡ get_or counts i 0 = get_or-set_other counts n i (get_or counts n 0 + x) 0 (λ e. other (sym e)) in
+    let none : cond (n == i) x 0 ≡ 0 = cond-false (n == i) x 0 (ne_eqb n i other) in
+    omega (arith, stays, none))
     (cases_eq n i)
 
 counted_at : (ws : List Waiter) (turns : ℕ) (counts : List ℕ) (i : ℕ) → i < length counts → slice_index (counted ws turns counts) i ≡ slice_index counts i + pending i (λ k. turns) ws
@@ -206,18 +206,18 @@ grown : (counts : List ℕ) (n x i : ℕ) → slice_index (added counts n x) i �
 grown counts n x i = ⊎_elim
     (λ (same : n ≡ i). at_place same)
     (λ (other : n ≡ i → ⊥).
-        let stays : get_or (slice_set counts n (get_or counts n 0 + x)) i 0 ≡ get_or counts i 0 = get_or-set_other counts n i (get_or counts n 0 + x) 0 (λ e. other (sym e)) in
-        omega (arith, stays))
+    let stays : get_or (slice_set counts n (get_or counts n 0 + x)) i 0 ≡ get_or counts i 0 = get_or-set_other counts n i (get_or counts n 0 + x) 0 (λ e. other (sym e)) in
+    omega (arith, stays))
     (cases_eq n i)
   where
     at_place : n ≡ i → slice_index (added counts n x) i ≤ slice_index counts i + x
     at_place same = ⊎_elim
         (λ (inside : n < length counts).
-            let here : get_or (slice_set counts n (get_or counts n 0 + x)) n 0 ≡ get_or counts n 0 + x = get_or-set_same counts n (get_or counts n 0 + x) 0 inside in
-            subst (λ (m : ℕ). get_or (slice_set counts n (get_or counts n 0 + x)) m 0 ≤ get_or counts m 0 + x) same (omega (arith, here)))
+        let here : get_or (slice_set counts n (get_or counts n 0 + x)) n 0 ≡ get_or counts n 0 + x = get_or-set_same counts n (get_or counts n 0 + x) 0 inside in
+        subst (λ (m : ℕ). get_or (slice_set counts n (get_or counts n 0 + x)) m 0 ≤ get_or counts m 0 + x) same (omega (arith, here)))
         (λ (past : length counts ≤ n).
-            let none : get_or (slice_set counts n (get_or counts n 0 + x)) i 0 ≡ 0 = get_or_past (slice_set counts n (get_or counts n 0 + x)) i 0 (omega (arith, length-set counts n (get_or counts n 0 + x))) in
-            omega (arith, none))
+        let none : get_or (slice_set counts n (get_or counts n 0 + x)) i 0 ≡ 0 = get_or_past (slice_set counts n (get_or counts n 0 + x)) i 0 (omega (arith, length-set counts n (get_or counts n 0 + x))) in
+        omega (arith, none))
         (cases_lt n (length counts))
 
 bounded_move : (number : ℕ) (s : Standing) (m : LockMove) → Bounded number s → Bounded (number + 1) (moved s m)

@@ -1,5 +1,5 @@
 -- What the readers of a journal answer.
-use Rattle.std.specs.Prelude.{ℕ, ◌≡◌, ◌+◌, List, ◌++◌, length, Result, Ok, Err, true, ⊤}
+use Rattle.std.specs.Prelude.{ℕ, ◌≡◌, List, ◌++◌, Result, Ok, Err, true, ⊤}
 use Rattle.std.specs.Borrow.{Bor}
 use Rattle.run_replay.specs.declared.book.Stage.TheVariants as stages
 use Rattle.run_replay.specs.declared.fault.JournalFault.{JournalFault}

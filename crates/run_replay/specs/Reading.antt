@@ -1,5 +1,5 @@
 -- How the lines that were read are seen.
-use Rattle.std.specs.Prelude.{ℕ, ◌==◌, List, Option, Some, None, nat_le, nat_lt, if◌then◌else◌}
+use Rattle.std.specs.Prelude.{ℕ, ◌==◌, Option, Some, None, nat_le, nat_lt, if◌then◌else◌}
 use Rattle.run_replay.specs.declared.line.Line.{Line}
 use Rattle.run_replay.specs.declared.line.Line.TheVariants as lines
 use Rattle.run_replay.specs.declared.lock_move.LockMove.TheVariants as moves

@@ -7,7 +7,7 @@ ghost use Rattle.run_replay.specs.Lines.{spelled, AreSmall};
 use crate::number::number_at;
 
 /// The numbers of a line, of which there are at most two.
-#[derive(Clone, Copy, PartialEq, Eq)]
+#[derive(Clone, Copy)]
 pub(crate) enum Numbers {
     Nothing,
     One(u32),

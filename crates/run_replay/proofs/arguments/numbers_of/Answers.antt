@@ -1,4 +1,4 @@
-use Rattle.std.proofs.Common.{◌≡◌, sym, ◌∙◌}
+use Rattle.std.proofs.Common.{sym, ◌∙◌}
 use Rattle.run_replay.proofs.NumbersLemmas.{nonempty, front, none_in_front, none_behind, too_many}
 use Rattle.run_replay.proofs.arguments.numbers_of.Goals as goal
 

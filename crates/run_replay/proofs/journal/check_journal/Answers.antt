@@ -1,4 +1,4 @@
-use Rattle.std.proofs.Common.{◌≡◌, List, ℕ, ap, refl, sym, ◌∙◌, arith, length}
+use Rattle.std.proofs.Common.{List, ℕ, ap, ◌∙◌, arith}
 use Rattle.std.specs.Prelude.{slice_index}
 use Rattle.run_replay.proofs.WaitedLemmas.{waited_is}
 use Rattle.run_replay.proofs.LegalLemmas.{are_legal, is_legal, refused, turns_are, names_are}

@@ -1,4 +1,4 @@
-use Rattle.std.proofs.Common.{◌≡◌, List, ℕ, [], refl, sym, ◌∙◌, arith, length}
+use Rattle.std.proofs.Common.{◌≡◌, [], sym, ◌∙◌, arith, length}
 use Rattle.std.proofs.lemmas.Bool.{eqb-true, false≢true}
 use Rattle.std.proofs.lemmas.List.{nil_from_length}
 use Rattle.run_replay.proofs.JournalLemmas.{read_none, read_more, read_fault, cut_short, read_all}

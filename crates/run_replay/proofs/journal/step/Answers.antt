@@ -1,4 +1,4 @@
-use Rattle.std.proofs.Common.{◌≡◌, refl, sym, ◌∙◌}
+use Rattle.std.proofs.Common.{refl, sym, ◌∙◌}
 use Rattle.run_replay.specs.Reading.{seen}
 use Rattle.run_replay.proofs.JournalLemmas.{no_end, no_form, no_place, no_move}
 use Rattle.run_replay.proofs.journal.step.Goals as goal

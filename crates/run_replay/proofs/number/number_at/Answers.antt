@@ -1,4 +1,3 @@
-use Rattle.std.proofs.Common.{◌≡◌, ◌∷◌, sym, ◌∙◌, refl, rules}
 use Rattle.run_replay.proofs.SplitLemmas.{number_found, no_number}
 use Rattle.run_replay.proofs.number.number_at.Goals as goal
 

@@ -1,6 +1,6 @@
-use Rattle.std.proofs.Common.{◌≡◌, rules, sym, ◌∙◌}
+use Rattle.std.proofs.Common.{◌≡◌, rules}
 use Rattle.run_replay.specs.declared.keyword.Keyword.TheVariants as keyword
-use Rattle.run_replay.proofs.LineLemmas.{no_word, no_name, no_numbers, line_is, whole}
+use Rattle.run_replay.proofs.LineLemmas.{no_word, no_numbers, line_is}
 use Rattle.run_replay.proofs.reader.line_of.Goals as goal
 
 pub returns-in_err-keyword : goal.returns-in_err-keyword

@@ -1,4 +1,3 @@
-use Rattle.std.proofs.Common.{arith, ap, length}
 use Rattle.run_replay.specs.Lines.{Heading, Instance}
 use Rattle.run_replay.proofs.TextLemmas.{named_more, all_lines}
 use Rattle.run_replay.proofs.text.heading.Goals as goal

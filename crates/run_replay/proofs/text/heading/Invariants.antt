@@ -1,4 +1,4 @@
-use Rattle.std.proofs.Common.{◌≡◌, ◌∷◌, ◌++◌, take, map}
+use Rattle.std.proofs.Common.{◌≡◌, ◌∷◌, take, map}
 use Rattle.run_replay.specs.Lines.{Heading, Instance, journal_text}
 use Rattle.run_replay.proofs.text.heading.Given as goal
 

@@ -1,4 +1,4 @@
-use Rattle.std.proofs.Common.{◌≡◌, ◌++◌, ◌∷◌, [], List, ℕ, ap, ◌∙◌, append-nil, arith, rules}
+use Rattle.std.proofs.Common.{◌∙◌, rules}
 use Rattle.run_replay.specs.Lines.{Turn, Moved}
 use Rattle.run_replay.proofs.TextLemmas.{moved_more, first_line, all_lines}
 use Rattle.run_replay.proofs.text.turn_text.Goals as goal

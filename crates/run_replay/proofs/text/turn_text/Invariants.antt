@@ -1,4 +1,4 @@
-use Rattle.std.proofs.Common.{◌≡◌, ◌∷◌, ◌++◌, take, map}
+use Rattle.std.proofs.Common.{◌≡◌, ◌∷◌, take, map}
 use Rattle.run_replay.specs.Lines.{Turn, Moved, journal_text}
 use Rattle.run_replay.proofs.text.turn_text.Given as goal
 

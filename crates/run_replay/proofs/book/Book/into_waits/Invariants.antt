@@ -1,4 +1,4 @@
-use Rattle.std.proofs.Common.{◌≡◌, ◌+◌, ◌*◌, ◌≤◌, ◌^◌, ℕ, drop, map, length}
+use Rattle.std.proofs.Common.{◌≡◌, ◌+◌, ◌*◌, ◌≤◌, ◌^◌, ℕ, drop, map}
 use Rattle.std.specs.Prelude.{slice_index}
 use Rattle.run_replay.specs.Book.{counted}
 use Rattle.run_replay.proofs.book.Book.into_waits.Given as goal
