@@ -1,5 +1,5 @@
 -- Which journals are legal.
-use Rattle.std.proofs.Common.{◌≡◌, ℕ, ◌+◌, ◌≤◌, List, [], ◌∷◌, ◌++◌, length, append_assoc, length-append, append-nil, refl, sym, ap, subst, ◌∙◌, arith}
+use Rattle.std.proofs.Common.{◌≡◌, ℕ, ◌+◌, ◌≤◌, List, [], ◌∷◌, ◌++◌, length, append_assoc, length-append, append-nil, refl, sym, ap, subst, ◌∙◌, arith, suc, false, true}
 use Rattle.std.proofs.lemmas.Bool.{false≢true}
 use Rattle.run_replay.specs.declared.book.Stage.TheVariants as stages
 use Rattle.run_replay.specs.declared.fault.JournalRule.{JournalRule}
@@ -7,7 +7,7 @@ use Rattle.run_replay.specs.declared.fault.JournalRule.TheVariants as rules
 use Rattle.run_replay.specs.declared.lock_move.LockMove.{LockMove}
 use Rattle.run_replay.specs.declared.lock_move.LockMove.TheVariants as moves
 use Rattle.run_replay.specs.Lines.{JournalLine, Heading, Instance, Turn, End, Moved, line_text, LineFits, ended_line, journal_text}
-use Rattle.run_replay.specs.Book.{Standing, start, is_allowed, moved, after, Leave, AreLegal, IsLegal, BreaksHere, FirstBreak}
+use Rattle.run_replay.specs.Book.{Standing, start, may_stand, is_allowed, moved, after, Leave, AreLegal, IsLegal, BreaksHere, FirstBreak}
 use Rattle.run_replay.specs.declared.fault.JournalFault.{JournalFault}
 use Rattle.run_replay.specs.declared.fault.JournalFault.TheVariants as faults
 use Rattle.run_replay.specs.Journal.{IsWhole, FaultIs, IsRefused}
@@ -126,3 +126,40 @@ names_are bytes end lines whole are = names_after start end lines (leaves bytes 
 pub refused : (bytes : List ℕ) (fault : JournalFault) → FaultIs bytes fault → IsRefused bytes fault
 refused bytes (faults.Broken line rule) broken = not_legal bytes line rule broken
 refused bytes faults.OutOfMemory broken = tt
+
+-- an allowed line breaks no rule
+no_break : (s : Standing) (rest behind : List ℕ) (rule : JournalRule) (m : JournalLine) → BreaksHere s rest rule → rest ≡ ended_line m ++ behind → LineFits m → may_stand s m ≡ true → is_allowed s m ≡ true → ⊥
+no_break s rest behind rules.BadLine m breaks is fits stands allowed = false≢true (sym (breaks.0 m behind fits is) ∙ stands)
+no_break s rest behind rules.BadMove m breaks is fits stands allowed =
+    let same = same_first breaks.0 m breaks.1 behind breaks.2 fits (sym breaks.3 ∙ is) in
+    false≢true (sym breaks.5 ∙ ap (is_allowed s) same.line ∙ allowed)
+
+same_rule : (s : Standing) (rest : List ℕ) (q r : JournalRule) → BreaksHere s rest q → BreaksHere s rest r → q ≡ r
+same_rule s rest rules.BadLine rules.BadLine one other = refl
+same_rule s rest rules.BadLine rules.BadMove one other = absurd (false≢true (sym (one.0 other.0 other.1 other.2 other.3) ∙ other.4))
+same_rule s rest rules.BadMove rules.BadLine one other = absurd (false≢true (sym (other.0 one.0 one.1 one.2 one.3) ∙ one.4))
+same_rule s rest rules.BadMove rules.BadMove one other = refl
+
+record SameBreak (ls ms : List JournalLine) (q r : JournalRule) : Type 0 where
+  count : length ls ≡ length ms
+  rule : q ≡ r
+
+same_break : (s a b : Standing) (ls ms : List JournalLine) (x y : List ℕ) (q r : JournalRule) → Leave s ls a → Leave s ms b → journal_text ls ++ x ≡ journal_text ms ++ y → BreaksHere a x q → BreaksHere b y r → SameBreak ls ms q r
+same_break s a b [] [] x y q r to_a to_b is one other =
+    let here : BreaksHere s x q = subst (λ (t : Standing). BreaksHere t x q) to_a one in
+    let there : BreaksHere s x r = subst (λ (z : List ℕ). BreaksHere s z r) (sym is) (subst (λ (t : Standing). BreaksHere t y r) to_b other) in
+    record { count = refl; rule = same_rule s x q r here there }
+same_break s a b [] (m ∷ ms) x y q r to_a to_b is one other =
+    absurd (no_break s x (journal_text ms ++ y) q m (subst (λ (t : Standing). BreaksHere t x q) to_a one) (is ∙ append_assoc (ended_line m) (journal_text ms) y) to_b.0 to_b.1 to_b.2)
+same_break s a b (l ∷ ls) [] x y q r to_a to_b is one other =
+    absurd (no_break s y (journal_text ls ++ x) r l (subst (λ (t : Standing). BreaksHere t y r) to_b other) (sym is ∙ append_assoc (ended_line l) (journal_text ls) x) to_a.0 to_a.1 to_a.2)
+same_break s a b (l ∷ ls) (m ∷ ms) x y q r to_a to_b is one other =
+    let whole : ended_line l ++ (journal_text ls ++ x) ≡ ended_line m ++ (journal_text ms ++ y) = sym (append_assoc (ended_line l) (journal_text ls) x) ∙ is ∙ append_assoc (ended_line m) (journal_text ms) y in
+    let first = same_first l m (journal_text ls ++ x) (journal_text ms ++ y) to_a.0 to_b.0 whole in
+    let rest = same_break (after s l) a b ls ms x y q r to_a.3 (subst (λ (n : JournalLine). Leave (after s n) ms b) (sym first.line) to_b.3) first.rest one other in
+    record { count = ap suc rest.count; rule = rest.rule }
+
+pub one_break : (bytes : List ℕ) (m n : ℕ) (q r : JournalRule) → FirstBreak bytes m q → FirstBreak bytes n r → (m ≡ n) × (q ≡ r)
+one_break bytes m n q r one other =
+    let same = same_break start one.standing other.standing one.lines other.lines one.rest other.rest q r one.before other.before (sym one.split ∙ other.split) one.breaks other.breaks in
+    (omega (arith, one.number_is, other.number_is, same.count), same.rule)

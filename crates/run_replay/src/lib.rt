@@ -6,6 +6,7 @@ mod book;
 mod fault;
 mod journal;
 mod keyword;
+mod laws;
 mod line;
 mod lock_move;
 mod number;
@@ -17,6 +18,7 @@ mod waits;
 
 pub use fault::{JournalFault, JournalRule};
 pub use journal::check_journal;
+pub use laws::one_break;
 pub use lock_move::LockMove;
 pub use text::{ending, heading, turn_text};
 pub use waits::Waits;
