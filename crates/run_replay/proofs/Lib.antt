@@ -1,0 +1,11 @@
+mod CountLemmas
+mod Digits
+mod DisciplineLemmas
+mod JournalLemmas
+mod LegalLemmas
+mod LineLemmas
+mod NumbersLemmas
+mod SplitLemmas
+mod TextLemmas
+mod WaiterLemmas
+mod WaitedLemmas

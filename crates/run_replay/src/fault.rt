@@ -1,0 +1,55 @@
+//! Why a journal is refused.
+
+ghost use Rattle.std.specs.Prelude.{◌≡◌};
+ghost use Rattle.run_replay.specs.declared.fault.JournalFault.TheVariants.{OutOfMemory as NoMemory};
+
+use papy_base::OutOfMemory;
+use std::alloc::{AllocError, AllocFailed};
+use thiserror::Error;
+
+/// The rules of a journal. Where a line breaks both, the first counts.
+#[derive(Clone, Copy, Debug, PartialEq, Eq, Error)]
+pub enum JournalRule {
+    /// A line has none of the forms, or its form may not stand where it stands.
+    #[error("J1 BadLine")]
+    BadLine,
+    /// A move can't happen where it stands.
+    #[error("J2 BadMove")]
+    BadMove,
+}
+
+/// Why a journal is refused.
+#[derive(Clone, Copy, Debug, PartialEq, Eq, Error)]
+pub enum JournalFault {
+    /// The first line that breaks a rule, from 1. It is 0 for a journal of more than 128 MiB, and the number of the
+    /// line after the last where a further line must come.
+    #[error("line {line}: {rule}")]
+    Broken { line: u32, rule: JournalRule },
+    /// No memory was found.
+    #[error("out of memory")]
+    OutOfMemory,
+}
+
+impl From<OutOfMemory> for JournalFault {
+    ghost from_gives = { λ _ fault. fault ≡ NoMemory };
+
+    fn from(_error: OutOfMemory) -> JournalFault {
+        JournalFault::OutOfMemory
+    }
+}
+
+impl From<AllocError> for JournalFault {
+    ghost from_gives = { λ _ fault. fault ≡ NoMemory };
+
+    fn from(_error: AllocError) -> JournalFault {
+        JournalFault::OutOfMemory
+    }
+}
+
+impl<T: Drop> From<AllocFailed<T>> for JournalFault {
+    ghost from_gives = { λ _ fault. fault ≡ NoMemory };
+
+    fn from(_error: AllocFailed<T>) -> JournalFault {
+        JournalFault::OutOfMemory
+    }
+}
