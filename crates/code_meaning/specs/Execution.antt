@@ -67,11 +67,6 @@ created home at result size None inner = next inner
 created home at result size (Some kind) inner =
     settled home at result (new_array inner.sight.arrays) (record inner { sight = record inner.sight { arrays = with_array inner.sight.arrays kind size } })
 
--- what is read for a result of type None is dropped, so that its type doesn't matter
-abbrev pub kind_or_int : Option CoreType → CoreType
-kind_or_int None = kinds.Int
-kind_or_int (Some kind) = kind
-
 abbrev pub with_stored : Home → ℕ → Value → Value → Value → Inner → Inner
 with_stored home at array index value inner =
     noted home at (write_fault inner.sight.arrays (array_of array) (number_of index)) (record inner { sight = record inner.sight { arrays = with_element inner.sight.arrays (array_of array) (number_of index) value } })
@@ -156,7 +151,7 @@ executed home at (op.ArrayCreate result size) inner =
 executed home at (op.ArrayLength result array) inner =
     settled home at result (length_of inner.sight.arrays (array_of (worth home inner array))) inner
 executed home at (op.ArrayGetElement result array index) inner =
-    settled home at result (element_of inner.sight.arrays (array_of (worth home inner array)) (number_of (worth home inner index)) (kind_or_int (kind_of home result))) inner
+    settled home at result (element_of inner.sight.arrays (array_of (worth home inner array)) (number_of (worth home inner index)) (default_at home result)) inner
 executed home at (op.ArraySetElement array index value) inner =
     next (with_stored home at (worth home inner array) (worth home inner index) (worth home inner value) inner)
 executed home at (op.ArrayFindElement array result value start) inner =

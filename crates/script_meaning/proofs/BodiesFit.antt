@@ -8,10 +8,11 @@ use Rattle.core_tree.specs.declared.value.Value.{Value}
 use Rattle.core_tree.specs.Outlines.{ScriptShape}
 use Rattle.core_tree.specs.Scenes.{SceneShape}
 use Rattle.core_tree.specs.Set.{Script, Function, State as ScriptState, Property, Access, Auto, Full, empty_functions_of}
+use Rattle.script_meaning.specs.Evaluation.{functions_at}
 use Rattle.script_meaning.specs.First.{first_state}
 use Rattle.script_meaning.specs.InnerSteps.{FitsIn, FrameFits, StateFits, EnteredFits, IsWithin, IsAccessorWithin, IsAccessWithin, IsScriptWithin}
 use Rattle.script_meaning.specs.Related.{EnteredAlike, both_open, both_native, both_read, both_write, both_nothing, StopsAlike, EnginesAlike}
-use Rattle.script_meaning.specs.Source.{Body, run_body, opened, named, functions_of_state, state_functions, empty_state_functions, with_script, or_else_found, first_function, first_empty, method_in, native_there, function_entered, properties_of, first_property, accessor_entered, get_entered, set_entered, get_found, set_found, enter_body, source_engine}
+use Rattle.script_meaning.specs.Source.{Body, run_body, opened, named, functions_of_state, state_functions, with_script, or_else_found, first_function, first_empty, method_in, native_there, function_entered, properties_of, first_property, accessor_entered, get_entered, set_entered, get_found, set_found, enter_body, source_engine}
 use Rattle.script_meaning.specs.Stacks.{Way, ByMethod, ByParent, ByGlobal, ByGet, BySet, Frame, Entered, NativeThere, State}
 use Rattle.script_meaning.specs.Turns.{has_ended, step, states_from}
 use Rattle.script_meaning.specs.Values.{lineage, parent_in}
@@ -80,9 +81,10 @@ module _ (most : ℕ) where
   empty_of_within [] a = tt
   empty_of_within (s ∷ states) a = a.0
 
-  empty_within : (o : Option Script) → MaybeWithin o → AllByRecursion (IsWithin most) (empty_state_functions o)
-  empty_within None w = tt
-  empty_within (Some script) w = empty_of_within script.states w.0
+  empty_within : (scripts : List Script) (n : ℕ) → AllByRecursion (IsScriptWithin most) scripts → AllByRecursion (IsWithin most) (functions_at scripts n)
+  empty_within [] n a = tt
+  empty_within (s ∷ scripts) zero a = empty_of_within s.states (a.0).0
+  empty_within (s ∷ scripts) (suc n) a = empty_within scripts n a.1
 
   property_step : (here : Bool) (script : ℕ) (p : Property) (rest : Option Property) → IsAccessWithin most p.access → PropertyWithin (with_script script rest) → PropertyWithin (with_script script (cond here (Some p) rest))
   property_step true script p rest v w = v
@@ -103,7 +105,7 @@ module _ (most : ℕ) where
   module _ (scripts : List Script) (all : AllByRecursion (IsScriptWithin most) scripts) where
     first_empty_within : (upward : List ℕ) (name : List ℕ) → FoundWithin (first_empty scripts upward name)
     first_empty_within upward name =
-        first_within (λ script. empty_state_functions (slice_get scripts script)) (λ n. empty_within (slice_get scripts n) (script_within scripts n all)) upward name
+        first_within (functions_at scripts) (λ n. empty_within scripts n all) upward name
 
     method_within : (upward : List ℕ) (state name : List ℕ) → FoundWithin (method_in scripts upward state name)
     method_within upward state name =

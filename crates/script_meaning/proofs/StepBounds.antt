@@ -60,7 +60,7 @@ old_bound home name kind right target inner = bounded (ask home (Get (instance_o
 index_bound : (home : Home) (index : Expression) (kind : CoreType) (right : Expression) (array : Value) (inner : Inner) → index_steps home index kind right array inner + 1 ≤ 4 * nodes index + 4 * nodes right
 index_bound home index kind right array inner =
     let i = expression_bound home index inner in
-    let a = after_at_most (evaluated home index inner) (read_steps home array kind right) (4 * nodes right) (λ v s. let r = right_bound home right (noted home (element_of s.sight.arrays (array_of array) (number_of v) kind).1 s) in omega arith) in
+    let a = after_at_most (evaluated home index inner) (read_steps home array kind right) (4 * nodes right) (λ v s. let r = right_bound home right (noted home (element_of s.sight.arrays (array_of array) (number_of v) (default_of kind)).1 s) in omega arith) in
     omega arith
 
 body_bound : (run : Inner → Outcome) (steps : Inner → ℕ) (n : ℕ) → ((s : Inner) → steps s ≤ n) → (v : Value) (s : Inner) → body_steps run steps v s ≤ suc n
@@ -140,7 +140,7 @@ given_bound home (PropertyOld target name operation right) v s = let r = right_b
 given_bound home (PropertyRight target name operation old) v s = omega arith
 given_bound home (ElementArray index kind operation right) v s = let i = index_bound home index kind right v s in omega arith
 given_bound home (ElementIndex array kind operation right) v s =
-    let r = right_bound home right (noted home (element_of s.sight.arrays (array_of array) (number_of v) kind).1 s) in omega arith
+    let r = right_bound home right (noted home (element_of s.sight.arrays (array_of array) (number_of v) (default_of kind)).1 s) in omega arith
 given_bound home (ElementRight array index operation old) v s = omega arith
 given_bound home (Test body rest otherwise) v s =
     let b = block_bound home body s in
@@ -308,7 +308,7 @@ target_within home name kind operation right target inner =
 
 read_within : (home : Home) (array : Value) (kind : CoreType) (operation : Arith) (right : Expression) (index : Value) (inner : Inner) → StopsWithin (suc (nodes right)) (element_index home array kind operation right index inner)
 read_within home array kind operation right index inner =
-    let old = element_of inner.sight.arrays (array_of array) (number_of index) kind in
+    let old = element_of inner.sight.arrays (array_of array) (number_of index) (default_of kind) in
     within_then (evaluated home right (noted home old.1 inner)) (element_right home array index operation old.0) (ElementRight array index operation old.0) (nodes right) (suc (nodes right)) (expression_within home right (noted home old.1 inner)) (λ v s. tt) (omega arith)
 
 array_within : (home : Home) (index : Expression) (kind : CoreType) (operation : Arith) (right : Expression) (array : Value) (inner : Inner) → StopsWithin (suc (nodes index + nodes right)) (element_array home index kind operation right array inner)

@@ -8,7 +8,7 @@ use Rattle.core_tree.specs.declared.core_type.CoreType.{CoreType}
 use Rattle.core_tree.specs.declared.operator.Arith.{Arith}
 use Rattle.core_tree.specs.declared.value.Value.{Value}
 use Rattle.core_tree.specs.declared.value.Value.TheVariants as values
-use Rattle.core_tree.specs.Set.{Script, empty_functions}
+use Rattle.core_tree.specs.Set.{Script, Function, empty_functions}
 use Rattle.core_tree.specs.Tree.{Operation, Calculate, Negate, Not, Join, Equal, Compare, Cast, CallMethod, CallParent, CallGlobal, CallNative, GetProperty, NewArray, Length, Element, Find, FindBack, Expression, Literal, Local, Field, SelfValue, StateText, And, Or, Apply, Expressions, NoExpression, MoreExpressions, Effect, StoreLocal, StoreField, StoreState, StoreProperty, StoreElement, Drop, GiveBack, Statement, Do, ChangeProperty, ChangeElement, If, While, Block, NoStatement, MoreStatements, Branches, NoBranch, MoreBranches}
 use Rattle.papy_base.specs.declared.faults.StackFault.{StackFault}
 use Rattle.script_meaning.specs.Arrays.{with_array, new_array, length_of, element_of, write_fault, with_element, found, found_back}
@@ -104,12 +104,12 @@ abbrev pub self_value : Option ℕ → Value
 self_value None = values.NoneValue
 self_value (Some number) = values.Instance number
 
--- the name of a function of an empty state
-abbrev pub function_names : List Script → List (List (List ℕ))
-function_names scripts = map (λ script. map (λ function. function.name) (empty_functions script)) scripts
+-- the functions of the empty state of the script of this number
+abbrev pub functions_at : List Script → ℕ → List Function
+functions_at scripts script = slice_index_or (map empty_functions scripts) script []
 
 abbrev pub name_at : List Script → ℕ → ℕ → List ℕ
-name_at scripts script place = slice_index_or (slice_index_or (function_names scripts) script []) place []
+name_at scripts script place = slice_index_or (map (λ function. function.name) (functions_at scripts script)) place []
 
 abbrev pub with_new_array : CoreType → ℕ → Inner → Inner
 with_new_array kind count inner =
@@ -137,7 +137,7 @@ applied home (NewArray kind count) taken inner =
     settled home (new_array inner.sight.arrays) (with_new_array kind count inner)
 applied home Length taken inner = settled home (length_of inner.sight.arrays (array_of (taken_at taken 0))) inner
 applied home (Element kind) taken inner =
-    settled home (element_of inner.sight.arrays (array_of (taken_at taken 0)) (number_of (taken_at taken 1)) kind) inner
+    settled home (element_of inner.sight.arrays (array_of (taken_at taken 0)) (number_of (taken_at taken 1)) (default_of kind)) inner
 applied home Find taken inner =
     settled home (found inner.sight.arrays (array_of (taken_at taken 0)) (taken_at taken 1) (number_of (taken_at taken 2))) inner
 applied home FindBack taken inner =
@@ -222,7 +222,7 @@ element_right home array index operation old right inner =
 
 abbrev pub element_index : Home → Value → CoreType → Arith → Expression → Value → Inner → Outcome
 element_index home array kind operation right index inner =
-    let old = element_of inner.sight.arrays (array_of array) (number_of index) kind in
+    let old = element_of inner.sight.arrays (array_of array) (number_of index) (default_of kind) in
     then_do (evaluated home right (noted home old.1 inner)) (element_right home array index operation old.0) (ElementRight array index operation old.0)
 
 abbrev pub element_array : Home → Expression → CoreType → Arith → Expression → Value → Inner → Outcome

@@ -83,7 +83,7 @@ old_steps home name kind right target inner =
 -- the same of `array[index] += right`
 abbrev pub read_steps : Home → Value → CoreType → Expression → Value → Inner → ℕ
 read_steps home array kind right index inner =
-    right_steps home right (noted home (element_of inner.sight.arrays (array_of array) (number_of index) kind).1 inner)
+    right_steps home right (noted home (element_of inner.sight.arrays (array_of array) (number_of index) (default_of kind)).1 inner)
 
 abbrev pub index_steps : Home → Expression → CoreType → Expression → Value → Inner → ℕ
 index_steps home index kind right array inner =

@@ -9,8 +9,8 @@ use Rattle.core_tree.specs.declared.value.Value.TheVariants.{NoneValue}
 use Rattle.core_tree.specs.declared.script.CoreSet.{CoreSet}
 use Rattle.core_tree.specs.Outlines.{ScriptShape, script_outline}
 use Rattle.core_tree.specs.Scenes.{SceneShape}
-use Rattle.core_tree.specs.Set.{Script, Function, State as ScriptState, Property, Access, Auto, Full, empty_functions, scripts_of}
-use Rattle.script_meaning.specs.Evaluation.{Home, Pending, Statements, Outcome, Gives, Stops, resumed}
+use Rattle.core_tree.specs.Set.{Script, Function, State as ScriptState, Property, Access, Auto, Full, scripts_of}
+use Rattle.script_meaning.specs.Evaluation.{Home, Pending, Statements, Outcome, Gives, Stops, functions_at, resumed}
 use Rattle.script_meaning.specs.First.{first_state}
 use Rattle.script_meaning.specs.Requests.{Sight, Setting, Return}
 use Rattle.script_meaning.specs.Stacks.{Way, ByMethod, ByParent, ByGlobal, ByGet, BySet, Entered, Opened, NativeThere, ReadThere, WriteThere, NothingThere, Stop, Engine}
@@ -71,10 +71,6 @@ abbrev pub state_functions : Option Script → List ℕ → List Function
 state_functions None state = []
 state_functions (Some script) state = functions_of_state script.states state
 
-abbrev pub empty_state_functions : Option Script → List Function
-empty_state_functions None = []
-empty_state_functions (Some script) = empty_functions script
-
 abbrev pub with_script : {X : Type 0} → ℕ → Option X → Option (ℕ × X)
 with_script script None = None
 with_script script (Some found) = Some (script, found)
@@ -90,7 +86,7 @@ first_function functions (script ∷ above) name =
     or_else_found (with_script script (find (named name) (functions script))) (first_function functions above name)
 
 abbrev pub first_empty : List Script → List ℕ → List ℕ → Option (ℕ × Function)
-first_empty scripts upward name = first_function (λ script. empty_state_functions (slice_get scripts script)) upward name
+first_empty scripts upward name = first_function (functions_at scripts) upward name
 
 -- in the state of this name from the first script upward, and then in the empty states
 abbrev pub method_in : List Script → List ℕ → List ℕ → List ℕ → Option (ℕ × Function)
@@ -104,7 +100,7 @@ place_or_first (Some place) = place
 -- a native function is known by its script and its place in the empty state
 abbrev pub native_there : List Script → ℕ → List ℕ → FunctionPlace
 native_there scripts script name =
-    record { script = script; place = place_or_first (position (named name) (empty_state_functions (slice_get scripts script))) }
+    record { script = script; place = place_or_first (position (named name) (functions_at scripts script)) }
 
 abbrev pub function_entered : List Script → List Value → Option (ℕ × Function) → Entered Body
 function_entered scripts arguments None = NothingThere
