@@ -97,19 +97,16 @@ module _ {Body : Type 0} where
       rests_good (with_sight world turn.own done.1) stacks turn.stack turn.own (frame_instance waiting) _ (with_reply done.0 waiting ∷ below) (reply_instance done.0 waiting) w.1 (waiting_replies done.0 waiting below w.0) (seen world stacks turn.stack turn.own done.1 i)
 
   acted_good : (turn : Turn) (request : Request) (frame : Frame Body) (below : List (Frame Body)) (world : World) (stacks : List (List (Frame Body))) → frame_instance frame ≡ turn.own → AllByRecursion IsWaiting (frame ∷ below) → InTurn world stacks turn.stack turn.own → Good stacks turn.stack (acted turn request frame below world)
-  acted_good turn (Method None name arguments otherwise) frame below world stacks e w i = kept_good world stacks turn.stack turn.own (frame ∷ below) e w.1 i
-  acted_good turn (Method (Some target) name arguments otherwise) frame below world stacks e w i =
+  acted_good turn (Method target name arguments otherwise) frame below world stacks e w i =
       moves_good world stacks turn.stack turn.own (Some target) (ToEnter (Some target) (ByMethod name) arguments ∷ frame ∷ below) refl w i
   acted_good turn (ParentMethod script name arguments otherwise) frame below world stacks e w i =
       kept_good world stacks turn.stack turn.own (ToEnter turn.own (ByParent script name) arguments ∷ frame ∷ below) refl w i
   acted_good turn (GlobalFunction script name arguments otherwise) frame below world stacks e w i =
       moves_good world stacks turn.stack turn.own None (ToEnter None (ByGlobal script name) arguments ∷ frame ∷ below) refl w i
   acted_good turn (GlobalNative at arguments) frame below world stacks e w i = native_good turn at arguments (frame ∷ below) world stacks w i
-  acted_good turn (Get None name otherwise) frame below world stacks e w i = kept_good world stacks turn.stack turn.own (frame ∷ below) e w.1 i
-  acted_good turn (Get (Some target) name otherwise) frame below world stacks e w i =
+  acted_good turn (Get target name otherwise) frame below world stacks e w i =
       moves_good world stacks turn.stack turn.own (Some target) (ToEnter (Some target) (ByGet name) [] ∷ frame ∷ below) refl w i
-  acted_good turn (Set None name value) frame below world stacks e w i = kept_good world stacks turn.stack turn.own (frame ∷ below) e w.1 i
-  acted_good turn (Set (Some target) name value) frame below world stacks e w i =
+  acted_good turn (Set target name value) frame below world stacks e w i =
       moves_good world stacks turn.stack turn.own (Some target) (ToEnter (Some target) (BySet name) (value ∷ []) ∷ frame ∷ below) refl w i
   acted_good turn LoopPass frame below world stacks e w i = kept_good world stacks turn.stack turn.own (frame ∷ below) e w.1 i
   acted_good turn (Return value) frame below world stacks e w i = returned_good turn value below world stacks w.1 i
