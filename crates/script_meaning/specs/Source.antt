@@ -1,5 +1,5 @@
 -- The engine of the typed trees, and the runs of a script set.
-use Rattle.std.specs.Prelude.{ℕ, Bool, if◌then◌else◌, List, [], ◌∷◌, ◌++◌, map, position, Option, Some, None, slice_get}
+use Rattle.std.specs.Prelude.{ℕ, ◌==◌, Bool, if◌then◌else◌, List, [], ◌∷◌, ◌++◌, length, map, position, Option, Some, None, slice_get}
 use Rattle.std.specs.List.{find}
 use Rattle.std.specs.Str.{str_eq_ignore_ascii_case}
 use Rattle.core_tree.specs.declared.DeviceKind.{DeviceKind}
@@ -55,9 +55,14 @@ run_body scripts setting body reply sight =
     stop_at body (resumed (home_of scripts setting body) body.pending (reply_or_none reply) (record { locals = body.locals; line = body.line; sight = sight }))
 
 -- ---- look-up, with case ignored
+abbrev pub body_of : ℕ → List ℕ → Function → List Value → Body
+body_of script name function arguments =
+    record { script = script; function = name; ending = default_result function.result; locals = arguments ++ map default_of function.locals; line = 0; pending = Statements function.body ∷ [] }
+
+-- a body opens with as many arguments as its function has parameters
 abbrev pub opened : ℕ → List ℕ → Function → List Value → Entered Body
 opened script name function arguments =
-    Opened (record { script = script; function = name; ending = default_result function.result; locals = arguments ++ map default_of function.locals; line = 0; pending = Statements function.body ∷ [] })
+    if length arguments == length function.parameters then Opened (body_of script name function arguments) else NothingThere
 
 abbrev pub named : List ℕ → Function → Bool
 named name function = str_eq_ignore_ascii_case function.name name
