@@ -139,7 +139,7 @@ a_jump_to_itself = refl
 abbrev call : List Instruction
 call = op.CallMethod (codes "G") Itself (Slot 0) (lit 1 ∷ Slot 0 ∷ []) ∷ op.Return (Slot 0) ∷ []
 
-pub a_call : stands (first_act an_int (int 6 ∷ []) call) ≡ (Method (Some 0) (codes "G") (int 1 ∷ int 6 ∷ []) (int 0), 0, int 6 ∷ [])
+pub a_call : stands (first_act an_int (int 6 ∷ []) call) ≡ (Method 0 (codes "G") (int 1 ∷ int 6 ∷ []) (int 0), 0, int 6 ∷ [])
 a_call = refl
 
 pub its_reply : stands (act_after 0 (int 8) an_int (int 6 ∷ []) call) ≡ (Return (int 8), 1, int 8 ∷ [])
@@ -175,10 +175,10 @@ pub a_global_reply : (act_after 0 (int 5) an_int (int 6 ∷ []) (op.CallStatic 1
 a_global_reply = refl
 
 -- ---- properties, variables and the state
-pub a_property_read : stands (act_after 0 (int 3) an_int (int 6 ∷ []) (op.PropGet (codes "P") Itself (Slot 0) ∷ op.PropSet (codes "P") Itself (Slot 0) ∷ [])) ≡ (Set (Some 0) (codes "P") (int 3), 1, int 3 ∷ [])
+pub a_property_read : stands (act_after 0 (int 3) an_int (int 6 ∷ []) (op.PropGet (codes "P") Itself (Slot 0) ∷ op.PropSet (codes "P") Itself (Slot 0) ∷ [])) ≡ (Set 0 (codes "P") (int 3), 1, int 3 ∷ [])
 a_property_read = refl
 
-pub its_request : (first_act an_int (int 6 ∷ []) (op.PropGet (codes "P") Itself (Slot 0) ∷ [])).request ≡ Get (Some 0) (codes "P") (int 0)
+pub its_request : (first_act an_int (int 6 ∷ []) (op.PropGet (codes "P") Itself (Slot 0) ∷ [])).request ≡ Get 0 (codes "P") (int 0)
 its_request = refl
 
 abbrev switched : Sight

@@ -13,7 +13,7 @@ use Rattle.core_tree.specs.declared.operator.Order.TheVariants as orders
 use Rattle.core_tree.specs.declared.value.Value.{Value}
 use Rattle.core_tree.specs.declared.value.Value.TheVariants as values
 use Rattle.script_meaning.specs.Arrays.{with_array, new_array, length_of, element_of, write_fault, with_element, found, found_back}
-use Rattle.script_meaning.specs.Requests.{Sight, Setting, Request, Method, ParentMethod, GlobalFunction, GlobalNative, Get, Set, LoopPass, Return, Answer, Reply, Act, answer}
+use Rattle.script_meaning.specs.Requests.{Sight, Setting, Request, ParentMethod, GlobalFunction, GlobalNative, LoopPass, Return, Question, Asks, method_of, get_of, set_of, Answer, Reply, Act, answer}
 use Rattle.script_meaning.specs.Stacks.{Stop}
 use Rattle.script_meaning.specs.Values.{Result, number_of, instance_of, array_of, default_result, is_true, cast_to, equal, in_order, calculated, lineage}
 use Rattle.code_meaning.specs.Code.{Operand, Instruction, Function, Script}
@@ -67,11 +67,6 @@ created home at result size None inner = next inner
 created home at result size (Some kind) inner =
     settled home at result (new_array inner.sight.arrays) (record inner { sight = record inner.sight { arrays = with_array inner.sight.arrays kind size } })
 
--- what is read for a result of type None is dropped, so that its type doesn't matter
-abbrev pub kind_or_int : Option CoreType → CoreType
-kind_or_int None = kinds.Int
-kind_or_int (Some kind) = kind
-
 abbrev pub with_stored : Home → ℕ → Value → Value → Value → Inner → Inner
 with_stored home at array index value inner =
     noted home at (write_fault inner.sight.arrays (array_of array) (number_of index)) (record inner { sight = record inner.sight { arrays = with_element inner.sight.arrays (array_of array) (number_of index) value } })
@@ -95,14 +90,14 @@ abbrev pub with_reply : Home → Option Operand → Value → Inner → Inner
 with_reply home None value inner = inner
 with_reply home (Some result) value inner = stored home result value inner
 
-abbrev pub asked : Home → ℕ → Option Operand → Request → Inner → Answer → Step
-asked home at result request inner (Reply value sight) = next (with_reply home result value (record inner { sight = sight }))
-asked home at result request inner Act = Stops request at inner
+abbrev pub asked : Home → ℕ → Option Operand → Inner → Answer → Step
+asked home at result inner (Reply value sight) = next (with_reply home result value (record inner { sight = sight }))
+asked home at result inner (Act request) = Stops request at inner
 
--- a request, which may be answered at once
-abbrev pub ask : Home → ℕ → Option Operand → Request → Inner → Step
-ask home at result request inner =
-    asked home at result request inner (answer home.setting (place_of home at) request inner.sight)
+-- a question, which may be answered at once
+abbrev pub ask : Home → ℕ → Option Operand → Question → Inner → Step
+ask home at result question inner =
+    asked home at result inner (answer home.setting (place_of home at) question inner.sight)
 
 abbrev pub arguments_of : Home → Inner → List Operand → List Value
 arguments_of home inner more = map (worth home inner) more
@@ -140,23 +135,23 @@ executed home at (op.JmpT condition offset) inner =
 executed home at (op.JmpF condition offset) inner =
     if is_true (worth home inner condition) then next inner else jumped at offset inner
 executed home at (op.CallMethod name object result more) inner =
-    ask home at (Some result) (Method (instance_of (worth home inner object)) name (arguments_of home inner more) (default_at home result)) inner
+    ask home at (Some result) (method_of (instance_of (worth home inner object)) name (arguments_of home inner more) (default_at home result)) inner
 executed home at (op.CallParent name result more) inner =
-    ask home at (Some result) (ParentMethod home.script name (arguments_of home inner more) (default_at home result)) inner
+    ask home at (Some result) (Asks (ParentMethod home.script name (arguments_of home inner more) (default_at home result))) inner
 executed home at (op.CallStatic script name result more) inner =
-    ask home at (Some result) (static_request script name (arguments_of home inner more) (default_at home result) (first_method home.scripts (lineage home.setting.outline (Some script)) [] name)) inner
-executed home at (op.Return value) inner = ask home at None (Return (worth home inner value)) inner
+    ask home at (Some result) (Asks (static_request script name (arguments_of home inner more) (default_at home result) (first_method home.scripts (lineage home.setting.outline (Some script)) [] name))) inner
+executed home at (op.Return value) inner = ask home at None (Asks (Return (worth home inner value))) inner
 executed home at (op.StrCat result left right) inner = computed home at signs.Join result left right inner
 executed home at (op.PropGet name object result) inner =
-    ask home at (Some result) (Get (instance_of (worth home inner object)) name (default_at home result)) inner
+    ask home at (Some result) (get_of (instance_of (worth home inner object)) name (default_at home result)) inner
 executed home at (op.PropSet name object value) inner =
-    ask home at None (Set (instance_of (worth home inner object)) name (worth home inner value)) inner
+    ask home at None (set_of (instance_of (worth home inner object)) name (worth home inner value)) inner
 executed home at (op.ArrayCreate result size) inner =
     created home at result size (option_and_then element_kind (kind_of home result)) inner
 executed home at (op.ArrayLength result array) inner =
     settled home at result (length_of inner.sight.arrays (array_of (worth home inner array))) inner
 executed home at (op.ArrayGetElement result array index) inner =
-    settled home at result (element_of inner.sight.arrays (array_of (worth home inner array)) (number_of (worth home inner index)) (kind_or_int (kind_of home result))) inner
+    settled home at result (element_of inner.sight.arrays (array_of (worth home inner array)) (number_of (worth home inner index)) (default_at home result)) inner
 executed home at (op.ArraySetElement array index value) inner =
     next (with_stored home at (worth home inner array) (worth home inner index) (worth home inner value) inner)
 executed home at (op.ArrayFindElement array result value start) inner =

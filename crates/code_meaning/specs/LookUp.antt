@@ -1,5 +1,5 @@
 -- Where functions and properties of loaded scripts are found, with case ignored.
-use Rattle.std.specs.Prelude.{ℕ, suc, Bool, if◌then◌else◌, List, [], ◌∷◌, ◌++◌, map, Option, Some, None, slice_get}
+use Rattle.std.specs.Prelude.{ℕ, suc, ◌==◌, Bool, if◌then◌else◌, List, [], ◌∷◌, ◌++◌, length, map, Option, Some, None, slice_get}
 use Rattle.std.specs.Option.{option_and_then, option_or}
 use Rattle.std.specs.Str.{str_eq_ignore_ascii_case}
 use Rattle.core_tree.specs.declared.expression.FunctionPlace.{FunctionPlace}
@@ -105,9 +105,14 @@ abbrev pub native_at : FoundMethod → FunctionPlace
 native_at method = record { script = method.script; place = method.number }
 
 -- the arguments are the parameters' values, and the locals begin with their defaults
+abbrev pub body_of : BodyPlace → List Value → Function → Body
+body_of place arguments function =
+    record { place = place; instruction = 0; slots = arguments ++ map default_result function.locals }
+
+-- a body opens with as many arguments as its function has parameters
 abbrev pub opened : BodyPlace → List Value → Function → Entered Body
 opened place arguments function =
-    Opened (record { place = place; instruction = 0; slots = arguments ++ map default_result function.locals })
+    if length arguments == length function.parameters then Opened (body_of place arguments function) else NothingThere
 
 abbrev pub method_entered : List Value → Option FoundMethod → Entered Body
 method_entered arguments None = NothingThere

@@ -83,15 +83,12 @@ module _ {B C : Type 0} (R : B → C → Type 0) where
       (ap (λ o. rests turn.stack o (latency_of (binding_in turn.setting.natives at) arguments) (let_go turn.stack (with_sight world turn.own done.1))) (same_instance_of f), more_frames (replies_alike done.0 f) fs)
 
   acted_alike : (turn : Turn) (request : Request) (world : World) {f : Frame B} {g : Frame C} {fs : List (Frame B)} {gs : List (Frame C)} → FramesAlike f g → StackAlike fs gs → AfterAlike (acted turn request f fs world) (acted turn request g gs world)
-  acted_alike turn (Method None name arguments otherwise) world f fs = (refl, more_frames f fs)
-  acted_alike turn (Method (Some target) name arguments otherwise) world f fs = (refl, more_frames (both_enter (Some target) (ByMethod name) arguments) (more_frames f fs))
+  acted_alike turn (Method target name arguments otherwise) world f fs = (refl, more_frames (both_enter (Some target) (ByMethod name) arguments) (more_frames f fs))
   acted_alike turn (ParentMethod script name arguments otherwise) world f fs = (refl, more_frames (both_enter turn.own (ByParent script name) arguments) (more_frames f fs))
   acted_alike turn (GlobalFunction script name arguments otherwise) world f fs = (refl, more_frames (both_enter None (ByGlobal script name) arguments) (more_frames f fs))
   acted_alike turn (GlobalNative at arguments) world f fs = native_alike turn at arguments world (more_frames f fs)
-  acted_alike turn (Get None name otherwise) world f fs = (refl, more_frames f fs)
-  acted_alike turn (Get (Some target) name otherwise) world f fs = (refl, more_frames (both_enter (Some target) (ByGet name) []) (more_frames f fs))
-  acted_alike turn (Set None name value) world f fs = (refl, more_frames f fs)
-  acted_alike turn (Set (Some target) name value) world f fs = (refl, more_frames (both_enter (Some target) (BySet name) (value ∷ [])) (more_frames f fs))
+  acted_alike turn (Get target name otherwise) world f fs = (refl, more_frames (both_enter (Some target) (ByGet name) []) (more_frames f fs))
+  acted_alike turn (Set target name value) world f fs = (refl, more_frames (both_enter (Some target) (BySet name) (value ∷ [])) (more_frames f fs))
   acted_alike turn LoopPass world f fs = (refl, more_frames f fs)
   acted_alike turn (Return value) world f fs = returned_alike turn value world fs
 

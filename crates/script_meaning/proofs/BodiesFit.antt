@@ -1,18 +1,20 @@
 -- Each body of a run came from a function of the scripts, and has no more pending than that has nodes.
 use Rattle.std.proofs.Common.{◌≡◌, ℕ, zero, suc, Bool, true, false, cond, List, [], ◌∷◌, Option, Some, None, refl, subst, arith}
-use Rattle.std.specs.Prelude.{slice_get}
+use Rattle.std.specs.Prelude.{length, slice_get}
 use Rattle.std.specs.List.{find, AllByRecursion}
 use Rattle.std.specs.Str.{str_eq_ignore_ascii_case}
+use Rattle.std.proofs.Math.Dec.{eqb}
 use Rattle.core_tree.specs.declared.DeviceKind.{DeviceKind}
 use Rattle.core_tree.specs.declared.value.Value.{Value}
 use Rattle.core_tree.specs.Outlines.{ScriptShape}
 use Rattle.core_tree.specs.Scenes.{SceneShape}
 use Rattle.core_tree.specs.Set.{Script, Function, State as ScriptState, Property, Access, Auto, Full, empty_functions_of}
+use Rattle.script_meaning.specs.Evaluation.{functions_at}
 use Rattle.script_meaning.specs.First.{first_state}
 use Rattle.script_meaning.specs.InnerSteps.{FitsIn, FrameFits, StateFits, EnteredFits, IsWithin, IsAccessorWithin, IsAccessWithin, IsScriptWithin}
 use Rattle.script_meaning.specs.Related.{EnteredAlike, both_open, both_native, both_read, both_write, both_nothing, StopsAlike, EnginesAlike}
-use Rattle.script_meaning.specs.Source.{Body, run_body, opened, named, functions_of_state, state_functions, empty_state_functions, with_script, or_else_found, first_function, first_empty, method_in, native_there, function_entered, properties_of, first_property, accessor_entered, get_entered, set_entered, get_found, set_found, enter_body, source_engine}
-use Rattle.script_meaning.specs.Stacks.{Way, ByMethod, ByParent, ByGlobal, ByGet, BySet, Frame, Entered, NativeThere, State}
+use Rattle.script_meaning.specs.Source.{Body, run_body, body_of, opened, named, functions_of_state, state_functions, with_script, or_else_found, first_function, first_empty, method_in, native_there, function_entered, properties_of, first_property, accessor_entered, get_entered, set_entered, get_found, set_found, enter_body, source_engine}
+use Rattle.script_meaning.specs.Stacks.{Way, ByMethod, ByParent, ByGlobal, ByGet, BySet, Frame, Entered, Opened, NativeThere, NothingThere, State}
 use Rattle.script_meaning.specs.Turns.{has_ended, step, states_from}
 use Rattle.script_meaning.specs.Values.{lineage, parent_in}
 use Rattle.script_meaning.proofs.Alike.{FramesAlike, both_enter, both_run, StackAlike, no_frames, more_frames, StacksAlike, no_stacks, more_stacks, StatesAlike, step_alike}
@@ -80,9 +82,10 @@ module _ (most : ℕ) where
   empty_of_within [] a = tt
   empty_of_within (s ∷ states) a = a.0
 
-  empty_within : (o : Option Script) → MaybeWithin o → AllByRecursion (IsWithin most) (empty_state_functions o)
-  empty_within None w = tt
-  empty_within (Some script) w = empty_of_within script.states w.0
+  empty_within : (scripts : List Script) (n : ℕ) → AllByRecursion (IsScriptWithin most) scripts → AllByRecursion (IsWithin most) (functions_at scripts n)
+  empty_within [] n a = tt
+  empty_within (s ∷ scripts) zero a = empty_of_within s.states (a.0).0
+  empty_within (s ∷ scripts) (suc n) a = empty_within scripts n a.1
 
   property_step : (here : Bool) (script : ℕ) (p : Property) (rest : Option Property) → IsAccessWithin most p.access → PropertyWithin (with_script script rest) → PropertyWithin (with_script script (cond here (Some p) rest))
   property_step true script p rest v w = v
@@ -103,7 +106,7 @@ module _ (most : ℕ) where
   module _ (scripts : List Script) (all : AllByRecursion (IsScriptWithin most) scripts) where
     first_empty_within : (upward : List ℕ) (name : List ℕ) → FoundWithin (first_empty scripts upward name)
     first_empty_within upward name =
-        first_within (λ script. empty_state_functions (slice_get scripts script)) (λ n. empty_within (slice_get scripts n) (script_within scripts n all)) upward name
+        first_within (functions_at scripts) (λ n. empty_within scripts n all) upward name
 
     method_within : (upward : List ℕ) (state name : List ℕ) → FoundWithin (method_in scripts upward state name)
     method_within upward state name =
@@ -115,12 +118,13 @@ module _ (most : ℕ) where
         or_else_property (with_script script (find (λ property. str_eq_ignore_ascii_case property.name name) (properties_of (slice_get scripts script)))) (first_property scripts above name) (find_property_within script (λ property. str_eq_ignore_ascii_case property.name name) (properties_of (slice_get scripts script)) (properties_within (slice_get scripts script) (script_within scripts script all))) (property_within above name)
 
     -- ---- entering
-    opened_alike : (script : ℕ) (name : List ℕ) (f : Function) (arguments : List Value) → IsWithin most f → EnteredAlike SameFit (opened script name f arguments) (opened script name f arguments)
-    opened_alike script name f arguments w = both_open (refl, omega arith)
-
     either_alike : (b : Bool) (x y : Entered Body) → EnteredAlike SameFit x x → EnteredAlike SameFit y y → EnteredAlike SameFit (cond b x y) (cond b x y)
     either_alike true x y v w = v
     either_alike false x y v w = w
+
+    opened_alike : (script : ℕ) (name : List ℕ) (f : Function) (arguments : List Value) → IsWithin most f → EnteredAlike SameFit (opened script name f arguments) (opened script name f arguments)
+    opened_alike script name f arguments w =
+        either_alike (eqb (length arguments) (length f.parameters)) (Opened (body_of script name f arguments)) NothingThere (both_open (refl, omega arith)) both_nothing
 
     function_alike : (arguments : List Value) (o : Option (ℕ × Function)) → FoundWithin o → EnteredAlike SameFit (function_entered scripts arguments o) (function_entered scripts arguments o)
     function_alike arguments None w = both_nothing

@@ -7,14 +7,14 @@ use Rattle.std.proofs.Math.Dec.{eqb}
 use Rattle.core_tree.specs.declared.DeviceKind.{DeviceKind}
 use Rattle.core_tree.specs.Outlines.{ScriptShape}
 use Rattle.core_tree.specs.Scenes.{SceneShape, CallShape, OrderShape, Round, Listed}
-use Rattle.script_meaning.specs.Exclusive.{how_many, is_number, first_is, standings, Exclusive}
+use Rattle.script_meaning.specs.Exclusive.{how_many, is_number, first_is, standings, IsOn, HasReply, SleepsWithReply, OthersWait, Exclusive}
 use Rattle.script_meaning.specs.First.{first_state}
 use Rattle.script_meaning.specs.Locks.{second_is, goes_to_wait, waited_for, stack_of, is_owned, is_stack, is_next, is_ready}
 use Rattle.script_meaning.specs.Stacks.{ByMethod, Frame, ToEnter, Engine, State, inner_instance, frames_of}
 use Rattle.script_meaning.specs.Turns.{call_started, calls_started, is_due, not_due, all_wait, begun, round, if_ready, chosen, has_ended, chosen_turned, step, states_from}
 use Rattle.script_meaning.specs.World.{World}
-use Rattle.script_meaning.proofs.Counts.{same_or_not, how_many-split, how_many-firsts, passes_from_count, all_others}
-use Rattle.script_meaning.proofs.Standing.{StandsBut, started_or_not, from_exclusive, to_exclusive, with_rest, wait_stands}
+use Rattle.script_meaning.proofs.Counts.{same_or_not, how_many-split, how_many-firsts, passes_from_count, all-append, all-filter, all_others}
+use Rattle.script_meaning.proofs.Standing.{StandsBut, reply_length, is_on_inner, started_or_not, from_exclusive, to_exclusive, with_rest, wait_stands}
 use Rattle.script_meaning.proofs.Steps.{turned_stands}
 
 -- ---- one more stack
@@ -36,12 +36,13 @@ module _ {Body : Type 0} where
   same_before : (world : World) (stacks : List (List (Frame Body))) (frames : List (Frame Body)) (n : ℕ) → length stacks ≡ world.started → eqb n world.started ≡ false → frames_of (stacks ++ frames ∷ []) n ≡ frames_of stacks n
   same_before world stacks frames n c t = appended stacks frames n (λ e. eqb-false n world.started t (e ∙ c))
 
-  one_more : (world : World) (stacks : List (List (Frame Body))) (frames : List (Frame Body)) → StandsBut [] world stacks → StandsBut (world.started ∷ []) (record world { started = world.started + 1 }) (stacks ++ frames ∷ [])
-  one_more world stacks frames s =
+  one_more : (world : World) (stacks : List (List (Frame Body))) (frames : List (Frame Body)) → OthersWait frames → StandsBut [] world stacks → StandsBut (world.started ∷ []) (record world { started = world.started + 1 }) (stacks ++ frames ∷ [])
+  one_more world stacks frames w s =
       let z = s.none_else world.started (omega arith) in
       let no_owner : how_many (second_is world.started) world.owners ≡ 0 = omega arith in
       let no_waiter : how_many (second_is world.started) world.waiters ≡ 0 = omega arith in
       let not_free : how_many (is_number world.started) world.free ≡ 0 = omega arith in
+      let not_asleep : how_many (first_is world.started) world.asleep ≡ 0 = omega arith in
       let not_done : how_many (is_number world.started) world.done ≡ 0 = omega arith in record {
         one_owner = s.one_owner;
         count = length-append stacks (frames ∷ []) ∙ ap (λ n. n + 1) s.count;
@@ -50,10 +51,12 @@ module _ {Body : Type 0} where
           | inl (e, t) ↦ absurd (omega arith)
           | inr (d, t) ↦ let o = s.none_else n (omega arith) in rw t (omega arith)
         ];
-        owners = all_others (second_is world.started) world.owners no_owner (λ p t a. ap inner_instance (same_before world stacks frames p.1 s.count t) ∙ a) s.owners;
-        waiters = all_others (second_is world.started) world.waiters no_waiter (λ p t a. ap inner_instance (same_before world stacks frames p.1 s.count t) ∙ a) s.waiters;
-        free = all_others (is_number world.started) world.free not_free (λ n t a. ap inner_instance (same_before world stacks frames n s.count t) ∙ a) s.free;
+        owners = all_others (second_is world.started) world.owners no_owner (λ p t a. subst (λ fs. IsOn (Some p.0) fs) (sym (same_before world stacks frames p.1 s.count t)) a) s.owners;
+        waiters = all_others (second_is world.started) world.waiters no_waiter (λ p t a. subst (λ fs. IsOn (Some p.0) fs) (sym (same_before world stacks frames p.1 s.count t)) a) s.waiters;
+        free = all_others (is_number world.started) world.free not_free (λ n t a. subst (λ fs. IsOn None fs) (sym (same_before world stacks frames n s.count t)) a) s.free;
+        asleep = all_others (first_is world.started) world.asleep not_asleep (λ p t a. subst (λ fs. HasReply fs) (sym (same_before world stacks frames p.0 s.count t)) a) s.asleep;
         done = all_others (is_number world.started) world.done not_done (λ n t a. ap length (same_before world stacks frames n s.count t) ∙ a) s.done;
+        waiting = all-append OthersWait stacks frames s.waiting w;
       }
 
   abbrev pub Stands : State Body → Type 0
@@ -62,8 +65,9 @@ module _ {Body : Type 0} where
   call_stands : (state : State Body) (call : CallShape) → Stands state → Stands (call_started state call)
   call_stands state call s =
       let frames : List (Frame Body) = ToEnter (Some call.instance) (ByMethod call.function) call.arguments ∷ [] in
-      let inner : inner_instance (frames_of (state.stacks ++ frames ∷ []) state.world.started) ≡ Some call.instance = ap inner_instance (subst (λ n. frames_of (state.stacks ++ frames ∷ []) n ≡ frames) s.count (last_frames state.stacks frames)) in
-      wait_stands (record state.world { started = state.world.started + 1 }) (state.stacks ++ frames ∷ []) state.world.started [] (Some call.instance) inner (one_more state.world state.stacks frames s)
+      let last : frames_of (state.stacks ++ frames ∷ []) state.world.started ≡ frames = subst (λ n. frames_of (state.stacks ++ frames ∷ []) n ≡ frames) s.count (last_frames state.stacks frames) in
+      let inner : IsOn (Some call.instance) (frames_of (state.stacks ++ frames ∷ []) state.world.started) = subst (λ fs. IsOn (Some call.instance) fs) (sym last) refl in
+      wait_stands (record state.world { started = state.world.started + 1 }) (state.stacks ++ frames ∷ []) state.world.started [] (Some call.instance) inner (one_more state.world state.stacks frames tt s)
 
   either_stands : (now : Bool) (one other : State Body) → Stands one → Stands other → Stands (cond now one other)
   either_stands true one other a b = a
@@ -75,10 +79,10 @@ module _ {Body : Type 0} where
       calls_stand rest (cond (eqb call.turn state.world.turn) (call_started state call) state) (either_stands (eqb call.turn state.world.turn) (call_started state call) state (call_stands state call s) s)
 
   -- ---- sleepers
-  all_wait_stands : (stacks : List (List (Frame Body))) (sleepers : List (ℕ × ℕ)) (world : World) → StandsBut (map (λ p. p.0) sleepers) world stacks → StandsBut [] (all_wait stacks sleepers world) stacks
-  all_wait_stands stacks [] world s = s
-  all_wait_stands stacks (first ∷ rest) world s =
-      all_wait_stands stacks rest (goes_to_wait first.0 (inner_instance (frames_of stacks first.0)) world) (wait_stands world stacks first.0 (map (λ p. p.0) rest) (inner_instance (frames_of stacks first.0)) refl s)
+  all_wait_stands : (stacks : List (List (Frame Body))) (sleepers : List (ℕ × ℕ)) (world : World) → AllByRecursion (SleepsWithReply stacks) sleepers → StandsBut (map (λ p. p.0) sleepers) world stacks → StandsBut [] (all_wait stacks sleepers world) stacks
+  all_wait_stands stacks [] world r s = s
+  all_wait_stands stacks (first ∷ rest) world r s =
+      all_wait_stands stacks rest (goes_to_wait first.0 (inner_instance (frames_of stacks first.0)) world) r.1 (wait_stands world stacks first.0 (map (λ p. p.0) rest) (inner_instance (frames_of stacks first.0)) (is_on_inner (frames_of stacks first.0) (reply_length (frames_of stacks first.0) r.0)) s)
 
   woken : (world : World) (stacks : List (List (Frame Body))) → StandsBut [] world stacks → StandsBut (map (λ p. p.0) (filter (is_due world.turn) world.asleep)) (record world { asleep = filter (not_due world.turn) world.asleep }) stacks
   woken world stacks s = record {
@@ -89,13 +93,16 @@ module _ {Body : Type 0} where
     owners = s.owners;
     waiters = s.waiters;
     free = s.free;
+    asleep = all-filter (SleepsWithReply stacks) (not_due world.turn) world.asleep s.asleep;
     done = s.done;
+    waiting = s.waiting;
   }
 
   pub begun_stands : (scene : SceneShape) (state : State Body) → Stands state → Stands (begun scene state)
   begun_stands scene state s =
       let after = calls_started scene.calls state in
-      all_wait_stands after.stacks (filter (is_due after.world.turn) after.world.asleep) (record after.world { asleep = filter (not_due after.world.turn) after.world.asleep }) (woken after.world after.stacks (calls_stand scene.calls state s))
+      let t = calls_stand scene.calls state s in
+      all_wait_stands after.stacks (filter (is_due after.world.turn) after.world.asleep) (record after.world { asleep = filter (not_due after.world.turn) after.world.asleep }) (all-filter (SleepsWithReply after.stacks) (is_due after.world.turn) after.world.asleep t.asleep) (woken after.world after.stacks t)
 
 -- ---- the choice
 found_passes : (test : ℕ → Bool) (here : Bool) (n : ℕ) (rest : Option ℕ) (k : ℕ) → test n ≡ here → (rest ≡ Some k → test k ≡ true) → cond here (Some n) rest ≡ Some k → test k ≡ true
@@ -138,7 +145,10 @@ module _ {Body : Type 0} where
     owners = tt;
     waiters = tt;
     free = tt;
+    asleep = tt;
     done = tt;
+    ended = λ k h e. absurd (omega arith);
+    waiting = tt;
   }
 
   pub begun_exclusive : (scene : SceneShape) (state : State Body) → Exclusive state → Exclusive (begun scene state)

@@ -1,16 +1,19 @@
 -- Each stack stands once, but for some that stand nowhere while they go from one place to another.
-use Rattle.std.proofs.Common.{◌≡◌, ◌≢◌, ℕ, ◌+◌, ◌<◌, ◌≤◌, Bool, true, false, cond, not, ◌&&◌, ◌||◌, ◌⊎◌, List, [], ◌∷◌, Option, Some, None, refl, sym, ap, subst, ◌∙◌, inl, inr, arith}
+use Rattle.std.proofs.Common.{◌≡◌, ◌≢◌, ℕ, zero, suc, ◌+◌, ◌<◌, ◌≤◌, Bool, true, false, cond, not, ◌&&◌, ◌||◌, ◌⊎◌, List, [], ◌∷◌, Option, Some, None, refl, sym, ap, subst, ◌∙◌, inl, inr, arith}
 use Rattle.std.specs.Prelude.{length, slice_set}
 use Rattle.std.specs.List.{list_any, AllByRecursion}
 use Rattle.std.proofs.lemmas.Bool.{eqb-true, eqb-false, ltb-true, ltb-false}
 use Rattle.std.proofs.lemmas.List.{get_or-set_other, get_or-set_same, length-set}
 use Rattle.std.proofs.Math.Dec.{eqb, ltb}
 use Rattle.core_tree.specs.Device.{DeviceState}
-use Rattle.script_meaning.specs.Exclusive.{how_many, is_number, first_is, standings, IsOnInstance, IsOnNone, IsEmpty, Exclusive}
+use Rattle.script_meaning.specs.Exclusive.{how_many, is_number, first_is, standings, IsOn, IsOnInstance, IsOnNone, HasReply, SleepsWithReply, IsEmpty, OthersWait, Exclusive}
 use Rattle.script_meaning.specs.Locks.{with_pair, is_other, second_is, second_is_other, let_go, goes_to_wait, sleeps, ends, waited_for, becomes_owner, takes, stack_of, is_owned, is_stack, is_next, is_ready}
 use Rattle.script_meaning.specs.Stacks.{Frame, State, inner_instance, frames_of}
 use Rattle.script_meaning.specs.World.{World, Instance, ArrayState, Line}
-use Rattle.script_meaning.proofs.Counts.{same_or_not, how_many-append, how_many-without_second, how_many-without_number, how_many-with_number, how_many-with_pair, how_many-filter, some_pass, none_pass, all_step, all-append, all-filter, all-with_number, all-with_pair, all_others, waits_for}
+use Rattle.script_meaning.proofs.Counts.{same_or_not, how_many-append, how_many-without_second, how_many-without_number, how_many-with_number, how_many-with_pair, how_many-filter, some_pass, none_pass, all_step, all-append, all-filter, all-with_number, all-with_pair, all_others, counted, all-set, waits_for}
+
+abbrev pub runs : World → ℕ → Type 0
+runs world k = 1 ≤ how_many (second_is k) world.owners + how_many (is_number k) world.free
 
 -- each stack stands once in the world or is one of these
 pub record StandsBut {Body : Type 0} (away : List ℕ) (world : World) (stacks : List (List (Frame Body))) : Type 0 where
@@ -21,7 +24,33 @@ pub record StandsBut {Body : Type 0} (away : List ℕ) (world : World) (stacks :
   pub owners : AllByRecursion (IsOnInstance stacks) world.owners
   pub waiters : AllByRecursion (IsOnInstance stacks) world.waiters
   pub free : AllByRecursion (IsOnNone stacks) world.free
+  pub asleep : AllByRecursion (SleepsWithReply stacks) world.asleep
   pub done : AllByRecursion (IsEmpty stacks) world.done
+  pub waiting : AllByRecursion OthersWait stacks
+
+-- ---- stacks that have frames
+pub has_length : {Body : Type 0} (instance : Option ℕ) (frames : List (Frame Body)) → IsOn instance frames → 1 ≤ length frames
+has_length instance [] on = absurd on
+has_length instance (f ∷ fs) on = omega arith
+
+pub reply_length : {Body : Type 0} (frames : List (Frame Body)) → HasReply frames → 1 ≤ length frames
+reply_length [] r = absurd r
+reply_length (f ∷ fs) r = omega arith
+
+pub is_on_inner : {Body : Type 0} (frames : List (Frame Body)) → 1 ≤ length frames → IsOn (inner_instance frames) frames
+is_on_inner [] h = absurd (omega arith)
+is_on_inner (f ∷ fs) h = refl
+
+-- what an innermost frame is on, the innermost frame with the same instance is on
+pub on_as : {Body : Type 0} (instance own : Option ℕ) (frames frames2 : List (Frame Body)) → IsOn own frames → IsOn own frames2 → IsOn instance frames → IsOn instance frames2
+on_as instance own [] frames2 a b c = absurd a
+on_as instance own (f ∷ fs) [] a b c = absurd b
+on_as instance own (f ∷ fs) (g ∷ gs) a b c = b ∙ (sym a ∙ c)
+
+pub others_of : {Body : Type 0} (stacks : List (List (Frame Body))) (k : ℕ) → AllByRecursion OthersWait stacks → OthersWait (frames_of stacks k)
+others_of [] k a = tt
+others_of (s ∷ stacks) zero a = a.0
+others_of (s ∷ stacks) (suc k) a = others_of stacks k a.1
 
 pub started_or_not : (k n : ℕ) → (k < n) ⊎ (n ≤ k)
 started_or_not k n =
@@ -40,8 +69,35 @@ module _ {Body : Type 0} where
     owners = e.owners;
     waiters = e.waiters;
     free = e.free;
+    asleep = e.asleep;
     done = e.done;
+    waiting = e.waiting;
   }
+
+  -- a stack that stands elsewhere than among those that are done has a frame
+  has_frame : (world : World) (stacks : List (List (Frame Body))) (k : ℕ) → StandsBut [] world stacks → 1 ≤ how_many (second_is k) world.owners + how_many (second_is k) world.waiters + how_many (is_number k) world.free + how_many (first_is k) world.asleep → 1 ≤ length (frames_of stacks k)
+  has_frame world stacks k s h =
+      elim (same_or_not (how_many (second_is k) world.owners) 0) [
+        | inr (d, t) ↦ let c = counted (IsOnInstance stacks) (second_is k) world.owners s.owners (omega (arith, d)) in subst (λ n. 1 ≤ length (frames_of stacks n)) (eqb-true c.0.1 k c.1.0) (has_length (Some c.0.0) (frames_of stacks c.0.1) c.1.1)
+        | inl (p, t) ↦ elim (same_or_not (how_many (second_is k) world.waiters) 0) [
+          | inr (d, t) ↦ let c = counted (IsOnInstance stacks) (second_is k) world.waiters s.waiters (omega (arith, d)) in subst (λ n. 1 ≤ length (frames_of stacks n)) (eqb-true c.0.1 k c.1.0) (has_length (Some c.0.0) (frames_of stacks c.0.1) c.1.1)
+          | inl (q, t) ↦ elim (same_or_not (how_many (is_number k) world.free) 0) [
+            | inr (d, t) ↦ let c = counted (IsOnNone stacks) (is_number k) world.free s.free (omega (arith, d)) in subst (λ n. 1 ≤ length (frames_of stacks n)) (eqb-true c.0 k c.1.0) (has_length None (frames_of stacks c.0) c.1.1)
+            | inl (r, t) ↦ let c = counted (SleepsWithReply stacks) (first_is k) world.asleep s.asleep (omega (arith, p, q, r, h)) in subst (λ n. 1 ≤ length (frames_of stacks n)) (eqb-true c.0.0 k c.1.0) (reply_length (frames_of stacks c.0.0) c.1.1)
+          ]
+        ]
+      ]
+
+  pub runs_frame : (world : World) (stacks : List (List (Frame Body))) (k : ℕ) → StandsBut [] world stacks → runs world k → 1 ≤ length (frames_of stacks k)
+  runs_frame world stacks k s r = has_frame world stacks k s (omega (arith, r))
+
+  ended_done : (world : World) (stacks : List (List (Frame Body))) (k : ℕ) → StandsBut [] world stacks → k < world.started → length (frames_of stacks k) ≡ 0 → how_many (is_number k) world.done ≡ 1
+  ended_done world stacks k s started e =
+      let o = s.once k started in
+      elim (same_or_not (how_many (is_number k) world.done) 1) [
+        | inl (p, t) ↦ p
+        | inr (d, t) ↦ let h = has_frame world stacks k s (omega (arith, o, d)) in absurd (omega (arith, h, e))
+      ]
 
   pub to_exclusive : (state : State Body) → StandsBut [] state.world state.stacks → Exclusive state
   to_exclusive state s = record {
@@ -52,7 +108,10 @@ module _ {Body : Type 0} where
     owners = s.owners;
     waiters = s.waiters;
     free = s.free;
+    asleep = s.asleep;
     done = s.done;
+    ended = λ k started e. ended_done state.world state.stacks k s started e;
+    waiting = s.waiting;
   }
 
   -- what else changes in a world changes nothing of this
@@ -65,7 +124,9 @@ module _ {Body : Type 0} where
     owners = s.owners;
     waiters = s.waiters;
     free = s.free;
+    asleep = s.asleep;
     done = s.done;
+    waiting = s.waiting;
   }
 
 -- ---- sums of the five counts
@@ -83,9 +144,6 @@ took : (t : Bool) (o w f a d n : ℕ) → (t ≡ true → 1 ≤ w) → (n ≤ 1)
 took true o w f a d n r b h = let p = r refl in omega arith
 took false o w f a d n r b h = omega arith
 
-abbrev pub runs : World → ℕ → Type 0
-runs world k = 1 ≤ how_many (second_is k) world.owners + how_many (is_number k) world.free
-
 runs_as : (world : World) (k n : ℕ) → runs world k → eqb k n ≡ true → runs world n
 runs_as world k n r t = subst (λ m. runs world m) (eqb-true k n t) r
 
@@ -100,11 +158,13 @@ module _ {Body : Type 0} where
     owners = all-filter (IsOnInstance stacks) (second_is_other k) world.owners s.owners;
     waiters = s.waiters;
     free = all-filter (IsOnNone stacks) (is_other k) world.free s.free;
+    asleep = s.asleep;
     done = s.done;
+    waiting = s.waiting;
   }
 
   -- ---- coming to a place
-  pub wait_stands : (world : World) (stacks : List (List (Frame Body))) (k : ℕ) (away : List ℕ) (instance : Option ℕ) → inner_instance (frames_of stacks k) ≡ instance → StandsBut (k ∷ away) world stacks → StandsBut away (goes_to_wait k instance world) stacks
+  pub wait_stands : (world : World) (stacks : List (List (Frame Body))) (k : ℕ) (away : List ℕ) (instance : Option ℕ) → IsOn instance (frames_of stacks k) → StandsBut (k ∷ away) world stacks → StandsBut away (goes_to_wait k instance world) stacks
   wait_stands world stacks k away None e s = record {
     one_owner = s.one_owner;
     count = s.count;
@@ -113,7 +173,9 @@ module _ {Body : Type 0} where
     owners = s.owners;
     waiters = s.waiters;
     free = all-with_number (IsOnNone stacks) k world.free e s.free;
+    asleep = s.asleep;
     done = s.done;
+    waiting = s.waiting;
   }
   wait_stands world stacks k away (Some i) e s = record {
     one_owner = s.one_owner;
@@ -123,11 +185,13 @@ module _ {Body : Type 0} where
     owners = s.owners;
     waiters = all-append (IsOnInstance stacks) world.waiters (i, k) s.waiters e;
     free = s.free;
+    asleep = s.asleep;
     done = s.done;
+    waiting = s.waiting;
   }
 
-  pub sleep_stands : (world : World) (stacks : List (List (Frame Body))) (k due : ℕ) (away : List ℕ) → StandsBut (k ∷ away) world stacks → StandsBut away (sleeps k due world) stacks
-  sleep_stands world stacks k due away s = record {
+  pub sleep_stands : (world : World) (stacks : List (List (Frame Body))) (k due : ℕ) (away : List ℕ) → HasReply (frames_of stacks k) → StandsBut (k ∷ away) world stacks → StandsBut away (sleeps k due world) stacks
+  sleep_stands world stacks k due away r s = record {
     one_owner = s.one_owner;
     count = s.count;
     once = λ n h. let c = how_many-with_pair (first_is n) (k, due) world.asleep in let o = s.once n h in omega arith;
@@ -135,7 +199,9 @@ module _ {Body : Type 0} where
     owners = s.owners;
     waiters = s.waiters;
     free = s.free;
+    asleep = all-with_pair (SleepsWithReply stacks) (k, due) world.asleep r s.asleep;
     done = s.done;
+    waiting = s.waiting;
   }
 
   pub end_stands : (world : World) (stacks : List (List (Frame Body))) (k : ℕ) (away : List ℕ) → IsEmpty stacks k → StandsBut (k ∷ away) world stacks → StandsBut away (ends k world) stacks
@@ -147,7 +213,9 @@ module _ {Body : Type 0} where
     owners = s.owners;
     waiters = s.waiters;
     free = s.free;
+    asleep = s.asleep;
     done = all-with_number (IsEmpty stacks) k world.done e s.done;
+    waiting = s.waiting;
   }
 
 -- ---- taking an instance
@@ -219,7 +287,9 @@ module _ {Body : Type 0} where
         owners = all-with_pair (IsOnInstance stacks) (i, k) world.owners w.1 s.owners;
         waiters = all-filter (IsOnInstance stacks) (second_is_other k) world.waiters s.waiters;
         free = s.free;
+        asleep = s.asleep;
         done = s.done;
+        waiting = s.waiting;
       }
 
   taken : (world : World) (stacks : List (List (Frame Body))) (k : ℕ) (o : Option ℕ) → waited_for k world.waiters ≡ o → is_ready world k ≡ true → StandsBut [] world stacks → StandsBut [] (becomes_owner k o world) stacks × runs (becomes_owner k o world) k
@@ -240,46 +310,55 @@ module _ {Body : Type 0} where
   pub own_frames : (stacks : List (List (Frame Body))) (k : ℕ) (frames : List (Frame Body)) → k < length stacks → frames_of (slice_set stacks k frames) k ≡ frames
   own_frames stacks k frames h = get_or-set_same stacks k frames [] h
 
-  same_inner : (stacks : List (List (Frame Body))) (k n : ℕ) (frames : List (Frame Body)) → k < length stacks → inner_instance frames ≡ inner_instance (frames_of stacks k) → inner_instance (frames_of (slice_set stacks k frames) n) ≡ inner_instance (frames_of stacks n)
-  same_inner stacks k n frames h e =
+  same_on : (stacks : List (List (Frame Body))) (k n : ℕ) (own instance : Option ℕ) (frames : List (Frame Body)) → k < length stacks → IsOn own (frames_of stacks k) → IsOn own frames → IsOn instance (frames_of stacks n) → IsOn instance (frames_of (slice_set stacks k frames) n)
+  same_on stacks k n own instance frames h was now a =
       elim (same_or_not n k) [
-        | inl (p, t) ↦ subst (λ m. inner_instance (frames_of (slice_set stacks k frames) m) ≡ inner_instance (frames_of stacks m)) (sym p) (ap inner_instance (own_frames stacks k frames h) ∙ e)
-        | inr (p, t) ↦ ap inner_instance (other_frames stacks k n frames t)
+        | inl (p, t) ↦
+            let before : IsOn instance (frames_of stacks k) = subst (λ m. IsOn instance (frames_of stacks m)) p a in
+            let after : IsOn instance frames = on_as instance own (frames_of stacks k) frames was now before in
+            subst (λ m. IsOn instance (frames_of (slice_set stacks k frames) m)) (sym p) (subst (λ fs. IsOn instance fs) (sym (own_frames stacks k frames h)) after)
+        | inr (p, t) ↦ subst (λ fs. IsOn instance fs) (sym (other_frames stacks k n frames t)) a
       ]
 
   -- the innermost frame keeps its instance
-  pub kept_stands : (world : World) (stacks : List (List (Frame Body))) (k : ℕ) (frames : List (Frame Body)) → runs world k → inner_instance frames ≡ inner_instance (frames_of stacks k) → StandsBut [] world stacks → StandsBut [] world (slice_set stacks k frames)
-  kept_stands world stacks k frames r e s =
+  pub kept_stands : (world : World) (stacks : List (List (Frame Body))) (k : ℕ) (own : Option ℕ) (frames : List (Frame Body)) → runs world k → IsOn own (frames_of stacks k) → IsOn own frames → OthersWait frames → StandsBut [] world stacks → StandsBut [] world (slice_set stacks k frames)
+  kept_stands world stacks k own frames r was now w s =
       let started : k < world.started = has_started world stacks k s (omega (arith, r)) in
       let o = s.once k started in
       let inside : k < length stacks = omega (arith, s.count) in
       let not_done : how_many (is_number k) world.done ≡ 0 = omega (arith, r) in
-      let inner = λ (n : ℕ). same_inner stacks k n frames inside e in record {
+      let not_asleep : how_many (first_is k) world.asleep ≡ 0 = omega (arith, r) in
+      let on = λ (n : ℕ) (instance : Option ℕ). same_on stacks k n own instance frames inside was now in record {
         one_owner = s.one_owner;
         count = length-set stacks k frames ∙ s.count;
         once = s.once;
         none_else = s.none_else;
-        owners = all_step world.owners (λ p a. inner p.1 ∙ a) s.owners;
-        waiters = all_step world.waiters (λ p a. inner p.1 ∙ a) s.waiters;
-        free = all_step world.free (λ n a. inner n ∙ a) s.free;
+        owners = all_step world.owners (λ p a. on p.1 (Some p.0) a) s.owners;
+        waiters = all_step world.waiters (λ p a. on p.1 (Some p.0) a) s.waiters;
+        free = all_step world.free (λ n a. on n None a) s.free;
+        asleep = all_others (first_is k) world.asleep not_asleep (λ p t a. subst (λ fs. HasReply fs) (sym (other_frames stacks k p.0 frames t)) a) s.asleep;
         done = all_others (is_number k) world.done not_done (λ n t a. ap length (other_frames stacks k n frames t) ∙ a) s.done;
+        waiting = all-set OthersWait stacks k frames s.waiting w;
       }
 
   -- a stack that stands nowhere may have any frames
-  pub away_stands : (world : World) (stacks : List (List (Frame Body))) (k : ℕ) (frames : List (Frame Body)) → k < world.started → StandsBut (k ∷ []) world stacks → StandsBut (k ∷ []) world (slice_set stacks k frames)
-  away_stands world stacks k frames started s =
+  pub away_stands : (world : World) (stacks : List (List (Frame Body))) (k : ℕ) (frames : List (Frame Body)) → k < world.started → OthersWait frames → StandsBut (k ∷ []) world stacks → StandsBut (k ∷ []) world (slice_set stacks k frames)
+  away_stands world stacks k frames started w s =
       let t = self_equal k in
       let o : standings world k + (cond true 1 0 + 0) ≡ 1 = subst (λ b. standings world k + (cond b 1 0 + 0) ≡ 1) t (s.once k started) in
       let no_owner : how_many (second_is k) world.owners ≡ 0 = omega (arith, o) in
       let no_waiter : how_many (second_is k) world.waiters ≡ 0 = omega (arith, o) in
       let not_free : how_many (is_number k) world.free ≡ 0 = omega (arith, o) in
+      let not_asleep : how_many (first_is k) world.asleep ≡ 0 = omega (arith, o) in
       let not_done : how_many (is_number k) world.done ≡ 0 = omega (arith, o) in record {
         one_owner = s.one_owner;
         count = length-set stacks k frames ∙ s.count;
         once = s.once;
         none_else = s.none_else;
-        owners = all_others (second_is k) world.owners no_owner (λ p t a. ap inner_instance (other_frames stacks k p.1 frames t) ∙ a) s.owners;
-        waiters = all_others (second_is k) world.waiters no_waiter (λ p t a. ap inner_instance (other_frames stacks k p.1 frames t) ∙ a) s.waiters;
-        free = all_others (is_number k) world.free not_free (λ n t a. ap inner_instance (other_frames stacks k n frames t) ∙ a) s.free;
+        owners = all_others (second_is k) world.owners no_owner (λ p t a. subst (λ fs. IsOn (Some p.0) fs) (sym (other_frames stacks k p.1 frames t)) a) s.owners;
+        waiters = all_others (second_is k) world.waiters no_waiter (λ p t a. subst (λ fs. IsOn (Some p.0) fs) (sym (other_frames stacks k p.1 frames t)) a) s.waiters;
+        free = all_others (is_number k) world.free not_free (λ n t a. subst (λ fs. IsOn None fs) (sym (other_frames stacks k n frames t)) a) s.free;
+        asleep = all_others (first_is k) world.asleep not_asleep (λ p t a. subst (λ fs. HasReply fs) (sym (other_frames stacks k p.0 frames t)) a) s.asleep;
         done = all_others (is_number k) world.done not_done (λ n t a. ap length (other_frames stacks k n frames t) ∙ a) s.done;
+        waiting = all-set OthersWait stacks k frames s.waiting w;
       }

@@ -9,7 +9,7 @@ use Rattle.core_tree.specs.Tree.{Operation, Calculate, Negate, Not, Join, Equal,
 use Rattle.script_meaning.specs.Arrays.{element_of}
 use Rattle.script_meaning.specs.Evaluation.{Home, Inner, Pending, Operand, EffectOperand, AndThen, OrElse, PropertyTarget, PropertyOld, PropertyRight, ElementArray, ElementIndex, ElementRight, Test, LoopTest, LoopBody, Loop, Statements, Outcome, Gives, Stops, then_do, asked, ask, noted, at_line, place_of, taken_at, by_parameter, name_at, applied, and_then, or_else, evaluated, with_operands, effected, with_effect, property_right, property_old, property_target, element_right, element_index, element_array, passed, tested, looped, done, all_done, chosen, given, onward, resumed}
 use Rattle.script_meaning.specs.InnerSteps.{nodes, all_nodes, statement_nodes, block_nodes, branch_nodes, after_value, no_more, expression_steps, operand_steps, right_steps, old_steps, read_steps, index_steps, body_steps, loop_steps, statement_steps, block_steps, branch_steps, given_steps, where_given, resumed_steps, grown_by, grown}
-use Rattle.script_meaning.specs.Requests.{Request, Method, ParentMethod, GlobalFunction, GlobalNative, Get, Set, Return, Answer, Reply, Act, answer}
+use Rattle.script_meaning.specs.Requests.{ParentMethod, GlobalFunction, GlobalNative, Return, Question, Asks, method_of, get_of, set_of, Answer, Reply, Act, answer}
 use Rattle.script_meaning.specs.Values.{Result, instance_of, array_of, number_of, default_of, default_result, is_true, calculated}
 
 -- ---- steps
@@ -52,7 +52,7 @@ right_bound home e inner =
     omega arith
 
 old_bound : (home : Home) (name : List ℕ) (kind : CoreType) (right : Expression) (target : Value) (inner : Inner) → old_steps home name kind right target inner ≤ 4 * nodes right
-old_bound home name kind right target inner = bounded (ask home (Get (instance_of target) name (default_of kind)) inner) where
+old_bound home name kind right target inner = bounded (ask home (get_of (instance_of target) name (default_of kind)) inner) where
   bounded : (o : Outcome) → after_value o (λ old after. right_steps home right after) ≤ 4 * nodes right
   bounded (Gives v s) = let r = right_bound home right s in omega arith
   bounded (Stops q p s) = omega arith
@@ -60,7 +60,7 @@ old_bound home name kind right target inner = bounded (ask home (Get (instance_o
 index_bound : (home : Home) (index : Expression) (kind : CoreType) (right : Expression) (array : Value) (inner : Inner) → index_steps home index kind right array inner + 1 ≤ 4 * nodes index + 4 * nodes right
 index_bound home index kind right array inner =
     let i = expression_bound home index inner in
-    let a = after_at_most (evaluated home index inner) (read_steps home array kind right) (4 * nodes right) (λ v s. let r = right_bound home right (noted home (element_of s.sight.arrays (array_of array) (number_of v) kind).1 s) in omega arith) in
+    let a = after_at_most (evaluated home index inner) (read_steps home array kind right) (4 * nodes right) (λ v s. let r = right_bound home right (noted home (element_of s.sight.arrays (array_of array) (number_of v) (default_of kind)).1 s) in omega arith) in
     omega arith
 
 body_bound : (run : Inner → Outcome) (steps : Inner → ℕ) (n : ℕ) → ((s : Inner) → steps s ≤ n) → (v : Value) (s : Inner) → body_steps run steps v s ≤ suc n
@@ -140,7 +140,7 @@ given_bound home (PropertyOld target name operation right) v s = let r = right_b
 given_bound home (PropertyRight target name operation old) v s = omega arith
 given_bound home (ElementArray index kind operation right) v s = let i = index_bound home index kind right v s in omega arith
 given_bound home (ElementIndex array kind operation right) v s =
-    let r = right_bound home right (noted home (element_of s.sight.arrays (array_of array) (number_of v) kind).1 s) in omega arith
+    let r = right_bound home right (noted home (element_of s.sight.arrays (array_of array) (number_of v) (default_of kind)).1 s) in omega arith
 given_bound home (ElementRight array index operation old) v s = omega arith
 given_bound home (Test body rest otherwise) v s =
     let b = block_bound home body s in
@@ -234,12 +234,12 @@ within_either : (b : Bool) (x y : Outcome) (n : ℕ) → StopsWithin n x → Sto
 within_either true x y n a b = a
 within_either false x y n a b = b
 
-asked_within : (request : Request) (inner : Inner) (a : Answer) (n : ℕ) → StopsWithin n (asked request inner a)
-asked_within request inner (Reply v sight) n = tt
-asked_within request inner Act n = omega arith
+asked_within : (inner : Inner) (a : Answer) (n : ℕ) → StopsWithin n (asked inner a)
+asked_within inner (Reply v sight) n = tt
+asked_within inner (Act request) n = omega arith
 
-ask_within : (home : Home) (request : Request) (inner : Inner) (n : ℕ) → StopsWithin n (ask home request inner)
-ask_within home request inner n = asked_within request inner (answer home.setting (place_of home inner.line) request inner.sight) n
+ask_within : (home : Home) (question : Question) (inner : Inner) (n : ℕ) → StopsWithin n (ask home question inner)
+ask_within home question inner n = asked_within inner (answer home.setting (place_of home inner.line) question inner.sight) n
 
 applied_within : (home : Home) (operation : Operation) (taken : List Value) (inner : Inner) (n : ℕ) → StopsWithin n (applied home operation taken inner)
 applied_within home (Calculate operation) taken inner n = tt
@@ -249,11 +249,11 @@ applied_within home Join taken inner n = tt
 applied_within home Equal taken inner n = tt
 applied_within home (Compare order) taken inner n = tt
 applied_within home (Cast to) taken inner n = tt
-applied_within home (CallMethod name places result) taken inner n = ask_within home (Method (instance_of (taken_at taken 0)) name (by_parameter places (drop 1 taken)) (default_result result)) inner n
-applied_within home (CallParent name places result) taken inner n = ask_within home (ParentMethod home.script name (by_parameter places taken) (default_result result)) inner n
-applied_within home (CallGlobal at places result) taken inner n = ask_within home (GlobalFunction at.script (name_at home.scripts at.script at.place) (by_parameter places taken) (default_result result)) inner n
-applied_within home (CallNative at places result) taken inner n = ask_within home (GlobalNative at (by_parameter places taken)) inner n
-applied_within home (GetProperty name kind) taken inner n = ask_within home (Get (instance_of (taken_at taken 0)) name (default_of kind)) inner n
+applied_within home (CallMethod name places result) taken inner n = ask_within home (method_of (instance_of (taken_at taken 0)) name (by_parameter places (drop 1 taken)) (default_result result)) inner n
+applied_within home (CallParent name places result) taken inner n = ask_within home (Asks (ParentMethod home.script name (by_parameter places taken) (default_result result))) inner n
+applied_within home (CallGlobal at places result) taken inner n = ask_within home (Asks (GlobalFunction at.script (name_at home.scripts at.script at.place) (by_parameter places taken) (default_result result))) inner n
+applied_within home (CallNative at places result) taken inner n = ask_within home (Asks (GlobalNative at (by_parameter places taken))) inner n
+applied_within home (GetProperty name kind) taken inner n = ask_within home (get_of (instance_of (taken_at taken 0)) name (default_of kind)) inner n
 applied_within home (NewArray kind count) taken inner n = tt
 applied_within home Length taken inner n = tt
 applied_within home (Element kind) taken inner n = tt
@@ -282,10 +282,10 @@ effected_within : (home : Home) (effect : Effect) (taken : List Value) (inner : 
 effected_within home (StoreLocal number) taken inner n = tt
 effected_within home (StoreField number) taken inner n = tt
 effected_within home StoreState taken inner n = tt
-effected_within home (StoreProperty name) taken inner n = ask_within home (Set (instance_of (taken_at taken 0)) name (taken_at taken 1)) inner n
+effected_within home (StoreProperty name) taken inner n = ask_within home (set_of (instance_of (taken_at taken 0)) name (taken_at taken 1)) inner n
 effected_within home StoreElement taken inner n = tt
 effected_within home Drop taken inner n = tt
-effected_within home GiveBack taken inner n = ask_within home (Return (taken_at taken 0)) inner n
+effected_within home GiveBack taken inner n = ask_within home (Asks (Return (taken_at taken 0))) inner n
 
 effects_within : (home : Home) (effect : Effect) (taken : List Value) (es : Expressions) (inner : Inner) → StopsWithin (suc (all_nodes es)) (with_effect home effect taken es inner)
 effects_within home effect taken NoExpression inner = effected_within home effect taken inner 1
@@ -296,7 +296,7 @@ effects_within home effect taken (MoreExpressions first rest) inner =
 assigned_within : (home : Home) (target : Value) (name : List ℕ) (operation : Arith) (old right : Value) (inner : Inner) (n : ℕ) → StopsWithin n (property_right home target name operation old right inner)
 assigned_within home target name operation old right inner n =
     let result : Result = calculated operation old right in
-    ask_within home (Set (instance_of target) name result.0) (noted home result.1 inner) n
+    ask_within home (set_of (instance_of target) name result.0) (noted home result.1 inner) n
 
 old_within : (home : Home) (target : Value) (name : List ℕ) (operation : Arith) (right : Expression) (old : Value) (inner : Inner) → StopsWithin (suc (nodes right)) (property_old home target name operation right old inner)
 old_within home target name operation right old inner =
@@ -304,11 +304,11 @@ old_within home target name operation right old inner =
 
 target_within : (home : Home) (name : List ℕ) (kind : CoreType) (operation : Arith) (right : Expression) (target : Value) (inner : Inner) → StopsWithin (suc (nodes right)) (property_target home name kind operation right target inner)
 target_within home name kind operation right target inner =
-    within_then (ask home (Get (instance_of target) name (default_of kind)) inner) (property_old home target name operation right) (PropertyOld target name operation right) 0 (suc (nodes right)) (ask_within home (Get (instance_of target) name (default_of kind)) inner 0) (λ v s. old_within home target name operation right v s) (omega arith)
+    within_then (ask home (get_of (instance_of target) name (default_of kind)) inner) (property_old home target name operation right) (PropertyOld target name operation right) 0 (suc (nodes right)) (ask_within home (get_of (instance_of target) name (default_of kind)) inner 0) (λ v s. old_within home target name operation right v s) (omega arith)
 
 read_within : (home : Home) (array : Value) (kind : CoreType) (operation : Arith) (right : Expression) (index : Value) (inner : Inner) → StopsWithin (suc (nodes right)) (element_index home array kind operation right index inner)
 read_within home array kind operation right index inner =
-    let old = element_of inner.sight.arrays (array_of array) (number_of index) kind in
+    let old = element_of inner.sight.arrays (array_of array) (number_of index) (default_of kind) in
     within_then (evaluated home right (noted home old.1 inner)) (element_right home array index operation old.0) (ElementRight array index operation old.0) (nodes right) (suc (nodes right)) (expression_within home right (noted home old.1 inner)) (λ v s. tt) (omega arith)
 
 array_within : (home : Home) (index : Expression) (kind : CoreType) (operation : Arith) (right : Expression) (array : Value) (inner : Inner) → StopsWithin (suc (nodes index + nodes right)) (element_array home index kind operation right array inner)

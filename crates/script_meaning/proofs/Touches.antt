@@ -96,15 +96,12 @@ module _ {Body : Type 0} where
       ap (λ (w : World). (w, ToEnter target way arguments ∷ frames)) (moves_other turn.own others turn.stack turn.own target world)
 
   acted_other : (turn : Turn) (others : List Instance) (request : Request) (frame : Frame Body) (below : List (Frame Body)) (world : World) → length others ≡ length world.instances → acted turn request frame below (other turn.own others world) ≡ there turn.own others (acted turn request frame below world)
-  acted_other turn others (Method None name arguments otherwise) frame below world c = refl
-  acted_other turn others (Method (Some target) name arguments otherwise) frame below world c = called_other turn others (Some target) (ByMethod name) arguments (frame ∷ below) world
+  acted_other turn others (Method target name arguments otherwise) frame below world c = called_other turn others (Some target) (ByMethod name) arguments (frame ∷ below) world
   acted_other turn others (ParentMethod script name arguments otherwise) frame below world c = refl
   acted_other turn others (GlobalFunction script name arguments otherwise) frame below world c = called_other turn others None (ByGlobal script name) arguments (frame ∷ below) world
   acted_other turn others (GlobalNative at arguments) frame below world c = native_other turn others at arguments (frame ∷ below) world c
-  acted_other turn others (Get None name otherwise) frame below world c = refl
-  acted_other turn others (Get (Some target) name otherwise) frame below world c = called_other turn others (Some target) (ByGet name) [] (frame ∷ below) world
-  acted_other turn others (Set None name value) frame below world c = refl
-  acted_other turn others (Set (Some target) name value) frame below world c = called_other turn others (Some target) (BySet name) (value ∷ []) (frame ∷ below) world
+  acted_other turn others (Get target name otherwise) frame below world c = called_other turn others (Some target) (ByGet name) [] (frame ∷ below) world
+  acted_other turn others (Set target name value) frame below world c = called_other turn others (Some target) (BySet name) (value ∷ []) (frame ∷ below) world
   acted_other turn others LoopPass frame below world c = refl
   acted_other turn others (Return value) frame below world c = returned_other turn others value below world
 

@@ -32,13 +32,13 @@ length_of arrays (Some number) = (values.Int (pos (length (items_of arrays numbe
 abbrev pub is_index : List Value → ℤ → Bool
 is_index items index = if int_lt index (pos 0) then false else nat_lt (unsigned_abs index) (length items)
 
--- the element at an index. A fault gives the default of the element type
-abbrev pub element_of : List ArrayState → Option ℕ → ℤ → CoreType → Result
-element_of arrays None index kind = (default_of kind, Some faults.NoneArray)
-element_of arrays (Some number) index kind =
+-- the element at an index. A fault gives another value, the default of the element type
+abbrev pub element_of : List ArrayState → Option ℕ → ℤ → Value → Result
+element_of arrays None index otherwise = (otherwise, Some faults.NoneArray)
+element_of arrays (Some number) index otherwise =
     if is_index (items_of arrays number) index
     then (slice_index_or (items_of arrays number) (unsigned_abs index) values.NoneValue, None)
-    else (default_of kind, Some faults.IndexRange)
+    else (otherwise, Some faults.IndexRange)
 
 -- why a write is left out, and the arrays after it
 abbrev pub write_fault : List ArrayState → Option ℕ → ℤ → Option StackFault

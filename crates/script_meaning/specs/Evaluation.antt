@@ -8,11 +8,11 @@ use Rattle.core_tree.specs.declared.core_type.CoreType.{CoreType}
 use Rattle.core_tree.specs.declared.operator.Arith.{Arith}
 use Rattle.core_tree.specs.declared.value.Value.{Value}
 use Rattle.core_tree.specs.declared.value.Value.TheVariants as values
-use Rattle.core_tree.specs.Set.{Script, empty_functions}
+use Rattle.core_tree.specs.Set.{Script, Function, empty_functions}
 use Rattle.core_tree.specs.Tree.{Operation, Calculate, Negate, Not, Join, Equal, Compare, Cast, CallMethod, CallParent, CallGlobal, CallNative, GetProperty, NewArray, Length, Element, Find, FindBack, Expression, Literal, Local, Field, SelfValue, StateText, And, Or, Apply, Expressions, NoExpression, MoreExpressions, Effect, StoreLocal, StoreField, StoreState, StoreProperty, StoreElement, Drop, GiveBack, Statement, Do, ChangeProperty, ChangeElement, If, While, Block, NoStatement, MoreStatements, Branches, NoBranch, MoreBranches}
 use Rattle.papy_base.specs.declared.faults.StackFault.{StackFault}
 use Rattle.script_meaning.specs.Arrays.{with_array, new_array, length_of, element_of, write_fault, with_element, found, found_back}
-use Rattle.script_meaning.specs.Requests.{Sight, Setting, Request, Method, ParentMethod, GlobalFunction, GlobalNative, Get, Set, LoopPass, Return, Answer, Reply, Act, answer, faulted_where}
+use Rattle.script_meaning.specs.Requests.{Sight, Setting, Request, ParentMethod, GlobalFunction, GlobalNative, LoopPass, Return, Question, Asks, method_of, get_of, set_of, Answer, Reply, Act, answer, faulted_where}
 use Rattle.script_meaning.specs.Values.{Result, number_of, text_of, instance_of, array_of, default_of, default_result, is_true, cast_to, equal, in_order, calculated, joined, script_name}
 use Rattle.script_meaning.specs.World.{Place, variable_of, with_variable}
 
@@ -68,13 +68,13 @@ abbrev pub place_of : Home → ℕ → Place
 place_of home line =
     record { script = script_name home.setting.outline home.script; function = home.function; line = line }
 
-abbrev pub asked : Request → Inner → Answer → Outcome
-asked request inner (Reply value sight) = Gives value (record inner { sight = sight })
-asked request inner Act = Stops request [] inner
+abbrev pub asked : Inner → Answer → Outcome
+asked inner (Reply value sight) = Gives value (record inner { sight = sight })
+asked inner (Act request) = Stops request [] inner
 
--- a request, which may be answered at once
-abbrev pub ask : Home → Request → Inner → Outcome
-ask home request inner = asked request inner (answer home.setting (place_of home inner.line) request inner.sight)
+-- a question, which may be answered at once
+abbrev pub ask : Home → Question → Inner → Outcome
+ask home question inner = asked inner (answer home.setting (place_of home inner.line) question inner.sight)
 
 -- a result, whose fault is printed
 abbrev pub noted : Home → Option StackFault → Inner → Inner
@@ -104,12 +104,12 @@ abbrev pub self_value : Option ℕ → Value
 self_value None = values.NoneValue
 self_value (Some number) = values.Instance number
 
--- the name of a function of an empty state
-abbrev pub function_names : List Script → List (List (List ℕ))
-function_names scripts = map (λ script. map (λ function. function.name) (empty_functions script)) scripts
+-- the functions of the empty state of the script of this number
+abbrev pub functions_at : List Script → ℕ → List Function
+functions_at scripts script = slice_index_or (map empty_functions scripts) script []
 
 abbrev pub name_at : List Script → ℕ → ℕ → List ℕ
-name_at scripts script place = slice_index_or (slice_index_or (function_names scripts) script []) place []
+name_at scripts script place = slice_index_or (map (λ function. function.name) (functions_at scripts script)) place []
 
 abbrev pub with_new_array : CoreType → ℕ → Inner → Inner
 with_new_array kind count inner =
@@ -126,18 +126,18 @@ applied home (Compare order) taken inner =
     Gives (values.Bool (in_order order (number_of (taken_at taken 0)) (number_of (taken_at taken 1)))) inner
 applied home (Cast to) taken inner = Gives (cast_to home.setting.outline home.setting.instances to (taken_at taken 0)) inner
 applied home (CallMethod name places result) taken inner =
-    ask home (Method (instance_of (taken_at taken 0)) name (by_parameter places (drop 1 taken)) (default_result result)) inner
+    ask home (method_of (instance_of (taken_at taken 0)) name (by_parameter places (drop 1 taken)) (default_result result)) inner
 applied home (CallParent name places result) taken inner =
-    ask home (ParentMethod home.script name (by_parameter places taken) (default_result result)) inner
+    ask home (Asks (ParentMethod home.script name (by_parameter places taken) (default_result result))) inner
 applied home (CallGlobal at places result) taken inner =
-    ask home (GlobalFunction at.script (name_at home.scripts at.script at.place) (by_parameter places taken) (default_result result)) inner
-applied home (CallNative at places result) taken inner = ask home (GlobalNative at (by_parameter places taken)) inner
-applied home (GetProperty name kind) taken inner = ask home (Get (instance_of (taken_at taken 0)) name (default_of kind)) inner
+    ask home (Asks (GlobalFunction at.script (name_at home.scripts at.script at.place) (by_parameter places taken) (default_result result))) inner
+applied home (CallNative at places result) taken inner = ask home (Asks (GlobalNative at (by_parameter places taken))) inner
+applied home (GetProperty name kind) taken inner = ask home (get_of (instance_of (taken_at taken 0)) name (default_of kind)) inner
 applied home (NewArray kind count) taken inner =
     settled home (new_array inner.sight.arrays) (with_new_array kind count inner)
 applied home Length taken inner = settled home (length_of inner.sight.arrays (array_of (taken_at taken 0))) inner
 applied home (Element kind) taken inner =
-    settled home (element_of inner.sight.arrays (array_of (taken_at taken 0)) (number_of (taken_at taken 1)) kind) inner
+    settled home (element_of inner.sight.arrays (array_of (taken_at taken 0)) (number_of (taken_at taken 1)) (default_of kind)) inner
 applied home Find taken inner =
     settled home (found inner.sight.arrays (array_of (taken_at taken 0)) (taken_at taken 1) (number_of (taken_at taken 2))) inner
 applied home FindBack taken inner =
@@ -191,10 +191,10 @@ abbrev pub effected : Home → Effect → List Value → Inner → Outcome
 effected home (StoreLocal number) taken inner = nothing (with_local number (taken_at taken 0) inner)
 effected home (StoreField number) taken inner = nothing (with_field home.script number (taken_at taken 0) inner)
 effected home StoreState taken inner = nothing (with_state (text_of (taken_at taken 0)) inner)
-effected home (StoreProperty name) taken inner = ask home (Set (instance_of (taken_at taken 0)) name (taken_at taken 1)) inner
+effected home (StoreProperty name) taken inner = ask home (set_of (instance_of (taken_at taken 0)) name (taken_at taken 1)) inner
 effected home StoreElement taken inner = nothing (with_stored home (taken_at taken 0) (taken_at taken 1) (taken_at taken 2) inner)
 effected home Drop taken inner = nothing inner
-effected home GiveBack taken inner = ask home (Return (taken_at taken 0)) inner
+effected home GiveBack taken inner = ask home (Asks (Return (taken_at taken 0))) inner
 
 abbrev pub with_effect : Home → Effect → List Value → Expressions → Inner → Outcome
 with_effect home effect taken NoExpression inner = effected home effect taken inner
@@ -205,7 +205,7 @@ with_effect home effect taken (MoreExpressions first rest) inner =
 abbrev pub property_right : Home → Value → List ℕ → Arith → Value → Value → Inner → Outcome
 property_right home target name operation old right inner =
     let result = calculated operation old right in
-    ask home (Set (instance_of target) name result.0) (noted home result.1 inner)
+    ask home (set_of (instance_of target) name result.0) (noted home result.1 inner)
 
 abbrev pub property_old : Home → Value → List ℕ → Arith → Expression → Value → Inner → Outcome
 property_old home target name operation right old inner =
@@ -213,7 +213,7 @@ property_old home target name operation right old inner =
 
 abbrev pub property_target : Home → List ℕ → CoreType → Arith → Expression → Value → Inner → Outcome
 property_target home name kind operation right target inner =
-    then_do (ask home (Get (instance_of target) name (default_of kind)) inner) (property_old home target name operation right) (PropertyOld target name operation right)
+    then_do (ask home (get_of (instance_of target) name (default_of kind)) inner) (property_old home target name operation right) (PropertyOld target name operation right)
 
 abbrev pub element_right : Home → Value → Value → Arith → Value → Value → Inner → Outcome
 element_right home array index operation old right inner =
@@ -222,7 +222,7 @@ element_right home array index operation old right inner =
 
 abbrev pub element_index : Home → Value → CoreType → Arith → Expression → Value → Inner → Outcome
 element_index home array kind operation right index inner =
-    let old = element_of inner.sight.arrays (array_of array) (number_of index) kind in
+    let old = element_of inner.sight.arrays (array_of array) (number_of index) (default_of kind) in
     then_do (evaluated home right (noted home old.1 inner)) (element_right home array index operation old.0) (ElementRight array index operation old.0)
 
 abbrev pub element_array : Home → Expression → CoreType → Arith → Expression → Value → Inner → Outcome

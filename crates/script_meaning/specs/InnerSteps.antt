@@ -8,7 +8,7 @@ use Rattle.core_tree.specs.Set.{Script, Function, Access, Auto, Full}
 use Rattle.core_tree.specs.Tree.{Expression, Literal, Local, Field, SelfValue, StateText, And, Or, Apply, Expressions, NoExpression, MoreExpressions, Statement, Do, ChangeProperty, ChangeElement, If, While, Block, NoStatement, MoreStatements, Branches, NoBranch, MoreBranches}
 use Rattle.script_meaning.specs.Arrays.{element_of}
 use Rattle.script_meaning.specs.Evaluation.{Home, Inner, Pending, Operand, EffectOperand, AndThen, OrElse, PropertyTarget, PropertyOld, PropertyRight, ElementArray, ElementIndex, ElementRight, Test, LoopTest, LoopBody, Loop, Statements, Outcome, Gives, Stops, ask, noted, at_line, evaluated, done, all_done, given}
-use Rattle.script_meaning.specs.Requests.{Sight, Setting, Request, Get, LoopPass}
+use Rattle.script_meaning.specs.Requests.{Sight, Setting, Request, get_of, LoopPass}
 use Rattle.script_meaning.specs.Source.{Body, home_of, reply_or_none, run_body}
 use Rattle.script_meaning.specs.Stacks.{Frame, ToEnter, Running, Entered, Opened, NativeThere, ReadThere, WriteThere, NothingThere, Stop, State}
 use Rattle.script_meaning.specs.Values.{instance_of, array_of, number_of, default_of, is_true}
@@ -78,12 +78,12 @@ right_steps home right inner = expression_steps home right inner + after_value (
 
 abbrev pub old_steps : Home → List ℕ → CoreType → Expression → Value → Inner → ℕ
 old_steps home name kind right target inner =
-    after_value (ask home (Get (instance_of target) name (default_of kind)) inner) (λ old after. right_steps home right after)
+    after_value (ask home (get_of (instance_of target) name (default_of kind)) inner) (λ old after. right_steps home right after)
 
 -- the same of `array[index] += right`
 abbrev pub read_steps : Home → Value → CoreType → Expression → Value → Inner → ℕ
 read_steps home array kind right index inner =
-    right_steps home right (noted home (element_of inner.sight.arrays (array_of array) (number_of index) kind).1 inner)
+    right_steps home right (noted home (element_of inner.sight.arrays (array_of array) (number_of index) (default_of kind)).1 inner)
 
 abbrev pub index_steps : Home → Expression → CoreType → Expression → Value → Inner → ℕ
 index_steps home index kind right array inner =

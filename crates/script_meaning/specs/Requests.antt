@@ -36,24 +36,41 @@ pub record Setting : Type 0 where
   pub natives : List BoundNative
   pub has_room : Bool
 
--- what a body comes to next. A target is an instance or none. `otherwise` is the default of the type of
--- the result
+-- what a body comes to next. A target is an instance. `otherwise` is the default of the type of the result
 pub data Request : Type 0 where
-  Method : (target : Option ℕ) (name : List ℕ) (arguments : List Value) (otherwise : Value) → Request
+  Method : (target : ℕ) (name : List ℕ) (arguments : List Value) (otherwise : Value) → Request
   -- from the parent of this script
   ParentMethod : (script : ℕ) (name : List ℕ) (arguments : List Value) (otherwise : Value) → Request
   -- a Global function with a body, from this script
   GlobalFunction : (script : ℕ) (name : List ℕ) (arguments : List Value) (otherwise : Value) → Request
   GlobalNative : (at : FunctionPlace) (arguments : List Value) → Request
-  Get : (target : Option ℕ) (name : List ℕ) (otherwise : Value) → Request
-  Set : (target : Option ℕ) (name : List ℕ) (value : Value) → Request
+  Get : (target : ℕ) (name : List ℕ) (otherwise : Value) → Request
+  Set : (target : ℕ) (name : List ℕ) (value : Value) → Request
   LoopPass : Request
   Return : (value : Value) → Request
 
--- a request is answered at once, or it is an act
+-- what a body asks for: a request, or one whose target is None, for which a fault is printed and another
+-- value is given
+pub data Question : Type 0 where
+  Asks : (request : Request) → Question
+  AsksNone : (fault : StackFault) (otherwise : Value) → Question
+
+abbrev pub method_of : Option ℕ → List ℕ → List Value → Value → Question
+method_of None name arguments otherwise = AsksNone faults.NoneCall otherwise
+method_of (Some target) name arguments otherwise = Asks (Method target name arguments otherwise)
+
+abbrev pub get_of : Option ℕ → List ℕ → Value → Question
+get_of None name otherwise = AsksNone faults.NoneProperty otherwise
+get_of (Some target) name otherwise = Asks (Get target name otherwise)
+
+abbrev pub set_of : Option ℕ → List ℕ → Value → Question
+set_of None name value = AsksNone faults.NoneProperty values.NoneValue
+set_of (Some target) name value = Asks (Set target name value)
+
+-- a question is answered at once, or it is an act
 pub data Answer : Type 0 where
   Reply : (value : Value) (sight : Sight) → Answer
-  Act : Answer
+  Act : (request : Request) → Answer
 
 -- ---- lines
 abbrev pub with_line : Sight → Line → Sight
@@ -137,24 +154,28 @@ performed_at setting at arguments sight =
 
 -- ---- what is answered at once
 -- a call that needs a frame
-abbrev pub framed : Setting → Place → Value → Sight → Answer
-framed setting at otherwise sight =
-    if setting.has_room then Act else Reply otherwise (faulted setting at faults.FrameLimit sight)
+abbrev pub framed : Setting → Place → Request → Value → Sight → Answer
+framed setting at request otherwise sight =
+    if setting.has_room then Act request else Reply otherwise (faulted setting at faults.FrameLimit sight)
 
 abbrev pub replied : Value × Sight → Answer
 replied answer = Reply answer.0 answer.1
 
+abbrev pub request_answer : Setting → Place → Request → Sight → Answer
+request_answer setting at (Method target name arguments otherwise) sight =
+    framed setting at (Method target name arguments otherwise) otherwise sight
+request_answer setting at (ParentMethod script name arguments otherwise) sight =
+    framed setting at (ParentMethod script name arguments otherwise) otherwise sight
+request_answer setting at (GlobalFunction script name arguments otherwise) sight =
+    framed setting at (GlobalFunction script name arguments otherwise) otherwise sight
+request_answer setting at (GlobalNative native arguments) sight =
+    if is_prompt (binding_in setting.natives native) then replied (performed_at setting native arguments sight) else Act (GlobalNative native arguments)
+request_answer setting at (Get target name otherwise) sight = framed setting at (Get target name otherwise) otherwise sight
+request_answer setting at (Set target name value) sight = framed setting at (Set target name value) values.NoneValue sight
+request_answer setting at LoopPass sight = Act LoopPass
+request_answer setting at (Return value) sight = Act (Return value)
+
 -- the target is tested before the frame limit
-abbrev pub answer : Setting → Place → Request → Sight → Answer
-answer setting at (Method None name arguments otherwise) sight = Reply otherwise (faulted setting at faults.NoneCall sight)
-answer setting at (Method (Some target) name arguments otherwise) sight = framed setting at otherwise sight
-answer setting at (ParentMethod script name arguments otherwise) sight = framed setting at otherwise sight
-answer setting at (GlobalFunction script name arguments otherwise) sight = framed setting at otherwise sight
-answer setting at (GlobalNative native arguments) sight =
-    if is_prompt (binding_in setting.natives native) then replied (performed_at setting native arguments sight) else Act
-answer setting at (Get None name otherwise) sight = Reply otherwise (faulted setting at faults.NoneProperty sight)
-answer setting at (Get (Some target) name otherwise) sight = framed setting at otherwise sight
-answer setting at (Set None name value) sight = Reply values.NoneValue (faulted setting at faults.NoneProperty sight)
-answer setting at (Set (Some target) name value) sight = framed setting at values.NoneValue sight
-answer setting at LoopPass sight = Act
-answer setting at (Return value) sight = Act
+abbrev pub answer : Setting → Place → Question → Sight → Answer
+answer setting at (Asks request) sight = request_answer setting at request sight
+answer setting at (AsksNone fault otherwise) sight = Reply otherwise (faulted setting at fault sight)

@@ -1,5 +1,5 @@
 -- The engine of the typed trees, and the runs of a script set.
-use Rattle.std.specs.Prelude.{ℕ, Bool, if◌then◌else◌, List, [], ◌∷◌, ◌++◌, map, position, Option, Some, None, slice_get}
+use Rattle.std.specs.Prelude.{ℕ, ◌==◌, Bool, if◌then◌else◌, List, [], ◌∷◌, ◌++◌, length, map, position, Option, Some, None, slice_get}
 use Rattle.std.specs.List.{find}
 use Rattle.std.specs.Str.{str_eq_ignore_ascii_case}
 use Rattle.core_tree.specs.declared.DeviceKind.{DeviceKind}
@@ -9,8 +9,8 @@ use Rattle.core_tree.specs.declared.value.Value.TheVariants.{NoneValue}
 use Rattle.core_tree.specs.declared.script.CoreSet.{CoreSet}
 use Rattle.core_tree.specs.Outlines.{ScriptShape, script_outline}
 use Rattle.core_tree.specs.Scenes.{SceneShape}
-use Rattle.core_tree.specs.Set.{Script, Function, State as ScriptState, Property, Access, Auto, Full, empty_functions, scripts_of}
-use Rattle.script_meaning.specs.Evaluation.{Home, Pending, Statements, Outcome, Gives, Stops, resumed}
+use Rattle.core_tree.specs.Set.{Script, Function, State as ScriptState, Property, Access, Auto, Full, scripts_of}
+use Rattle.script_meaning.specs.Evaluation.{Home, Pending, Statements, Outcome, Gives, Stops, functions_at, resumed}
 use Rattle.script_meaning.specs.First.{first_state}
 use Rattle.script_meaning.specs.Requests.{Sight, Setting, Return}
 use Rattle.script_meaning.specs.Stacks.{Way, ByMethod, ByParent, ByGlobal, ByGet, BySet, Entered, Opened, NativeThere, ReadThere, WriteThere, NothingThere, Stop, Engine}
@@ -55,9 +55,14 @@ run_body scripts setting body reply sight =
     stop_at body (resumed (home_of scripts setting body) body.pending (reply_or_none reply) (record { locals = body.locals; line = body.line; sight = sight }))
 
 -- ---- look-up, with case ignored
+abbrev pub body_of : ℕ → List ℕ → Function → List Value → Body
+body_of script name function arguments =
+    record { script = script; function = name; ending = default_result function.result; locals = arguments ++ map default_of function.locals; line = 0; pending = Statements function.body ∷ [] }
+
+-- a body opens with as many arguments as its function has parameters
 abbrev pub opened : ℕ → List ℕ → Function → List Value → Entered Body
 opened script name function arguments =
-    Opened (record { script = script; function = name; ending = default_result function.result; locals = arguments ++ map default_of function.locals; line = 0; pending = Statements function.body ∷ [] })
+    if length arguments == length function.parameters then Opened (body_of script name function arguments) else NothingThere
 
 abbrev pub named : List ℕ → Function → Bool
 named name function = str_eq_ignore_ascii_case function.name name
@@ -70,10 +75,6 @@ functions_of_state (first ∷ rest) state =
 abbrev pub state_functions : Option Script → List ℕ → List Function
 state_functions None state = []
 state_functions (Some script) state = functions_of_state script.states state
-
-abbrev pub empty_state_functions : Option Script → List Function
-empty_state_functions None = []
-empty_state_functions (Some script) = empty_functions script
 
 abbrev pub with_script : {X : Type 0} → ℕ → Option X → Option (ℕ × X)
 with_script script None = None
@@ -90,7 +91,7 @@ first_function functions (script ∷ above) name =
     or_else_found (with_script script (find (named name) (functions script))) (first_function functions above name)
 
 abbrev pub first_empty : List Script → List ℕ → List ℕ → Option (ℕ × Function)
-first_empty scripts upward name = first_function (λ script. empty_state_functions (slice_get scripts script)) upward name
+first_empty scripts upward name = first_function (functions_at scripts) upward name
 
 -- in the state of this name from the first script upward, and then in the empty states
 abbrev pub method_in : List Script → List ℕ → List ℕ → List ℕ → Option (ℕ × Function)
@@ -104,7 +105,7 @@ place_or_first (Some place) = place
 -- a native function is known by its script and its place in the empty state
 abbrev pub native_there : List Script → ℕ → List ℕ → FunctionPlace
 native_there scripts script name =
-    record { script = script; place = place_or_first (position (named name) (empty_state_functions (slice_get scripts script))) }
+    record { script = script; place = place_or_first (position (named name) (functions_at scripts script)) }
 
 abbrev pub function_entered : List Script → List Value → Option (ℕ × Function) → Entered Body
 function_entered scripts arguments None = NothingThere

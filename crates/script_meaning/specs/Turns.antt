@@ -61,19 +61,16 @@ native_done turn at arguments (waiting ∷ below) world =
 
 -- the acts of a running body. `frames` begins with its frame
 abbrev pub acted : {Body : Type 0} → Turn → Request → Frame Body → List (Frame Body) → World → After Body
-acted turn (Method (Some target) name arguments otherwise) frame below world =
+acted turn (Method target name arguments otherwise) frame below world =
     called turn (Some target) (ByMethod name) arguments (frame ∷ below) world
-acted turn (Method None name arguments otherwise) frame below world = (world, frame ∷ below)
 acted turn (ParentMethod script name arguments otherwise) frame below world =
     (world, ToEnter turn.own (ByParent script name) arguments ∷ frame ∷ below)
 acted turn (GlobalFunction script name arguments otherwise) frame below world =
     called turn None (ByGlobal script name) arguments (frame ∷ below) world
 acted turn (GlobalNative at arguments) frame below world = native_done turn at arguments (frame ∷ below) world
-acted turn (Get (Some target) name otherwise) frame below world = called turn (Some target) (ByGet name) [] (frame ∷ below) world
-acted turn (Get None name otherwise) frame below world = (world, frame ∷ below)
-acted turn (Set (Some target) name value) frame below world =
+acted turn (Get target name otherwise) frame below world = called turn (Some target) (ByGet name) [] (frame ∷ below) world
+acted turn (Set target name value) frame below world =
     called turn (Some target) (BySet name) (value ∷ []) (frame ∷ below) world
-acted turn (Set None name value) frame below world = (world, frame ∷ below)
 acted turn LoopPass frame below world = (world, frame ∷ below)
 acted turn (Return value) frame below world = returned turn value below world
 
