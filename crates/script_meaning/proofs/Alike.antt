@@ -7,13 +7,14 @@ use Rattle.core_tree.specs.declared.value.Value.{Value}
 use Rattle.core_tree.specs.Outlines.{ScriptShape}
 use Rattle.core_tree.specs.Scenes.{SceneShape, CallShape}
 use Rattle.script_meaning.specs.First.{first_state}
+use Rattle.script_meaning.specs.Fits.{Fitting, ReplyFits, InnermostFits, TurnFits, NextTurnFits}
 use Rattle.script_meaning.specs.Locks.{let_go, goes_to_wait, rests, moves, takes}
-use Rattle.script_meaning.specs.Related.{EnteredAlike, both_open, both_native, both_read, both_write, both_nothing, StopsAlike, EnginesAlike}
+use Rattle.script_meaning.specs.Related.{EnteredAlike, both_open, both_native, both_read, both_write, both_nothing, UnlessReturned, StopsAlike, EnginesAlike}
 use Rattle.script_meaning.specs.Requests.{Sight, Setting, Request, Method, ParentMethod, GlobalFunction, GlobalNative, Get, Set, LoopPass, Return, binding_in, is_prompt, latency_of, performed_at}
 use Rattle.script_meaning.specs.Stacks.{Way, ByMethod, ByParent, ByGlobal, ByGet, BySet, Frame, ToEnter, Running, Entered, Stop, Engine, State, frame_instance, inner_instance, frames_of, stack_limit, frame_limit, has_room}
-use Rattle.script_meaning.specs.Turns.{sight_of, with_sight, Turn, After, with_reply, returned, native_done, acted, past_pass, run_on, stopped, ran, native_entered, entered, in_turn, turn_of, after_turn, turn_ended, turned, instance_script, call_started, calls_started, is_due, not_due, all_wait, awoken, begun, chosen, has_ended, chosen_turned, step, states_from}
+use Rattle.script_meaning.specs.Turns.{sight_of, with_sight, Turn, After, with_reply, returned, native_done, acted, past_pass, run_on, stopped, ran, native_entered, entered, in_turn, setting_of, turn_of, after_turn, turn_ended, turned, instance_script, call_started, calls_started, is_due, not_due, all_wait, awoken, begun, chosen, has_ended, chosen_turned, step, states_from}
 use Rattle.script_meaning.specs.World.{World, title}
-use Rattle.std.specs.List.{filter}
+use Rattle.std.specs.List.{filter, AllByRecursion}
 use Rattle.std.proofs.Math.Dec.{eqb}
 
 module _ {B C : Type 0} (R : B → C → Type 0) where
@@ -82,89 +83,107 @@ module _ {B C : Type 0} (R : B → C → Type 0) where
       let done : Value × Sight = performed_at turn.setting at arguments (sight_of world turn.own) in
       (ap (λ o. rests turn.stack o (latency_of (binding_in turn.setting.natives at) arguments) (let_go turn.stack (with_sight world turn.own done.1))) (same_instance_of f), more_frames (replies_alike done.0 f) fs)
 
-  acted_alike : (turn : Turn) (request : Request) (world : World) {f : Frame B} {g : Frame C} {fs : List (Frame B)} {gs : List (Frame C)} → FramesAlike f g → StackAlike fs gs → AfterAlike (acted turn request f fs world) (acted turn request g gs world)
-  acted_alike turn (Method target name arguments otherwise) world f fs = (refl, more_frames (both_enter (Some target) (ByMethod name) arguments) (more_frames f fs))
-  acted_alike turn (ParentMethod script name arguments otherwise) world f fs = (refl, more_frames (both_enter turn.own (ByParent script name) arguments) (more_frames f fs))
-  acted_alike turn (GlobalFunction script name arguments otherwise) world f fs = (refl, more_frames (both_enter None (ByGlobal script name) arguments) (more_frames f fs))
-  acted_alike turn (GlobalNative at arguments) world f fs = native_alike turn at arguments world (more_frames f fs)
-  acted_alike turn (Get target name otherwise) world f fs = (refl, more_frames (both_enter (Some target) (ByGet name) []) (more_frames f fs))
-  acted_alike turn (Set target name value) world f fs = (refl, more_frames (both_enter (Some target) (BySet name) (value ∷ [])) (more_frames f fs))
-  acted_alike turn LoopPass world f fs = (refl, more_frames f fs)
-  acted_alike turn (Return value) world f fs = returned_alike turn value world fs
+  -- what holds unless a body returned
+  returned_or : {X Y : Type 0} (request : Request) → (X → Y) → UnlessReturned request X → UnlessReturned request Y
+  returned_or (Method target name arguments otherwise) f x = f x
+  returned_or (ParentMethod script name arguments otherwise) f x = f x
+  returned_or (GlobalFunction script name arguments otherwise) f x = f x
+  returned_or (GlobalNative at arguments) f x = f x
+  returned_or (Get target name otherwise) f x = f x
+  returned_or (Set target name value) f x = f x
+  returned_or LoopPass f x = f x
+  returned_or (Return value) f x = tt
 
-  -- ---- inner steps
-  passes_alike : (request : Request) (left : Stop B) (right : Stop C) (go : B → Sight → Stop B) (go' : C → Sight → Stop C) → StopsAlike R left right → StopsAlike R (go left.body left.sight) (go' right.body right.sight) → StopsAlike R (past_pass go left request) (past_pass go' right request)
-  passes_alike (Method target name arguments otherwise) left right go go' a b = a
-  passes_alike (ParentMethod script name arguments otherwise) left right go go' a b = a
-  passes_alike (GlobalFunction script name arguments otherwise) left right go go' a b = a
-  passes_alike (GlobalNative at arguments) left right go go' a b = a
-  passes_alike (Get target name otherwise) left right go go' a b = a
-  passes_alike (Set target name value) left right go go' a b = a
-  passes_alike LoopPass left right go go' a b = b
-  passes_alike (Return value) left right go go' a b = a
+  acted_alike : (turn : Turn) (request : Request) (world : World) (f : Frame B) (g : Frame C) {fs : List (Frame B)} {gs : List (Frame C)} → UnlessReturned request (FramesAlike f g) → StackAlike fs gs → AfterAlike (acted turn request f fs world) (acted turn request g gs world)
+  acted_alike turn (Method target name arguments otherwise) world f g a fs = (refl, more_frames (both_enter (Some target) (ByMethod name) arguments) (more_frames a fs))
+  acted_alike turn (ParentMethod script name arguments otherwise) world f g a fs = (refl, more_frames (both_enter turn.own (ByParent script name) arguments) (more_frames a fs))
+  acted_alike turn (GlobalFunction script name arguments otherwise) world f g a fs = (refl, more_frames (both_enter None (ByGlobal script name) arguments) (more_frames a fs))
+  acted_alike turn (GlobalNative at arguments) world f g a fs = native_alike turn at arguments world (more_frames a fs)
+  acted_alike turn (Get target name otherwise) world f g a fs = (refl, more_frames (both_enter (Some target) (ByGet name) []) (more_frames a fs))
+  acted_alike turn (Set target name value) world f g a fs = (refl, more_frames (both_enter (Some target) (BySet name) (value ∷ [])) (more_frames a fs))
+  acted_alike turn LoopPass world f g a fs = (refl, more_frames a fs)
+  acted_alike turn (Return value) world f g a fs = returned_alike turn value world fs
 
-  module _ (left : Engine B) (right : Engine C) (alike : EnginesAlike R left right) where
-    run_on_alike : (setting : Setting) (passes : ℕ) (b : B) (c : C) (reply : Option Value) (sight : Sight) → R b c → StopsAlike R (run_on left setting passes b reply sight) (run_on right setting passes c reply sight)
-    run_on_alike setting zero b c reply sight r = alike.run setting b c reply sight r
-    run_on_alike setting (suc passes) b c reply sight r =
+  pub record StatesAlike (s : State B) (t : State C) : Type 0 where
+    pub world : s.world ≡ t.world
+    pub stacks : StacksAlike s.stacks t.stacks
+
+  module _ (fitting : Fitting B) (left : Engine B) (right : Engine C) (alike : EnginesAlike fitting R left right) where
+    -- ---- inner steps
+    abbrev Stopped : Setting → Stop B → Stop C → Type 0
+    Stopped setting s t = StopsAlike fitting R setting s t
+
+    passes_alike : (setting : Setting) (request : Request) (s : Stop B) (t : Stop C) (go : B → Sight → Stop B) (go' : C → Sight → Stop C) → Stopped setting s t → UnlessReturned request (R s.body t.body) → UnlessReturned request (fitting.sight setting s.sight × fitting.body setting s.sight s.body) → (R s.body t.body → (fitting.sight setting s.sight × fitting.body setting s.sight s.body) → Stopped setting (go s.body s.sight) (go' t.body t.sight)) → Stopped setting (past_pass go s request) (past_pass go' t request)
+    passes_alike setting (Method target name arguments otherwise) s t go go' a r f more = a
+    passes_alike setting (ParentMethod script name arguments otherwise) s t go go' a r f more = a
+    passes_alike setting (GlobalFunction script name arguments otherwise) s t go go' a r f more = a
+    passes_alike setting (GlobalNative at arguments) s t go go' a r f more = a
+    passes_alike setting (Get target name otherwise) s t go go' a r f more = a
+    passes_alike setting (Set target name value) s t go go' a r f more = a
+    passes_alike setting LoopPass s t go go' a r f more = more r f
+    passes_alike setting (Return value) s t go go' a r f more = a
+
+    run_on_alike : (setting : Setting) (passes : ℕ) (b : B) (c : C) (reply : Option Value) (sight : Sight) → R b c → fitting.sight setting sight → fitting.body setting sight b → ReplyFits fitting setting sight b reply → Stopped setting (run_on left setting passes b reply sight) (run_on right setting passes c reply sight)
+    run_on_alike setting zero b c reply sight r f h g = alike.run setting b c reply sight r f h g
+    run_on_alike setting (suc passes) b c reply sight r f h g =
         let s : Stop B = left.run setting b reply sight in
         let t : Stop C = right.run setting c reply sight in
-        let a : StopsAlike R s t = alike.run setting b c reply sight r in
+        let a : Stopped setting s t = alike.run setting b c reply sight r f h g in
         let go : B → Sight → Stop B = λ next after. run_on left setting passes next None after in
         let go' : C → Sight → Stop C = λ next after. run_on right setting passes next None after in
-        let more : StopsAlike R (go s.body s.sight) (go' t.body t.sight) = subst (λ x. StopsAlike R (go s.body s.sight) (go' t.body x)) a.sight (run_on_alike setting passes s.body t.body None s.sight a.bodies) in
-        subst (λ q. StopsAlike R (past_pass go s s.request) (past_pass go' t q)) a.request (passes_alike s.request s t go go' a more)
+        let more : R s.body t.body → (fitting.sight setting s.sight × fitting.body setting s.sight s.body) → Stopped setting (go s.body s.sight) (go' t.body t.sight) = λ related fits. subst (λ x. Stopped setting (go s.body s.sight) (go' t.body x)) a.sight (run_on_alike setting passes s.body t.body None s.sight related fits.0 fits.1 tt) in
+        subst (λ q. Stopped setting (past_pass go s s.request) (past_pass go' t q)) a.request (passes_alike setting s.request s t go go' a a.bodies a.fits more)
 
-    stopped_alike : (turn : Turn) (world : World) (s : Stop B) (t : Stop C) {fs : List (Frame B)} {gs : List (Frame C)} → StopsAlike R s t → StackAlike fs gs → AfterAlike (stopped turn world fs s) (stopped turn world gs t)
+    stopped_alike : (turn : Turn) (world : World) (s : Stop B) (t : Stop C) {fs : List (Frame B)} {gs : List (Frame C)} → Stopped turn.setting s t → StackAlike fs gs → AfterAlike (stopped turn world fs s) (stopped turn world gs t)
     stopped_alike turn world s t {fs} {gs} a below =
-        let here : AfterAlike (acted turn s.request (Running turn.own s.body None) fs (with_sight world turn.own s.sight)) (acted turn s.request (Running turn.own t.body None) gs (with_sight world turn.own s.sight)) = acted_alike turn s.request (with_sight world turn.own s.sight) (both_run turn.own None a.bodies) below in
+        let here : AfterAlike (acted turn s.request (Running turn.own s.body None) fs (with_sight world turn.own s.sight)) (acted turn s.request (Running turn.own t.body None) gs (with_sight world turn.own s.sight)) = acted_alike turn s.request (with_sight world turn.own s.sight) (Running turn.own s.body None) (Running turn.own t.body None) (returned_or s.request (λ r. both_run turn.own None r) a.bodies) below in
         subst (λ x. AfterAlike (stopped turn world fs s) (acted turn t.request (Running turn.own t.body None) gs (with_sight world turn.own x))) a.sight (subst (λ q. AfterAlike (stopped turn world fs s) (acted turn q (Running turn.own t.body None) gs (with_sight world turn.own s.sight))) a.request here)
 
-    ran_alike : (scene : SceneShape) (turn : Turn) (world : World) (b : B) (c : C) (reply : Option Value) {fs : List (Frame B)} {gs : List (Frame C)} → R b c → StackAlike fs gs → AfterAlike (ran scene left turn world fs b reply) (ran scene right turn world gs c reply)
-    ran_alike scene turn world b c reply r below =
-        stopped_alike turn world (run_on left turn.setting (pred scene.quantum) b reply (sight_of world turn.own)) (run_on right turn.setting (pred scene.quantum) c reply (sight_of world turn.own)) (run_on_alike turn.setting (pred scene.quantum) b c reply (sight_of world turn.own) r) below
+    ran_alike : (scene : SceneShape) (turn : Turn) (world : World) (b : B) (c : C) (reply : Option Value) {fs : List (Frame B)} {gs : List (Frame C)} → R b c → fitting.sight turn.setting (sight_of world turn.own) → fitting.body turn.setting (sight_of world turn.own) b → ReplyFits fitting turn.setting (sight_of world turn.own) b reply → StackAlike fs gs → AfterAlike (ran scene left turn world fs b reply) (ran scene right turn world gs c reply)
+    ran_alike scene turn world b c reply r f h g below =
+        stopped_alike turn world (run_on left turn.setting (pred scene.quantum) b reply (sight_of world turn.own)) (run_on right turn.setting (pred scene.quantum) c reply (sight_of world turn.own)) (run_on_alike turn.setting (pred scene.quantum) b c reply (sight_of world turn.own) r f h g) below
 
     native_entered_alike : (turn : Turn) (at : FunctionPlace) (arguments : List Value) (world : World) (prompt : Bool) {fs : List (Frame B)} {gs : List (Frame C)} → StackAlike fs gs → AfterAlike (native_entered turn at arguments world fs prompt) (native_entered turn at arguments world gs prompt)
     native_entered_alike turn at arguments world true below = returned_alike turn _ _ below
     native_entered_alike turn at arguments world false below = native_alike turn at arguments world below
 
-    entered_alike : (scene : SceneShape) (turn : Turn) (world : World) (arguments : List Value) {fs : List (Frame B)} {gs : List (Frame C)} → StackAlike fs gs → {e : Entered B} {d : Entered C} → EnteredAlike R e d → AfterAlike (entered scene left turn world fs arguments e) (entered scene right turn world gs arguments d)
-    entered_alike scene turn world arguments below (both_open {b} {c} r) = ran_alike scene turn world b c None r below
-    entered_alike scene turn world arguments below (both_native at) = native_entered_alike turn at arguments world (is_prompt (binding_in turn.setting.natives at)) below
-    entered_alike scene turn world arguments below (both_read script variable) = returned_alike turn _ _ below
-    entered_alike scene turn world arguments below (both_write script variable) = returned_alike turn _ _ below
-    entered_alike scene turn world arguments below both_nothing = returned_alike turn _ _ below
+    entered_alike : (scene : SceneShape) (turn : Turn) (world : World) (arguments : List Value) {fs : List (Frame B)} {gs : List (Frame C)} → StackAlike fs gs → fitting.sight turn.setting (sight_of world turn.own) → {e : Entered B} {d : Entered C} → EnteredAlike (λ b c. R b c × fitting.body turn.setting (sight_of world turn.own) b) e d → AfterAlike (entered scene left turn world fs arguments e) (entered scene right turn world gs arguments d)
+    entered_alike scene turn world arguments below s (both_open {b} {c} r) = ran_alike scene turn world b c None r.0 s r.1 tt below
+    entered_alike scene turn world arguments below s (both_native at) = native_entered_alike turn at arguments world (is_prompt (binding_in turn.setting.natives at)) below
+    entered_alike scene turn world arguments below s (both_read script variable) = returned_alike turn _ _ below
+    entered_alike scene turn world arguments below s (both_write script variable) = returned_alike turn _ _ below
+    entered_alike scene turn world arguments below s both_nothing = returned_alike turn _ _ below
 
-    in_turn_alike : (scene : SceneShape) (turn : Turn) (world : World) {f : Frame B} {g : Frame C} {fs : List (Frame B)} {gs : List (Frame C)} → FramesAlike f g → StackAlike fs gs → AfterAlike (in_turn scene left turn world f fs) (in_turn scene right turn world g gs)
-    in_turn_alike scene turn world (both_enter instance way arguments) below =
-        entered_alike scene turn world arguments below (alike.enter (instance_script world instance) (sight_of world instance).state way arguments)
-    in_turn_alike scene turn world (both_run {b} {c} instance reply r) below = ran_alike scene turn world b c reply r below
+    abbrev turn_on : ℕ → Setting → Option ℕ → Turn
+    turn_on k setting own = record { stack = k; own = own; setting = setting }
+
+    in_turn_alike : (scene : SceneShape) (k : ℕ) (setting : Setting) (world : World) {f : Frame B} {g : Frame C} {fs : List (Frame B)} {gs : List (Frame C)} → FramesAlike f g → StackAlike fs gs → InnermostFits fitting setting world (f ∷ fs) → AfterAlike (in_turn scene left (turn_on k setting (frame_instance f)) world f fs) (in_turn scene right (turn_on k setting (frame_instance f)) world g gs)
+    in_turn_alike scene k setting world (both_enter instance way arguments) below i =
+        entered_alike scene (turn_on k setting instance) world arguments below i.0 (alike.enter setting (sight_of world instance) (instance_script world instance) way arguments i.0 i.1)
+    in_turn_alike scene k setting world (both_run {b} {c} instance reply r) below i =
+        ran_alike scene (turn_on k setting instance) world b c reply r i.0 (i.1).0 (i.1).1 below
 
     -- ---- turns
     turn_from : SceneShape → World → ℕ → Option ℕ → Bool → Turn
     turn_from scene world k own room =
         record { stack = k; own = own; setting = record { stack = k; self = own; outline = world.outline; instances = map title world.instances; natives = scene.natives; has_room = room } }
 
-    after_alike : (scene : SceneShape) (world : World) (ss : List (List (Frame B))) (ts : List (List (Frame C))) (k : ℕ) → StacksAlike ss ts → {fs : List (Frame B)} {gs : List (Frame C)} → StackAlike fs gs → AfterAlike (after_turn scene left world ss k fs) (after_turn scene right world ts k gs)
+    after_alike : (scene : SceneShape) (world : World) (ss : List (List (Frame B))) (ts : List (List (Frame C))) (k : ℕ) → StacksAlike ss ts → {fs : List (Frame B)} {gs : List (Frame C)} → StackAlike fs gs → InnermostFits fitting (setting_of scene world ss k (inner_instance fs)) world fs → AfterAlike (after_turn scene left world ss k fs) (after_turn scene right world ts k gs)
     unfolding turn_from
-    after_alike scene world ss ts k all no_frames = (refl, no_frames)
-    after_alike scene world ss ts k all (more_frames {f} {g} {fs} {gs} a below) =
-        let here : AfterAlike (in_turn scene left (turn_of scene world ss k (frame_instance f)) world f fs) (in_turn scene right (turn_of scene world ss k (frame_instance f)) world g gs) = in_turn_alike scene (turn_of scene world ss k (frame_instance f)) world a below in
+    after_alike scene world ss ts k all no_frames n = (refl, no_frames)
+    after_alike scene world ss ts k all (more_frames {f} {g} {fs} {gs} a below) n =
+        let here : AfterAlike (in_turn scene left (turn_of scene world ss k (frame_instance f)) world f fs) (in_turn scene right (turn_of scene world ss k (frame_instance f)) world g gs) = in_turn_alike scene k (setting_of scene world ss k (frame_instance f)) world a below n in
         let room : AfterAlike (in_turn scene left (turn_of scene world ss k (frame_instance f)) world f fs) (in_turn scene right (turn_of scene world ts k (frame_instance f)) world g gs) = subst (λ x. AfterAlike (in_turn scene left (turn_of scene world ss k (frame_instance f)) world f fs) (in_turn scene right (turn_from scene world k (frame_instance f) x) world g gs)) (same_room k all) here in
         subst (λ o. AfterAlike (in_turn scene left (turn_of scene world ss k (frame_instance f)) world f fs) (in_turn scene right (turn_of scene world ts k o) world g gs)) (same_instance_of a) room
 
-    pub record StatesAlike (s : State B) (t : State C) : Type 0 where
-      pub world : s.world ≡ t.world
-      pub stacks : StacksAlike s.stacks t.stacks
-
-    turned_alike : (scene : SceneShape) (world : World) (k : ℕ) {ss : List (List (Frame B))} {ts : List (List (Frame C))} → StacksAlike ss ts → StatesAlike (turned scene left (record { world = world; stacks = ss }) k) (turned scene right (record { world = world; stacks = ts }) k)
-    turned_alike scene world k {ss} {ts} a =
-        let after : AfterAlike (after_turn scene left (takes k world) ss k (frames_of ss k)) (after_turn scene right (takes k world) ts k (frames_of ts k)) = after_alike scene (takes k world) ss ts k a (frames_alike k a) in
+    turned_alike : (scene : SceneShape) (world : World) (k : ℕ) {ss : List (List (Frame B))} {ts : List (List (Frame C))} → TurnFits fitting scene (record { world = world; stacks = ss }) k → StacksAlike ss ts → StatesAlike (turned scene left (record { world = world; stacks = ss }) k) (turned scene right (record { world = world; stacks = ts }) k)
+    turned_alike scene world k {ss} {ts} n a =
+        let after : AfterAlike (after_turn scene left (takes k world) ss k (frames_of ss k)) (after_turn scene right (takes k world) ts k (frames_of ts k)) = after_alike scene (takes k world) ss ts k a (frames_alike k a) n in
         record { world = ap (λ w. turn_ended w k) after.0; stacks = set_alike k after.1 a }
 
-    chosen_alike : (scene : SceneShape) (world : World) (o : Option ℕ) {ss : List (List (Frame B))} {ts : List (List (Frame C))} → StacksAlike ss ts → StatesAlike (chosen_turned scene left (record { world = world; stacks = ss }) o) (chosen_turned scene right (record { world = world; stacks = ts }) o)
-    chosen_alike scene world None a = record { world = refl; stacks = a }
-    chosen_alike scene world (Some k) a = turned_alike scene world k a
+    chosen_alike : (scene : SceneShape) (world : World) (o : Option ℕ) {ss : List (List (Frame B))} {ts : List (List (Frame C))} → ((k : ℕ) → TurnFits fitting scene (record { world = world; stacks = ss }) k) → StacksAlike ss ts → StatesAlike (chosen_turned scene left (record { world = world; stacks = ss }) o) (chosen_turned scene right (record { world = world; stacks = ts }) o)
+    chosen_alike scene world None n a = record { world = refl; stacks = a }
+    chosen_alike scene world (Some k) n a = turned_alike scene world k (n k) a
 
     -- ---- the start of a turn
     both_states : (now : Bool) (s s' : State B) (t t' : State C) → StatesAlike s t → StatesAlike s' t' → StatesAlike (cond now s s') (cond now t t')
@@ -194,26 +213,26 @@ module _ {B C : Type 0} (R : B → C → Type 0) where
       stacks = a.stacks;
     }
 
-    pub step_alike : (scene : SceneShape) (s : State B) (t : State C) → StatesAlike s t → StatesAlike (step scene left s) (step scene right t)
-    step_alike scene s t a =
+    pub step_alike : (scene : SceneShape) (s : State B) (t : State C) → NextTurnFits fitting scene s → StatesAlike s t → StatesAlike (step scene left s) (step scene right t)
+    step_alike scene s t n a =
         let b : StatesAlike (begun scene s) (begun scene t) = awoken_alike (calls_started scene.calls s) (calls_started scene.calls t) (calls_alike scene.calls s t a) in
-        let here : StatesAlike (step scene left s) (chosen_turned scene right (record { world = (begun scene s).world; stacks = (begun scene t).stacks }) (chosen scene.order (begun scene s).world)) = chosen_alike scene (begun scene s).world (chosen scene.order (begun scene s).world) b.stacks in
+        let here : StatesAlike (step scene left s) (chosen_turned scene right (record { world = (begun scene s).world; stacks = (begun scene t).stacks }) (chosen scene.order (begun scene s).world)) = chosen_alike scene (begun scene s).world (chosen scene.order (begun scene s).world) n b.stacks in
         subst (λ (w : World). StatesAlike (step scene left s) (chosen_turned scene right (record { world = w; stacks = (begun scene t).stacks }) (chosen scene.order w))) b.world here
 
     -- ---- runs
     abbrev worlds_of : {Body : Type 0} → List (State Body) → List World
     worlds_of states = map (λ state. state.world) states
 
-    same_tail : (ended : Bool) (more : List (State B)) (more' : List (State C)) → worlds_of more ≡ worlds_of more' → worlds_of (cond ended [] more) ≡ worlds_of (cond ended [] more')
-    same_tail true more more' e = refl
-    same_tail false more more' e = e
+    same_tail : (P : State B → Type 0) (ended : Bool) (more : List (State B)) (more' : List (State C)) → AllByRecursion P (cond ended [] more) → (AllByRecursion P more → worlds_of more ≡ worlds_of more') → worlds_of (cond ended [] more) ≡ worlds_of (cond ended [] more')
+    same_tail P true more more' all same = refl
+    same_tail P false more more' all same = same all
 
-    pub same_worlds : (scene : SceneShape) (turns : ℕ) (s : State B) (t : State C) → StatesAlike s t → worlds_of (states_from scene left turns s) ≡ worlds_of (states_from scene right turns t)
-    same_worlds scene zero s t a = ap (λ (w : World). w ∷ []) a.world
-    same_worlds scene (suc turns) s t a =
-        let more : worlds_of (cond (has_ended scene s.world) [] (states_from scene left turns (step scene left s))) ≡ worlds_of (cond (has_ended scene t.world) [] (states_from scene right turns (step scene right t))) = same_tail (has_ended scene s.world) _ _ (same_worlds scene turns (step scene left s) (step scene right t) (step_alike scene s t a)) ∙ ap (λ (w : World). worlds_of (cond (has_ended scene w) [] (states_from scene right turns (step scene right t)))) a.world in
+    pub same_worlds : (scene : SceneShape) (turns : ℕ) (s : State B) (t : State C) → AllByRecursion (NextTurnFits fitting scene) (states_from scene left turns s) → StatesAlike s t → worlds_of (states_from scene left turns s) ≡ worlds_of (states_from scene right turns t)
+    same_worlds scene zero s t all a = ap (λ (w : World). w ∷ []) a.world
+    same_worlds scene (suc turns) s t all a =
+        let more : worlds_of (cond (has_ended scene s.world) [] (states_from scene left turns (step scene left s))) ≡ worlds_of (cond (has_ended scene t.world) [] (states_from scene right turns (step scene right t))) = same_tail (NextTurnFits fitting scene) (has_ended scene s.world) _ _ all.1 (λ rest. same_worlds scene turns (step scene left s) (step scene right t) rest (step_alike scene s t all.0 a)) ∙ ap (λ (w : World). worlds_of (cond (has_ended scene w) [] (states_from scene right turns (step scene right t)))) a.world in
         λ i. a.world i ∷ more i
 
-    pub same_runs : (scene : SceneShape) (outline : List ScriptShape) (kinds : List DeviceKind) (turns : ℕ) → worlds_of (states_from scene left turns (first_state outline scene kinds)) ≡ worlds_of (states_from scene right turns (first_state outline scene kinds))
-    same_runs scene outline kinds turns =
-        same_worlds scene turns (first_state outline scene kinds) (first_state outline scene kinds) (record { world = refl; stacks = no_stacks })
+    pub same_runs : (scene : SceneShape) (outline : List ScriptShape) (kinds : List DeviceKind) (turns : ℕ) → AllByRecursion (NextTurnFits fitting scene) (states_from scene left turns (first_state outline scene kinds)) → worlds_of (states_from scene left turns (first_state outline scene kinds)) ≡ worlds_of (states_from scene right turns (first_state outline scene kinds))
+    same_runs scene outline kinds turns all =
+        same_worlds scene turns (first_state outline scene kinds) (first_state outline scene kinds) all (record { world = refl; stacks = no_stacks })

@@ -11,14 +11,48 @@ use Rattle.core_tree.specs.Scenes.{SceneShape}
 use Rattle.core_tree.specs.Set.{Script, Function, State as ScriptState, Property, Access, Auto, Full, empty_functions_of}
 use Rattle.script_meaning.specs.Evaluation.{functions_at}
 use Rattle.script_meaning.specs.First.{first_state}
+use Rattle.script_meaning.specs.Fits.{Fitting, ReplyFits, InnermostFits, NextTurnFits}
 use Rattle.script_meaning.specs.InnerSteps.{FitsIn, FrameFits, StateFits, EnteredFits, IsWithin, IsAccessorWithin, IsAccessWithin, IsScriptWithin}
-use Rattle.script_meaning.specs.Related.{EnteredAlike, both_open, both_native, both_read, both_write, both_nothing, StopsAlike, EnginesAlike}
+use Rattle.script_meaning.specs.Related.{EnteredAlike, both_open, both_native, both_read, both_write, both_nothing, UnlessReturned, StopsAlike, EnginesAlike}
+use Rattle.script_meaning.specs.Locks.{takes}
+use Rattle.script_meaning.specs.Requests.{Sight, Setting, Request, Method, ParentMethod, GlobalFunction, GlobalNative, Get, Set, LoopPass, Return}
 use Rattle.script_meaning.specs.Source.{Body, run_body, body_of, opened, named, functions_of_state, state_functions, with_script, or_else_found, first_function, first_empty, method_in, native_there, function_entered, properties_of, first_property, accessor_entered, get_entered, set_entered, get_found, set_found, enter_body, source_engine}
-use Rattle.script_meaning.specs.Stacks.{Way, ByMethod, ByParent, ByGlobal, ByGet, BySet, Frame, Entered, Opened, NativeThere, NothingThere, State}
-use Rattle.script_meaning.specs.Turns.{has_ended, step, states_from}
+use Rattle.script_meaning.specs.Stacks.{Way, ByMethod, ByParent, ByGlobal, ByGet, BySet, Frame, ToEnter, Running, Entered, Opened, NativeThere, NothingThere, State, inner_instance, frames_of}
+use Rattle.script_meaning.specs.Turns.{sight_of, setting_of, begun, has_ended, step, states_from}
 use Rattle.script_meaning.specs.Values.{lineage, parent_in}
+use Rattle.script_meaning.specs.World.{World}
 use Rattle.script_meaning.proofs.Alike.{FramesAlike, both_enter, both_run, StackAlike, no_frames, more_frames, StacksAlike, no_stacks, more_stacks, StatesAlike, step_alike}
 use Rattle.script_meaning.proofs.TurnBounds.{run_fits}
+
+-- nothing is taken for granted here
+abbrev pub anything : Fitting Body
+anything =
+    record { sight = λ setting sight. Unit {0}; body = λ setting sight body. Unit {0}; reply = λ setting sight body value. Unit {0}; arguments = λ setting sight script way values. Unit {0} }
+
+any_reply : (setting : Setting) (sight : Sight) (body : Body) (reply : Option Value) → ReplyFits anything setting sight body reply
+any_reply setting sight body None = tt
+any_reply setting sight body (Some value) = tt
+
+any_innermost : (setting : Setting) (world : World) (frames : List (Frame Body)) → InnermostFits anything setting world frames
+any_innermost setting world [] = tt
+any_innermost setting world (ToEnter instance way arguments ∷ below) = (tt, tt)
+any_innermost setting world (Running instance body reply ∷ below) =
+    (tt, (tt, any_reply setting (sight_of world instance) body reply))
+
+any_turn : (scene : SceneShape) (state : State Body) → NextTurnFits anything scene state
+any_turn scene state k =
+    let now : State Body = begun scene state in
+    any_innermost (setting_of scene (takes k now.world) now.stacks k (inner_instance (frames_of now.stacks k))) (takes k now.world) (frames_of now.stacks k)
+
+in_any_case : {X : Type 0} (request : Request) → X → UnlessReturned request X
+in_any_case (Method target name arguments otherwise) x = x
+in_any_case (ParentMethod script name arguments otherwise) x = x
+in_any_case (GlobalFunction script name arguments otherwise) x = x
+in_any_case (GlobalNative at arguments) x = x
+in_any_case (Get target name otherwise) x = x
+in_any_case (Set target name value) x = x
+in_any_case LoopPass x = x
+in_any_case (Return value) x = tt
 
 module _ (most : ℕ) where
   -- the same body, which fits
@@ -163,10 +197,17 @@ module _ (most : ℕ) where
     enter_alike outline script state (BySet name) arguments =
         set_found_alike arguments (first_property scripts (lineage outline script) name) (property_within (lineage outline script) name)
 
-    pub engine_alike : (outline : List ScriptShape) → EnginesAlike SameFit (source_engine outline scripts) (source_engine outline scripts)
+    entered_so : {e d : Entered Body} → EnteredAlike SameFit e d → EnteredAlike (λ b c. SameFit b c × Unit {0}) e d
+    entered_so (both_open r) = both_open (r, tt)
+    entered_so (both_native at) = both_native at
+    entered_so (both_read script variable) = both_read script variable
+    entered_so (both_write script variable) = both_write script variable
+    entered_so both_nothing = both_nothing
+
+    pub engine_alike : (outline : List ScriptShape) → EnginesAlike anything SameFit (source_engine outline scripts) (source_engine outline scripts)
     engine_alike outline = record {
-      enter = λ script state way arguments. enter_alike outline script state way arguments;
-      run = λ setting b c reply sight r. subst (λ x. StopsAlike SameFit (run_body scripts setting b reply sight) (run_body scripts setting x reply sight)) r.0 (record { request = refl; sight = refl; bodies = (refl, run_fits scripts setting most b reply sight r.1) });
+      enter = λ setting sight script way arguments s a. entered_so (enter_alike outline script sight.state way arguments);
+      run = λ setting b c reply sight r s f a. subst (λ x. StopsAlike anything SameFit setting (run_body scripts setting b reply sight) (run_body scripts setting x reply sight)) r.0 (record { request = refl; sight = refl; fits = in_any_case (run_body scripts setting b reply sight).request (tt, tt); bodies = in_any_case (run_body scripts setting b reply sight).request (refl, run_fits scripts setting most b reply sight r.1) });
     }
 
   -- ---- what alike states say of one
@@ -194,10 +235,10 @@ module _ (most : ℕ) where
   ended_or_more false more a = a
 
   module _ (scripts : List Script) (all : AllByRecursion (IsScriptWithin most) scripts) (outline : List ScriptShape) where
-    states_fit : (scene : SceneShape) (turns : ℕ) (s : State Body) → StatesAlike SameFit (source_engine outline scripts) (source_engine outline scripts) (engine_alike scripts all outline) s s → AllByRecursion (StateFits most) (states_from scene (source_engine outline scripts) turns s)
+    states_fit : (scene : SceneShape) (turns : ℕ) (s : State Body) → StatesAlike SameFit s s → AllByRecursion (StateFits most) (states_from scene (source_engine outline scripts) turns s)
     states_fit scene zero s a = (stacks_fit a.stacks, tt)
     states_fit scene (suc turns) s a =
-        (stacks_fit a.stacks, ended_or_more (has_ended scene s.world) (states_from scene (source_engine outline scripts) turns (step scene (source_engine outline scripts) s)) (states_fit scene turns (step scene (source_engine outline scripts) s) (step_alike SameFit (source_engine outline scripts) (source_engine outline scripts) (engine_alike scripts all outline) scene s s a)))
+        (stacks_fit a.stacks, ended_or_more (has_ended scene s.world) (states_from scene (source_engine outline scripts) turns (step scene (source_engine outline scripts) s)) (states_fit scene turns (step scene (source_engine outline scripts) s) (step_alike SameFit anything (source_engine outline scripts) (source_engine outline scripts) (engine_alike scripts all outline) scene s s (any_turn scene s) a)))
 
     pub run_fits_in : (scene : SceneShape) (kinds : List DeviceKind) (turns : ℕ) → AllByRecursion (StateFits most) (states_from scene (source_engine outline scripts) turns (first_state outline scene kinds))
     run_fits_in scene kinds turns = states_fit scene turns (first_state outline scene kinds) (record { world = refl; stacks = no_stacks })

@@ -2,6 +2,7 @@ pub mod Arrays
 pub mod Evaluation
 pub mod Exclusive
 pub mod First
+pub mod Fits
 pub mod InnerSteps
 pub mod Locks
 pub mod Related

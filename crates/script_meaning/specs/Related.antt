@@ -1,8 +1,9 @@
--- Engines that do the same on bodies that are related.
+-- Engines that do the same on bodies that are related, where what they get fits.
 use Rattle.std.specs.Prelude.{◌≡◌, ℕ, List, Option}
 use Rattle.core_tree.specs.declared.expression.FunctionPlace.{FunctionPlace}
 use Rattle.core_tree.specs.declared.value.Value.{Value}
-use Rattle.script_meaning.specs.Requests.{Sight, Setting}
+use Rattle.script_meaning.specs.Fits.{Fitting, ReplyFits}
+use Rattle.script_meaning.specs.Requests.{Sight, Setting, Request, Return}
 use Rattle.script_meaning.specs.Stacks.{Way, Entered, Opened, NativeThere, ReadThere, WriteThere, NothingThere, Stop, Engine}
 
 -- two look-ups find related bodies, or the same
@@ -13,12 +14,19 @@ pub data EnteredAlike {B C : Type 0} (R : B → C → Type 0) : Entered B → En
   both_write : (script variable : ℕ) → EnteredAlike R (WriteThere script variable) (WriteThere script variable)
   both_nothing : EnteredAlike R NothingThere NothingThere
 
--- two bodies come to the same act, have changed the same, and are related there
-pub record StopsAlike {B C : Type 0} (R : B → C → Type 0) (left : Stop B) (right : Stop C) : Type 0 where
+-- of bodies behind their Return, which go on no more, nothing is asked
+abbrev pub UnlessReturned : Request → Type 0 → Type 0
+UnlessReturned (Return value) related = Unit {0}
+UnlessReturned _ related = related
+
+-- two bodies come to the same act and have changed the same, and there they are related, and fit
+pub record StopsAlike {B C : Type 0} (fitting : Fitting B) (R : B → C → Type 0) (setting : Setting) (left : Stop B) (right : Stop C) : Type 0 where
   pub request : left.request ≡ right.request
   pub sight : left.sight ≡ right.sight
-  pub bodies : R left.body right.body
+  pub bodies : UnlessReturned left.request (R left.body right.body)
+  pub fits : UnlessReturned left.request (fitting.sight setting left.sight × fitting.body setting left.sight left.body)
 
-pub record EnginesAlike {B C : Type 0} (R : B → C → Type 0) (left : Engine B) (right : Engine C) : Type 0 where
-  pub enter : (script : Option ℕ) (state : List ℕ) (way : Way) (arguments : List Value) → EnteredAlike R (left.enter script state way arguments) (right.enter script state way arguments)
-  pub run : (setting : Setting) (b : B) (c : C) (reply : Option Value) (sight : Sight) → R b c → StopsAlike R (left.run setting b reply sight) (right.run setting c reply sight)
+-- nothing is asked of the engines but where all that they get fits
+pub record EnginesAlike {B C : Type 0} (fitting : Fitting B) (R : B → C → Type 0) (left : Engine B) (right : Engine C) : Type 0 where
+  pub enter : (setting : Setting) (sight : Sight) (script : Option ℕ) (way : Way) (arguments : List Value) → fitting.sight setting sight → fitting.arguments setting sight script way arguments → EnteredAlike (λ b c. R b c × fitting.body setting sight b) (left.enter script sight.state way arguments) (right.enter script sight.state way arguments)
+  pub run : (setting : Setting) (b : B) (c : C) (reply : Option Value) (sight : Sight) → R b c → fitting.sight setting sight → fitting.body setting sight b → ReplyFits fitting setting sight b reply → StopsAlike fitting R setting (left.run setting b reply sight) (right.run setting c reply sight)

@@ -1,9 +1,11 @@
 // Two engines that do the same.
 ghost use Rattle.std.specs.Prelude.{◌≡◌, ℕ, List, map};
+ghost use Rattle.std.specs.List.{AllByRecursion};
 ghost use Rattle.core_tree.specs.declared.DeviceKind.{DeviceKind};
 ghost use Rattle.core_tree.specs.Outlines.{ScriptShape};
 ghost use Rattle.core_tree.specs.Scenes.{SceneShape};
 ghost use Rattle.script_meaning.specs.First.{first_state};
+ghost use Rattle.script_meaning.specs.Fits.{Types, by_types, NextTurnFits};
 ghost use Rattle.script_meaning.specs.Related.{EnginesAlike};
 ghost use Rattle.script_meaning.specs.Stacks.{Engine};
 ghost use Rattle.script_meaning.specs.Turns.{states_from};
@@ -13,8 +15,8 @@ pub trait Related<C> {
     ghost related: { Self → C → Type 0 };
 }
 
-/// Two engines whose bodies are related, and which come to equal acts in equal worlds, have equal runs of
-/// worlds.
+/// Two engines whose related bodies come to equal acts in equal worlds, where what they get fits, have equal
+/// runs of worlds, where in each turn of the one run what the chosen stack goes on with fits.
 pub fn related_engines_run_alike<B: Related<C>, C>()
-    ensures { (left : Engine B) (right : Engine C) → EnginesAlike B.related left right → (scene : SceneShape) (outline : List ScriptShape) (kinds : List DeviceKind) (turns : ℕ) → map (λ state. state.world) (states_from scene left turns (first_state outline scene kinds)) ≡ map (λ state. state.world) (states_from scene right turns (first_state outline scene kinds)) }
+    ensures { (types : Types B) (left : Engine B) (right : Engine C) → EnginesAlike (by_types types) B.related left right → (scene : SceneShape) (outline : List ScriptShape) (kinds : List DeviceKind) (turns : ℕ) → AllByRecursion (NextTurnFits (by_types types) scene) (states_from scene left turns (first_state outline scene kinds)) → map (λ state. state.world) (states_from scene left turns (first_state outline scene kinds)) ≡ map (λ state. state.world) (states_from scene right turns (first_state outline scene kinds)) }
 {}

@@ -1,5 +1,6 @@
+use Rattle.script_meaning.specs.Fits.{by_types}
 use Rattle.script_meaning.proofs.Alike.{same_runs}
 use Rattle.script_meaning.proofs.related.related_engines_run_alike.Goals as goal
 
 pub returns : goal.returns
-returns g c = λ left right alike scene outline kinds turns. same_runs g.B.Related.related left right alike scene outline kinds turns
+returns g c = λ types left right alike scene outline kinds turns all. same_runs g.B.Related.related (by_types types) left right alike scene outline kinds turns all
