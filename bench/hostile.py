@@ -93,7 +93,7 @@ def laid(path):
     if path.suffix != ".hex":
         return path.name, path.read_bytes()
     digits = "".join(line.split("#")[0] for line in path.read_text().splitlines())
-    return path.name.removesuffix(".hex"), bytes.fromhex(digits)
+    return path.name[: -len(".hex")], bytes.fromhex(digits)
 
 
 def kind_of(name):
@@ -124,7 +124,7 @@ def add_compiled(program, corpus, room, files):
         return
     made = {}
     for name in scripts:
-        value = name.removesuffix(".psc") + ".pex"
+        value = name[: -len(".psc")] + ".pex"
         made[value] = (room / value).read_bytes()
         corpus.kinds["pex"].append(made[value])
         corpus.kinds["txt"].append(subprocess.run([str(program), "show", value], cwd=room, capture_output=True).stdout)

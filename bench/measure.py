@@ -11,9 +11,9 @@ PROGRAM = ROOT / "crates" / "papyrus" / "out" / "papyrus"
 
 
 def program():
-    """The built program, or an exit with a word on how to build it."""
+    """The proved program, or an exit with a word on how to build it."""
     if not PROGRAM.exists():
-        raise SystemExit("no program yet: run ./papyrus --version once, which builds it")
+        raise SystemExit("no proved program yet: run ./prove, which leaves it")
     return str(PROGRAM)
 
 

@@ -100,7 +100,7 @@ def written_names(case):
     """The files that the case's command writes, in the order in which it does."""
     words = [word.decode("utf-8", "surrogateescape") for word in black_box.words_of(case)]
     if words[:1] == ["compile"]:
-        return [word.removesuffix(".psc") + ".pex" for word in words[1:]]
+        return [word[: -len(".psc")] + ".pex" for word in words[1:]]
     return words[2:3] if words[:1] in (["asm"], ["upgrade"]) else []
 
 

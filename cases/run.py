@@ -95,7 +95,7 @@ def laid(name, content):
     if not name.endswith(".hex"):
         return name, content
     digits = "".join(line.split("#")[0] for line in content.decode().splitlines())
-    return name.removesuffix(".hex"), bytes.fromhex(digits)
+    return name[: -len(".hex")], bytes.fromhex(digits)
 
 
 def files_in(folder):

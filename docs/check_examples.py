@@ -8,9 +8,9 @@ says something else, and last 'N passed, M failed'.
 
 What is run is in the fences of a page, in their order. Under each heading of the second level a new folder begins, with the
 launcher `papyrus` and the folder `examples` in it, unless the page has changed to another folder by `cd`. A page of an example
-begins in the folder of that example.
+begins in the folder of that example. The launcher is on the PATH.
 
-  papyrus A.psc, json s.json,     the file of this name
+  papyrus A.psc, json s.json,     the file of this name; sh, makefile and yaml likewise
   listing J.txt
   hex A.pex                       the file with these bytes
   papyrus                         A.psc, whose OnInit has these lines; or, where they begin with ScriptName, A.psc itself
@@ -18,6 +18,8 @@ begins in the folder of that example.
   console                         commands behind `$ `, each with what it prints; `..` stands for lines that are left out
   (nothing)                       where it begins with `$ `, the same, but that what isn't shown isn't compared
   (nothing)                       where it is one line of a refusal: what a command tells of the files since the last heading
+  (nothing)                       else, where the page has changed to another folder: lines of a file of that folder
+  (another word)                  isn't looked at
 
 A table that begins with a column of turns is compared with the page's last command `run` (turn_tables.py).
 """
@@ -36,8 +38,11 @@ BUILT = DOCS.parent / "crates" / "papyrus" / "out"
 LAST_BUILT = max(BUILT / "papyrus", BUILT / "unproved" / "papyrus", key=lambda path: path.stat().st_mtime if path.exists() else 0)
 PROGRAM = pathlib.Path(os.environ.get("PAPYRUS_PROGRAM") or LAST_BUILT)
 EXAMPLES = DOCS.parent / "examples"
+EXPLAIN = DOCS.parent / "tools" / "explain.py"
 REFUSAL = re.compile(r"[^ ]+: (?:[^ ]+ )?([LSNKPGVC])\d+ [A-Za-z]+")
 SECONDS = 60
+# Tools that a page may use where the machine has them.
+OPTIONAL = {"make"}
 
 
 def fences(text):
@@ -69,6 +74,11 @@ def agrees(wanted, found):
     return bool(found) and wanted[0] == found[0] and agrees(wanted[1:], found[1:])
 
 
+def stripped(text):
+    """The lines that aren't empty, without blanks before and behind, each with a line feed before and behind it."""
+    return "\n" + "".join(f"{line.strip()}\n" for line in text.splitlines() if line.strip())
+
+
 class Page:
     """One page while its fences are gone through."""
 
@@ -89,26 +99,29 @@ class Page:
         if EXAMPLES in self.path.resolve().parents:
             self.place = room / self.path.resolve().parent.relative_to(EXAMPLES.parent)
         shutil.copytree(EXAMPLES, room / "examples", ignore=shutil.ignore_patterns("*.pex"))
-        (room / "papyrus").write_text(f'#!/bin/sh\nexec "{self.program}" "$@"\n')
+        helper = f'[ "${{1-}}" != explain ] || {{ shift; exec python3 "{EXPLAIN}" "$@"; }}'
+        (room / "papyrus").write_text(f'#!/bin/sh\n{helper}\nexec "{self.program}" "$@"\n')
         (room / "papyrus").chmod(0o755)
 
     def lay(self, name, content):
-        (self.room / name).parent.mkdir(parents=True, exist_ok=True)
-        (self.room / name).write_bytes(content)
+        (self.place / name).parent.mkdir(parents=True, exist_ok=True)
+        (self.place / name).write_bytes(content)
         if name not in self.names:
             self.names.append(name)
 
     def shell(self, command):
         ran = subprocess.run(
-            ["sh", "-c", 'papyrus() { "$PROGRAM" "$@"; }\n' + command],
+            ["sh", "-c", command],
             cwd=self.place, stdout=subprocess.PIPE, stderr=subprocess.STDOUT, stdin=subprocess.DEVNULL, timeout=SECONDS,
-            env={**os.environ, "PROGRAM": str(self.program)},
+            env={**os.environ, "COLUMNS": "100", "PATH": f"{self.room}:{os.environ['PATH']}"},
         )
         return ran.stdout.decode("utf-8", "backslashreplace").splitlines()
 
     def compare(self, line, command, wanted):
         if command.startswith("cd "):
             self.place = (self.place / command[3:]).resolve()
+            return
+        if command.split()[0] in OPTIONAL and not shutil.which(command.split()[0]):
             return
         self.count += 1
         if re.match(r"(\S*/)?papyrus run ", command):
@@ -147,9 +160,19 @@ class Page:
             command = " ".join(["papyrus compile", *files])
         self.compare(line, command, [text])
 
+    def excerpt(self, line, lines):
+        """Compares the lines with those of the files of the folder, whatever blanks they begin with."""
+        self.count += 1
+        wanted = stripped("\n".join(lines))
+        files = [path for path in self.place.rglob("*") if path.suffix in (".psc", ".json", ".txt")]
+        if not any(wanted in stripped(path.read_text()) for path in files):
+            self.wrong.append(f"{self.path}:{line}: these lines stand in no file of {self.place.name}")
+
     def turns(self, line, lines):
         self.count += 1
-        faults = turn_tables.faults(self.program, self.place, self.last_run, lines)
+        faults = ["no run stands before it"]
+        if self.last_run:
+            faults = turn_tables.faults(self.program, self.place, self.last_run, lines)
         if faults:
             self.wrong.append(f"{self.path}:{line}: a table of turns of {self.last_run}")
             self.wrong += [f"  {fault}" for fault in faults]
@@ -175,12 +198,14 @@ class Page:
             self.listing(name, lines)
         elif kind == "hex":
             self.lay(name, bytes.fromhex("".join(text.split("#")[0] for text in lines)))
-        elif kind == "json" and name:
+        elif kind in ("json", "sh", "makefile", "yaml") and name:
             self.lay(name, "".join(text + "\n" for text in lines).encode())
         elif kind == "console" or (kind == "" and lines and lines[0].startswith("$ ")):
             self.console(line, lines, kind == "console")
         elif kind == "" and len(lines) == 1 and self.names and REFUSAL.fullmatch(lines[0]):
             self.refusal(line, lines[0], REFUSAL.fullmatch(lines[0]).group(1))
+        elif kind == "" and self.place != self.room:
+            self.excerpt(line, lines)
 
     def run(self):
         with tempfile.TemporaryDirectory(prefix="papyrus-docs-") as top:

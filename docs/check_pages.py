@@ -2,17 +2,21 @@
 """Checks what the pages rest on beside their examples, prints what is wrong, and ends with 'N passed, M failed'.
 
   check_pages.py                   all of these
-  check_pages.py --program PATH    another program than crates/papyrus/out/papyrus
+  check_pages.py --program PATH    another program than PAPYRUS_PROGRAM in the environment, or the one that was built last
 
   links      each link of a page leads to a file or folder that is there, and to a heading that is there; and each file that
              a page names is a link
   index      rule_index.md is what make_rule_index.py makes, and each rule is told, and shown by a test or a case
   scenes     scene.schema.json agrees with each scene of the cases and the examples, but for those that C2 and C3 refuse
-  commands   the completions and the man page are what tools/shell/make.py makes, and its table is that of `papyrus --help` and README.md
+  crates     crates.txt and architecture.md have the same crates under the same headings
+  commands   the completions, the man page and the launcher's lines on helpers are what tools/shell/make.py makes, and its table is that of
+             `papyrus --help`, README.md and, for helpers, commands.md
+  editors    the files that highlight scripts have the keywords of language.md
 """
 import argparse
 import functools
 import json
+import os
 import pathlib
 import re
 import subprocess
@@ -21,14 +25,14 @@ import sys
 DOCS = pathlib.Path(__file__).resolve().parent
 ROOT = DOCS.parent
 sys.path[:0] = [str(DOCS), str(ROOT / "tools" / "shell")]
+import check_examples
 import json_schema
 import make
 import make_rule_index
 import scene_files
 
-PROGRAM = ROOT / "crates" / "papyrus" / "out" / "papyrus"
 LINK = re.compile(r"\[((?:[^\[\]]|\[[^\[\]]*\])*)\]\(([^()\s]+)\)")
-NAMED = re.compile(r"`([\w.-]*/[\w./-]*|[\w-]+\.md)`")
+NAMED = re.compile(r"`([\w.-]+/[\w./-]*|[\w-]+\.\w+)`")
 SCENE_LIMIT = 16 * 1024 * 1024
 # What may be such a spelling of a number, or stand in a text.
 UNPLAIN = re.compile(rb"\d[.eE]|-0")
@@ -81,6 +85,8 @@ def link_fault(page, target):
         return ""
     file, _, anchor = target.partition("#")
     path = (page.parent / file).resolve() if file else page
+    if "out" in os.path.relpath(path, ROOT).split(os.sep):
+        return f"leads to {file}, which a build makes"
     if not path.exists():
         return f"leads to {file}, which isn't there"
     if anchor and anchor not in anchors(path):
@@ -99,7 +105,8 @@ def check_links(tally):
         bare = LINK.sub(lambda found: "\n" * found.group(0).count("\n"), text)
         for found in NAMED.finditer(bare):
             spelled = found.group(1)
-            if spelled.strip("./") and "out" not in spelled.split("/") and any((base / spelled).exists() for base in (ROOT, page.parent)):
+            there = any((base / spelled).exists() for base in (ROOT, page.parent))
+            if "out" not in spelled.split("/") and (there or spelled.endswith(".antt")):
                 line = bare.count("\n", 0, found.start()) + 1
                 tally.note(f"{name}:{line}: names {spelled} without a link")
 
@@ -173,20 +180,60 @@ def check_commands(tally, program):
     shown = subprocess.run([str(program), "--help"], stdout=subprocess.PIPE, check=True).stdout.decode().splitlines()
     listed = [line for line in shown if line.startswith("  papyrus ")]
     tally.note("" if listed == make.help_lines(table) else "tools/shell/commands.table has other commands than `papyrus --help`")
+    page = (DOCS / "commands.md").read_text()
+    for helper, words, _, _ in table.helpers:
+        tally.note("" if f"\n### `{helper} {words}`\n" in page else f"docs/commands.md has no heading of the helper `{helper} {words}`")
     readme = (ROOT / "README.md").read_text()
     for status, meaning in table.statuses:
         tally.note("" if f"| {status} | {meaning} |" in readme else f"README.md doesn't tell status {status} as tools/shell/commands.table does")
 
 
+def check_editors(tally):
+    """Each file has the keywords once, and the two flags that are names."""
+    listed = re.search(r"every other word is a name:\n\n(.*)\.\n", (DOCS / "language.md").read_text())[1].split(", ")
+    editors = ROOT / "tools" / "editors"
+    vim = re.findall(r"^syntax keyword papyrus(?!Todo)\w+ (.*?)(?: nextgroup=.*)?$", (editors / "vim/syntax/papyrus.vim").read_text(), re.MULTILINE)
+    emacs = re.findall(r"^\(defconst papyrus-\w+\s+'\(([^()]*)\)\)$", (editors / "emacs/papyrus-mode.el").read_text(), re.MULTILINE)
+    for name, found in (("vim", " ".join(vim)), ("emacs", " ".join(emacs).replace('"', ""))):
+        same = sorted(found.split()) == sorted([*listed, "Hidden", "Conditional"])
+        tally.note("" if same else f"tools/editors/{name} has other keywords than docs/language.md")
+
+
+def groups_of(text, heading, crate):
+    """The names of crates by the heading that they stand under."""
+    groups, under = {}, None
+    for line in text.splitlines():
+        found = re.fullmatch(heading, line)
+        under = found[1] if found else under
+        named = re.match(crate, line)
+        if named and under:
+            groups.setdefault(under, []).append(named[1])
+    return groups
+
+
+def check_crates(tally):
+    listed = groups_of((ROOT / "crates.txt").read_text(), r"# ([\w ]+)", r"(\w+):")
+    page = (DOCS / "architecture.md").read_text()
+    told = groups_of(page[: page.index("## Inside a crate")], r"### ([\w ]+)", r"\| `(\w+)` \|")
+    for group in {**listed, **told}:
+        same = listed.get(group) == told.get(group)
+        tally.note("" if same else f"crates.txt and docs/architecture.md differ in the crates of {group}")
+
+
 def main():
     parser = argparse.ArgumentParser(description=__doc__, formatter_class=argparse.RawDescriptionHelpFormatter)
-    parser.add_argument("--program", type=pathlib.Path, default=PROGRAM)
+    parser.add_argument("--program", type=pathlib.Path, default=check_examples.PROGRAM)
     words = parser.parse_args()
+    if not words.program.exists():
+        print("the program isn't built: run ./papyrus --version first")
+        return 2
     tally = Tally()
     check_links(tally)
     check_index(tally)
     check_scenes(tally)
     check_commands(tally, words.program.resolve())
+    check_editors(tally)
+    check_crates(tally)
     print("\n".join([*tally.wrong, f"{tally.passed} passed, {len(tally.wrong)} failed"]))
     return 1 if tally.wrong else 0
 

@@ -11,16 +11,15 @@ DOCS = pathlib.Path(__file__).resolve().parent
 ROOT = DOCS.parent
 CRATES = ROOT / "crates"
 CASES = ROOT / "cases"
-# Of each letter: what it is of, the type of its rules, and the place of a page where all of them are defined in words.
-LETTERS = {
-    "L": ("the text of a script", "LexRule", "language.md#rules"),
-    "S": ("lines and blocks", "LineRule", "language.md#rules-of-lines-and-blocks"),
-    "N": ("the scripts of a set", "LinkRule", "language.md#rules-of-sets"),
-    "K": ("names and types", "TypeRule", "language.md#rules-of-types-and-names"),
-    "P": ("the form of a compiled file", "PexRule", "pex.md#when-bytes-are-refused"),
-    "G": ("listings", "ListingRule", "pex.md#from-a-listing-to-a-file"),
-    "V": ("compiled files that run", "VerifyRule", "verification.md#rules"),
-    "C": ("scenes", "SceneRule", "scenes.md#rules"),
+# The pages on which all rules of a letter are defined in words; of the others rules.md says all.
+DEFINED = {
+    "L": "language.md#rules",
+    "S": "language.md#rules-of-lines-and-blocks",
+    "N": "language.md#rules-of-sets",
+    "K": "language.md#rules-of-types-and-names",
+    "P": "pex.md#when-bytes-are-refused",
+    "G": "pex.md#from-a-listing-to-a-file",
+    "V": "verification.md#rules",
 }
 # The texts of all rules stand in this file, which tells none.
 TEXTS = CRATES / "command_files" / "src" / "refusal.rt"
@@ -40,6 +39,17 @@ def rules():
     return [(found[1] or found[3], found[2] or found[4]) for found in HEADING.finditer(text)]
 
 
+def titles():
+    """What rules.md calls the rules of each letter."""
+    return dict(re.findall(r"^## ([A-Z]): (.*)$", (DOCS / "rules.md").read_text(), re.MULTILINE))
+
+
+def kinds():
+    """The type of each rule of the program, by its code and name."""
+    found = re.findall(r'(\w+Rule)::\w+\s*=>\s*b"([A-Z]\d+ \w+)"', TEXTS.read_text())
+    return {rule: kind for kind, rule in found}
+
+
 def linked(path):
     """A link to a file, named by its crate and its place in it."""
     return f"[`{'/'.join(path.relative_to(CRATES).parts)}`](../{path.relative_to(ROOT)})"
@@ -52,8 +62,8 @@ def told_in(text):
 
 def shown_in(text):
     """The rules that a test speaks of: as `Kind::Name`, as `L1 BadByte`, or by the name alone behind an import of its kind."""
-    kinds = {kind for _, kind, _ in LETTERS.values() if kind in text}
-    alone = {f"{kind}::{word}" for kind in kinds for word in re.findall(r"\b[A-Z]\w+", text)} if kinds else set()
+    spoken = set(re.findall(r"\b\w+Rule\b", text))
+    alone = {f"{kind}::{word}" for kind in spoken for word in re.findall(r"\b[A-Z]\w+", text)}
     return alone | set(re.findall(r"\b[A-Z]\d+ [A-Z]\w+", text))
 
 
@@ -120,11 +130,11 @@ class Shown:
         return ", ".join(words)
 
 
-def row(code, name, sources, shown):
-    _, kind, place = LETTERS[code[0]]
-    heading = f"scenes.md#{code.lower()}-{name.lower()}" if code[0] == "C" else place
-    example = "rules.md#c-scenes" if code[0] == "C" else f"rules.md#{code.lower()}-{name.lower()}"
-    definitions = [f"[{heading.partition('#')[0]}]({heading})", *map(linked, sources.defining(kind, name))]
+def row(code, name, kind, sources, shown):
+    heading = f"{code.lower()}-{name.lower()}"
+    example = "rules.md#c-scenes" if code[0] == "C" else f"rules.md#{heading}"
+    words = f"scenes.md#{heading}" if code[0] == "C" else DEFINED.get(code[0], example)
+    definitions = [f"[{words.partition('#')[0]}]({words})", *map(linked, sources.defining(kind, name))]
     cells = [
         f"[{code} {name}]({example})",
         ", ".join(map(linked, sources.telling(kind, name))),
@@ -137,28 +147,28 @@ def row(code, name, sources, shown):
 
 def page(sources, shown):
     """The text of the page."""
-    lines = [HEAD]
-    letter = ""
+    lines, letter, named, types = [HEAD], "", titles(), kinds()
     for code, name in rules():
         if code[0] != letter:
             letter = code[0]
-            lines += [f"\n## {letter}: {LETTERS[letter][0]}\n", "| Rule | Told in | Defined in | Tests | Cases |", "|---|---|---|---|---|"]
-        lines.append(row(code, name, sources, shown))
+            lines += [f"\n## {letter}: {named[letter]}\n", "| Rule | Told in | Defined in | Tests | Cases |", "|---|---|---|---|---|"]
+        lines.append(row(code, name, types.get(f"{code} {name}", ""), sources, shown))
     return "\n".join(lines).replace("\n\n\n", "\n\n") + "\n"
 
 
 def bare(sources, shown):
     """What is missing: rules of the program that rules.md doesn't have, and rules that no code tells, no test and no case shows."""
-    listed = {f"{code} {name}" for code, name in rules()}
-    for rule in re.findall(r'b"([A-Z]\d+ \w+)"', TEXTS.read_text()):
+    types = kinds()
+    listed = [f"{code} {name}" for code, name in rules()]
+    for rule in types:
         if rule not in listed:
             yield f"docs/rules.md has no {rule}"
     for code, name in rules():
-        kind = LETTERS[code[0]][1]
-        if not sources.telling(kind, name):
-            yield f"no code tells {code} {name}"
-        if not shown.cell(f"{code} {name}") and not sources.testing(kind, code, name):
-            yield f"neither a test nor a case shows {code} {name}"
+        rule = f"{code} {name}"
+        if rule not in types or not sources.telling(types[rule], name):
+            yield f"no code tells {rule}"
+        elif not shown.cell(rule) and not sources.testing(types[rule], code, name):
+            yield f"neither a test nor a case shows {rule}"
 
 
 def main():

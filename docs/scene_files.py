@@ -47,7 +47,7 @@ def scenes_of_rows(path):
     from rows import rows_of
 
     for row in rows_of(path):
-        words = [word.encode("latin-1") for word in row.words]
+        words = [word.encode("latin-1") for word in getattr(row, "words", [])]
         scene = scene_word(words)
         text = row.files.get(scene.decode("latin-1")) if scene else None
         if text is not None:
@@ -60,5 +60,5 @@ def scenes():
         yield from scene_of_case(case)
     for path in sorted(CASES.glob("*.rows")):
         yield from scenes_of_rows(path)
-    for path in sorted((ROOT / "examples").rglob("*.json")):
+    for path in sorted((ROOT / "examples").rglob("scene.json")):
         yield str(path.relative_to(ROOT)), path.read_bytes(), ""

@@ -7,9 +7,6 @@ Int Property Stamina = 100 Auto
 Bool Property Fighting Auto
 {What IsInCombat gives.}
 
-Event OnHit(ObjectReference akAggressor, Form akSource, Form akProjectile)
-EndEvent
-
 Event OnDeath(Actor akKiller)
 EndEvent
 

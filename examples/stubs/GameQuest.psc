@@ -26,9 +26,26 @@ Bool Function IsRunning()
     Return running
 EndFunction
 
+Function Start()
+    Scene.Sleep(0)
+    running = True
+EndFunction
+
 Function Stop()
     Scene.Sleep(0)
     running = False
+EndFunction
+
+Function CompleteQuest()
+    Debug.Trace(Self + " is complete")
+EndFunction
+
+Function SetObjectiveDisplayed(Int aiObjective, Bool abDisplayed = True, Bool abForce = False)
+    Debug.Trace(Self + " shows objective " + aiObjective)
+EndFunction
+
+Function SetObjectiveCompleted(Int aiObjective, Bool abCompleted = True)
+    Debug.Trace(Self + " completes objective " + aiObjective)
 EndFunction
 
 ; Updates. The scene calls Tick in place of the game's timer.

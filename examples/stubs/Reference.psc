@@ -32,8 +32,9 @@ EndEvent
 Event OnUpdate()
 EndEvent
 
-Function Activate(ObjectReference akActivator)
+Bool Function Activate(ObjectReference akActivator, Bool abDefaultProcessingOnly = False)
     OnActivate(akActivator)
+    Return True
 EndFunction
 
 ObjectReference Function GetLinkedRef()
@@ -41,28 +42,36 @@ ObjectReference Function GetLinkedRef()
 EndFunction
 
 ; What it holds: up to 128 kinds of things.
-Function AddItem(Form akItem, Int aiCount = 1, Bool abSilent = False)
+Function AddItem(Form akItemToAdd, Int aiCount = 1, Bool abSilent = False)
     Scene.Sleep(0)
     If !things
         things = New Form[128]
         counts = New Int[128]
     EndIf
-    Int place = things.Find(akItem)
+    Int place = things.Find(akItemToAdd)
     If place < 0
         place = things.Find(None)
-        things[place] = akItem
+        things[place] = akItemToAdd
     EndIf
     counts[place] = counts[place] + aiCount
 EndFunction
 
-Function RemoveItem(Form akItem, Int aiCount = 1, Bool abSilent = False)
+Function RemoveItem(Form akItemToRemove, Int aiCount = 1, Bool abSilent = False, ObjectReference akOtherContainer = None)
     Scene.Sleep(0)
-    If GetItemCount(akItem) > 0
-        Int place = things.Find(akItem)
+    Int place = -1
+    If things
+        place = things.Find(akItemToRemove)
+    EndIf
+    If place >= 0
+        If aiCount > counts[place]
+            aiCount = counts[place]
+        EndIf
         counts[place] = counts[place] - aiCount
-        If counts[place] <= 0
+        If counts[place] == 0
             things[place] = None
-            counts[place] = 0
+        EndIf
+        If akOtherContainer
+            (akOtherContainer as Reference).AddItem(akItemToRemove, aiCount, abSilent)
         EndIf
     EndIf
 EndFunction
@@ -88,18 +97,20 @@ Bool Function IsDisabled()
     Return Disabled
 EndFunction
 
-Function MoveTo(ObjectReference akTarget)
+Function MoveTo(ObjectReference akTarget, Int aiXOffset = 0, Int aiYOffset = 0, Int aiZOffset = 0, Bool abMatchRotation = True)
     Scene.Sleep(0)
     Debug.Trace(Self + " moves to " + akTarget)
 EndFunction
 
-Function PlayAnimation(String asAnimation)
+Bool Function PlayAnimation(String asAnimation)
     Debug.Trace(Self + " plays " + asAnimation)
+    Return True
 EndFunction
 
-Function PlayAnimationAndWait(String asAnimation, String asEventName)
+Bool Function PlayAnimationAndWait(String asAnimation, String asEventName)
     Debug.Trace(Self + " plays " + asAnimation)
     Scene.Sleep(10)
+    Return True
 EndFunction
 
 Int Function GetDistance(ObjectReference akOther)

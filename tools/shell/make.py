@@ -1,9 +1,12 @@
 #!/usr/bin/env python3
-"""Makes papyrus.bash, _papyrus (of zsh) and papyrus.1 of commands.table."""
+"""Makes papyrus.bash, _papyrus (of zsh), papyrus.1 and helpers.txt of commands.table, and of docs/rules.md, which has the codes of rules."""
 import pathlib
 import sys
 
 HERE = pathlib.Path(__file__).resolve().parent
+sys.path.insert(0, str(HERE.parent))
+import explain
+
 MADE = "made by make.py of commands.table: change that"
 
 
@@ -18,18 +21,34 @@ class Table:
             elif line and not line.startswith("#"):
                 rows.append([cell.strip() for cell in line.split("|")])
         self.commands = sections["commands"]
+        self.helpers = sections["helpers"]
         self.words = {name: (pattern, meaning) for name, pattern, meaning in sections["words"]}
         self.statuses = sections["statuses"]
+        self.codes = " ".join(rule.code for rule in explain.read_pages().rules)
 
     def pattern(self, word):
         return self.words[word.rstrip(".")][0]
 
 
+def lines_of(rows, all_rows):
+    """A line for each of these rows, as wide as all need."""
+    width = max(len(spelled(row)) for row in all_rows)
+    return [f"  {spelled(row):{width}}  {row[2]}" for row in rows]
+
+
+def spelled(row):
+    return " ".join(["papyrus", row[0], row[1]]).rstrip()
+
+
 def help_lines(table):
-    """The lines of commands in `papyrus --help`."""
-    spelled = [" ".join(["papyrus", command, words]).rstrip() for command, words, _, _ in table.commands]
-    width = max(len(text) for text in spelled)
-    return [f"  {text:{width}}  {row[2]}" for text, row in zip(spelled, table.commands)]
+    """The lines of commands in the program's own `papyrus --help`."""
+    return lines_of(table.commands, table.commands)
+
+
+def helpers(table):
+    """What the launcher prints behind that."""
+    lines = ["", "Beside the program, this launcher has", "", *lines_of(table.helpers, table.commands)]
+    return "\n".join(lines) + "\n"
 
 
 def bash(table):
@@ -37,12 +56,14 @@ def bash(table):
              "    local word=${COMP_WORDS[COMP_CWORD]} pattern=",
              "    COMPREPLY=()",
              "    if [ \"$COMP_CWORD\" -eq 1 ]; then",
-             f"        COMPREPLY=($(compgen -W \"{' '.join(row[0] for row in table.commands)}\" -- \"$word\"))",
+             f"        COMPREPLY=($(compgen -W \"{' '.join(row[0] for row in table.commands + table.helpers)}\" -- \"$word\"))",
              "        return",
              "    fi",
              "    case ${COMP_WORDS[1]} in"]
     for command, words, _, _ in table.commands:
         lines += bash_arm(command, words.split(), table)
+    for helper, _, _, _ in table.helpers:
+        lines += [f"    {helper})", f"        [ \"$COMP_CWORD\" -gt 2 ] || COMPREPLY=($(compgen -W \"{table.codes}\" -- \"${{word^^}}\"))", "        ;;"]
     lines += ["    esac",
               "    [ -n \"$pattern\" ] || return",
               "    local IFS=$'\\n'",
@@ -68,7 +89,7 @@ def bash_arm(command, words, table):
 
 def zsh(table):
     lines = ["#compdef papyrus", f"# Completion of papyrus for zsh, {MADE}.", "", "local -a commands", "commands=("]
-    for command, _, line, _ in table.commands:
+    for command, _, line, _ in table.commands + table.helpers:
         escaped = line.replace("'", "'\\''")
         lines.append(f"    '{command}:{escaped}'")
     lines += [")", "if (( CURRENT == 2 )); then", "    _describe command commands", "    return", "fi", "case $words[2] in"]
@@ -80,6 +101,8 @@ def zsh(table):
             spec.append(f"'{'*' if word.endswith('..') else ''}:{meaning.split(',')[0]}:{action}'")
         if spec:
             lines.append(f"    {command}) shift words; (( CURRENT-- )); _arguments {' '.join(spec)} ;;")
+    for helper, words, _, _ in table.helpers:
+        lines.append(f"    {helper}) shift words; (( CURRENT-- )); _arguments ':{table.words[words.strip('[]')][1].split(',')[0]}:({table.codes})' ;;")
     return "\n".join([*lines, "esac"]) + "\n"
 
 
@@ -92,12 +115,15 @@ def roff(text):
 def man(table):
     lines = [f'.\\" {MADE}', ".TH PAPYRUS 1", ".SH NAME", roff("papyrus") + " \\- compiles Papyrus scripts and runs them under instance locks",
              ".SH SYNOPSIS"]
-    for command, words, _, _ in table.commands:
+    for command, words, _, _ in table.commands + table.helpers:
         lines += [".B papyrus " + roff(command), *([".I " + roff(words)] if words else []), ".br"]
     lines += [".SH DESCRIPTION", "Works on files, each of which is named by its path from the current folder, or from the root.",
               "What a command is for goes to standard output. Where it ends otherwise than well, one line goes to standard error.", ".SH COMMANDS"]
     for command, words, _, sentence in table.commands:
         lines += [".TP", f".B {roff(command)}" + (f" \\fI{roff(words)}\\fR" if words else ""), roff(sentence)]
+    lines += [".SH HELPERS", "The launcher at the top of the repository has these beside the program."]
+    for helper, words, _, sentence in table.helpers:
+        lines += [".TP", f".B {roff(helper)} \\fI{roff(words)}\\fR", roff(sentence)]
     lines += [".SH WORDS"]
     for word, (_, meaning) in table.words.items():
         lines += [".TP", f".I {roff(word)}", roff(meaning[0].upper() + meaning[1:]) + "."]
@@ -111,7 +137,7 @@ def man(table):
 def made():
     """The files that are made, by name."""
     table = Table((HERE / "commands.table").read_text())
-    return {"papyrus.bash": bash(table), "_papyrus": zsh(table), "papyrus.1": man(table)}
+    return {"papyrus.bash": bash(table), "_papyrus": zsh(table), "papyrus.1": man(table), "helpers.txt": helpers(table)}
 
 
 def main():

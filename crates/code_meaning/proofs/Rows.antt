@@ -168,6 +168,12 @@ what_it_prints = refl
 pub a_parent_call : (first_act an_int (int 0 ∷ []) (op.CallParent (codes "F") (Slot 0) [] ∷ [])).request ≡ ParentMethod 1 (codes "F") [] (int 0)
 a_parent_call = refl
 
+pub a_parent_reply : (act_after 0 (int 4) an_int (int 6 ∷ []) (op.CallParent (codes "F") (Slot 0) [] ∷ op.Return (Slot 0) ∷ [])).request ≡ Return (int 4)
+a_parent_reply = refl
+
+pub a_global_reply : (act_after 0 (int 5) an_int (int 6 ∷ []) (op.CallStatic 1 (codes "F") (Slot 0) [] ∷ op.Return (Slot 0) ∷ [])).request ≡ Return (int 5)
+a_global_reply = refl
+
 -- ---- properties, variables and the state
 pub a_property_read : stands (act_after 0 (int 3) an_int (int 6 ∷ []) (op.PropGet (codes "P") Itself (Slot 0) ∷ op.PropSet (codes "P") Itself (Slot 0) ∷ [])) ≡ (Set (Some 0) (codes "P") (int 3), 1, int 3 ∷ [])
 a_property_read = refl

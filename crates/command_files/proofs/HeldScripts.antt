@@ -5,7 +5,9 @@ use Rattle.std.proofs.lemmas.List.{take_more, map-append}
 use Rattle.std.proofs.lemmas.Grind.{common_steps}
 use Rattle.std.specs.Prelude.{Option, None, Some, IfSome}
 use Rattle.papy_io.specs.Files.{Files, told_bytes}
+use Rattle.std.proofs.lemmas.List.Elements.{All-push}
 use Rattle.command_files.specs.Held.{Hold, IsHeld, AreHeld}
+use Rattle.command_files.specs.Scripts.{HoldScripts, HoldsScript}
 
 hold-more : (files : Files) (names contents : List (List ℕ)) (name bytes : List ℕ) → Hold files names contents → told_bytes (Some files) name ≡ Some bytes →
     Hold files (names ++ name ∷ []) (contents ++ bytes ∷ [])
@@ -18,6 +20,12 @@ pub held-more : (holds : Option Files) (names : List (List ℕ)) (name : List �
     IfSome holds (AreHeld (names ++ name ∷ []))
 held-more None names name are is = tt
 held-more (Some files) names name (contents, hold) (bytes, held) = (contents ++ bytes ∷ [], hold-more files names contents name bytes hold held)
+
+-- the same of scripts that keep their lexical form
+pub scripts-more : (holds : Option Files) (names : List (List ℕ)) (name : List ℕ) → IfSome holds (HoldScripts names) → IfSome holds (HoldsScript name) →
+    IfSome holds (HoldScripts (names ++ name ∷ []))
+scripts-more None names name are is = tt
+scripts-more (Some files) names name are is = All-push (λ n. HoldsScript n files) names name are is
 
 -- the names of one script more
 pub names-more : (scripts : List (String Global)) (place : ℕ) (script : String Global) → place < length scripts → script ≡ slice_index_or scripts place script →

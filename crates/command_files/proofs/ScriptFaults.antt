@@ -26,8 +26,7 @@ use Rattle.command_files.specs.declared.refusal.Rule.{Rule}
 use Rattle.command_files.specs.declared.refusal.Rule.TheVariants.{Lexical}
 use Rattle.command_files.specs.Ending.{CountsReads, IsWordBelow, MissesScript, word_at}
 use Rattle.command_files.specs.FileFault.{MissesFile, ending_at}
-use Rattle.command_files.specs.Held.{AreHeld, IsHeld}
-use Rattle.command_files.specs.Scripts.{EndsOnScripts, EndsOnSet, HoldsRefused, ParsesScript, ReadsScript, RefusesScript, RefusesSet, link_ending, type_ending}
+use Rattle.command_files.specs.Scripts.{EndsOnScripts, EndsOnSet, HoldScripts, HoldsRefused, HoldsScript, ParsesScript, ReadsScript, RefusesScript, RefusesSet, link_ending, type_ending}
 use Rattle.command_files.specs.SourceTexts.{EndsOnTexts, text_of as bytes_in}
 use Rattle.command_files.specs.declared.source_texts.NamedText.{NamedText}
 use Rattle.command_files.specs.TextFile.{ReadsText}
@@ -71,12 +70,12 @@ script_unread (Some files) name OutOfMemory read = tt
 -- a text that was read, and parsed or refused
 pub script_parsed : (holds : Option Files) (name : List ℕ) (text : Vec ℕ Global) (result : Result SourceFile FileFault) → ReadsSource holds name (Ok text) → ParsesScript text.items result → ReadsScript holds name result
 script_parsed None name text result read parses = tt
-script_parsed (Some files) name text (Ok file) read parses = (text.items, read.1)
+script_parsed (Some files) name text (Ok file) read parses = (text.items, read.1, parses)
 script_parsed (Some files) name text (Err (Refused place rule)) read parses = (text.items, read.1, parses)
 script_parsed (Some files) name text (Err OutOfMemory) read parses = tt
 script_parsed (Some files) name text (Err ReadFault) read parses = absurd parses
 
-pub script_is_held : (holds : Option Files) (name : List ℕ) (file : SourceFile) → ReadsScript {T = SourceFile} holds name (Ok file) → IfSome holds (IsHeld name)
+pub script_is_held : (holds : Option Files) (name : List ℕ) (file : SourceFile) → ReadsScript {T = SourceFile} holds name (Ok file) → IfSome holds (HoldsScript name)
 script_is_held None name file read = tt
 script_is_held (Some files) name file read = read
 
@@ -87,15 +86,15 @@ named : (scripts : List (String Global)) (place : ℕ) (script : String Global) 
     word_at (map string_bytes scripts) place ≡ string_bytes script
 named scripts place script within is = get_or-map string_bytes scripts place script [] within ∙ ap string_bytes (sym is)
 
--- the scripts before this one are held, and this one isn't accepted
+-- the scripts before this one keep their lexical form, and this one isn't accepted
 pub script_ends : (holds : Option Files) (scripts : List (String Global)) (place : ℕ) (script : String Global) (fault : FileFault) → place < length scripts → script ≡ slice_index_or scripts place script →
-    IfSome holds (AreHeld (map string_bytes (take place scripts))) → ReadsScript {T = SourceFile} holds (string_bytes script) (Err fault) →
+    IfSome holds (HoldScripts (map string_bytes (take place scripts))) → ReadsScript {T = SourceFile} holds (string_bytes script) (Err fault) →
     EndsOnScripts (map string_bytes scripts) holds (ending_at (place + 1) fault)
 script_ends holds scripts place script ReadFault within is earlier read = tt
 script_ends holds scripts place script OutOfMemory within is earlier read = tt
 script_ends None scripts place script (Refused p rule) within is earlier read = tt
 script_ends (Some files) scripts place script (Refused p rule) within is earlier read =
-    let before : AreHeld (take place (map string_bytes scripts)) files = subst (λ names. AreHeld names files) (sym (take-map string_bytes place scripts)) earlier in
+    let before : HoldScripts (take place (map string_bytes scripts)) files = subst (λ names. HoldScripts names files) (sym (take-map string_bytes place scripts)) earlier in
     let here : HoldsRefused (word_at (map string_bytes scripts) place) files p rule = subst (λ name. HoldsRefused name files p rule) (sym (named scripts place script within is)) read in
     let size : length (map string_bytes scripts) ≡ length scripts = length-map scripts string_bytes in
     inl (record { at = place; word_is = omega arith; within = omega arith; earlier = before; refused = here })

@@ -1,9 +1,10 @@
 -- What reading, parsing, linking and elaborating scripts gives.
-use Rattle.std.specs.Prelude.{◌≡◌, ◌⊎◌, ℕ, suc, ◌+◌, ◌<◌, List, take, length, Option, None, Some, Result, Ok, Err, IfSome}
+use Rattle.std.specs.Prelude.{◌≡◌, ◌⊎◌, ℕ, suc, ◌+◌, ◌<◌, ◌≤◌, List, take, length, Option, None, Some, Result, Ok, Err, IfSome}
+use Rattle.std.specs.List.{All}
 use Rattle.papy_io.specs.Files.{Files, told_bytes}
 use Rattle.script_lexer.specs.declared.fault.LexRule.{LexRule}
 use Rattle.script_lexer.specs.declared.line.Lines.{Lines}
-use Rattle.script_lexer.specs.Lines.{LexBreak, Lexes, logical_lines}
+use Rattle.script_lexer.specs.Lines.{IsUnbroken, LexBreak, Lexes, logical_lines, text_of}
 use Rattle.script_linker.specs.declared.fault.LinkFault.{LinkFault}
 use Rattle.script_linker.specs.declared.fault.LinkFault.TheVariants as link
 use Rattle.script_parser.specs.Faults.{IsLineOf}
@@ -18,7 +19,19 @@ use Rattle.command_files.specs.declared.refusal.Place.TheVariants.{Line}
 use Rattle.command_files.specs.declared.refusal.Rule.{Rule}
 use Rattle.command_files.specs.declared.refusal.Rule.TheVariants.{Pex, Listing, Lexical, Grammar, Link, Typing, Scene, Verification}
 use Rattle.command_files.specs.Ending.{CountsReads, word_at}
-use Rattle.command_files.specs.Held.{AreHeld, IsHeld}
+
+-- at most 1 MiB, and no rule of a script's lexical form is broken
+pub record KeepsForm (text : List ℕ) : Type 0 where
+  pub small : length text ≤ 1048576
+  pub unbroken : IsUnbroken (text_of text)
+
+-- the name holds such a text
+abbrev pub HoldsScript : List ℕ → Files → Type 0
+HoldsScript name files = (text : List ℕ) × (told_bytes (Some files) name ≡ Some text) × KeepsForm text
+
+-- each of these names holds one
+abbrev pub HoldScripts : List (List ℕ) → Files → Type 0
+HoldScripts names files = All (λ name. HoldsScript name files) names
 
 -- the first rule that breaks the text's lexical form, at its line
 pub record BreaksForm (text : List ℕ) (place : Place) (rule : LexRule) : Type 0 where
@@ -47,14 +60,14 @@ RefusesScript text place (Verification rule) = ⊥
 
 -- lines, or the rule that the text breaks
 abbrev pub CutsLines : List ℕ → Result Lines FileFault → Type 0
-CutsLines text (Ok lines) = Lexes text (logical_lines lines.lines.items) lines.last
+CutsLines text (Ok lines) = KeepsForm text × Lexes text (logical_lines lines.lines.items) lines.last
 CutsLines text (Err (Refused place rule)) = RefusesScript text place rule
 CutsLines text (Err OutOfMemory) = Unit {0}
 CutsLines text (Err ReadFault) = ⊥
 
 -- a script, or the rule that the text breaks
 abbrev pub ParsesScript : {T : Type 0} → List ℕ → Result T FileFault → Type 0
-ParsesScript text (Ok _) = Unit {0}
+ParsesScript text (Ok _) = KeepsForm text
 ParsesScript text (Err (Refused place rule)) = RefusesScript text place rule
 ParsesScript text (Err OutOfMemory) = Unit {0}
 ParsesScript text (Err ReadFault) = ⊥
@@ -65,17 +78,17 @@ HoldsRefused name files place rule = (text : List ℕ) × (told_bytes (Some file
 
 abbrev pub ReadsScript : {T : Type 0} → Option Files → List ℕ → Result T FileFault → Type 0
 ReadsScript None name result = Unit {0}
-ReadsScript (Some files) name (Ok _) = IsHeld name files
+ReadsScript (Some files) name (Ok _) = HoldsScript name files
 ReadsScript (Some files) name (Err (Refused place rule)) = HoldsRefused name files place rule
 ReadsScript (Some files) name (Err ReadFault) = Unit {0}
 ReadsScript (Some files) name (Err OutOfMemory) = Unit {0}
 
--- the scripts before this one are held, and this one breaks the rule
+-- the scripts before this one keep their lexical form, and this one breaks the rule
 pub record RefusesFile (names : List (List ℕ)) (files : Files) (word : ℕ) (place : Place) (rule : Rule) : Type 0 where
   pub at : ℕ
   pub word_is : word ≡ suc at
   pub within : at < length names
-  pub earlier : AreHeld (take at names) files
+  pub earlier : HoldScripts (take at names) files
   pub refused : HoldsRefused (word_at names at) files place rule
 
 -- a rule of sets of scripts, or of the types and names in them
@@ -100,7 +113,7 @@ pub record RefusesSet (count word : ℕ) (place : Place) (rule : Rule) : Type 0 
 -- the scripts of these names are refused so
 abbrev pub RefusesScripts : List (List ℕ) → Files → ℕ → Place → Rule → Type 0
 RefusesScripts names files word place rule =
-    RefusesFile names files word place rule ⊎ (AreHeld names files × RefusesSet (length names) word place rule)
+    RefusesFile names files word place rule ⊎ (HoldScripts names files × RefusesSet (length names) word place rule)
 
 -- how a command ends whose scripts' set is refused, whose words stand behind the command's name
 abbrev pub link_ending : LinkFault → Ending
@@ -132,9 +145,9 @@ EndsOnScripts names holds ending.Usage = ⊥
 EndsOnScripts names holds ending.WriteFault = ⊥
 EndsOnScripts names holds ending.NotBuilt = ⊥
 
--- the scripts of these names are held, or the command ends so
+-- the scripts of these names are held and keep their lexical form, or the command ends so
 abbrev pub Accepts : {T : Type 0} → List (List ℕ) → Option Files → Result T Ending → Type 0
-Accepts names holds (Ok _) = IfSome holds (AreHeld names)
+Accepts names holds (Ok _) = IfSome holds (HoldScripts names)
 Accepts names holds (Err found) = EndsOnScripts names holds found
 
 -- the count of failed reads rises where a script was not read, and nowhere else

@@ -109,14 +109,20 @@ fn fed_decoder<D: Desk>(
     let mut decoder = Decoder::new(alloc)?;
     let size = match feed_file(desk, &mut decoder, name) {
         Ok(size) => size,
-        Err(fault) => return Err(FileFault::from(fault)),
+        Err(fault) => {
+            drop(decoder);
+            return Err(FileFault::from(fault));
+        }
     };
     match size {
         Some(count) => Ok((decoder, count)),
-        None => Err(FileFault::Refused {
-            place: Place::Offset(FILE_LIMIT),
-            rule: Rule::Pex(PexRule::TooLarge),
-        }),
+        None => {
+            drop(decoder);
+            Err(FileFault::Refused {
+                place: Place::Offset(FILE_LIMIT),
+                rule: Rule::Pex(PexRule::TooLarge),
+            })
+        }
     }
 }
 
@@ -186,7 +192,11 @@ pub fn count_pex<D: Desk>(alloc: Global, desk: &mut D, name: &[u8]) -> Result<us
     ensures read { CountsPex (D.holds desk.old) name.now result }
 {
     match fed_decoder(alloc, desk, name) {
-        Ok((decoder, size)) => counted(&decoder, size),
+        Ok((decoder, size)) => {
+            let count = counted(&decoder, size);
+            drop(decoder);
+            count
+        }
         Err(fault) => Err(fault),
     }
 }

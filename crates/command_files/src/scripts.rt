@@ -134,7 +134,10 @@ fn read_sources<D: Desk>(
         };
         match files.push(file) {
             Ok(()) => {}
-            Err(_) => return Err(Ending::OutOfMemory),
+            Err(failed) => {
+                drop(failed);
+                return Err(Ending::OutOfMemory);
+            }
         }
     }
     Ok(files)

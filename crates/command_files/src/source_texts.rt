@@ -31,7 +31,10 @@ fn sources_of(alloc: Global, texts: &[NamedText]) -> Result<Vec<SourceFile>, End
         };
         match files.push(file) {
             Ok(()) => {}
-            Err(_) => return Err(Ending::OutOfMemory),
+            Err(failed) => {
+                drop(failed);
+                return Err(Ending::OutOfMemory);
+            }
         }
     }
     Ok(files)

@@ -63,7 +63,7 @@ fn expect(
 ) -> Result<(), Fail> {
     let words = words_of(alloc, words)?;
     for (number, wanted) in answers.iter().enumerate() {
-        let number = number as u32;
+        let number = u32::try_from(number).unwrap_or(NEVER);
         let (here, there) = if of_desk {
             (number, NEVER)
         } else {

@@ -58,6 +58,7 @@ impl Arguments {
     {
         // A heading has at most 8,000 tokens.
         let Ok(number) = u16::try_from(place) else {
+            drop(core);
             return Err(OutOfMemory);
         };
         self.filled[place] = true;
@@ -174,12 +175,29 @@ fn add_default(
         context.fault(notes, TypeRule::Arguments);
         return Ok(false);
     };
+    match writes_default(notes, parameters, place) {
+        Ok(true) => {
+            found.add(place, default)?;
+            Ok(true)
+        }
+        other => {
+            drop(default);
+            other
+        }
+    }
+}
+
+// Notes that the default argument of this parameter is written out, unless there are too many already.
+fn writes_default(
+    notes: &mut Notes,
+    parameters: Parameters<'_>,
+    place: usize,
+) -> Result<bool, OutOfMemory> {
     if !notes.takes_default() {
         return Ok(false);
     }
     if let Some(text) = parameters.default_text(place) {
         notes.write_out(text)?;
     }
-    found.add(place, default)?;
     Ok(true)
 }

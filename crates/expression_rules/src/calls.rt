@@ -179,7 +179,10 @@ fn value_and_start(found: Option<Arguments>) -> Option<(Core, Core)>
 {
     let mut found = found?;
     let second = found.cores.pop()?;
-    let first = found.cores.pop()?;
+    let Some(first) = found.cores.pop() else {
+        drop(second);
+        return None;
+    };
     if found.places.first() == Some(&0) {
         Some((first, second))
     } else {

@@ -1,8 +1,9 @@
 // What is seen where an expression stands.
-ghost use Rattle.std.specs.Prelude.{IfOk};
+ghost use Rattle.std.specs.Prelude.{IfNone, IfOk, IfSome, IsSome, IsTrue};
 ghost use Rattle.core_tree.specs.InRange.{ResultInRange};
 ghost use Rattle.type_scope.specs.Scope.{function_counts, KindInRange};
 ghost use Rattle.expression_rules.specs.Ranges.{OperandInRange, bounds_of};
+ghost use Rattle.expression_rules.specs.Rules.{IsFirst};
 
 use crate::notes::Notes;
 use crate::operand::Operand;
@@ -37,7 +38,9 @@ impl Context<'_> {
 
     /// The same where this rule is broken.
     pub(crate) fn broken(&self, notes: &mut Notes, rule: TypeRule) -> Result<Operand, OutOfMemory>
-        ensures { IfOk result (OperandInRange (bounds_of self.now)) }
+        ensures noted { IsSome notes.new.first }
+        ensures least { IfSome notes.new.first (IsFirst notes.old.first self.now.line rule) }
+        ensures in_range { IfOk result (OperandInRange (bounds_of self.now)) }
     {
         self.fault(notes, rule);
         Operand::unknown(self.catalog.alloc)
@@ -51,12 +54,17 @@ impl Context<'_> {
     }
 
     /// Notes that a rule is broken.
-    pub(crate) fn fault(&self, notes: &mut Notes, rule: TypeRule) {
+    pub(crate) fn fault(&self, notes: &mut Notes, rule: TypeRule)
+        ensures noted { IsSome notes.new.first }
+        ensures least { IfSome notes.new.first (IsFirst notes.old.first self.now.line rule) }
+    {
         notes.note(self.line, rule);
     }
 
     /// Notes that something needs an instance, which a Global function has not.
-    pub(crate) fn needs_instance(&self, notes: &mut Notes) {
+    pub(crate) fn needs_instance(&self, notes: &mut Notes)
+        ensures { IsTrue self.now.is_global → IsSome notes.new.first }
+    {
         if self.is_global {
             self.fault(notes, TypeRule::InstanceInGlobal);
         }
@@ -68,7 +76,8 @@ impl Context<'_> {
         notes: &mut Notes,
         name: &TypeName,
     ) -> Result<Option<CoreType>, OutOfMemory>
-        ensures { IfOk result (ResultInRange (function_counts self.now.catalog.now.set.now)) }
+        ensures in_range { IfOk result (ResultInRange (function_counts self.now.catalog.now.set.now)) }
+        ensures noted { IfOk result (λ found. IfNone found (IsSome notes.new.first)) }
     {
         let found = self.catalog.type_of(name)?;
         if found.is_none() {

@@ -161,6 +161,7 @@ fn default_argument(
     match kind {
         Some(to) if kind_of(constant) != Kind::Of(to) => {
             if !default_fits(context.catalog, constant, kind) {
+                drop(value);
                 return Ok(nothing());
             }
             let value = Box::new(context.catalog.alloc, value)?;

@@ -1,8 +1,9 @@
 // One function while its lines are judged.
-ghost use Rattle.std.specs.Prelude.{◌≡◌, ◌<◌, ◌++◌, ◌∷◌, [], IfOk, OnOk, min, vec_len};
+ghost use Rattle.std.specs.Prelude.{◌≡◌, ◌<◌, ◌++◌, ◌∷◌, [], IfNone, IfOk, IfSome, IsSome, OnOk, min, vec_len};
 ghost use Rattle.core_tree.specs.InRange.{ResultInRange};
 ghost use Rattle.type_scope.specs.Scope.{function_counts};
 ghost use Rattle.expression_rules.specs.Ranges.{CoreInRange, FormInRange, TypedInRange};
+ghost use Rattle.expression_rules.specs.Rules.{IsFirst};
 ghost use Rattle.expression_rules.specs.Scopes.{Keeps, ScopeInRange, scope_bounds};
 
 use crate::assignment::assign;
@@ -85,6 +86,8 @@ impl<'a> Scope<'a> {
     /// Notes that a rule is broken at the present line.
     pub fn fault(&mut self, rule: TypeRule)
         ensures kept { Keeps self.old self.new }
+        ensures noted { IsSome self.new.notes.first }
+        ensures least { IfSome self.new.notes.first (IsFirst self.old.notes.first self.old.line rule) }
     {
         self.notes.note(self.line, rule);
     }
@@ -93,6 +96,7 @@ impl<'a> Scope<'a> {
     pub fn kind_named(&mut self, name: &TypeName) -> Result<Option<CoreType>, OutOfMemory>
         ensures in_range { IfOk result (ResultInRange (function_counts self.old.catalog.now.set.now)) }
         ensures kept { Keeps self.old self.new }
+        ensures noted { IfOk result (λ found. IfNone found (IsSome self.new.notes.first)) }
     {
         let context = context_of!(self);
         context.kind_named(&mut self.notes, name)

@@ -83,8 +83,8 @@ fn ending_form(tokens: &[Spanned]) -> Option<LineForm> {
 
 // A form, and a documentation text where one is last.
 fn line_tree(alloc: Global, types: &TypeWords, tokens: &[Spanned]) -> Result<LineTree, FormFault> {
-    let form = whole_form(alloc, types, without_doc(tokens))?;
     let doc = doc_at_end(alloc, tokens)?;
+    let form = whole_form(alloc, types, without_doc(tokens))?;
     Ok(LineTree { form, doc })
 }
 
@@ -125,6 +125,7 @@ fn whole_form(alloc: Global, types: &TypeWords, tokens: &[Spanned]) -> Result<Li
     if cursor.is_at_end() {
         Ok(form)
     } else {
+        drop(form);
         Err(FormFault::NoForm)
     }
 }

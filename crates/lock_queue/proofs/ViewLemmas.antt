@@ -3,7 +3,7 @@ use Rattle.std.proofs.Common.{◌≡◌, ℕ, ◌<◌, ◌≤◌, List, [], ◌�
 use Rattle.std.proofs.Math.ListN.{set}
 use Rattle.std.proofs.lemmas.List.{get_or_past, get_or_read, map-append}
 use Rattle.std.proofs.lemmas.List.Sums.{position_or_len_is}
-use Rattle.std.proofs.lemmas.Bool.{eq-eqb, eqb-true, false≢true, cases_lt, lt-ltb, le-ltb}
+use Rattle.std.proofs.lemmas.Bool.{eq-eqb, eqb-true, false≢true, cases_lt, lt-ltb, le-ltb, ne_eqb}
 use Rattle.std.specs.List.{find, position, position_or_len}
 use Rattle.std.specs.Option.{ForSome, option_eq}
 use Rattle.lock_queue.specs.declared.seat.Seat.{Seat}
@@ -12,8 +12,10 @@ use Rattle.lock_queue.specs.Links.{link_at, Lacks, Has, AllDiffer, without, firs
 use Rattle.lock_queue.specs.Order.{Sequence}
 use Rattle.lock_queue.specs.Queues.{Lines, queue_at}
 use Rattle.lock_queue.specs.Ready.{is_member}
-use Rattle.lock_queue.specs.LockTable.{LockTable, seat_at, holds, queue_of, is_first, may_take, is_ready_in, is_ready, without_stack, first_waiter, waiter_after, waits_for, numbers_from, start_after, ready_after}
+use Rattle.lock_queue.specs.LockTable.{LockTable, seat_at, holds, queue_of, is_first, may_take, is_ready_in, is_ready, without_stack, first_waiter, waiter_after, waits_for, pairs_if, numbers_from, start_after, ready_after}
 use Rattle.lock_queue.specs.Agreement.{waits, awaited_in, waiters_of, ready_in, Agree}
+use Rattle.lock_queue.proofs.LinkLemmas.{apart}
+use Rattle.lock_queue.proofs.QueueLemmas.{lacks_from}
 use Rattle.lock_queue.proofs.AgreementLemmas.{seat_same, waiters-seat, lacks-without, none_some, same_some, resting_holds}
 use Rattle.lock_queue.proofs.ReadyLemmas.{find_agree}
 
@@ -62,6 +64,42 @@ owner_is seats owners order queues words i agree = decide (link_at owners i) ref
       ∙ sym e
   decide None e =
       position_nowhere (holds i) seats (λ j. not_held i (seat_at seats j) (λ held. none_some j (sym e ∙ agree.owned j i held))) ∙ sym e
+
+-- ---- the pairs of a stack
+pairs-lacking : (seats : List Seat) (k : ℕ) (xs : List ℕ) → Lacks xs k → filter (λ (w : ℕ × ℕ). eqb w.1 k) (waiters_of seats xs) ≡ []
+pairs-lacking seats k [] lacks = refl
+pairs-lacking seats k (x ∷ xs) lacks =
+    let rest : List (ℕ × ℕ) = filter (λ (w : ℕ × ℕ). eqb w.1 k) (waiters_of seats xs) in
+    ap (λ b. cond b ((awaited_in (seat_at seats x), x) ∷ rest) rest) (ne_eqb x k lacks.0) ∙ pairs-lacking seats k xs lacks.1
+
+pairs-having : (seats : List Seat) (k : ℕ) (xs : List ℕ) → AllDiffer xs → Has xs k → filter (λ (w : ℕ × ℕ). eqb w.1 k) (waiters_of seats xs) ≡ (awaited_in (seat_at seats k), k) ∷ []
+pairs-having seats k [] differ has = elim has [ ]
+pairs-having seats k (x ∷ xs) differ has =
+    let rest : List (ℕ × ℕ) = filter (λ (w : ℕ × ℕ). eqb w.1 k) (waiters_of seats xs) in
+    ⊎_elim
+    (λ (e : x ≡ k).
+    ap (λ b. cond b ((awaited_in (seat_at seats x), x) ∷ rest) rest) (eq-eqb x k e)
+    ∙ ap (λ ws. (awaited_in (seat_at seats x), x) ∷ ws) (pairs-lacking seats k xs (subst (λ j. Lacks xs j) e differ.0))
+    ∙ ap (λ j. (awaited_in (seat_at seats j), j) ∷ []) e)
+    (λ (h : Has xs k).
+    ap (λ b. cond b ((awaited_in (seat_at seats x), x) ∷ rest) rest) (ne_eqb x k (λ e. apart xs k k (subst (λ j. Lacks xs j) e differ.0) h refl))
+    ∙ pairs-having seats k xs differ.1 h)
+    has
+
+pub pairs_is : (seats : List Seat) (owners : List (Option ℕ)) (order : Sequence) (queues : Lines) (words : List ℕ) (k : ℕ) → Agree seats owners order queues words → filter (λ (w : ℕ × ℕ). eqb w.1 k) (waiters_of seats order.stacks) ≡ pairs_if k (waits_for (seat_at seats k))
+pairs_is seats owners order queues words k agree = decide (seat_at seats k) refl where
+  none : waits_for (seat_at seats k) ≡ None → filter (λ (w : ℕ × ℕ). eqb w.1 k) (waiters_of seats order.stacks) ≡ pairs_if k (waits_for (seat_at seats k))
+  none e =
+      pairs-lacking seats k order.stacks (lacks_from order.stacks k (λ h. let w = agree.waiting k h in none_some w.0 (sym e ∙ ap waits_for w.1)))
+      ∙ ap (pairs_if k) (sym e)
+
+  decide : (s : Seat) → seat_at seats k ≡ s → filter (λ (w : ℕ × ℕ). eqb w.1 k) (waiters_of seats order.stacks) ≡ pairs_if k (waits_for (seat_at seats k))
+  decide (Waits i) e =
+      pairs-having seats k order.stacks agree.differ (agree.listed k i e)
+      ∙ ap (λ s. (awaited_in s, k) ∷ []) e ∙ ap (λ s. pairs_if k (waits_for s)) (sym e)
+  decide Resting e = none (ap waits_for e)
+  decide Free e = none (ap waits_for e)
+  decide (Holds i) e = none (ap waits_for e)
 
 -- ---- the queues
 map_cond : (b : Bool) (p : ℕ × ℕ) (ps : List (ℕ × ℕ)) → map (λ (w : ℕ × ℕ). w.1) (cond b (p ∷ ps) ps) ≡ cond b (p.1 ∷ map (λ (w : ℕ × ℕ). w.1) ps) (map (λ (w : ℕ × ℕ). w.1) ps)

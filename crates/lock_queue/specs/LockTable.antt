@@ -46,6 +46,15 @@ owner_of table instance = position (holds instance) table.seats
 abbrev pub queue_of : LockTable → ℕ → List ℕ
 queue_of table instance = map (λ waiter. waiter.1) (filter (λ waiter. waiter.0 == instance) table.waiters)
 
+-- the pairs of one stack among those that wait
+abbrev pub pairs_of : LockTable → ℕ → List (ℕ × ℕ)
+pairs_of table stack = filter (λ waiter. waiter.1 == stack) table.waiters
+
+-- a stack that waits for an instance has one pair, and another has none
+abbrev pub pairs_if : ℕ → Option ℕ → List (ℕ × ℕ)
+pairs_if stack None = []
+pairs_if stack (Some instance) = (instance, stack) ∷ []
+
 abbrev pub is_first : ℕ → List ℕ → Bool
 is_first stack [] = false
 is_first stack (first ∷ rest) = first == stack

@@ -2,7 +2,7 @@
 
 ghost use Rattle.std.specs.Prelude.{◌≡◌, ◌<◌, ◌++◌, ◌∷◌, [], ◌&&◌, is_none, IfOk, IsSome, IsTrue, length, replicate, slice_set};
 ghost use Rattle.std.specs.Option.{ForSome};
-ghost use Rattle.lock_queue.specs.LockTable.{IsIdle, seat_of, held_by, waits_for, owner_of, may_take, without_stack, waiter_after, ready_after, start_after};
+ghost use Rattle.lock_queue.specs.LockTable.{IsIdle, seat_of, held_by, waits_for, owner_of, pairs_of, pairs_if, may_take, without_stack, waiter_after, ready_after, start_after};
 
 use crate::order::Order;
 use crate::queues::Queues;
@@ -159,10 +159,11 @@ impl Locks {
         }
     }
 
-    /// The instance that a stack waits for.
+    /// The instance that a stack waits for. The stack then stands once among those that wait, and else it doesn't.
     pub fn waits_for(&self, stack: u16) -> Option<u16>
         requires { stack < length self.now.seats }
-        ensures { result ≡ waits_for (seat_of self.now stack) }
+        ensures instance { result ≡ waits_for (seat_of self.now stack) }
+        ensures pairs { pairs_of self.now stack ≡ pairs_if stack (waits_for (seat_of self.now stack)) }
     {
         match self.seats[usize::from(stack)] {
             Seat::Waits(instance) => Some(instance),

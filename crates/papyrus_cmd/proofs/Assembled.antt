@@ -1,6 +1,6 @@
 -- What `asm` answers, by what reading its listing gave.
 use Rattle.std.proofs.Common.{arith, ◌≡◌, inl, inr, ℕ, List, [], refl}
-use Rattle.std.specs.Prelude.{Option, None, Some, Result, Ok, Err, IfSome}
+use Rattle.std.specs.Prelude.{Option, None, Some, Result, Ok, Err, IfOk, IfSome}
 use Rattle.std.specs.declared.alloc.Global.{Global}
 use Rattle.std.specs.declared.vec.Vec.{Vec}
 use Rattle.papy_io.specs.declared.fault.IoFault.{IoFault}
@@ -8,6 +8,9 @@ use Rattle.papy_io.specs.declared.fault.IoFault.TheVariants as io
 use Rattle.papy_io.specs.Files.{Files}
 use Rattle.papy_io.specs.WriteFile.{WritesFile}
 use Rattle.pex_listing.specs.declared.faults.ListingRule.TheVariants.{BadLine}
+use Rattle.pex_listing.specs.Lines.{head_lines}
+use Rattle.pex_listing.specs.Opened.{BeginsWith}
+use Rattle.pex_values.specs.Plain.{PlainPex}
 use Rattle.command_files.specs.declared.ending.Ending.TheVariants.{Done}
 use Rattle.command_files.specs.declared.file_fault.FileFault.{FileFault}
 use Rattle.command_files.specs.declared.file_fault.FileFault.TheVariants as file
@@ -15,7 +18,7 @@ use Rattle.command_files.specs.declared.refusal.Place.TheVariants.{Line}
 use Rattle.command_files.specs.declared.refusal.Rule.TheVariants.{Listing}
 use Rattle.command_files.specs.Outputs.{AnswersTo, EndsUnprinted}
 use Rattle.papyrus_cmd.specs.Answers.{AsmAnswers}
-use Rattle.papyrus_cmd.specs.Asm.{AsmLeaves, Assembles, IsSpelling, ReadsListing}
+use Rattle.papyrus_cmd.specs.Asm.{Assembles, IsAssembled, ReadsListing, SpellsValue}
 use Rattle.command_files.specs.Ending.{write_ending}
 use Rattle.command_files.specs.FileFault.{ending_at}
 use Rattle.command_files.specs.TextFile.{ReadsText}
@@ -32,10 +35,24 @@ listing_unread (Some files) name file.ReadFault read = tt
 listing_unread (Some files) name file.OutOfMemory read = tt
 
 -- a text that was assembled or refused
-pub listing_read : (holds : Option Files) (name : List ℕ) (text : Vec ℕ Global) (result : Result (Vec ℕ Global) FileFault) → ReadsListed holds name (Ok text) → Assembles result → ReadsListing holds name result
+pub listing_read : (holds : Option Files) (name : List ℕ) (text : Vec ℕ Global) (result : Result (Vec ℕ Global) FileFault) → ReadsListed holds name (Ok text) → Assembles text.items result → ReadsListing holds name result
 listing_read None name text result read assembles = tt
 listing_read (Some files) name text (Ok bytes) read assembles = (text.items, read.1)
 listing_read (Some files) name text (Err (file.Refused place rule)) read assembles =
     (text.items, read.1, record { listing = assembles; too_large = λ past. absurd (let small = read.0 in omega arith) })
 listing_read (Some files) name text (Err file.OutOfMemory) read assembles = tt
 listing_read (Some files) name text (Err file.ReadFault) read assembles = tt
+
+-- ---- the value of a listing
+
+pub assembled : (value : PlainPex) (listing : List ℕ) (result : Result (Vec ℕ Global) FileFault) → SpellsValue value result → BeginsWith (head_lines value) listing → Assembles listing result
+assembled value listing (Ok bytes) spells begins = (value, spells, begins)
+assembled value listing (Err file.OutOfMemory) spells begins = tt
+assembled value listing (Err file.ReadFault) spells begins = absurd spells
+assembled value listing (Err (file.Refused place rule)) spells begins = absurd spells
+
+pub listing_spelled : (holds : Option Files) (name : List ℕ) (text : Vec ℕ Global) (result : Result (Vec ℕ Global) FileFault) → ReadsListed holds name (Ok text) → Assembles text.items result →
+    IfOk result (λ bytes. IsAssembled name holds bytes.items)
+listing_spelled None name text (Ok bytes) read (value, spelled, begins) = record { value = value; spelled = spelled; listed = tt }
+listing_spelled (Some files) name text (Ok bytes) read (value, spelled, begins) = record { value = value; spelled = spelled; listed = (text.items, read.1, begins) }
+listing_spelled holds name text (Err fault) read assembles = tt

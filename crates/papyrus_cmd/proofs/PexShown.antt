@@ -3,6 +3,8 @@ use Rattle.std.proofs.Common.{arith, ◌≡◌, ℕ, List, ap, subst, take, leng
 use Rattle.std.specs.Prelude.{Option, None, Some, Ok, IfSome}
 use Rattle.std.proofs.lemmas.Grind.{common_steps}
 use Rattle.papy_io.specs.Files.{Files}
+use Rattle.pex_listing.specs.Lines.{head_lines}
+use Rattle.pex_listing.specs.Showing.{Begins}
 use Rattle.pex_values.specs.Plain.{plain}
 use Rattle.pex_codec.specs.Decoding.{IsDecoded, SpellOne}
 use Rattle.command_files.specs.declared.ending.Ending.TheVariants.{Done}
@@ -11,6 +13,7 @@ use Rattle.command_files.specs.Outputs.{AnswersTo, IsPart}
 use Rattle.command_files.specs.PexFile.{CountsPex, ReadsPex}
 use Rattle.papyrus_cmd.specs.Answers.{CheckAnswers, ShowAnswers, IsPex}
 use Rattle.papyrus_cmd.specs.Check.{accepted_line}
+use Rattle.papyrus_cmd.specs.Show.{ShowsHead}
 
 is-pex : (pex : PexFile) (bytes : List ℕ) → pex.size ≡ length bytes → IsDecoded pex.size pex.value → IsPex bytes
 is-pex pex bytes is decoded = (plain pex.value, subst (λ n. IsDecoded n pex.value) is decoded)
@@ -24,6 +27,13 @@ pub shown : (holds : Option Files) (name : List ℕ) (pex : PexFile) (text : Lis
     IfSome holds (λ files. AnswersTo ShowAnswers name files Done text)
 shown None name pex text read decoded = tt
 shown (Some files) name pex text (bytes, held, is) decoded = (bytes, held, is-pex pex bytes is decoded)
+
+-- the first lines of what was shown
+pub head_shown : (holds : Option Files) (name : List ℕ) (pex : PexFile) (before now : Option (List ℕ)) → ReadsPex holds name (Ok pex) → IsDecoded pex.size pex.value → Begins (head_lines (plain pex.value)) before now →
+    ShowsHead name Done holds before now
+head_shown None name pex before now read decoded begun = tt
+head_shown (Some files) name pex before now (bytes, held, is) decoded begun =
+    record { bytes = bytes; value = plain pex.value; held = held; spelled = subst (λ n. IsDecoded n pex.value) is decoded; begun = begun }
 
 -- what was shown before the output failed
 pub partly_shown : (holds : Option Files) (name : List ℕ) (pex : PexFile) (text : List ℕ) → ReadsPex holds name (Ok pex) → IsDecoded pex.size pex.value →

@@ -23,7 +23,7 @@ use Rattle.papyrus_cmd.specs.Upgrade.{MayUpgrade, UpgradeLeaves}
 use Rattle.command_files.specs.Ending.{CountsBoth, CountsReads, word_at}
 use Rattle.papyrus_cmd.specs.Missed.{MissesWord}
 use Rattle.command_files.specs.Refusal.{rule_status}
-use Rattle.papyrus_cmd.specs.TopCall.{Answered, CommandCut, CommandLeaves, FileCommandCut, FileCommandLeaves, FilesCut, FilesLeft, IsAnswer, Noted, NotRead, Told, WasCut, WritesNone, file_command_writes, writes_files}
+use Rattle.papyrus_cmd.specs.TopCall.{Answered, CommandCut, CommandLeaves, FileCommandCut, FileCommandLeaves, FilesCut, FilesLeft, IsAnswer, Listed, Noted, NotRead, Told, WasCut, WritesNone, file_command_writes, writes_files}
 use Rattle.papyrus_cmd.proofs.NotedLines.{appended_nothing}
 
 -- the line was written where its status tells neither want of memory nor a failed write
@@ -93,6 +93,50 @@ not_read words holds (ReadFault word) status out out' notes notes' missed f f' r
     }
 not_read words holds (ReadFault word) status out out' notes notes' missed f f' r r' same misses counts (inr (is, tried)) three = absurd (omega arith)
 
+-- only want of memory, a failed write and the status of a file that was not read come after a failed read
+pub all_read : (words : List (List ℕ)) (ending : Ending) (status : ℕ) (notes notes' : Option (List ℕ)) (f f' r r' : ℕ) → CountsReads ending r r' → Told words ending status notes notes' f f' → IsAnswer status → r' ≡ r
+all_read words Done status notes notes' f f' r r' same told answer = same
+all_read words OutOfMemory status notes notes' f f' r r' same told answer = same
+all_read words Usage status notes notes' f f' r r' same told answer = same
+all_read words WriteFault status notes notes' f f' r r' same told answer = same
+all_read words NotBuilt status notes notes' f f' r r' same told answer = same
+all_read words (Refused word place rule) status notes notes' f f' r r' same told answer = same
+all_read words (ReadFault word) status notes notes' f f' r r' risen (inl told) answer =
+    absurd (answer.was_read (noted _ _ status notes notes' f f' told answer.memory answer.was_written).0)
+all_read words (ReadFault word) status notes notes' f f' r r' risen (inr (is, tried)) answer = absurd (answer.memory is)
+
+not-zero : (rule : Rule) → rule_status rule ≢ 0
+not-zero (Pex rule) = λ is. absurd (omega arith)
+not-zero (Listing rule) = λ is. absurd (omega arith)
+not-zero (Lexical rule) = λ is. absurd (omega arith)
+not-zero (Grammar rule) = λ is. absurd (omega arith)
+not-zero (Link rule) = λ is. absurd (omega arith)
+not-zero (Typing rule) = λ is. absurd (omega arith)
+not-zero (Scene rule) = λ is. absurd (omega arith)
+not-zero (Verification rule) = λ is. absurd (omega arith)
+
+-- a status that tells that all went well
+well-wanted : (line : List ℕ) (wanted status : ℕ) (before now : Option (List ℕ)) (f f' : ℕ) → Noted line wanted status before now f f' → status ≡ 0 → wanted ≡ 0
+well-wanted line wanted status before now f f' told well =
+    sym (noted line wanted status before now f f' told (λ is. absurd (omega arith)) (λ is. absurd (omega arith))).0 ∙ well
+
+-- what was listed by a command that ended well
+pub listed : (words : List (List ℕ)) (holds : Option Files) (ending : Ending) (status : ℕ) (out out' notes notes' : Option (List ℕ)) (f f' : ℕ) →
+    Listed words ending holds out out' → Told words ending status notes notes' f f' → status ≡ 0 → Listed words Done holds out out'
+listed words holds Done status out out' notes notes' f f' lists told well = lists
+listed words holds OutOfMemory status out out' notes notes' f f' lists (is, tried) well = absurd (omega arith)
+listed words holds WriteFault status out out' notes notes' f f' lists (is, tried) well = absurd (omega arith)
+listed words holds Usage status out out' notes notes' f f' lists told well =
+    absurd (let wanted = well-wanted _ 2 status notes notes' f f' told well in omega arith)
+listed words holds NotBuilt status out out' notes notes' f f' lists told well =
+    absurd (let wanted = well-wanted _ 10 status notes notes' f f' told well in omega arith)
+listed words holds (ReadFault word) status out out' notes notes' f f' lists (inl told) well =
+    absurd (let wanted = well-wanted _ 3 status notes notes' f f' told well in omega arith)
+listed words holds (ReadFault word) status out out' notes notes' f f' lists (inr (is, tried)) well = absurd (omega arith)
+listed words holds (Refused word place rule) status out out' notes notes' f f' lists (inl told) well =
+    absurd (not-zero rule (well-wanted _ _ status notes notes' f f' told well))
+listed words holds (Refused word place rule) status out out' notes notes' f f' lists (inr (is, tried)) well = absurd (omega arith)
+
 -- ---- files
 
 -- an ending of which a status tells that a file was not read leaves the files as that ending says
@@ -110,7 +154,7 @@ unread-left L Same unread refused usage unbuilt words (Refused word place rule) 
 unread-work : (work : FileCommand) (names words : List (List ℕ)) (ending : Ending) (status : ℕ) (old new : Option Files) (notes notes' : Option (List ℕ)) (f f' : ℕ) → Told words ending status notes notes' f f' → status ≡ 3 →
     FileCommandLeaves work names ending old new → new ≡ old
 unread-work Asm names words ending status old new notes notes' f f' told three leaves =
-    unread-left (λ e. AsmLeaves (word_at names 1) e old new) (new ≡ old) (λ word same. same) (λ word place rule same. same) (λ none. absurd none) (λ none. absurd none) words ending status notes notes' f f' told three leaves
+    unread-left (λ e. AsmLeaves (word_at names 0) (word_at names 1) e old new) (new ≡ old) (λ word same. same) (λ word place rule same. same) (λ none. absurd none) (λ none. absurd none) words ending status notes notes' f f' told three leaves
 unread-work Upgrade names words ending status old new notes notes' f f' told three leaves =
     unread-left (λ e. UpgradeLeaves (word_at names 1) e old new) (new ≡ old) (λ word same. same) (λ word place rule same. same) (λ none. absurd none) (λ none. absurd none) words ending status notes notes' f f' told three leaves
 unread-work Compile names words ending status old new notes notes' f f' told three leaves =
@@ -164,7 +208,7 @@ cut-left L Cut memory write usage unbuilt unread refused words (Refused word pla
 cut-work : (work : FileCommand) (names words : List (List ℕ)) (ending : Ending) (status : ℕ) (old new : Option Files) (notes notes' : Option (List ℕ)) (f f' : ℕ) → Told words ending status notes notes' f f' → WasCut status →
     FileCommandLeaves work names ending old new → FileCommandCut work names old new
 cut-work Asm names words ending status old new notes notes' f f' told cut leaves =
-    cut-left (λ e. AsmLeaves (word_at names 1) e old new) (MayWrite (word_at names 1) old new) (λ may. may) (λ may. may) (λ none. absurd none) (λ none. absurd none) (λ word same. inl same) (λ word place rule same. inl same) words ending status notes notes' f f' told cut leaves
+    cut-left (λ e. AsmLeaves (word_at names 0) (word_at names 1) e old new) (MayWrite (word_at names 0) (word_at names 1) old new) (λ may. may) (λ may. may) (λ none. absurd none) (λ none. absurd none) (λ word same. inl same) (λ word place rule same. inl same) words ending status notes notes' f f' told cut leaves
 cut-work Upgrade names words ending status old new notes notes' f f' told cut leaves =
     cut-left (λ e. UpgradeLeaves (word_at names 1) e old new) (MayUpgrade (word_at names 1) old new) (λ may. may) (λ may. may) (λ none. absurd none) (λ none. absurd none) (λ word same. inl same) (λ word place rule same. inl same) words ending status notes notes' f f' told cut leaves
 cut-work Compile names words ending status old new notes notes' f f' told cut leaves =

@@ -7,6 +7,7 @@ use Rattle.std.specs.String.{string_bytes}
 use Rattle.std.proofs.lemmas.Bool.Decides.{nat_tests}
 use Rattle.std.proofs.lemmas.Grind.{common_steps}
 use Rattle.std.proofs.lemmas.List.{length-map}
+use Rattle.papyrus_cmd.specs.declared.command.Command.{Command}
 use Rattle.papyrus_cmd.specs.declared.command.Command.TheVariants.{Help, Version, Files, Play}
 use Rattle.papyrus_cmd.specs.declared.command.FileCommand.{FileCommand}
 use Rattle.papyrus_cmd.specs.declared.command.FileCommand.TheVariants.{Compile, Check, Show, Asm, Upgrade}
@@ -18,6 +19,7 @@ use Rattle.command_files.specs.Ending.{MissesScript, word_at}
 use Rattle.papyrus_cmd.specs.Command.{are_file_words, are_pex_words, are_script_words, begins_above_zero, command_of, either_command, file_command, files_of, files_played, files_read, files_used, is_file_word, is_script_word, play_command, read_on, sample_command, stand_behind_file, worker_count}
 use Rattle.papyrus_cmd.specs.Dispatch.{IsBetween, SuitsFiles, SuitsPlay}
 use Rattle.papyrus_cmd.specs.Missed.{MissesWord}
+use Rattle.papyrus_cmd.specs.TopCall.{RunsNone, runs_scripts}
 use Rattle.papyrus_cmd.proofs.OutputsOf.{names_behind, names-behind}
 
 -- ---- how many
@@ -169,6 +171,12 @@ play_suits words command is = subst (SuitsPlay command) (sym (count-behind words
 
 pub files_suit : (words : List (String Global)) (command : FileCommand) → command_of (map string_bytes words) ≡ Some (Files command) → SuitsFiles command (length (take (length words - 1) (drop 1 words)))
 files_suit words command is = subst (SuitsFiles command) (sym (count-behind words)) (files-behind (map string_bytes words) command is)
+
+-- the words of a command that runs scripts are of none that doesn't
+pub play_runs : (words : List (List ℕ)) (command : PlayCommand) → command_of words ≡ Some (Play command) → RunsNone words → ⊥
+play_runs words command is none =
+    let P : Option Command → Type 0 = λ found. runs_scripts found ≡ false in
+    let no : true ≡ false = subst P is none in absurd (cc)
 
 -- ---- which was missed
 

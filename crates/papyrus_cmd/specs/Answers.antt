@@ -14,19 +14,18 @@ use Rattle.papyrus_cmd.specs.Asm.{RefusesListing}
 use Rattle.papyrus_cmd.specs.Check.{accepted_line}
 use Rattle.papyrus_cmd.specs.Command.{command_of}
 use Rattle.command_files.specs.Ending.{word_at}
-use Rattle.command_files.specs.Held.{AreHeld}
 use Rattle.papyrus_cmd.specs.Help.{help_text, version_text}
 use Rattle.papyrus_cmd.specs.Upgrade.{RefusesText}
 use Rattle.run_commands.specs.Answers.{ExecAnswers, OnceAnswers, RunAnswers, SampleAnswers}
 use Rattle.command_files.specs.Outputs.{AnswersTo}
 use Rattle.command_files.specs.PexFile.{RefusesPex}
-use Rattle.command_files.specs.Scripts.{RefusesScripts}
+use Rattle.command_files.specs.Scripts.{HoldScripts, RefusesScripts}
 
 -- how `compile` ends on the scripts of these names; it writes nothing to `out`
 abbrev pub CompileAnswersTo : List (List ℕ) → Files → Ending → List ℕ → Type 0
 CompileAnswersTo names files (Refused word place rule) text = RefusesScripts names files word place rule × (text ≡ [])
-CompileAnswersTo names files NotBuilt text = AreHeld names files × (text ≡ [])
-CompileAnswersTo names files Done text = AreHeld names files × (text ≡ [])
+CompileAnswersTo names files NotBuilt text = HoldScripts names files × (text ≡ [])
+CompileAnswersTo names files Done text = HoldScripts names files × (text ≡ [])
 CompileAnswersTo names files OutOfMemory text = ⊥
 CompileAnswersTo names files Usage text = ⊥
 CompileAnswersTo names files (ReadFault word) text = ⊥

@@ -1,11 +1,13 @@
 -- What `asm` reads and leaves.
-use Rattle.std.specs.Prelude.{◌≡◌, ◌⊎◌, ℕ, ◌<◌, List, length, Option, None, Some, Result, Ok, Err}
+use Rattle.std.specs.Prelude.{◌≡◌, ◌⊎◌, ℕ, ◌<◌, List, length, Option, None, Some, Result, Ok, Err, IfSome}
 use Rattle.std.specs.declared.alloc.Global.{Global}
 use Rattle.std.specs.declared.vec.Vec.{Vec}
 use Rattle.papy_io.specs.Files.{Files, told_bytes, ChangesTold}
 use Rattle.papy_io.specs.WriteFile.{HoldsNow, MayHold}
 use Rattle.pex_codec.specs.Spells.{Spells}
 use Rattle.pex_values.specs.Plain.{PlainPex}
+use Rattle.pex_listing.specs.Lines.{head_lines}
+use Rattle.pex_listing.specs.Opened.{BeginsWith}
 use Rattle.pex_listing.specs.declared.faults.ListingRule.{ListingRule}
 use Rattle.pex_listing.specs.declared.faults.ListingRule.TheVariants.{BadLine}
 use Rattle.command_files.specs.declared.ending.Ending.{Ending}
@@ -21,20 +23,37 @@ use Rattle.command_files.specs.declared.refusal.Rule.TheVariants.{Listing}
 abbrev pub limit : ℕ
 limit = 134217728
 
--- the bytes spell a value
-abbrev pub IsSpelling : List ℕ → Type 0
-IsSpelling bytes = (value : PlainPex) × Spells value bytes
+-- the bytes spell a value, with whose first lines, up to the end of the string table, the listing begins
+abbrev pub IsSpelling : List ℕ → List ℕ → Type 0
+IsSpelling listing bytes = (value : PlainPex) × Spells value bytes × BeginsWith (head_lines value) listing
+
+-- the file of this name holds a listing that begins with the first lines of the value
+abbrev pub BeginsListing : List ℕ → PlainPex → Files → Type 0
+BeginsListing source value files = (listing : List ℕ) × (told_bytes (Some files) source ≡ Some listing) × BeginsWith (head_lines value) listing
+
+-- the bytes spell a value that was read from the listing of this name
+pub record IsAssembled (source : List ℕ) (holds : Option Files) (bytes : List ℕ) : Type 0 where
+  pub value : PlainPex
+  pub spelled : Spells value bytes
+  pub listed : IfSome holds (BeginsListing source value)
 
 -- a line and a rule of listings
 abbrev pub IsListingRefusal : Place → Rule → Type 0
 IsListingRefusal place rule = (line : ℕ) × (broken : ListingRule) × (place ≡ Line line) × (rule ≡ Listing broken)
 
+-- a value, spelled
+abbrev pub SpellsValue : PlainPex → Result (Vec ℕ Global) FileFault → Type 0
+SpellsValue value (Ok bytes) = Spells value bytes.items
+SpellsValue value (Err OutOfMemory) = Unit {0}
+SpellsValue value (Err (Refused place rule)) = ⊥
+SpellsValue value (Err ReadFault) = ⊥
+
 -- a listing, assembled or refused
-abbrev pub Assembles : Result (Vec ℕ Global) FileFault → Type 0
-Assembles (Ok bytes) = IsSpelling bytes.items
-Assembles (Err (Refused place rule)) = IsListingRefusal place rule
-Assembles (Err OutOfMemory) = Unit {0}
-Assembles (Err ReadFault) = ⊥
+abbrev pub Assembles : List ℕ → Result (Vec ℕ Global) FileFault → Type 0
+Assembles listing (Ok bytes) = IsSpelling listing bytes.items
+Assembles listing (Err (Refused place rule)) = IsListingRefusal place rule
+Assembles listing (Err OutOfMemory) = Unit {0}
+Assembles listing (Err ReadFault) = ⊥
 
 -- a text is refused so: one of more than 128 MiB at line 0, whatever else it breaks
 pub record RefusesListing (text : List ℕ) (place : Place) (rule : Rule) : Type 0 where
@@ -49,20 +68,20 @@ ReadsListing (Some files) name (Err (Refused place rule)) = (text : List ℕ) ×
 ReadsListing (Some files) name (Err ReadFault) = Unit {0}
 ReadsListing (Some files) name (Err OutOfMemory) = Unit {0}
 
--- the name holds a spelling, and every other name what it held
-abbrev pub Writes : List ℕ → Option Files → Option Files → Type 0
-Writes name old new = (bytes : List ℕ) × IsSpelling bytes × ChangesTold name (HoldsNow bytes) old new
+-- the name holds a spelling of what the listing of the source lists, and every other name what it held
+abbrev pub Writes : List ℕ → List ℕ → Option Files → Option Files → Type 0
+Writes source name old new = (bytes : List ℕ) × IsAssembled source old bytes × ChangesTold name (HoldsNow bytes) old new
 
 -- the same where the name may hold the first part of the spelling, or what it held, or nothing
-abbrev pub MayWrite : List ℕ → Option Files → Option Files → Type 0
-MayWrite name old new = (new ≡ old) ⊎ ((bytes : List ℕ) × IsSpelling bytes × ChangesTold name (MayHold bytes) old new)
+abbrev pub MayWrite : List ℕ → List ℕ → Option Files → Option Files → Type 0
+MayWrite source name old new = (new ≡ old) ⊎ ((bytes : List ℕ) × IsAssembled source old bytes × ChangesTold name (MayHold bytes) old new)
 
 -- what the files are by the way that `asm` ended
-abbrev pub AsmLeaves : List ℕ → Ending → Option Files → Option Files → Type 0
-AsmLeaves name ending.Done old new = Writes name old new
-AsmLeaves name ending.WriteFault old new = MayWrite name old new
-AsmLeaves name ending.OutOfMemory old new = MayWrite name old new
-AsmLeaves name (ending.ReadFault word) old new = new ≡ old
-AsmLeaves name (ending.Refused word place rule) old new = new ≡ old
-AsmLeaves name ending.Usage old new = ⊥
-AsmLeaves name ending.NotBuilt old new = ⊥
+abbrev pub AsmLeaves : List ℕ → List ℕ → Ending → Option Files → Option Files → Type 0
+AsmLeaves source name ending.Done old new = Writes source name old new
+AsmLeaves source name ending.WriteFault old new = MayWrite source name old new
+AsmLeaves source name ending.OutOfMemory old new = MayWrite source name old new
+AsmLeaves source name (ending.ReadFault word) old new = new ≡ old
+AsmLeaves source name (ending.Refused word place rule) old new = new ≡ old
+AsmLeaves source name ending.Usage old new = ⊥
+AsmLeaves source name ending.NotBuilt old new = ⊥

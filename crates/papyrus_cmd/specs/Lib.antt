@@ -6,6 +6,7 @@ pub mod Compile
 pub mod Dispatch
 pub mod Help
 pub mod Missed
+pub mod Show
 pub mod TopCall
 pub mod Upgrade
 pub mod WritesText

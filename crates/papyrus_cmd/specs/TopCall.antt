@@ -16,6 +16,7 @@ use Rattle.papyrus_cmd.specs.declared.command.FileCommand.TheVariants as files
 use Rattle.papyrus_cmd.specs.Asm.{AsmLeaves, MayWrite}
 use Rattle.papyrus_cmd.specs.Command.{command_of, files_read}
 use Rattle.papyrus_cmd.specs.Compile.{CompileLeaves, MayCompile}
+use Rattle.papyrus_cmd.specs.Show.{ShowsHead}
 use Rattle.papyrus_cmd.specs.Upgrade.{MayUpgrade, UpgradeLeaves}
 use Rattle.command_files.specs.Ending.{status_of, note_of, cannot_read, out_of_memory, word_at}
 use Rattle.command_files.specs.Refusal.{rule_status}
@@ -39,7 +40,7 @@ abbrev pub FileCommandLeaves : FileCommand → List (List ℕ) → Ending → Op
 FileCommandLeaves files.Compile names ending holds left = CompileLeaves names ending holds left
 FileCommandLeaves files.Check names ending holds left = left ≡ holds
 FileCommandLeaves files.Show names ending holds left = left ≡ holds
-FileCommandLeaves files.Asm names ending holds left = AsmLeaves (word_at names 1) ending holds left
+FileCommandLeaves files.Asm names ending holds left = AsmLeaves (word_at names 0) (word_at names 1) ending holds left
 FileCommandLeaves files.Upgrade names ending holds left = UpgradeLeaves (word_at names 1) ending holds left
 
 -- what the files are by the way that a command on these words ended
@@ -53,12 +54,30 @@ CommandLeaves None names ending holds left = left ≡ holds
 abbrev pub FilesLeft : List (List ℕ) → Ending → Option Files → Option Files → Type 0
 FilesLeft words ending holds left = CommandLeaves (command_of words) (drop 1 words) ending holds left
 
+-- what a command on files of these names that ended so has listed
+abbrev pub FileCommandLists : FileCommand → List (List ℕ) → Ending → Option Files → Option (List ℕ) → Option (List ℕ) → Type 0
+FileCommandLists files.Show names ending holds before now = ShowsHead (word_at names 0) ending holds before now
+FileCommandLists files.Compile names ending holds before now = Unit {0}
+FileCommandLists files.Check names ending holds before now = Unit {0}
+FileCommandLists files.Asm names ending holds before now = Unit {0}
+FileCommandLists files.Upgrade names ending holds before now = Unit {0}
+
+abbrev pub CommandLists : Option Command → List (List ℕ) → Ending → Option Files → Option (List ℕ) → Option (List ℕ) → Type 0
+CommandLists (Some (command.Files work)) names ending holds before now = FileCommandLists work names ending holds before now
+CommandLists (Some (command.Play work)) names ending holds before now = Unit {0}
+CommandLists (Some command.Help) names ending holds before now = Unit {0}
+CommandLists (Some command.Version) names ending holds before now = Unit {0}
+CommandLists None names ending holds before now = Unit {0}
+
+abbrev pub Listed : List (List ℕ) → Ending → Option Files → Option (List ℕ) → Option (List ℕ) → Type 0
+Listed words ending holds before now = CommandLists (command_of words) (drop 1 words) ending holds before now
+
 -- what the files may be where a command on files of these names was cut short
 abbrev pub FileCommandCut : FileCommand → List (List ℕ) → Option Files → Option Files → Type 0
 FileCommandCut files.Compile names holds left = MayCompile names holds left
 FileCommandCut files.Check names holds left = left ≡ holds
 FileCommandCut files.Show names holds left = left ≡ holds
-FileCommandCut files.Asm names holds left = MayWrite (word_at names 1) holds left
+FileCommandCut files.Asm names holds left = MayWrite (word_at names 0) (word_at names 1) holds left
 FileCommandCut files.Upgrade names holds left = MayUpgrade (word_at names 1) holds left
 
 -- what the files may be where a command was cut short
@@ -89,6 +108,17 @@ writes_files None = false
 
 abbrev pub WritesNone : List (List ℕ) → Type 0
 WritesNone words = writes_files (command_of words) ≡ false
+
+-- the commands that run scripts
+abbrev pub runs_scripts : Option Command → Bool
+runs_scripts (Some (command.Play work)) = true
+runs_scripts (Some (command.Files work)) = false
+runs_scripts (Some command.Help) = false
+runs_scripts (Some command.Version) = false
+runs_scripts None = false
+
+abbrev pub RunsNone : List (List ℕ) → Type 0
+RunsNone words = runs_scripts (command_of words) ≡ false
 
 -- the command ended so: with this status, all of its text on `out` and its line on `notes`
 pub record Answered (words : List (List ℕ)) (holds left : Option Files) (status : ℕ) (out_before out_now notes_before notes_now : Option (List ℕ)) : Type 0 where

@@ -8,7 +8,7 @@ ghost use Rattle.pex_values.specs.Plain.{plain};
 ghost use Rattle.pex_values.specs.Shape.{IsWellShaped};
 ghost use Rattle.command_files.specs.Outputs.{AnswersTo, EndsUnprinted};
 ghost use Rattle.papyrus_cmd.specs.Answers.{AsmAnswers};
-ghost use Rattle.papyrus_cmd.specs.Asm.{AsmLeaves, Assembles, IsSpelling, ReadsListing};
+ghost use Rattle.papyrus_cmd.specs.Asm.{AsmLeaves, Assembles, IsAssembled, ReadsListing, SpellsValue};
 ghost use Rattle.command_files.specs.Ending.{CountsReads, CountsWrites, IsWordBelow, MissesScript, word_at};
 ghost use Rattle.command_files.specs.FileFault.{CountsFile, MissesFile};
 
@@ -39,7 +39,7 @@ fn spelling_of(alloc: Global, value: &Pex) -> Result<Vec<u8>, OutOfMemory>
 fn spelled(alloc: Global, value: &Pex) -> Result<Vec<u8>, FileFault>
     requires shaped { IsWellShaped (plain value.now) }
     requires fits { Fits (plain value.now) }
-    ensures { Assembles result }
+    ensures { SpellsValue (plain value.now) result }
 {
     match spelling_of(alloc, value) {
         Ok(bytes) => Ok(bytes),
@@ -49,10 +49,14 @@ fn spelled(alloc: Global, value: &Pex) -> Result<Vec<u8>, FileFault>
 
 /// The bytes of the file that a listing lists.
 fn file_of(alloc: Global, text: &[u8]) -> Result<Vec<u8>, FileFault>
-    ensures { Assembles result }
+    ensures { Assembles text.now result }
 {
     match assemble(alloc, text) {
-        Ok(value) => spelled(alloc, &value),
+        Ok(value) => {
+            let bytes = spelled(alloc, &value);
+            drop(value);
+            bytes
+        }
         Err(ListingFault::OutOfMemory) => Err(FileFault::OutOfMemory),
         Err(ListingFault::Broken { line, rule }) => Err(FileFault::Refused {
             place: Place::Line(line),
@@ -69,7 +73,7 @@ fn read_listing<D: Desk>(alloc: Global, desk: &mut D, name: &[u8]) -> Result<Vec
     ensures write_faults { D.write_faults desk.new ≡ D.write_faults desk.old }
     ensures read_faults { CountsFile result (D.read_faults desk.old) (D.read_faults desk.new) }
     ensures missed { MissesFile name.now result (D.missed desk.new) }
-    ensures spelled { IfOk result (λ bytes. IsSpelling bytes.items) }
+    ensures spelled { IfOk result (λ bytes. IsAssembled name.now (D.holds desk.old) bytes.items) }
     ensures read { ReadsListing (D.holds desk.old) name.now result }
 {
     let text = match read_text(
@@ -92,7 +96,7 @@ pub fn asm<D: Desk>(alloc: Global, files: &[String], desk: &mut D) -> Ending
     requires idle { D.busy desk.old ≡ Idle }
     requires two { 2 ≤ length files.now }
     ensures busy { D.busy desk.new ≡ Idle }
-    ensures holds { AsmLeaves (word_at (map string_bytes files.now) 1) result (D.holds desk.old) (D.holds desk.new) }
+    ensures holds { AsmLeaves (word_at (map string_bytes files.now) 0) (word_at (map string_bytes files.now) 1) result (D.holds desk.old) (D.holds desk.new) }
     ensures write_faults { CountsWrites result (D.write_faults desk.old) (D.write_faults desk.new) }
     ensures read_faults { CountsReads result (D.read_faults desk.old) (D.read_faults desk.new) }
     ensures missed { MissesScript (take 1 (map string_bytes files.now)) result (D.missed desk.new) }

@@ -42,6 +42,9 @@ pub fn compile<D: Desk>(alloc: Global, scripts: &[String], desk: &mut D) -> Endi
             mem::forget(set);
             Ending::Done
         }
-        Err(fault) => Ending::from(fault),
+        Err(fault) => {
+            drop(compiled);
+            Ending::from(fault)
+        }
     }
 }

@@ -4,8 +4,9 @@ ghost use Rattle.std.specs.String.{string_bytes};
 ghost use Rattle.latent_natives.specs.Devices.{SameKinds};
 ghost use Rattle.papy_io.specs.Activity.{Idle};
 ghost use Rattle.papy_io.specs.Count.{HasRisen};
+ghost use Rattle.command_files.specs.declared.ending.Ending.TheVariants as Ending;
 ghost use Rattle.papyrus_cmd.specs.Command.{command_of};
-ghost use Rattle.papyrus_cmd.specs.TopCall.{Answered, CutShort, FilesCut, IsAnswer, IsStatus, NotRead, WasCut, WritesNone};
+ghost use Rattle.papyrus_cmd.specs.TopCall.{Answered, CutShort, FilesCut, IsAnswer, IsStatus, Listed, NotRead, RunsNone, WasCut, WritesNone};
 
 use crate::dispatch::run;
 use crate::notes::tell;
@@ -36,6 +37,7 @@ pub fn papyrus<D: Desk, S: Sink, E: Sink>(
     ensures busy { D.busy desk.new ≡ Idle }
     ensures kept { WritesNone (map string_bytes words.now) → D.holds desk.new ≡ D.holds desk.old }
     ensures devices { SameKinds (map (λ d. device_state d) devices.old.items) (map (λ d. device_state d) devices.new.items) }
+    ensures untouched { RunsNone (map string_bytes words.now) → map (λ d. device_state d) devices.new.items ≡ map (λ d. device_state d) devices.old.items }
 
     // Any other answer than want of memory or a device's failure is that of the command.
     ensures answered { IsAnswer result → Answered (map string_bytes words.now) (D.holds desk.old) (D.holds desk.new) result
@@ -45,6 +47,7 @@ pub fn papyrus<D: Desk, S: Sink, E: Sink>(
     // After it a file may hold the first part of what was to be written.
     ensures cut_file { WasCut result → FilesCut (map string_bytes words.now) (D.holds desk.old) (D.holds desk.new) }
     ensures quiet { ¬ WasCut result → (S.faults out.new ≡ S.faults out.old) × (E.faults notes.new ≡ E.faults notes.old) × (D.write_faults desk.new ≡ D.write_faults desk.old) }
+    ensures listed { result ≡ 0 → Listed (map string_bytes words.now) Ending.Done (D.holds desk.old) (S.written out.old) (S.written out.new) }
 
     // The causes of 2, 3 and 4.
     ensures usage { result ≡ 2 → command_of (map string_bytes words.now) ≡ None }
@@ -52,6 +55,7 @@ pub fn papyrus<D: Desk, S: Sink, E: Sink>(
     ensures not_read { result ≡ 3 → NotRead (map string_bytes words.now) (D.missed desk.new)
         (D.read_faults desk.old) (D.read_faults desk.new)
         (S.written out.old) (S.written out.new) (E.written notes.old) (E.written notes.new) }
+    ensures all_read { IsAnswer result → D.read_faults desk.new ≡ D.read_faults desk.old }
     ensures unread_kept { result ≡ 3 → D.holds desk.new ≡ D.holds desk.old }
     ensures not_written { result ≡ 4 →
         HasRisen (S.faults out.old) (S.faults out.new) ⊎ HasRisen (E.faults notes.old) (E.faults notes.new)

@@ -78,6 +78,15 @@ struct Tables {
     members: MemberTable,
 }
 
+// The prelude and the files of a set.
+#[derive(Clone, Copy)]
+struct SourceSet<'a> {
+    prelude: &'a Source<'a>,
+    members: &'a Members<'a>,
+    // All of them, the prelude first.
+    all: &'a [Source<'a>],
+}
+
 // All scripts of these files, behind those of the prelude. Their code is empty unless it is to be kept.
 fn load_tables(
     alloc: Global,
@@ -91,30 +100,77 @@ fn load_tables(
     ensures sound { IfOk result (λ tables. AreSoundScripts (vec_len tables.parts.scripts) tables.parts.outlines.items tables.parts.scripts.items) }
 {
     let prelude = Prelude::new(alloc)?;
+    load_behind(alloc, table, words, &prelude, files, keeps_code)
+}
+
+// The same behind this prelude.
+fn load_behind(
+    alloc: Global,
+    table: &mut NameTable,
+    words: Words,
+    prelude: &Prelude,
+    files: &[Pex],
+    keeps_code: bool,
+) -> Result<Tables, VerifyFault>
+    requires few { length files.now < 65536 }
+    requires prelude { vec_len prelude.now.file.objects ≡ 6 }
+    ensures count { IfOk result (λ tables. vec_len tables.parts.scripts ≡ script_count files.now) }
+    ensures sound { IfOk result (λ tables. AreSoundScripts (vec_len tables.parts.scripts) tables.parts.outlines.items tables.parts.scripts.items) }
+{
     let prelude_strings = FileStrings::of(alloc, table, prelude.file.strings.as_slice())?;
     let strings = strings_of_files(alloc, table, files)?;
-    let first = prelude_source(&prelude, &prelude_strings);
+    let first = prelude_source(prelude, &prelude_strings);
     let sources = all_sources(alloc, first, files, strings.as_slice())?;
     let members = Members {
         list: prelude.members.as_slice(),
         names: &prelude_strings.names,
     };
-    let scripts = judged_scripts(alloc, table, files, &members, sources.as_slice())?;
+    let set = SourceSet {
+        prelude: &first,
+        members: &members,
+        all: sources.as_slice(),
+    };
+    load_set(alloc, table, words, files, &set, keeps_code)
+}
+
+fn load_set(
+    alloc: Global,
+    table: &NameTable,
+    words: Words,
+    files: &[Pex],
+    set: &SourceSet<'_>,
+    keeps_code: bool,
+) -> Result<Tables, VerifyFault>
+    ensures count { IfOk result (λ tables. vec_len tables.parts.scripts ≡ object_count set.now.all.now) }
+    ensures sound { IfOk result (λ tables. AreSoundScripts (vec_len tables.parts.scripts) tables.parts.outlines.items tables.parts.scripts.items) }
+{
+    let scripts = judged_scripts(alloc, table, files, set.members, set.all)?;
     let loader = Loader {
         alloc,
         set: &scripts,
         words,
-        prelude: &first,
-        members: &members,
+        prelude: set.prelude,
+        members: set.members,
         keeps_code,
     };
-    let strings_at_most = most_strings(sources.as_slice());
-    let mut seen = Seen::new(alloc, table.count(), strings_at_most)?;
-    let parts = load_files(&loader, &mut seen, sources.as_slice())?;
+    let parts = load_sources(&loader, table.count(), set.all)?;
     Ok(Tables {
         parts,
         members: scripts.into_table(),
     })
+}
+
+// Loads the objects of all files, which have so many names.
+fn load_sources(
+    loader: &Loader<'_>,
+    names: usize,
+    sources: &[Source<'_>],
+) -> Result<Parts, VerifyFault>
+    ensures count { IfOk result (λ parts. vec_len parts.scripts ≡ object_count sources.now) }
+    ensures sound { IfOk result (λ parts. AreSoundScripts (vec_len loader.now.set.now.heads) parts.outlines.items parts.scripts.items) }
+{
+    let mut seen = Seen::new(loader.alloc, names, most_strings(sources))?;
+    load_files(loader, &mut seen, sources)
 }
 
 // What the scripts offer, once their names, parents and numbers were judged.

@@ -15,7 +15,7 @@ use Rattle.command_files.specs.Ending.{CountsReads, IsWordBelow, MissesScript, o
 use Rattle.command_files.specs.FileFault.{CountsFile, MissesFile, ending_at}
 use Rattle.command_files.specs.Held.{AreHeld, IsHeld}
 use Rattle.command_files.specs.SceneFile.{IsSceneRefusal, ReadsScene}
-use Rattle.command_files.specs.Scripts.{EndsOnScripts}
+use Rattle.command_files.specs.Scripts.{EndsOnScripts, HoldScripts}
 use Rattle.run_commands.specs.Answers.{ExecAnswers, OnceAnswers, RefusesBehind, RunAnswers}
 use Rattle.run_commands.specs.Play.{RefusesScene}
 use Rattle.run_commands.specs.Report.{default_turns, most_turns}
@@ -127,21 +127,21 @@ scripts_end_once names holds NotBuilt ends = absurd ends
 
 -- ---- runs of files that are held
 
-pub once_answers_run : (names : List (List ℕ)) (holds : Option Files) → IfSome holds (AreHeld names) → IfSome holds (AnswersRun (OnceAnswers names) default_turns 0)
+pub once_answers_run : (names : List (List ℕ)) (holds : Option Files) → IfSome holds (HoldScripts names) → IfSome holds (AnswersRun (OnceAnswers names) default_turns 0)
 once_answers_run names None held = tt
 once_answers_run names (Some files) held = record { done = λ text report. (held, report); refused = λ word place rule refuses. (inr (refuses, held), refl) }
 
-pub once_unbuilt : (names : List (List ℕ)) (holds : Option Files) → IfSome holds (AreHeld names) → IfSome holds (λ files. OnceAnswers names files NotBuilt [])
+pub once_unbuilt : (names : List (List ℕ)) (holds : Option Files) → IfSome holds (HoldScripts names) → IfSome holds (λ files. OnceAnswers names files NotBuilt [])
 once_unbuilt names None held = tt
 once_unbuilt names (Some files) held = (held, refl)
 
-pub run_answers_run : (scene : List ℕ) (names : List (List ℕ)) (holds : Option Files) → IfSome holds (IsHeld scene) → IfSome holds (AreHeld names) →
+pub run_answers_run : (scene : List ℕ) (names : List (List ℕ)) (holds : Option Files) → IfSome holds (IsHeld scene) → IfSome holds (HoldScripts names) →
     IfSome holds (AnswersRun (RunAnswers (scene ∷ names)) most_turns 1)
 run_answers_run scene names None held behind = tt
 run_answers_run scene names (Some files) held behind =
     record { done = λ text report. (held, behind, report); refused = λ word place rule refuses. (held, inl refuses, refl) }
 
-pub run_unbuilt : (scene : List ℕ) (names : List (List ℕ)) (holds : Option Files) → IfSome holds (IsHeld scene) → IfSome holds (AreHeld names) →
+pub run_unbuilt : (scene : List ℕ) (names : List (List ℕ)) (holds : Option Files) → IfSome holds (IsHeld scene) → IfSome holds (HoldScripts names) →
     IfSome holds (λ files. RunAnswers (scene ∷ names) files NotBuilt [])
 run_unbuilt scene names None held behind = tt
 run_unbuilt scene names (Some files) held behind = (held, behind, refl)

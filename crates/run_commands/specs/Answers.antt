@@ -12,16 +12,16 @@ use Rattle.command_files.specs.declared.refusal.Rule.TheVariants.{Verification}
 use Rattle.command_files.specs.Ending.{word_at}
 use Rattle.command_files.specs.Held.{AreHeld, IsHeld}
 use Rattle.command_files.specs.PexFile.{RefusesPex}
-use Rattle.command_files.specs.Scripts.{RefusesScripts}
+use Rattle.command_files.specs.Scripts.{HoldScripts, RefusesScripts}
 use Rattle.run_commands.specs.Play.{RefusesScene}
 use Rattle.run_commands.specs.Report.{IsReportWithin, default_turns, most_turns, sample_text}
 
 -- how `once` ends on the scripts of these names; the default scene is refused at the command's own word
 abbrev pub OnceAnswers : List (List ℕ) → Files → Ending → List ℕ → Type 0
 OnceAnswers names files (Refused word place rule) text =
-    (RefusesScripts names files word place rule ⊎ (RefusesScene 0 word place rule × AreHeld names files)) × (text ≡ [])
-OnceAnswers names files Done text = AreHeld names files × IsReportWithin default_turns text
-OnceAnswers names files NotBuilt text = AreHeld names files × (text ≡ [])
+    (RefusesScripts names files word place rule ⊎ (RefusesScene 0 word place rule × HoldScripts names files)) × (text ≡ [])
+OnceAnswers names files Done text = HoldScripts names files × IsReportWithin default_turns text
+OnceAnswers names files NotBuilt text = HoldScripts names files × (text ≡ [])
 OnceAnswers names files OutOfMemory text = ⊥
 OnceAnswers names files Usage text = ⊥
 OnceAnswers names files (ReadFault word) text = ⊥
@@ -37,8 +37,8 @@ pub record RefusesBehind (scripts : List (List ℕ)) (files : Files) (word : ℕ
 abbrev pub RunAnswersOn : List ℕ → List (List ℕ) → Files → Ending → List ℕ → Type 0
 RunAnswersOn scene scripts files (Refused word place rule) text =
     IsHeld scene files × (RefusesScene 1 word place rule ⊎ RefusesBehind scripts files word place rule) × (text ≡ [])
-RunAnswersOn scene scripts files Done text = IsHeld scene files × AreHeld scripts files × IsReportWithin most_turns text
-RunAnswersOn scene scripts files NotBuilt text = IsHeld scene files × AreHeld scripts files × (text ≡ [])
+RunAnswersOn scene scripts files Done text = IsHeld scene files × HoldScripts scripts files × IsReportWithin most_turns text
+RunAnswersOn scene scripts files NotBuilt text = IsHeld scene files × HoldScripts scripts files × (text ≡ [])
 RunAnswersOn scene scripts files OutOfMemory text = ⊥
 RunAnswersOn scene scripts files Usage text = ⊥
 RunAnswersOn scene scripts files (ReadFault word) text = ⊥

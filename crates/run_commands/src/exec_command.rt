@@ -41,7 +41,10 @@ fn read_values<D: Desk>(alloc: Global, names: &[String], desk: &mut D) -> Result
         };
         match values.push(file.value) {
             Ok(()) => {}
-            Err(_) => return Err(Ending::OutOfMemory),
+            Err(failed) => {
+                drop(failed);
+                return Err(Ending::OutOfMemory);
+            }
         }
     }
     Ok(values)
@@ -104,11 +107,17 @@ pub fn exec<D: Desk, S: Sink>(
     };
     let values = match read_values(alloc, &files[1..], desk) {
         Ok(values) => values,
-        Err(ending) => return ending.one_later(),
+        Err(ending) => {
+            drop(tree);
+            return ending.one_later();
+        }
     };
     let loaded = match load_values(alloc, values) {
         Ok(loaded) => loaded,
-        Err(ending) => return ending.one_later(),
+        Err(ending) => {
+            drop(tree);
+            return ending.one_later();
+        }
     };
     play(alloc, loaded, tree, 1, out, devices)
 }

@@ -41,14 +41,23 @@ pub fn play<S: Sink>(
 {
     let scene = match bind(alloc, tree, loaded.outline(), devices.len() as u16) {
         Ok(scene) => scene,
-        Err(fault) => return FileFault::from(fault).at_word(word),
+        Err(fault) => {
+            drop(loaded);
+            return FileFault::from(fault).at_word(word);
+        }
     };
     let mut machine = match Machine::start(alloc, loaded, scene, devices) {
         Ok(machine) => machine,
         Err(_) => return Ending::OutOfMemory,
     };
     match run_scene(alloc, &mut machine, out, devices) {
-        Ok(()) => Ending::Done,
-        Err(fault) => turns_ending(fault),
+        Ok(()) => {
+            drop(machine);
+            Ending::Done
+        }
+        Err(fault) => {
+            drop(machine);
+            turns_ending(fault)
+        }
     }
 }

@@ -67,7 +67,10 @@ pub fn run<D: Desk, S: Sink>(
     };
     let set = match accept(alloc, &files[1..], desk) {
         Ok(set) => set,
-        Err(ending) => return ending.one_later(),
+        Err(ending) => {
+            drop(tree);
+            return ending.one_later();
+        }
     };
     run_set(alloc, &set, tree, 1, out, devices)
 }

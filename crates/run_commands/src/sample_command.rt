@@ -30,7 +30,10 @@ use std::alloc::Global;
 fn unaccepted(ending: Ending) -> CompileFault {
     match ending {
         Ending::OutOfMemory => CompileFault::OutOfMemory,
-        _ => CompileFault::NotBuilt,
+        other => {
+            drop(other);
+            CompileFault::NotBuilt
+        }
     }
 }
 
@@ -68,11 +71,18 @@ fn decoded(alloc: Global, bytes: &[u8]) -> Result<Pex, CompileFault>
     match decoder.feed(bytes) {
         Ok(Fed::Done { taken }) => {
             if taken < bytes.len() {
+                drop(decoder);
                 return Err(CompileFault::NotBuilt);
             }
         }
-        Ok(Fed::More) => return Err(CompileFault::NotBuilt),
-        Err(fault) => return Err(unread(fault)),
+        Ok(Fed::More) => {
+            drop(decoder);
+            return Err(CompileFault::NotBuilt);
+        }
+        Err(fault) => {
+            drop(decoder);
+            return Err(unread(fault));
+        }
     }
     match decoder.end() {
         Ok(value) => Ok(value),
@@ -119,7 +129,10 @@ fn report_of(
     };
     let tree = match sample_scene(alloc, workers) {
         Ok(tree) => tree,
-        Err(_) => return Err(Ending::OutOfMemory),
+        Err(_) => {
+            drop(loaded);
+            return Err(Ending::OutOfMemory);
+        }
     };
     let mut report = MemorySink::new(alloc, Vec::new(alloc));
     match play(alloc, loaded, tree, 0, &mut report, devices) {

@@ -1,5 +1,5 @@
 -- What several searches for a broken rule find, one after another.
-use Rattle.std.proofs.Common.{ℕ, zero, suc, ◌≡◌, ◌<◌, ◌⊎◌, List, [], ◌∷◌, ◌++◌, length, map, get_or, Contains, Option, Some, None, IfSome, inr, inl, ⊎_elim, refl, sym, ap, subst, ◌∙◌, arith}
+use Rattle.std.proofs.Common.{ℕ, zero, suc, ◌≡◌, ◌<◌, ◌⊎◌, List, [], ◌∷◌, ◌++◌, length, map, get_or, Contains, Option, Some, None, IfNone, IfSome, IsSome, IsTrue, Bool, true≢false, inr, inl, ⊎_elim, refl, sym, ap, subst, ◌∙◌, arith}
 use Rattle.std.specs.List.{flat_map}
 use Rattle.std.proofs.lemmas.List.{get_or-map, length-map}
 use Rattle.std.proofs.lemmas.List.Elements.{Contains-append_left, Contains-append_right, Contains-append_cases}
@@ -15,7 +15,7 @@ pub record AreAmong (few many : List ℕ) : Type 0 where
   pub each : (n : ℕ) → Contains few n → Contains many n
 
 pub FindsAmong-nothing : (lines : List ℕ) (a : Earliest) → FindsAmong lines a a
-FindsAmong-nothing lines a = record { each = λ found is. inl is }
+FindsAmong-nothing lines a = record { each = λ found is. inl is; stays = λ none. none }
 
 pub FindsAmong-then : {few many : List ℕ} {a b c : Earliest} → AreAmong few many → FindsAmong many a b → FindsAmong few b c → FindsAmong many a c
 FindsAmong-then within first second = record {
@@ -24,6 +24,7 @@ FindsAmong-then within first second = record {
       (λ before. first.each found before)
       (λ here. inr (within.each found.line here))
       (second.each found is);
+  stays = λ none. first.stays (second.stays none);
 }
 
 pub AreAmong-all : (lines : List ℕ) → AreAmong lines lines
@@ -150,3 +151,16 @@ limit_on functions script nothing finds (Some one) is =
     (λ before. found_on nothing finds one before)
     (λ same. (of_heading functions script).each one.line (0, omega arith, sym same))
     is
+
+-- where nothing is found, a thing that would have been noted breaks no rule
+pub unbroken : (is_broken : Bool) (found : Option Found) → (IsTrue is_broken → IsSome found) → found ≡ None → ¬ IsTrue is_broken
+unbroken is_broken (Some one) noted none = cc
+unbroken is_broken None noted none = λ broken. true≢false (sym (noted broken))
+
+pub IsSome-from : {X : Type 0} (o : Option X) → ¬ (o ≡ None) → IsSome o
+IsSome-from None is_some = absurd (is_some refl)
+IsSome-from (Some x) is_some = refl
+
+pub IfNone-from : {X : Type 0} (o : Option X) (P : Type 0) → (o ≡ None → P) → IfNone o P
+IfNone-from None P holds = holds refl
+IfNone-from (Some x) P holds = tt

@@ -1,5 +1,5 @@
 -- What completing files keeps.
-use Rattle.std.proofs.Common.{ℕ, ◌≡◌, ◌+◌, ◌-◌, ◌<◌, ◌≤◌, List, ◌++◌, length, map, take, drop, get_or, All, Contains, Option, Some, None, IfSome, append_assoc, Result, Ok, Err, IfOk, set, length-set, length-take, ◌≢◌, sym, ap, subst, ◌∙◌, ⊎_elim, arith}
+use Rattle.std.proofs.Common.{ℕ, ◌≡◌, ◌+◌, ◌-◌, ◌<◌, ◌≤◌, List, ◌++◌, length, map, take, drop, get_or, All, Contains, Option, Some, None, IfSome, IsSome, option_and_then, refl, append_assoc, Result, Ok, Err, IfOk, set, length-set, length-take, ◌≢◌, sym, ap, subst, ◌∙◌, ⊎_elim, arith}
 use Rattle.std.proofs.lemmas.List.{get_or-drop, get_or-map, get_or_default, get_or-set_same, get_or-set_other, get_or-take, take-append-le, take_all}
 use Rattle.std.proofs.lemmas.Bool.{cases_eq, cases_lt}
 use Rattle.script_parser.specs.declared.script.Script.{Script}
@@ -10,7 +10,8 @@ use Rattle.script_linker.specs.declared.fault.LinkFault.{LinkFault}
 use Rattle.script_linker.specs.declared.fault.LinkFault.TheVariants.{Broken, OutOfMemory}
 use Rattle.script_linker.specs.Lines.{lines_of, lines_with, own_lines}
 use Rattle.script_linker.specs.Link.{IsCompleted, AreCompleted, AreFilesOf, IsFaultOf, IsFaultOn, declared_lines, function_count}
-use Rattle.script_linker.specs.Lookup.{HasNumbers, HasSmallScript}
+use Rattle.script_linker.specs.Lookup.{HasNumbers, HasSmallScript, script_named}
+use Rattle.script_linker.specs.Rules.{IsNoParent, IsParent}
 use Rattle.script_linker.proofs.FoundLemmas.{AreAmong}
 
 pub IsCompleted-trans : (a b c : SourceFile) → IsCompleted a b → IsCompleted b c → IsCompleted a c
@@ -106,3 +107,18 @@ HasNumbers-behind files set same count enough small rest = record {
       (λ (g : 6 ≤ n). rest n d g inside)
       (cases_lt n 6);
 }
+
+IsParent-from : (found : Option ℕ) → ¬ IsNoParent found → IsParent found
+IsParent-from None can_be = can_be tt
+IsParent-from (Some parent) can_be =
+    ⊎_elim
+    (λ (l : parent < 3). absurd (can_be l))
+    (λ (g : 3 ≤ parent). g)
+    (cases_lt parent 3)
+
+-- a script that doesn't lack the parent that it names
+pub parent_found : (files : List SourceFile) (parent : Option (List ℕ)) (found : Option ℕ) → found ≡ option_and_then (script_named files) parent → ¬ (IsSome parent × IsNoParent found)
+    → IfSome parent (λ name. IsParent (script_named files name))
+parent_found files None found is has = tt
+parent_found files (Some name) found is has =
+    IsParent-from (script_named files name) (λ lacks. has (refl, subst IsNoParent (sym is) lacks))

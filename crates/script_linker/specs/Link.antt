@@ -1,8 +1,10 @@
 -- How the scripts of a set come from the files.
-use Rattle.std.specs.Prelude.{ℕ, ◌≡◌, ◌+◌, ◌<◌, List, ◌++◌, length, slice_index_or, Contains}
+use Rattle.std.specs.Prelude.{ℕ, ◌≡◌, ◌+◌, ◌-◌, ◌<◌, ◌≤◌, List, ◌++◌, All, drop, length, slice_index_or, Contains, IfSome, IsSome}
 use Rattle.script_parser.specs.declared.script.Function.{Function}
 use Rattle.script_parser.specs.declared.script.Script.{Script}
 use Rattle.script_linker.specs.Lines.{lines_of, own_lines}
+use Rattle.script_linker.specs.Lookup.{script_named}
+use Rattle.script_linker.specs.Rules.{IsBelow, IsParent}
 use Rattle.script_linker.specs.declared.set.SourceFile.{SourceFile}
 use Rattle.script_linker.specs.declared.fault.LinkFault.{LinkFault}
 use Rattle.script_linker.specs.declared.fault.LinkFault.TheVariants.{Broken, OutOfMemory}
@@ -23,6 +25,18 @@ pub record AreCompleted (old new : List SourceFile) : Type 0 where
 pub record AreFilesOf (files set : List SourceFile) : Type 0 where
   pub count : length set ≡ length files + 6
   pub each : (n : ℕ) (file : SourceFile) → n < length files → IsCompleted (slice_index_or files n file) (slice_index_or set (n + 6) file)
+
+-- the script of this number behind the prelude: no script of the prelude and no earlier file's has its name, what it names as its parent is a script of the set and no library, and its imports are scripts of the set
+pub record IsResolved (set : List SourceFile) (n : ℕ) (script : Script) : Type 0 where
+  pub own_name : ¬ IsBelow 6 (script_named set script.name)
+  pub new_name : ¬ IsBelow (n - 6) (script_named (drop 6 set) script.name)
+  pub parent : IfSome script.parent (λ name. IsParent (script_named set name))
+  pub imports : All (λ import. IsSome (script_named set import.1)) script.imports.items
+
+-- so is each script behind the prelude
+abbrev pub AreResolved : List SourceFile → Type 0
+AreResolved set =
+    (n : ℕ) (file : SourceFile) → 6 ≤ n → n < length set → IsResolved set n (slice_index_or set n file).script
 
 -- a broken rule stands in one of these files, on a line of its script
 abbrev pub IsFaultOf : List SourceFile → LinkFault → Type 0

@@ -1,6 +1,6 @@
 // The order in which broken rules of a file are reported.
-ghost use Rattle.std.specs.Prelude.{◌≡◌, [], ◌∷◌};
-ghost use Rattle.script_linker.specs.Found.{FindsAmong};
+ghost use Rattle.std.specs.Prelude.{◌≡◌, ◌↔◌, [], ◌∷◌, IfSome, IsSome, IsTrue, false};
+ghost use Rattle.script_linker.specs.Found.{Before, FindsAmong, IsFirst};
 
 use crate::fault::LinkRule;
 
@@ -27,21 +27,34 @@ impl Earliest {
 
     /// Notes whether the thing of this line breaks the rule.
     pub(crate) fn note(&mut self, is_broken: bool, line: u16, rule: LinkRule)
-        ensures { FindsAmong (line ∷ []) self.old self.new }
+        ensures among { FindsAmong (line ∷ []) self.old self.new }
+        ensures noted { IsTrue is_broken → IsSome self.new.found }
+        ensures first { IsTrue is_broken → IfSome self.new.found (IsFirst self.old.found line rule) }
+        ensures kept { is_broken ≡ false → self.new ≡ self.old }
     {
-        if !is_broken {
-            return;
-        }
-        let comes_first = match self.found {
-            Some(found) => comes_before(line, rule, found),
-            None => true,
-        };
-        if comes_first {
-            self.found = Some(Found { line, rule });
+        if is_broken {
+            self.found = Some(first_of(self.found, line, rule));
         }
     }
 }
 
-fn comes_before(line: u16, rule: LinkRule, other: Found) -> bool {
-    line < other.line || (line == other.line && rule < other.rule)
+fn first_of(found: Option<Found>, line: u16, rule: LinkRule) -> Found
+    ensures { IsFirst found line rule result }
+{
+    match found {
+        Some(known) => {
+            if comes_before(line, rule, known) {
+                Found { line, rule }
+            } else {
+                known
+            }
+        }
+        None => Found { line, rule },
+    }
+}
+
+fn comes_before(line: u16, rule: LinkRule, other: Found) -> bool
+    ensures { IsTrue result ↔ Before line rule other }
+{
+    line < other.line || (line == other.line && rule.number() < other.rule.number())
 }

@@ -1,4 +1,5 @@
 ghost use Rattle.std.specs.Prelude.{◌≡◌};
+ghost use Rattle.script_linker.specs.Rules.{rule_number};
 ghost use Rattle.script_linker.specs.declared.fault.LinkFault.TheVariants.{OutOfMemory as LinkOutOfMemory};
 
 use papy_base::OutOfMemory;
@@ -32,6 +33,28 @@ pub enum LinkRule {
     DefaultOrder,
     /// N12: the file is behind the 256th, or it has over 20,000 different words, texts and documentation texts.
     Limit,
+}
+
+impl LinkRule {
+    /// The rule's number, from 1 to 12.
+    pub(crate) fn number(self) -> u8
+        ensures { result ≡ rule_number self }
+    {
+        match self {
+            LinkRule::DuplicateScript => 1,
+            LinkRule::PreludeName => 2,
+            LinkRule::UnknownParent => 3,
+            LinkRule::ExtendsCycle => 4,
+            LinkRule::UnknownImport => 5,
+            LinkRule::DuplicateMember => 6,
+            LinkRule::TwoAutoStates => 7,
+            LinkRule::StateFunctionAlone => 8,
+            LinkRule::SignatureDiffers => 9,
+            LinkRule::PropertyInParent => 10,
+            LinkRule::DefaultOrder => 11,
+            LinkRule::Limit => 12,
+        }
+    }
 }
 
 /// Why files are no set of scripts.

@@ -65,36 +65,44 @@ fn lacks(functions: &[Function], name: &[u8]) -> bool {
 
 // Calls OnEndState, changes the state, and calls OnBeginState.
 fn goto_state(alloc: Global) -> Result<Function, OutOfMemory> {
+    let lines = goto_lines(alloc)?;
     let mut parameters = Vec::with_capacity(alloc, 1)?;
     parameters.push(parameter(alloc, b"String", b"asNewState", None)?)?;
     let heading = heading(alloc, b"GotoState", parameters, false)?;
-    let change = StatementForm::Assign {
-        target: word(alloc, STATE_WORD)?,
-        sign: Sign::Assign,
-        value: word(alloc, b"asNewState")?,
-    };
+    Ok(function(heading, Body::Lines(lines)))
+}
+
+fn goto_lines(alloc: Global) -> Result<Vec<Statement>, OutOfMemory> {
     let mut lines = Vec::with_capacity(alloc, 3)?;
     lines.push(statement(call(alloc, b"OnEndState")?))?;
-    lines.push(statement(change))?;
+    lines.push(statement(state_change(alloc)?))?;
     lines.push(statement(call(alloc, b"OnBeginState")?))?;
-    Ok(function(heading, Body::Lines(lines)))
+    Ok(lines)
+}
+
+fn state_change(alloc: Global) -> Result<StatementForm, OutOfMemory> {
+    let state = Name::from_bytes(alloc, STATE_WORD)?;
+    let new = Name::from_bytes(alloc, b"asNewState")?;
+    Ok(StatementForm::Assign {
+        target: Expr::Word(state),
+        sign: Sign::Assign,
+        value: Expr::Word(new),
+    })
 }
 
 // Gives the name of the state.
 fn get_state(alloc: Global) -> Result<Function, OutOfMemory> {
-    let mut heading = heading(alloc, b"GetState", Vec::new(alloc), false)?;
-    heading.result = Some(type_name(alloc, b"String")?);
+    let text = type_name(alloc, b"String")?;
+    let state = Name::from_bytes(alloc, STATE_WORD)?;
     let mut lines = Vec::with_capacity(alloc, 1)?;
-    lines.push(statement(StatementForm::Return(Some(word(alloc, STATE_WORD)?))))?;
+    lines.push(statement(StatementForm::Return(Some(Expr::Word(state)))))?;
+    let mut heading = heading(alloc, b"GetState", Vec::new(alloc), false)?;
+    heading.result = Some(text);
     Ok(function(heading, Body::Lines(lines)))
 }
 
 fn statement(form: StatementForm) -> Statement {
     Statement { line: 0, form }
-}
-
-fn word(alloc: Global, bytes: &[u8]) -> Result<Expr, OutOfMemory> {
-    Ok(Expr::Word(Name::from_bytes(alloc, bytes)?))
 }
 
 // A call without arguments as a statement.

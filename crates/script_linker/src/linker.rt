@@ -1,9 +1,10 @@
 ghost use Rattle.std.specs.Prelude.{◌≡◌, ℕ, ◌+◌, ◌-◌, ◌<◌, ◌≤◌, All, drop, length, map, slice_index, slice_index_or, take, IfOk, IfErr, OnOk, vec_len};
 ghost use Rattle.script_linker.specs.declared.fault.LinkFault.TheVariants.{Broken};
 ghost use Rattle.script_linker.specs.declared.set.SourceFile.{SourceFile};
-ghost use Rattle.script_linker.specs.Lookup.{HasSmallScript, IsRanked, StartsWithPrelude};
+ghost use Rattle.script_linker.specs.Lookup.{HasSmallScript, IsRanked, StartsWithPrelude, parents_of, script_name};
+ghost use Rattle.script_linker.specs.Table.{IsPlaceTable};
 ghost use Rattle.script_linker.specs.Lines.{heading_lines};
-ghost use Rattle.script_linker.specs.Link.{AreFilesOf, IsFaultOf, IsFaultOn, declared_lines, function_count};
+ghost use Rattle.script_linker.specs.Link.{AreFilesOf, AreResolved, IsFaultOf, IsFaultOn, declared_lines, function_count};
 
 use crate::earliest::Found;
 use crate::fault::{LinkFault, LinkRule};
@@ -26,6 +27,7 @@ pub fn link(alloc: Global, mut files: Vec<SourceFile>) -> Result<ScriptSet, Link
     requires { vec_len files < 65530 }
     ensures files { IfOk result (AreFilesOf files.items) }
     ensures prelude { IfOk result StartsWithPrelude }
+    ensures resolved { IfOk result AreResolved }
     ensures broken { IfErr result (IsFaultOf files.items) }
 {
     let declared = function_counts(alloc, files.as_slice())?;
@@ -68,6 +70,7 @@ fn link_set(
     requires count { vec_len files < 65536 }
     requires declared { length declared.now + 6 ≡ vec_len files }
     ensures files { IfOk result (λ set. set ≡ files.items) }
+    ensures resolved { IfOk result AreResolved }
     ensures broken { IfErr result (IsFaultOn (declared_lines declared.now) files.items) }
 {
     let names = NameTable::of_places(alloc, files.as_slice())?;
@@ -94,7 +97,10 @@ fn judge_scripts(
     requires count { length files.now < 65536 }
     requires parents { length parents.now ≡ length files.now }
     requires children { vec_len peeled.now.children ≡ length files.now }
-    ensures { IfErr result (IsFaultOn (λ file. heading_lines) files.now) }
+    requires names { IsPlaceTable script_name files.now names.now }
+    requires parents_of { parents.now ≡ parents_of files.now }
+    ensures resolved { OnOk result (AreResolved files.now) }
+    ensures broken { IfErr result (IsFaultOn (λ file. heading_lines) files.now) }
 {
     let file_names = NameTable::of_places(alloc, &files[PRELUDE_COUNT..])?;
     let survey = Survey {

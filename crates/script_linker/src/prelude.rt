@@ -5,7 +5,7 @@ ghost use Rattle.script_linker.specs.Lookup.{HasSmallScript, StartsWithPrelude, 
 use crate::generated::lacking_members;
 use crate::parts::{empty_event, function, heading, parameter, type_name};
 use crate::set::SourceFile;
-use line_parser::{Heading, Parameter};
+use line_parser::Heading;
 use papy_base::{Name, OutOfMemory, Text};
 use script_parser::{Body, Function, Script};
 use std::alloc::Global;
@@ -34,24 +34,12 @@ fn libraries(alloc: Global) -> Result<Vec<SourceFile>, OutOfMemory>
     ensures parents { IfOk result (λ files. map script_parent files.items ≡ take 3 prelude_parents) }
     ensures few { IfOk result (λ files. All HasSmallScript files.items) }
 {
-    let debug = file(
-        alloc,
-        b"Debug",
-        None,
-        one(alloc, native(trace_heading(alloc)?))?,
-    )?;
-    let utility = file(
-        alloc,
-        b"Utility",
-        None,
-        one(alloc, native(random_heading(alloc)?))?,
-    )?;
-    let scene = file(
-        alloc,
-        b"Scene",
-        None,
-        one(alloc, native(sleep_heading(alloc)?))?,
-    )?;
+    let trace = one(alloc, native(trace_heading(alloc)?))?;
+    let random = one(alloc, native(random_heading(alloc)?))?;
+    let sleep = one(alloc, native(sleep_heading(alloc)?))?;
+    let debug = file(alloc, b"Debug", None, trace)?;
+    let utility = file(alloc, b"Utility", None, random)?;
+    let scene = file(alloc, b"Scene", None, sleep)?;
     three(alloc, debug, utility, scene)
 }
 
@@ -106,17 +94,20 @@ fn one(alloc: Global, function: Function) -> Result<Vec<Function>, OutOfMemory>
 
 // `Trace(String asTextToPrint, Int aiSeverity = 0)`
 fn trace_heading(alloc: Global) -> Result<Heading, OutOfMemory> {
-    let text = parameter(alloc, b"String", b"asTextToPrint", None)?;
-    let severity = parameter(alloc, b"Int", b"aiSeverity", Some(0))?;
-    heading(alloc, b"Trace", two(alloc, text, severity)?, false)
+    let mut parameters = Vec::with_capacity(alloc, 2)?;
+    parameters.push(parameter(alloc, b"String", b"asTextToPrint", None)?)?;
+    parameters.push(parameter(alloc, b"Int", b"aiSeverity", Some(0))?)?;
+    heading(alloc, b"Trace", parameters, false)
 }
 
 // `Int Function RandomInt(Int aiMin = 0, Int aiMax = 100)`
 fn random_heading(alloc: Global) -> Result<Heading, OutOfMemory> {
-    let least = parameter(alloc, b"Int", b"aiMin", Some(0))?;
-    let most = parameter(alloc, b"Int", b"aiMax", Some(100))?;
-    let mut made = heading(alloc, b"RandomInt", two(alloc, least, most)?, false)?;
-    made.result = Some(type_name(alloc, b"Int")?);
+    let whole = type_name(alloc, b"Int")?;
+    let mut parameters = Vec::with_capacity(alloc, 2)?;
+    parameters.push(parameter(alloc, b"Int", b"aiMin", Some(0))?)?;
+    parameters.push(parameter(alloc, b"Int", b"aiMax", Some(100))?)?;
+    let mut made = heading(alloc, b"RandomInt", parameters, false)?;
+    made.result = Some(whole);
     Ok(made)
 }
 
@@ -125,13 +116,6 @@ fn sleep_heading(alloc: Global) -> Result<Heading, OutOfMemory> {
     let mut parameters = Vec::with_capacity(alloc, 1)?;
     parameters.push(parameter(alloc, b"Int", b"turns", None)?)?;
     heading(alloc, b"Sleep", parameters, false)
-}
-
-fn two(alloc: Global, first: Parameter, second: Parameter) -> Result<Vec<Parameter>, OutOfMemory> {
-    let mut parameters = Vec::with_capacity(alloc, 2)?;
-    parameters.push(first)?;
-    parameters.push(second)?;
-    Ok(parameters)
 }
 
 // The Global Native function of this heading.
@@ -152,8 +136,10 @@ fn file(
     ensures parents { IfOk result (λ file. file.script.parent ≡ parent) }
     ensures few { vec_len functions < 65536 → IfOk result HasSmallScript }
 {
+    let file_name = Text::try_from_bytes(alloc, b"")?;
+    let script_name = Name::from_bytes(alloc, name)?;
     let script = Script {
-        name: Name::from_bytes(alloc, name)?,
+        name: script_name,
         line: 0,
         parent,
         flags: 0,
@@ -166,7 +152,7 @@ fn file(
         words: 0,
     };
     Ok(SourceFile {
-        name: Text::try_from_bytes(alloc, b"")?,
+        name: file_name,
         script,
     })
 }

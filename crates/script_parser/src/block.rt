@@ -94,7 +94,10 @@ fn end_of(form: LineForm) -> Option<EndKind> {
         LineForm::EndWhile => Some(EndKind::EndWhile),
         LineForm::EndFunction => Some(EndKind::EndFunction),
         LineForm::EndEvent => Some(EndKind::EndEvent),
-        _ => None,
+        other => {
+            drop(other);
+            None
+        }
     }
 }
 
@@ -142,7 +145,10 @@ fn if_block(
                 let otherwise = Vec::new(reader.alloc);
                 return Ok(StatementForm::If { tests, otherwise });
             }
-            _ => return Err(BlockFault::bad_block(end_at)),
+            other => {
+                drop(other);
+                return Err(BlockFault::bad_block(end_at));
+            }
         }
     }
 }
@@ -160,7 +166,10 @@ fn else_block(reader: &mut Reader<'_>, depth: u8) -> Result<Vec<Statement>, Bloc
     } = statements(reader, depth)?;
     match end {
         EndKind::EndIf => Ok(body),
-        _ => Err(BlockFault::bad_block(end_at)),
+        other => {
+            drop(other);
+            Err(BlockFault::bad_block(end_at))
+        }
     }
 }
 
@@ -181,6 +190,9 @@ fn while_block(reader: &mut Reader<'_>, test: Expr, depth: u8) -> Result<Stateme
             body,
             end_line,
         }),
-        _ => Err(BlockFault::bad_block(end_at)),
+        other => {
+            drop(other);
+            Err(BlockFault::bad_block(end_at))
+        }
     }
 }

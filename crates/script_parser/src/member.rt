@@ -86,7 +86,10 @@ fn property(
             flags,
             line,
         }),
-        _ => Err(BlockFault::bad_block(first.at)),
+        other => {
+            drop(other);
+            Err(BlockFault::bad_block(first.at))
+        }
     }
 }
 
@@ -111,14 +114,20 @@ fn constant_of(tree: Expr) -> Option<Constant> {
             sign: Sign::Minus,
             of,
         } => negated(Box::into_inner(of)),
-        _ => None,
+        other => {
+            drop(other);
+            None
+        }
     }
 }
 
 fn negated(tree: Expr) -> Option<Constant> {
     match tree {
         Expr::Int(number) => Some(Constant::Int(neg(number))),
-        _ => None,
+        other => {
+            drop(other);
+            None
+        }
     }
 }
 
@@ -191,7 +200,10 @@ fn state_functions(reader: &mut Reader<'_>) -> Result<Vec<Function>, BlockFault>
         match form {
             LineForm::Function(heading) => functions.push(function(reader, line, heading, doc)?)?,
             LineForm::EndState => return Ok(functions),
-            _ => return Err(BlockFault::bad_block(first.at)),
+            other => {
+                drop(other);
+                return Err(BlockFault::bad_block(first.at));
+            }
         }
     }
 }
@@ -208,7 +220,10 @@ fn property_functions(reader: &mut Reader<'_>) -> Result<Vec<Function>, BlockFau
         match form {
             LineForm::Function(heading) => functions.push(function(reader, line, heading, doc)?)?,
             LineForm::EndProperty if !functions.is_empty() => return Ok(functions),
-            _ => return Err(BlockFault::bad_block(first.at)),
+            other => {
+                drop(other);
+                return Err(BlockFault::bad_block(first.at));
+            }
         }
     }
 }

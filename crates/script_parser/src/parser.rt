@@ -85,6 +85,9 @@ fn heading(reader: &mut Reader<'_>) -> Result<Script, BlockFault> {
             states: Vec::new(alloc),
             words: 0,
         }),
-        _ => Err(BlockFault::bad_block(first.at)),
+        other => {
+            drop(other);
+            Err(BlockFault::bad_block(first.at))
+        }
     }
 }

@@ -2,4 +2,5 @@ pub mod AsMany
 pub mod Scripts
 pub mod Seats
 pub mod Sinks
+pub mod Starts
 pub mod Texts

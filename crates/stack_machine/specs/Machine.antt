@@ -1,5 +1,5 @@
 -- What callers see of a machine, and what its turns leave.
-use Rattle.std.specs.Prelude.{◌≡◌, ◌⊎◌, ℕ, ◌+◌, ◌≤◌, List, Option, Some, Result, Ok, Err, vec_len}
+use Rattle.std.specs.Prelude.{◌≡◌, ◌⊎◌, ℕ, ◌+◌, ◌<◌, ◌≤◌, List, Option, Some, Result, Ok, Err, vec_len}
 use Rattle.core_tree.specs.declared.outline.OutlineScript.{OutlineScript}
 use Rattle.core_tree.specs.declared.scene.Scene.{Scene}
 use Rattle.core_tree.specs.declared.scene_tree.TurnOrder.TheVariants as orders
@@ -41,6 +41,13 @@ turns_after (Err fault) turns = turns
 abbrev pub fault_after : Result TurnEnd TurnFault → Option TurnFault → Option TurnFault
 fault_after (Ok end) before = before
 fault_after (Err fault) before = Some fault
+
+-- a stack that ran has started
+abbrev pub HasStarted : Result TurnEnd TurnFault → ℕ → Type 0
+HasStarted (Ok (Ran stack)) started = stack < started
+HasStarted (Ok Idle) started = Unit {0}
+HasStarted (Ok Ended) started = Unit {0}
+HasStarted (Err fault) started = Unit {0}
 
 -- the count of a sink's faults rises with WriteFault
 abbrev pub CountsFault : TurnFault → ℕ → ℕ → Type 0

@@ -2,7 +2,7 @@
 use Rattle.std.specs.Prelude.{ℕ, ◌≡◌, ◌≤◌, ◌⊎◌, ◌++◌, ◌∷◌, [], ◌&&◌, List, Option, Some, None, is_none, min, ◌+◌, nat_lt, slice_index_or, slice_set, if◌then◌else◌}
 use Rattle.lock_queue.specs.declared.seat.Seat.{Seat}
 use Rattle.lock_queue.specs.declared.seat.Seat.TheVariants.{Resting, Free, Waits, Holds}
-use Rattle.lock_queue.specs.LockTable.{LockTable, may_take, without_stack}
+use Rattle.lock_queue.specs.LockTable.{LockTable, may_take, seat_at, without_stack}
 
 pub record ThreadTable : Type 0 where
   pub started : ℕ
@@ -14,6 +14,10 @@ pub record ThreadTable : Type 0 where
   pub room : ℕ
   -- how many of the stacks that have started are done
   pub done : ℕ
+
+-- the stacks from this one on rest
+pub record RestFrom (stack : ℕ) (seats : List Seat) : Type 0 where
+  pub rests : (other : ℕ) → stack ≤ other → seat_at seats other ≡ Resting
 
 -- the same stacks have started, and there is room for as many
 pub record IsSameSize (old new : ThreadTable) : Type 0 where

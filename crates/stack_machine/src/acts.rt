@@ -14,18 +14,31 @@ impl Threads {
         ensures { IsSameSize self.old self.new }
     {
         match ending {
-            Ending::Pass => {}
-            Ending::Called(call) => self.call(stack, call)?,
+            Ending::Pass => Ok(()),
+            Ending::Called(call) => self.call(stack, call),
             Ending::Performed { reply, latency } => {
                 self.rest_after_native(stack, turn, reply, latency);
+                Ok(())
             }
             Ending::Returned(value) => {
-                if let Some(frame) = self.pop(stack) {
-                    self.return_from(stack, frame.instance(), value);
-                }
+                self.return_innermost(stack, value);
+                Ok(())
             }
         }
-        Ok(())
+    }
+
+    // Returns a value from the innermost frame, which is popped.
+    fn return_innermost(&mut self, stack: u16, value: Value)
+        ensures { IsSameSize self.old self.new }
+    {
+        match self.pop(stack) {
+            Some(frame) => {
+                let instance = frame.instance();
+                drop(frame);
+                self.return_from(stack, instance, value);
+            }
+            None => drop(value),
+        }
     }
 
     // A call that needs a frame.
@@ -76,6 +89,7 @@ impl Threads {
         ensures { IsSameSize self.old self.new }
     {
         if self.is_done(stack) {
+            drop(value);
             self.finish(stack);
             return;
         }

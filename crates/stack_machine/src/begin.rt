@@ -70,6 +70,7 @@ fn copies(alloc: Global, values: &[Value]) -> Result<Vec<Value>, OutOfMemory>
 /// The stack that gets this turn, none where the turn is idle.
 pub fn choose(scene: &Scene, threads: &Threads, turn: u32, last: Option<u16>) -> Option<u16>
     ensures within { IfSome result (λ stack. stack < threads.now.room) }
+    ensures started { IfSome result (λ stack. stack < threads.now.started) }
     ensures chosen { ForSome last (λ stack. stack < threads.now.room) → result ≡ chosen scene.now.order threads.now turn last }
 {
     match &scene.order {

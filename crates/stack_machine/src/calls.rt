@@ -110,6 +110,7 @@ impl Work<'_> {
     // The call, or a fault where its frame has no room.
     fn call(&mut self, instruction: &LoadedInstruction, call: Call) -> Result<Event, OutOfMemory> {
         if !self.has_room {
+            drop(call);
             return self.refuse(instruction, StackFault::FrameLimit);
         }
         Ok(Event::Called(call))

@@ -15,10 +15,10 @@ use std::alloc::Global;
 impl Work<'_> {
     /// cast: a result and a value.
     pub fn cast(&mut self, instruction: &LoadedInstruction) -> Result<(), OutOfMemory> {
-        let value = self.value(instruction, 1)?;
         let Some(kind) = self.type_of(instruction, 0) else {
             return Ok(());
         };
+        let value = self.value(instruction, 1)?;
         let cast = self.cast_to(kind, value)?;
         self.write(instruction, 0, cast)
     }
@@ -36,12 +36,11 @@ impl Work<'_> {
     fn cast_to_text(&self, value: Value) -> Result<Value, OutOfMemory> {
         match value {
             Value::Text(text) => Ok(Value::Text(text)),
-            other => Ok(Value::Text(text_of(
-                self.turn.alloc,
-                self.turn.setting,
-                self.store,
-                &other,
-            )?)),
+            other => {
+                let text = text_of(self.turn.alloc, self.turn.setting, self.store, &other);
+                drop(other);
+                Ok(Value::Text(text?))
+            }
         }
     }
 

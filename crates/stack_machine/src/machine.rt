@@ -4,7 +4,7 @@
 ghost use Rattle.std.specs.Prelude.{◌≡◌, ◌↔◌, ℕ, ◌+◌, ◌<◌, ◌≤◌, ◌^◌, false, Ok, Err, None, IfOk, IfSome, IsTrue, MatchOption, map, vec_len};
 ghost use Rattle.latent_natives.specs.Devices.{SameKinds};
 ghost use Rattle.stack_machine.specs.Casts.{IsTextOf};
-ghost use Rattle.stack_machine.specs.Machine.{turns_after, fault_after, CountsTurn, HasEnded, HasNothingLeft};
+ghost use Rattle.stack_machine.specs.Machine.{turns_after, fault_after, CountsTurn, HasEnded, HasNothingLeft, HasStarted};
 ghost use Rattle.papy_io.specs.Sink.{AppendsSome};
 
 use crate::casts::text_of;
@@ -69,27 +69,17 @@ impl Machine {
         ensures fresh { IfOk result (λ machine. (machine.turns ≡ 0) × (machine.started ≡ 0) × (machine.fault ≡ None) × (machine.done ≡ 0)) }
         ensures kinds { SameKinds (map (λ d. device_state d) devices.old.items) (map (λ d. device_state d) devices.new.items) }
     {
-        let plan = Plan::of(alloc, &loaded, &scene)?;
-        let store = Store::create(alloc, &loaded, loaded.outline(), &scene)?;
-        let (instances, stacks) = (scene.instances.len() as u16, scene.calls.len() as u16);
-        let threads = Threads::with_room(alloc, instances, stacks)?;
-        let no_state = Text::try_from_bytes(alloc, &[])?;
-        load_devices(&scene.tapes, devices)?;
+        let first = initial(alloc, &loaded, &scene, devices)?;
         Ok(Machine {
             setting: Setting {
                 loaded,
                 scene,
-                plan,
+                plan: first.plan,
             },
-            world: World {
-                alloc,
-                store,
-                threads,
-                last: None,
-            },
+            world: first.world,
             turns: 0,
             fault: None,
-            no_state,
+            no_state: first.no_state,
         })
     }
 
@@ -117,6 +107,7 @@ impl Machine {
         ensures count { self.old.fault ≡ None → CountsTurn result (S.faults sink.old) (S.faults sink.new) }
         ensures appended { AppendsSome (S.written sink.old) (S.written sink.new) }
         ensures kinds { SameKinds (map (λ d. device_state d) devices.old.items) (map (λ d. device_state d) devices.new.items) }
+        ensures ran { HasStarted result self.new.started }
 
         // After a fault.
         ensures same_fault { IfSome self.old.fault (λ fault. result ≡ Err fault) }
@@ -262,11 +253,58 @@ impl Machine {
     }
 }
 
+// What a machine has before its first turn, beside the scripts and the scene.
+#[derive(Drop)]
+struct FirstState {
+    plan: Plan,
+    world: World,
+    no_state: Text,
+}
+
+fn initial(
+    alloc: Global,
+    loaded: &Loaded,
+    scene: &Scene,
+    devices: &mut Vec<Box<dyn Device>>,
+) -> Result<FirstState, OutOfMemory>
+    requires instances { vec_len scene.now.instances < 65536 }
+    requires calls { vec_len scene.now.calls < 65536 }
+    ensures fresh { IfOk result (λ first. (first.world.threads.started ≡ 0) × (first.world.threads.done ≡ 0)) }
+    ensures kinds { SameKinds (map (λ d. device_state d) devices.old.items) (map (λ d. device_state d) devices.new.items) }
+{
+    load_devices(&scene.tapes, devices)?;
+    let no_state = Text::try_from_bytes(alloc, &[])?;
+    let plan = Plan::of(alloc, loaded, scene)?;
+    let world = initial_world(alloc, loaded, scene)?;
+    Ok(FirstState {
+        plan,
+        world,
+        no_state,
+    })
+}
+
+fn initial_world(alloc: Global, loaded: &Loaded, scene: &Scene) -> Result<World, OutOfMemory>
+    requires instances { vec_len scene.now.instances < 65536 }
+    requires calls { vec_len scene.now.calls < 65536 }
+    ensures fresh { IfOk result (λ world. (world.threads.started ≡ 0) × (world.threads.done ≡ 0)) }
+{
+    let (instances, stacks) = (scene.instances.len() as u16, scene.calls.len() as u16);
+    let store = Store::create(alloc, loaded, loaded.outline(), scene)?;
+    let threads = Threads::with_room(alloc, instances, stacks)?;
+    Ok(World {
+        alloc,
+        store,
+        threads,
+        last: None,
+    })
+}
+
 // The end of a turn in which this stack ran, or none.
 fn end_of(ran: Option<u16>) -> TurnEnd
     ensures end { MatchOption ran (result ≡ TurnEnd.Idle) (λ stack. result ≡ TurnEnd.Ran stack) }
     ensures counts { (turns : ℕ) → turns_after (Ok result) turns ≡ turns + 1 }
     ensures goes_on { ¬ (result ≡ TurnEnd.Ended) }
+    ensures ran { (started : ℕ) → IfSome ran (λ stack. stack < started) → HasStarted (Ok result) started }
 {
     match ran {
         Some(stack) => TurnEnd::Ran(stack),

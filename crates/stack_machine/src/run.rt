@@ -17,7 +17,7 @@ use core_tree::Value;
 use latent_natives::Device;
 use papy_base::{OutOfMemory, StackFault};
 use papy_io::Sink;
-use pex_verify::LoadedInstruction;
+use pex_verify::{LoadedInstruction, MethodPlace};
 
 /// What ended a run of a body.
 #[derive(Drop)]
@@ -194,10 +194,7 @@ fn follow<S: Sink>(
             work.place = usize::from(landing);
             Ok(Some(Ending::Pass))
         }
-        Halt::Faulted(fault) => {
-            write_fault(work, sink, fault)?;
-            Ok(None)
-        }
+        Halt::Faulted(fault) => refuse(work, sink, fault),
         Halt::Leaves => leave(work, sink, devices),
     }
 }
@@ -217,17 +214,45 @@ fn leave<S: Sink>(
         return Ok(Some(returned(work)?));
     };
     match work.leave(instruction)? {
-        Event::Refused(fault) => {
-            write_fault(work, sink, fault)?;
-            Ok(None)
-        }
+        Event::Refused(fault) => refuse(work, sink, fault),
         Event::Called(call) => Ok(Some(Ending::Called(call))),
         Event::Returned(value) => Ok(Some(Ending::Returned(value))),
         Event::Native { at, arguments } => {
-            let performed = perform(work.turn, at, arguments.as_slice(), sink, devices)?;
-            Ok(after_native(work, instruction, performed)?)
+            let ending = run_native(work, instruction, at, arguments.as_slice(), sink, devices);
+            drop(arguments);
+            ending
         }
     }
+}
+
+// Performs a global native.
+fn run_native<S: Sink>(
+    work: &mut Work<'_>,
+    instruction: &LoadedInstruction,
+    native: MethodPlace,
+    arguments: &[Value],
+    sink: &mut S,
+    devices: &mut Vec<Box<dyn Device>>,
+) -> Result<Option<Ending>, TurnFault>
+    ensures appended { AppendsSome (S.written sink.old) (S.written sink.new) }
+    ensures count { CountsTurn result (S.faults sink.old) (S.faults sink.new) }
+    ensures kinds { SameKinds (map (λ d. device_state d) devices.old.items) (map (λ d. device_state d) devices.new.items) }
+{
+    let performed = perform(work.turn, native, arguments, sink, devices)?;
+    Ok(after_native(work, instruction, performed)?)
+}
+
+// Writes a fault, behind which the body goes on.
+fn refuse<S: Sink>(
+    work: &Work<'_>,
+    sink: &mut S,
+    fault: StackFault,
+) -> Result<Option<Ending>, TurnFault>
+    ensures appended { AppendsSome (S.written sink.old) (S.written sink.new) }
+    ensures count { CountsTurn result (S.faults sink.old) (S.faults sink.new) }
+{
+    write_fault(work, sink, fault)?;
+    Ok(None)
 }
 
 fn write_fault<S: Sink>(work: &Work<'_>, sink: &mut S, fault: StackFault) -> Result<(), TurnFault>

@@ -37,13 +37,13 @@ pub struct Threads {
 
 impl Model for Threads {
     ghost use Rattle.std.specs.Prelude.{◌≡◌, ◌≤◌, ◌<◌, length, vec_len};
-    ghost use Rattle.stack_machine.specs.Threads.{ThreadTable};
+    ghost use Rattle.stack_machine.specs.Threads.{RestFrom, ThreadTable};
 
     ghost Value = { ThreadTable };
 
     ghost view = { λ t. record { started = vec_len t.stacks; locks = t.locks; sleepers = t.sleepers; instances = t.instances; room = t.room; done = t.done } };
 
-    ghost invariant = { λ t. (vec_len t.stacks ≤ t.room) × (t.room < 65536) × (t.locks.instances ≡ t.instances) × (length t.locks.seats ≡ t.room) × (length t.sleepers ≡ t.room) };
+    ghost invariant = { λ t. (vec_len t.stacks ≤ t.room) × (t.room < 65536) × (t.locks.instances ≡ t.instances) × (length t.locks.seats ≡ t.room) × (length t.sleepers ≡ t.room) × RestFrom (vec_len t.stacks) t.locks.seats };
 }
 
 impl Threads {
@@ -78,11 +78,6 @@ impl Threads {
         ensures { IsTrue result ↔ (self.now.done ≡ self.now.started) }
     {
         self.done == self.count()
-    }
-
-    /// The frames of a stack, of which the innermost one may be changed.
-    pub fn stack_mut(&mut self, stack: u16) -> Option<&mut Stack> {
-        self.stacks.get_mut(usize::from(stack))
     }
 
     /// Starts a stack, which waits for the instance of its first call. Where there is no room for one more it
@@ -126,6 +121,7 @@ impl Threads {
         ensures { IsSameSize self.old self.new }
     {
         let Some(found) = self.stacks.get_mut(usize::from(stack)) else {
+            drop(frame);
             return Ok(());
         };
         if !found.is_done() {
@@ -158,6 +154,7 @@ impl Threads {
     /// The stack that gets the next turn of a round.
     pub fn ready_after(&self, last: Option<u16>) -> Option<u16>
         ensures within { IfSome result (λ stack. stack < self.now.room) }
+        ensures started { IfSome result (λ stack. stack < self.now.started) }
         ensures ready { ForSome last (λ stack. stack < self.now.room) → result ≡ ready_after self.now.locks last }
     {
         if !self.has_place(last) {
@@ -264,13 +261,14 @@ impl Threads {
         }
     }
 
-    /// Lets a resting stack wait for the instance of its innermost frame, or run free.
+    /// Lets a resting stack that has started wait for the instance of its innermost frame, or run free.
     pub fn go_to_wait(&mut self, stack: u16)
         ensures size { IsSameSize self.old self.new }
-        ensures locks { stack < self.old.room → GoesToWait self.old.locks self.new.locks stack (seat_of self.old.locks stack) }
+        ensures locks { stack < self.old.started → GoesToWait self.old.locks self.new.locks stack (seat_of self.old.locks stack) }
+        ensures others { self.old.started ≤ stack → self.new.locks ≡ self.old.locks }
         ensures sleepers { self.new.sleepers ≡ self.old.sleepers }
     {
-        if stack >= self.room || !self.is_resting(stack) {
+        if stack >= self.count() || !self.is_resting(stack) {
             return;
         }
         match self.instance_of(stack) {
@@ -333,6 +331,19 @@ impl Threads {
     {
         self.let_go(stack);
         self.done = self.done.saturating_add(1);
+    }
+}
+
+impl Threads {
+    ghost use Rattle.std.specs.Borrow.{LendsIf, sem};
+    ghost use Rattle.stack_machine.specs.contracts.stack.Stack.{the_row as stack_row};
+    ghost use Rattle.stack_machine.specs.contracts.threads.Threads.{the_row};
+
+    /// The frames of a stack, of which the innermost one may be changed.
+    pub fn stack_mut(&mut self, stack: u16) -> Option<&mut Stack>
+        ensures* writes_back { sem 𝓛 (LendsIf the_row stack_row self.entry result (λ w. self.old) self.old) }
+    {
+        self.stacks.get_mut(usize::from(stack))
     }
 }
 

@@ -1,18 +1,19 @@
 //! What turns change, and what a turn does.
 #![tactic(auto, using(crate::proofs::Sinks::sinks))]
 
-ghost use Rattle.std.specs.Prelude.{map};
+ghost use Rattle.std.specs.Prelude.{◌≡◌, ◌<◌, IfOk, IfSome, map};
 ghost use Rattle.latent_natives.specs.Devices.{SameKinds};
 ghost use Rattle.stack_machine.specs.Machine.{CountsTurn};
 ghost use Rattle.papy_io.specs.Sink.{AppendsSome};
 
 use crate::begin::{begin, choose};
 use crate::entry::{Found, look_up, open};
-use crate::frame::{Call, Frame, Way};
+use crate::frame::{Body, Call, Frame, Way};
 use crate::natives::{Performed, perform};
 use crate::operands::Turn;
 use crate::run::{Ending, run_frame};
 use crate::setting::Setting;
+use crate::stack::Stack;
 use crate::status::TurnFault;
 use crate::store::Store;
 use crate::threads::Threads;
@@ -20,6 +21,7 @@ use core_tree::Value;
 use latent_natives::Device;
 use papy_base::OutOfMemory;
 use papy_io::Sink;
+use pex_verify::MethodPlace;
 use std::alloc::Global;
 
 /// What turns change.
@@ -45,6 +47,7 @@ impl World {
         ensures appended { AppendsSome (S.written sink.old) (S.written sink.new) }
         ensures count { CountsTurn result (S.faults sink.old) (S.faults sink.new) }
         ensures kinds { SameKinds (map (λ d. device_state d) devices.old.items) (map (λ d. device_state d) devices.new.items) }
+        ensures ran { IfOk result (λ ran. IfSome ran (λ stack. stack < self.new.threads.started)) }
     {
         begin(self.alloc, setting, &mut self.threads, number)?;
         let chosen = choose(&setting.scene, &self.threads, number, self.last);
@@ -72,6 +75,7 @@ impl World {
         ensures appended { AppendsSome (S.written sink.old) (S.written sink.new) }
         ensures count { CountsTurn result (S.faults sink.old) (S.faults sink.new) }
         ensures kinds { SameKinds (map (λ d. device_state d) devices.old.items) (map (λ d. device_state d) devices.new.items) }
+        ensures started { self.new.threads.started ≡ self.old.threads.started }
     {
         self.threads.take(turn.stack);
         if self.threads.is_pending(turn.stack) {
@@ -90,6 +94,7 @@ impl World {
         ensures appended { AppendsSome (S.written sink.old) (S.written sink.new) }
         ensures count { CountsTurn result (S.faults sink.old) (S.faults sink.new) }
         ensures kinds { SameKinds (map (λ d. device_state d) devices.old.items) (map (λ d. device_state d) devices.new.items) }
+        ensures started { self.new.threads.started ≡ self.old.threads.started }
     {
         if self.enter(turn, sink, devices)? {
             return self.run_and_act(turn, sink, devices);
@@ -107,6 +112,7 @@ impl World {
         ensures appended { AppendsSome (S.written sink.old) (S.written sink.new) }
         ensures count { CountsTurn result (S.faults sink.old) (S.faults sink.new) }
         ensures kinds { SameKinds (map (λ d. device_state d) devices.old.items) (map (λ d. device_state d) devices.new.items) }
+        ensures started { self.new.threads.started ≡ self.old.threads.started }
     {
         let ending = self.run_innermost(turn, sink, devices)?;
         self.threads.act(turn.stack, turn.number, ending)?;
@@ -123,35 +129,82 @@ impl World {
         ensures appended { AppendsSome (S.written sink.old) (S.written sink.new) }
         ensures count { CountsTurn result (S.faults sink.old) (S.faults sink.new) }
         ensures kinds { SameKinds (map (λ d. device_state d) devices.old.items) (map (λ d. device_state d) devices.new.items) }
+        ensures started { self.new.threads.started ≡ self.old.threads.started }
     {
-        let Some(Frame::Pending(call)) = self.threads.pop(turn.stack) else {
-            return Ok(false);
-        };
-        match look_up(turn.setting, &self.store, &call) {
-            Some(Found::Body(body)) => {
-                let running = open(turn.alloc, turn.setting, call, body)?;
-                self.threads.push(turn.stack, Frame::Running(running))?;
-                Ok(true)
-            }
-            Some(Found::Variable { script, variable }) => {
-                self.enter_variable(turn.stack, call, script, variable)?;
-                Ok(false)
-            }
-            Some(Found::Native(native)) => {
-                let performed = perform(turn, native, call.arguments.as_slice(), sink, devices)?;
-                self.leave_native(turn, call.instance, performed);
-                Ok(false)
-            }
-            None => {
-                self.threads
-                    .return_from(turn.stack, call.instance, Value::NoneValue);
+        match self.threads.pop(turn.stack) {
+            Some(Frame::Pending(call)) => self.enter_call(turn, call, sink, devices),
+            other => {
+                drop(other);
                 Ok(false)
             }
         }
     }
 
+    // The same of this call, whose frame was popped.
+    fn enter_call<S: Sink>(
+        &mut self,
+        turn: &Turn<'_>,
+        call: Call,
+        sink: &mut S,
+        devices: &mut Vec<Box<dyn Device>>,
+    ) -> Result<bool, TurnFault>
+        ensures appended { AppendsSome (S.written sink.old) (S.written sink.new) }
+        ensures count { CountsTurn result (S.faults sink.old) (S.faults sink.new) }
+        ensures kinds { SameKinds (map (λ d. device_state d) devices.old.items) (map (λ d. device_state d) devices.new.items) }
+        ensures started { self.new.threads.started ≡ self.old.threads.started }
+    {
+        match look_up(turn.setting, &self.store, &call) {
+            Some(Found::Body(body)) => Ok(self.enter_body(turn, call, body)?),
+            Some(Found::Variable { script, variable }) => {
+                Ok(self.enter_variable(turn.stack, call, script, variable)?)
+            }
+            Some(Found::Native(native)) => {
+                let entered = self.enter_native(turn, native, &call, sink, devices);
+                drop(call);
+                entered
+            }
+            None => {
+                let instance = call.instance;
+                drop(call);
+                self.threads
+                    .return_from(turn.stack, instance, Value::NoneValue);
+                Ok(false)
+            }
+        }
+    }
+
+    // The body's frame takes the place of the call's.
+    fn enter_body(&mut self, turn: &Turn<'_>, call: Call, body: Body) -> Result<bool, OutOfMemory>
+        ensures started { self.new.threads.started ≡ self.old.threads.started }
+    {
+        let running = open(turn.alloc, turn.setting, call, body)?;
+        self.threads.push(turn.stack, Frame::Running(running))?;
+        Ok(true)
+    }
+
+    // A native method is performed, and the call ends.
+    fn enter_native<S: Sink>(
+        &mut self,
+        turn: &Turn<'_>,
+        native: MethodPlace,
+        call: &Call,
+        sink: &mut S,
+        devices: &mut Vec<Box<dyn Device>>,
+    ) -> Result<bool, TurnFault>
+        ensures appended { AppendsSome (S.written sink.old) (S.written sink.new) }
+        ensures count { CountsTurn result (S.faults sink.old) (S.faults sink.new) }
+        ensures kinds { SameKinds (map (λ d. device_state d) devices.old.items) (map (λ d. device_state d) devices.new.items) }
+        ensures started { self.new.threads.started ≡ self.old.threads.started }
+    {
+        let performed = perform(turn, native, call.arguments.as_slice(), sink, devices)?;
+        self.leave_native(turn, call.instance, performed);
+        Ok(false)
+    }
+
     // A native method was performed, and its frame, which was popped, has ended.
-    fn leave_native(&mut self, turn: &Turn<'_>, instance: Option<u16>, performed: Performed) {
+    fn leave_native(&mut self, turn: &Turn<'_>, instance: Option<u16>, performed: Performed)
+        ensures started { self.new.threads.started ≡ self.old.threads.started }
+    {
         let reply = performed.reply;
         match performed.rest {
             Some(latency) => {
@@ -166,23 +219,47 @@ impl World {
     fn enter_variable(
         &mut self,
         stack: u16,
-        call: Call,
+        mut call: Call,
         script: u16,
         variable: u16,
-    ) -> Result<(), OutOfMemory> {
-        let Some(instance) = call.instance else {
-            return Ok(());
+    ) -> Result<bool, OutOfMemory>
+        ensures started { self.new.threads.started ≡ self.old.threads.started }
+    {
+        let (instance, way) = (call.instance, call.way);
+        let last = call.arguments.pop();
+        drop(call);
+        let Some(instance) = instance else {
+            drop(last);
+            return Ok(false);
         };
-        let mut arguments = call.arguments;
-        let value = match (call.way, arguments.pop()) {
-            (Way::Set(_), Some(value)) => {
-                self.store.set_variable(instance, script, variable, value);
-                Value::NoneValue
+        let value = match way {
+            Way::Set(_) => self.set_or_get(instance, script, variable, last)?,
+            _ => {
+                drop(last);
+                self.store.variable(instance, script, variable)?
             }
-            _ => self.store.variable(instance, script, variable)?,
         };
         self.threads.return_from(stack, Some(instance), value);
-        Ok(())
+        Ok(false)
+    }
+
+    // Writes a variable, or reads it where nothing is to be written.
+    fn set_or_get(
+        &mut self,
+        instance: u16,
+        script: u16,
+        variable: u16,
+        written: Option<Value>,
+    ) -> Result<Value, OutOfMemory>
+        ensures started { self.new.threads.started ≡ self.old.threads.started }
+    {
+        match written {
+            Some(value) => {
+                self.store.set_variable(instance, script, variable, value);
+                Ok(Value::NoneValue)
+            }
+            None => self.store.variable(instance, script, variable),
+        }
     }
 
     // Runs the innermost frame's body. Where none runs, the stack passes.
@@ -195,16 +272,31 @@ impl World {
         ensures appended { AppendsSome (S.written sink.old) (S.written sink.new) }
         ensures count { CountsTurn result (S.faults sink.old) (S.faults sink.new) }
         ensures kinds { SameKinds (map (λ d. device_state d) devices.old.items) (map (λ d. device_state d) devices.new.items) }
+        ensures started { self.new.threads.started ≡ self.old.threads.started }
     {
         let has_room = self.threads.has_room(turn.stack);
         let Some(stack) = self.threads.stack_mut(turn.stack) else {
             return Ok(Ending::Pass);
         };
-        match stack.innermost_mut() {
-            Some(Frame::Running(running)) => {
-                run_frame(turn, &mut self.store, running, has_room, sink, devices)
-            }
-            _ => Ok(Ending::Pass),
-        }
+        run_stack_body(turn, &mut self.store, stack, has_room, sink, devices)
+    }
+}
+
+// Runs the body of a stack's innermost frame. Where none runs, the stack passes.
+fn run_stack_body<S: Sink>(
+    turn: &Turn<'_>,
+    store: &mut Store,
+    stack: &mut Stack,
+    has_room: bool,
+    sink: &mut S,
+    devices: &mut Vec<Box<dyn Device>>,
+) -> Result<Ending, TurnFault>
+    ensures appended { AppendsSome (S.written sink.old) (S.written sink.new) }
+    ensures count { CountsTurn result (S.faults sink.old) (S.faults sink.new) }
+    ensures kinds { SameKinds (map (λ d. device_state d) devices.old.items) (map (λ d. device_state d) devices.new.items) }
+{
+    match stack.innermost_mut() {
+        Some(Frame::Running(running)) => run_frame(turn, store, running, has_room, sink, devices),
+        _ => Ok(Ending::Pass),
     }
 }

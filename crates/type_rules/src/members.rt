@@ -46,6 +46,8 @@ fn core_property(
     ensures kept { OnOk result (KeepsScript work.old work.new) }
     ensures in_range { WorkInRange work.old → IfOk result (CorePropertyInRange work.old) }
 {
+    let name = property.name.try_clone(work.alloc())?;
+    let doc = clone_text(work.alloc(), &property.doc)?;
     let kind = work.kind_at(property.line, &property.kind)?;
     let access = match &property.form {
         PropertyForm::Auto(_) => CoreAccess::Auto(auto_variable(work.layout, place)?),
@@ -56,10 +58,10 @@ fn core_property(
         PropertyForm::Full(functions) => full_access(work, functions.as_slice())?,
     };
     Ok(CoreProperty {
-        name: property.name.try_clone(work.alloc())?,
+        name,
         kind: known(kind),
         access,
-        doc: clone_text(work.alloc(), &property.doc)?,
+        doc,
         flags: property.flags,
     })
 }

@@ -1,6 +1,7 @@
 // A script while it is judged.
-ghost use Rattle.std.specs.Prelude.{◌≡◌, [], IfOk};
+ghost use Rattle.std.specs.Prelude.{◌≡◌, [], IfNone, IfOk, IfSome, IsSome};
 ghost use Rattle.core_tree.specs.InRange.{ResultInRange};
+ghost use Rattle.expression_rules.specs.Rules.{IsFirst};
 ghost use Rattle.type_rules.specs.Ranges.{KeepsScript, functions_of};
 
 use crate::first_faults::ScriptFaults;
@@ -54,7 +55,9 @@ impl<'a> Work<'a> {
 
     /// Notes that a rule is broken at this line.
     pub(crate) fn fault(&mut self, line: u16, rule: TypeRule)
-        ensures { KeepsScript self.old self.new }
+        ensures kept { KeepsScript self.old self.new }
+        ensures noted { IsSome self.new.notes.first }
+        ensures least { IfSome self.new.notes.first (IsFirst self.old.notes.first line rule) }
     {
         self.notes.note(line, rule);
     }
@@ -67,6 +70,7 @@ impl<'a> Work<'a> {
     ) -> Result<Option<CoreType>, OutOfMemory>
         ensures kept { KeepsScript self.old self.new }
         ensures in_range { IfOk result (ResultInRange (functions_of self.old)) }
+        ensures noted { IfOk result (λ found. IfNone found (IsSome self.new.notes.first)) }
     {
         let kind = self.catalog.type_of(name)?;
         if kind.is_none() {
@@ -82,6 +86,7 @@ impl<'a> Work<'a> {
         ensures layout { result.layout ≡ self.old.layout }
         ensures script { result.script ≡ self.old.number }
         ensures locals { result.locals.kinds.items ≡ [] }
+        ensures notes { result.notes ≡ self.old.notes }
     {
         let notes = mem::replace(&mut self.notes, Notes::new(self.catalog.alloc));
         Scope::new(
@@ -96,7 +101,8 @@ impl<'a> Work<'a> {
 
     /// Takes back what was noted, with a function's line and size.
     pub(crate) fn close_scope(&mut self, notes: Notes, line: u16, size: u32)
-        ensures { KeepsScript self.old self.new }
+        ensures kept { KeepsScript self.old self.new }
+        ensures notes { self.new.notes ≡ notes }
     {
         self.notes = notes;
         self.note_size(line, size);
@@ -104,7 +110,8 @@ impl<'a> Work<'a> {
 
     /// Notes a function's line and size.
     pub(crate) fn note_size(&mut self, line: u16, size: u32)
-        ensures { KeepsScript self.old self.new }
+        ensures kept { KeepsScript self.old self.new }
+        ensures notes { self.new.notes ≡ self.old.notes }
     {
         self.sizes.note(line, size);
     }

@@ -1,7 +1,7 @@
 use Rattle.std.proofs.Common.{arith, ◌∙◌, map, take, length}
 use Rattle.std.proofs.lemmas.Grind.{common_steps}
 use Rattle.std.specs.String.{string_bytes}
-use Rattle.command_files.proofs.HeldScripts.{held-more, names-more, names-all}
+use Rattle.command_files.proofs.HeldScripts.{names-all, names-more, scripts-more}
 use Rattle.command_files.proofs.ScriptFaults.{script_ends, script_is_held, script_missed, script_word}
 use Rattle.command_files.proofs.scripts.read_sources.Goals as goal
 
@@ -18,7 +18,7 @@ loop-place-preserved g c =
       write_faults = c.in-Ok.ensures.write_faults ∙ so_far.write_faults;
       read_faults = c.in-Ok.ensures.read_faults ∙ so_far.read_faults;
       each = grind (arith, common_steps);
-      held = rw names (held-more (g.D.Desk.holds c.args.desk.now) (map string_bytes (take c.loop-place.place c.args.scripts.now)) (string_bytes script) so_far.held held);
+      held = rw names (scripts-more (g.D.Desk.holds c.args.desk.now) (map string_bytes (take c.loop-place.place c.args.scripts.now)) (string_bytes script) so_far.held held);
     }
 
 pub returns-in-Err-clause-ends : goal.returns-in-Err-clause-ends

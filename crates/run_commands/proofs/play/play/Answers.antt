@@ -39,11 +39,11 @@ returns-in-Ok-run_scene-clause-plays g c =
 pub returns-in-Ok-run_scene-clause-kinds : goal.returns-in-Ok-run_scene-clause-kinds
 returns-in-Ok-run_scene-clause-kinds g c = c.run_scene.ensures.kinds ∙ c.start.ensures.kinds
 
-pub returns-clause-faults : goal.returns-clause-faults
-returns-clause-faults g c = rw c.turns_ending.ensures (turns_count c.in-Err-run_scene.fault _ _ (c.in-Err-run_scene.ensures.count c.in-Ok-start.ensures.fresh.2))
+pub returns-in-Err-run_scene-clause-faults : goal.returns-in-Err-run_scene-clause-faults
+returns-in-Err-run_scene-clause-faults g c = rw c.turns_ending.ensures (turns_count c.in-Err-run_scene.fault _ _ (c.in-Err-run_scene.ensures.count c.in-Ok-start.ensures.fresh.2))
 
-pub returns-clause-plays : goal.returns-clause-plays
-returns-clause-plays g c = rw c.turns_ending.ensures (turns_play c.args.tree c.args.word c.in-Err-run_scene.fault _ _ c.run_scene.ensures.appended)
+pub returns-in-Err-run_scene-clause-plays : goal.returns-in-Err-run_scene-clause-plays
+returns-in-Err-run_scene-clause-plays g c = rw c.turns_ending.ensures (turns_play c.args.tree c.args.word c.in-Err-run_scene.fault _ _ c.run_scene.ensures.appended)
 
-pub returns-clause-kinds : goal.returns-clause-kinds
-returns-clause-kinds g c = c.run_scene.ensures.kinds ∙ c.start.ensures.kinds
+pub returns-in-Err-run_scene-clause-kinds : goal.returns-in-Err-run_scene-clause-kinds
+returns-in-Err-run_scene-clause-kinds g c = c.run_scene.ensures.kinds ∙ c.start.ensures.kinds

@@ -6,7 +6,7 @@ pub returns : goal.returns
 returns c =
     let functions = c.args.functions.now in
     let script = c.args.script.now in
-    let limit = FindsAmong-then (of_script functions script) (FindsAmong-nothing _ _) c.note.ensures in
+    let limit = FindsAmong-then (of_script functions script) (FindsAmong-nothing _ _) c.note.ensures.among in
     let fields = FindsAmong-then (of_fields functions script) limit c.in_ok-judge_fields.ensures in
     let listed = FindsAmong-then (of_functions functions script) fields c.in_ok-judge_list.ensures in
     let compared = FindsAmong-then (of_functions functions script) listed c.judge_replacing.ensures in

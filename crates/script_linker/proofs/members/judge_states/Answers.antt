@@ -13,4 +13,4 @@ loop-state-preserved c =
     let functions = AreAmong-trans (AreAmong-rest state.line _) all in
     let listed = rw c.as_slice.ensures.value at c.in_ok-judge_list.ensures in
     let compared = rw c.as_slice-in-loop-state.ensures.value at c.judge_state_functions.ensures in
-    FindsAmong-then functions (FindsAmong-then functions (FindsAmong-then line (FindsAmong-then line c.loop-state.invariant c.note.ensures) c.note-in-loop-state.ensures) listed) compared
+    FindsAmong-then functions (FindsAmong-then functions (FindsAmong-then line (FindsAmong-then line c.loop-state.invariant c.note.ensures.among) c.note-in-loop-state.ensures.among) listed) compared

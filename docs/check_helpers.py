@@ -1,0 +1,232 @@
+#!/usr/bin/env python3
+"""Checks the helpers of the launcher, prints what is wrong, and ends with 'N passed, M failed'.
+
+  check_helpers.py                   all of these
+  check_helpers.py --program PATH    another program than PAPYRUS_PROGRAM in the environment, or the one that was built last
+
+  rules      `explain` prints all that rules.md says of each rule, and of C4 to C10 what scenes.md says of finding the entry, as plain text that is
+             wrapped; a rule is found by its code and its name in any case; and the files of its examples, as they are printed, are refused as it says
+  near       of words that name no rule, `explain` lists the rules that are near
+  launcher   the launcher knows the helpers and tells of them behind the program's own help, and runs the program on all other words
+"""
+import argparse
+import os
+import pathlib
+import re
+import shutil
+import subprocess
+import sys
+import tempfile
+
+DOCS = pathlib.Path(__file__).resolve().parent
+ROOT = DOCS.parent
+sys.path[:0] = [str(DOCS), str(ROOT / "tools")]
+import check_examples
+import check_pages
+import explain
+import make_rule_index
+
+WIDTHS = (80, 100)
+FILE = re.compile(r"([\w.]+\.\w+)(, in hexadecimal digits)?:")
+
+
+def words_of(text):
+    """The words of a text in lower case, without what its links lead to."""
+    return re.findall(r"\w+", re.sub(r"\]\([^()\s]+\)", "", text).lower())
+
+
+def parts_of(code, name):
+    """The text of the page on a rule without its fences, and the fences; a row's text is that of its cells, with those on finding its entry."""
+    page, scenes = (DOCS / "rules.md").read_text(), (DOCS / "scenes.md").read_text()
+    row = re.search(rf"^\| {code} {name} \|(.*)\|$", page, re.MULTILINE)
+    if row:
+        finding = re.search(rf"^\| {code} \|(.*)\|$", scenes, re.MULTILINE)
+        return row[1] + (finding[1] if finding else ""), []
+    section = re.search(rf"^### {code} {name}\n(.*?)(?=^##|\Z)", page, re.MULTILINE | re.DOTALL)[1]
+    return check_pages.prose(section), re.findall(r"^```[^\n]*\n(.*?)^```$", section, re.MULTILINE | re.DOTALL)
+
+
+def lacks(wanted, found):
+    """The first of the wanted things that doesn't come in this order among those that were found, or nothing."""
+    rest = iter(found)
+    return next((one for one in wanted if one not in rest), "")
+
+
+def width_fault(lines, width):
+    """A line of prose that is too wide and could be broken, or that has marks of the page."""
+    for line in lines:
+        if line.startswith("    "):
+            continue
+        if len(line) > width and " " in re.sub(r"`[^`]*`", "", line).strip():
+            return f"a line of {len(line)} columns, where {width} are wanted: {line}"
+        if re.search(r"\]\(|\*\*|```|^#", line):
+            return f"a mark of the page: {line}"
+    return ""
+
+
+def rule_fault(code, name, pages):
+    """What `explain` leaves out of a rule or prints wrongly, or nothing."""
+    text, fences = parts_of(code, name)
+    for width in WIDTHS:
+        status, lines, notes = explain.answer([f"{code} {name}"], pages, width)
+        if (status, lines[:1], notes) != (0, [f"{code} {name}"], []):
+            return f"isn't explained: status {status}"
+        missing = lacks(words_of(text), words_of("\n".join(lines))) or width_fault(lines, width)
+        if missing:
+            return missing
+    stripped = check_examples.stripped("\n".join(lines))
+    return next((f"lacks this fence: {fence}" for fence in fences if not holds(stripped, fence)), "")
+
+
+def holds(text, fence):
+    """Whether the lines of a fence stand in a text, one behind the other."""
+    return check_examples.stripped(fence) in text
+
+
+def spelling_fault(code, name, pages):
+    """A way to name a rule by which it isn't found, or nothing."""
+    wanted = explain.answer([f"{code} {name}"], pages, WIDTHS[0])[1]
+    ways = [code, code.lower(), f"A.psc:12: {code} {name}", name, name.lower(), name.upper()]
+    found = {way: explain.answer([way], pages, WIDTHS[0]) for way in ways}
+    for way, (status, lines, _) in found.items():
+        alone = lines == wanted if way not in ways[3:] else f"\n{chr(10).join(wanted)}\n" in f"\n{chr(10).join(lines)}\n"
+        if status != 0 or not alone:
+            return f"isn't found by {way}"
+    return ""
+
+
+def examples_fault(code, name, pages, page):
+    """How the program answers otherwise on the files that are printed for a rule than is printed, or nothing."""
+    page.place = page.room / code
+    page.place.mkdir()
+    page.names, page.wrong, file = [], [], ""
+    for block in re.split(r"\n\n", "\n".join(explain.answer([f"{code} {name}"], pages, WIDTHS[0])[1])):
+        first, *lines = [line[4:] if line.startswith("    ") else line for line in block.split("\n")]
+        file = FILE.fullmatch(first)
+        if file and file[2]:
+            page.lay(file[1], bytes.fromhex("".join(line.split("#")[0] for line in lines)))
+        elif file:
+            page.lay(file[1], "".join(line + "\n" for line in lines).encode())
+        elif not lines and check_examples.REFUSAL.fullmatch(first):
+            page.refusal(0, first, code[0])
+    return "; ".join(page.wrong)
+
+
+def check_rules(tally, pages, program):
+    rules = make_rule_index.rules()
+    indexed = re.findall(r"^\| \[([A-Z]\d+) (\w+)\]", (DOCS / "rule_index.md").read_text(), re.MULTILINE)
+    same = [(rule.code, rule.name) for rule in pages.rules] == rules == indexed
+    tally.note("" if same else "`explain`, docs/rules.md and docs/rule_index.md have other rules")
+    with tempfile.TemporaryDirectory(prefix="papyrus-helpers-") as room:
+        page = check_examples.Page(DOCS / "rules.md", program)
+        page.enter(pathlib.Path(room))
+        for code, name in rules:
+            faults = [rule_fault(code, name, pages), spelling_fault(code, name, pages), examples_fault(code, name, pages, page)]
+            for fault in faults:
+                tally.note(fault and f"explain {code}: {fault}")
+        tally.note("" if page.count > len(rules) / 2 else f"of {len(rules)} rules only {page.count} examples were run")
+
+
+def check_list(tally, pages):
+    status, lines, notes = explain.answer([], pages, WIDTHS[0])
+    for code, name in make_rule_index.rules():
+        times = sum(line.split()[:2] == [code, name] for line in lines)
+        tally.note("" if (status, times, notes) == (0, 1, []) else f"explain: {code} {name} stands in {times} lines")
+    tally.note("" if max(map(len, lines)) <= WIDTHS[0] else "explain: a line is too wide")
+
+
+def near_fault(word, wanted, pages):
+    """What is wrong with the answer to a word that names no rule, near which these are, or nothing."""
+    status, lines, notes = explain.answer([word], pages, WIDTHS[0])
+    listed = [" ".join(line.split()[:2]) for line in notes[1:]]
+    if (status, lines) != (2, []) or not notes[0].startswith(f"papyrus: there is no rule {word}"):
+        return f"explain {word}: status {status}"
+    missing = [rule for rule in wanted if rule not in listed]
+    return f"explain {word}: lacks {missing[0]}" if missing else ""
+
+
+def check_near(tally, pages):
+    rules = make_rule_index.rules()
+    names = {name.lower() for _, name in rules}
+    for code, name in rules:
+        letter = code[0]
+        tally.note(near_fault(f"{code}0000", [f"{code} {name}"], pages))
+        tally.note(near_fault(letter.lower(), [f"{one} {other}" for one, other in rules if one[0] == letter], pages))
+        for at in range(len(name) if len(name) > explain.PART else 0):
+            word = name[:at] + name[at + 1 :]
+            tally.note(near_fault(word, [f"{code} {name}"], pages) if word.lower() not in names else "")
+    tally.note(near_fault("float", ["L4 FloatLiteral", "L5 FloatWord", "V1 FloatOpcode", "V2 FloatValue"], pages))
+    tally.note(near_fault("L4 FloatWord", ["L4 FloatLiteral", "L5 FloatWord"], pages))
+    for word in ("", "?", "XYZZY", "--help"):
+        notes = explain.answer([word], pages, WIDTHS[0])[2]
+        fault = near_fault(word, [], pages)
+        tally.note(fault or ("" if len(notes) == 1 else f"explain {word}: lists rules"))
+
+
+def lay_launcher(root, program):
+    """A copy of the launcher in a folder, with this program as the one that was made of its sources, which are none."""
+    out = root / "crates" / "papyrus" / "out"
+    out.mkdir(parents=True)
+    (root / "crates.txt").touch()
+    shutil.copy(ROOT / "papyrus", root)
+    shutil.copytree(ROOT / "tools", root / "tools", ignore=shutil.ignore_patterns("__pycache__"))
+    (root / "docs").symlink_to(DOCS)
+    (out / "papyrus").symlink_to(program)
+    (out / "papyrus.sources").write_bytes(subprocess.run([root / "tools" / "sources"], stdout=subprocess.PIPE, check=True).stdout)
+    return root / "papyrus"
+
+
+def ran(program, words, folder, **how):
+    """The status, standard output and standard error of a program."""
+    streams = {"stdin": subprocess.DEVNULL, "stdout": subprocess.PIPE, "stderr": subprocess.PIPE, "cwd": folder}
+    process = subprocess.run([str(program), *words], env={**os.environ, "COLUMNS": str(WIDTHS[1])}, **{**streams, **how})
+    return process.returncode, process.stdout, process.stderr
+
+
+def answers(pages, program, folder):
+    """What the launcher is to answer to some words."""
+    status, own, notes = ran(program, ["--help"], folder)
+    cases = {("--help",): (status, own + (ROOT / "tools" / "shell" / "helpers.txt").read_bytes(), notes)}
+    for words in (("--help", "--help"), ("--help", ""), ("--version",), ("Explain", "L4"), ("once", "explain"), ("",), ()):
+        cases[words] = ran(program, words, folder)
+    for words in ((), ("l4",), ("FLOATLITERAL",), ("A.psc:3:", "L4", "FloatLiteral"), ("L0",), ("",)):
+        status, lines, notes = explain.answer(words, pages, WIDTHS[1])
+        cases[("explain", *words)] = (status, *("".join(line + "\n" for line in text).encode() for text in (lines, notes)))
+    return cases
+
+
+def check_launcher(tally, pages, program):
+    with tempfile.TemporaryDirectory(prefix="papyrus-helpers-") as room:
+        folder = pathlib.Path(room).resolve()
+        launcher = lay_launcher(folder, program)
+        for words, wanted in answers(pages, program, folder).items():
+            found = ran(launcher, words, folder)
+            tally.note("" if found == wanted else f"papyrus {' '.join(words)}: {found} isn't {wanted}")
+        with open("/dev/full", "wb") as full:
+            for words in (["--help"], ["explain", "l4"]):
+                found = ran(launcher, words, folder, stdout=full)
+                tally.note("" if found == (4, None, b"papyrus: cannot write\n") else f"papyrus {' '.join(words)}, where no room is: {found}")
+        (folder / "docs").unlink()
+        found = ran(launcher, ["explain", "l4"], folder)
+        wanted = (3, b"", f"papyrus: cannot read {folder}/docs/rules.md\n".encode())
+        tally.note("" if found == wanted else f"papyrus explain without its page: {found}")
+
+
+def main():
+    parser = argparse.ArgumentParser(description=__doc__, formatter_class=argparse.RawDescriptionHelpFormatter)
+    parser.add_argument("--program", type=pathlib.Path, default=check_examples.PROGRAM)
+    words = parser.parse_args()
+    if not words.program.exists():
+        print("the program isn't built: run ./papyrus --version first")
+        return 2
+    tally, pages, program = check_pages.Tally(), explain.read_pages(), words.program.resolve()
+    check_rules(tally, pages, program)
+    check_list(tally, pages)
+    check_near(tally, pages)
+    check_launcher(tally, pages, program)
+    print("\n".join([*tally.wrong, f"{tally.passed} passed, {len(tally.wrong)} failed"]))
+    return 1 if tally.wrong else 0
+
+
+if __name__ == "__main__":
+    sys.exit(main())

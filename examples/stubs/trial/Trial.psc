@@ -1,0 +1,70 @@
+ScriptName Trial extends Reference
+{Calls what the stubs have, once each.}
+FormList Property L Auto
+GlobalVariable Property G Auto
+Message Property M Auto
+ReferenceAlias Property A Auto
+MiscObject Property Gold Auto
+MiscObject Property Iron Auto
+Actor Property P Auto
+GameQuest Property Q Auto
+Event OnInit()
+    AddItem(Gold, 5)
+    AddItem(Iron)
+    RemoveItem(Gold, 2, False, P)
+    RemoveItem(Iron, 7)
+    Debug.Trace(GetItemCount(Gold) + " " + GetItemCount(Iron) + " " + P.GetItemCount(Gold))
+    L.AddForm(Gold)
+    L.AddForm(Iron)
+    L.AddForm(Gold)
+    L.AddForm(None)
+    Debug.Trace(L.GetSize() + " " + L.GetAt(1) + " " + L.GetAt(2) + " " + L.HasForm(Gold) + " " + L.Find(Iron)+ " " + L.HasForm(None))
+    L.RemoveAddedForm(Gold)
+    Debug.Trace(L.GetSize() + " " + L.GetAt(0) + " " + L.HasForm(Gold))
+    L.Revert()
+    Debug.Trace(L.GetSize())
+    G.SetValueInt(4)
+    Debug.Trace(G.Mod(3) + " " + G.GetValueInt())
+    Debug.Trace(M.Show())
+    A.ForceRefTo(P)
+    Debug.Trace(A.GetActorReference() + " " + A.GetReference() + " " + A.GetOwningQuest())
+    A.Clear()
+    Debug.Trace(A.GetReference())
+    P.DamageActorValue("health", 30)
+    Debug.Trace(P.GetActorValue("Health") + " " + P.IsDead() + P.IsInCombat())
+    P.SetActorValue("Stamina", 3)
+    P.Kill()
+    Debug.Trace(P.GetActorValue("Health") + " " + P.IsDead() + " " + P.Stamina)
+    Debug.Trace(Math.abs(-4) + " " + Math.pow(2, 10) + " " + Math.sqrt(99) + " " + Math.sqrt(100) + " " + Math.sqrt(0))
+    Q.SetStage(10)
+    Debug.Trace(Q.GetStage() + " " + Q.IsRunning())
+    Q.Stop()
+    Q.SetObjectiveDisplayed(10)
+    Debug.Trace(Q.IsRunning())
+    RegisterForSingleUpdate(5)
+    Tick()
+    Tick()
+    RegisterForUpdate(5)
+    Tick()
+    Tick()
+    UnregisterForUpdate()
+    Tick()
+    Disable()
+    Debug.Trace(IsDisabled())
+    Enable()
+    Debug.Trace(IsDisabled())
+    Activate(P)
+    MoveTo(P)
+    PlayAnimation("x")
+    PlayAnimationAndWait("x", "y")
+    Debug.Trace(GetDistance(P) + " " + GetDistance(P))
+    Screen.MessageBox("box")
+    Game.DisablePlayerControls()
+    Game.EnablePlayerControls()
+EndEvent
+Event OnUpdate()
+    Debug.Trace("update")
+EndEvent
+Event OnActivate(ObjectReference akActionRef)
+    Debug.Trace("activated by " + akActionRef)
+EndEvent

@@ -1,0 +1,2 @@
+" Scripts of Papyrus by their files' names.
+autocmd BufRead,BufNewFile *.psc setfiletype papyrus
