@@ -1,5 +1,5 @@
 -- Which journals are legal.
-use Rattle.std.proofs.Common.{◌≡◌, ℕ, ◌+◌, ◌≤◌, List, [], ◌∷◌, ◌++◌, length, append_assoc, length-append, append-nil, refl, sym, ap, subst, ◌∙◌, arith, suc, false, true}
+use Rattle.std.proofs.Common.{◌≡◌, ℕ, ◌+◌, ◌≤◌, List, [], ◌∷◌, ◌++◌, length, append_assoc, length-append, append-nil, refl, sym, ap, subst, ◌∙◌, arith, suc, true}
 use Rattle.std.proofs.lemmas.Bool.{false≢true}
 use Rattle.run_replay.specs.declared.book.Stage.TheVariants as stages
 use Rattle.run_replay.specs.declared.fault.JournalRule.{JournalRule}
