@@ -246,6 +246,17 @@ not_to_be_written = refl
 pub of_a_full_property : enter_code family_outline family (Some 1) [] (ByGet (codes "P")) [] ≡ Opened (record { place = OfGet 0 1; instruction = 0; slots = values.Text [] ∷ [] })
 of_a_full_property = refl
 
+-- a body opens only with as many arguments as its function has parameters
+abbrev with_a_parameter : List Script
+with_a_parameter =
+    record { properties = []; states = record { name = []; functions = function (codes "F") (kinds.Int ∷ []) (Some kinds.Int ∷ []) (Some kinds.Int) [] [] ∷ [] } ∷ [] } ∷ []
+
+pub without_its_argument : enter_code family_outline with_a_parameter (Some 0) [] (ByMethod (codes "F")) [] ≡ NothingThere
+without_its_argument = refl
+
+pub with_its_argument : enter_code family_outline with_a_parameter (Some 0) [] (ByMethod (codes "F")) (int 7 ∷ []) ≡ Opened (record { place = OfState 0 0 0; instruction = 0; slots = int 7 ∷ int 0 ∷ [] })
+with_its_argument = refl
+
 -- ---- a run: two calls of a function that reads a variable, traces and writes the variable. The trace lets
 -- go, and one of the writes is lost
 abbrev bump : Function

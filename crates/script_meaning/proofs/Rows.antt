@@ -13,7 +13,9 @@ use Rattle.core_tree.specs.Scenes.{SceneShape, InstanceShape, CallShape, Round, 
 use Rattle.core_tree.specs.Set.{Script, Function, Auto}
 use Rattle.core_tree.specs.Tree.{Expression, Literal, Local, Field, SelfValue, Apply, Calculate, Cast, CallMethod, CallNative, Statement, Do, StoreLocal, StoreField, StoreState, Drop, GiveBack, one, two, block}
 use Rattle.papy_base.specs.declared.faults.StackFault.TheVariants as faults
-use Rattle.script_meaning.specs.Source.{source_run}
+use Rattle.script_meaning.specs.Evaluation.{Statements}
+use Rattle.script_meaning.specs.Source.{Body, enter_body, source_run}
+use Rattle.script_meaning.specs.Stacks.{ByMethod, Entered, Opened, NothingThere}
 use Rattle.script_meaning.specs.World.{World, Line, Traced, Faulted}
 use Rattle.script_meaning.proofs.Examples.{two_bumps, native, event, script, debug, debug_functions, outline, trace, glance}
 
@@ -201,3 +203,18 @@ quiet_counter = script (codes "C") (record { name = codes "::N_var"; kind = kind
 
 pub no_lost_update : map glance (source_run (outline debug [] debug_functions ∷ outline quiet_counter (record { name = codes "N"; kind = kinds.Int; variable = 0 } ∷ []) (quiet_bump ∷ []) ∷ []) (debug ∷ quiet_counter ∷ []) two_bumps [] 4) ≡ (0, [], [], [], [], []) ∷ (1, [], (0, 1) ∷ [], [], 0 ∷ [], []) ∷ (2, [], [], [], 0 ∷ 1 ∷ [], []) ∷ []
 no_lost_update = refl
+
+-- ---- a body opens only with as many arguments as its function has parameters
+abbrev with_a_parameter : Function
+with_a_parameter =
+    record { name = codes "F"; parameters = kinds.Int ∷ []; locals = kinds.Int ∷ []; result = Some kinds.Int; is_global = false; is_native = false; doc = None; flags = 0; body = block ((3, Do (StoreLocal 1) (one (Literal (values.Int (pos 5))))) ∷ (4, Do GiveBack (one (Apply (Calculate signs.Add) (two (Local 1) (Literal (values.Int (pos 1))))))) ∷ []); end_line = 5 }
+
+abbrev entered_with : List Value → Entered Body
+entered_with arguments =
+    enter_body (outline (script (codes "A") [] [] (with_a_parameter ∷ [])) [] (with_a_parameter ∷ []) ∷ []) (script (codes "A") [] [] (with_a_parameter ∷ []) ∷ []) (Some 0) [] (ByMethod (codes "F")) arguments
+
+pub without_its_argument : entered_with [] ≡ NothingThere
+without_its_argument = refl
+
+pub with_its_argument : entered_with (values.Int (pos 7) ∷ []) ≡ Opened (record { script = 0; function = codes "F"; ending = values.Int (pos 0); locals = values.Int (pos 7) ∷ values.Int (pos 0) ∷ []; line = 0; pending = Statements with_a_parameter.body ∷ [] })
+with_its_argument = refl

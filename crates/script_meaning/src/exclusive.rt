@@ -17,7 +17,7 @@ pub fn first_is_exclusive<B>()
     ensures { (outline : List ScriptShape) (scene : SceneShape) (kinds : List DeviceKind) → Exclusive (first_state {Body = B} outline scene kinds) }
 {}
 
-/// Every step of a run keeps each stack in one place.
+/// Every step of a run keeps each stack in one place, with the frames that it needs there.
 pub fn step_is_exclusive<B>()
     ensures { (scene : SceneShape) (engine : Engine B) (state : State B) → Exclusive state → Exclusive (step scene engine state) }
 {}

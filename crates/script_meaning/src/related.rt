@@ -15,8 +15,9 @@ pub trait Related<C> {
     ghost related: { Self → C → Type 0 };
 }
 
-/// Two engines whose related bodies come to equal acts in equal worlds, where what they get fits, have equal
-/// runs of worlds, where in each turn of the one run what the chosen stack goes on with fits.
+/// Two engines whose related bodies open alike and come to equal acts in equal worlds, wherever all that they
+/// get fits, have equal runs of worlds, provided that in each turn of the one run what the chosen stack goes on
+/// with fits.
 pub fn related_engines_run_alike<B: Related<C>, C>()
     ensures { (types : Types B) (left : Engine B) (right : Engine C) → EnginesAlike (by_types types) B.related left right → (scene : SceneShape) (outline : List ScriptShape) (kinds : List DeviceKind) (turns : ℕ) → AllByRecursion (NextTurnFits (by_types types) scene) (states_from scene left turns (first_state outline scene kinds)) → map (λ state. state.world) (states_from scene left turns (first_state outline scene kinds)) ≡ map (λ state. state.world) (states_from scene right turns (first_state outline scene kinds)) }
 {}
