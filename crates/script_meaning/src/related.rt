@@ -14,6 +14,7 @@ ghost use Rattle.script_meaning.specs.Turns.{states_from};
 /// belong.
 pub trait Related<C> {
     ghost related: { Self → C → Type 0 };
+
     ghost types: { Types Self };
 }
 
