@@ -7,9 +7,9 @@ use Rattle.core_tree.specs.declared.value.Value.{Value}
 use Rattle.core_tree.specs.Outlines.{ScriptShape}
 use Rattle.core_tree.specs.Scenes.{SceneShape, CallShape}
 use Rattle.script_meaning.specs.First.{first_state}
-use Rattle.script_meaning.specs.Fits.{Fitting, ReplyFits, InnermostFits, TurnFits, NextTurnFits}
+use Rattle.script_meaning.specs.Fits.{Fitting, InnermostFits, TurnFits, NextTurnFits}
 use Rattle.script_meaning.specs.Locks.{let_go, goes_to_wait, rests, moves, takes}
-use Rattle.script_meaning.specs.Related.{EnteredAlike, both_open, both_native, both_read, both_write, both_nothing, UnlessReturned, StopsAlike, EnginesAlike}
+use Rattle.script_meaning.specs.Related.{EnteredAlike, both_open, both_native, both_read, both_write, both_nothing, UnlessReturned, AtLoopPass, StopsAlike, EnginesAlike}
 use Rattle.script_meaning.specs.Requests.{Sight, Setting, Request, Method, ParentMethod, GlobalFunction, GlobalNative, Get, Set, LoopPass, Return, binding_in, is_prompt, latency_of, performed_at}
 use Rattle.script_meaning.specs.Stacks.{Way, ByMethod, ByParent, ByGlobal, ByGet, BySet, Frame, ToEnter, Running, Entered, Stop, Engine, State, frame_instance, inner_instance, frames_of, stack_limit, frame_limit, has_room}
 use Rattle.script_meaning.specs.Turns.{sight_of, with_sight, Turn, After, with_reply, returned, native_done, acted, past_pass, run_on, stopped, ran, native_entered, entered, in_turn, setting_of, turn_of, after_turn, turn_ended, turned, instance_script, call_started, calls_started, is_due, not_due, all_wait, awoken, begun, chosen, has_ended, chosen_turned, step, states_from}
@@ -113,7 +113,7 @@ module _ {B C : Type 0} (R : B → C → Type 0) where
     abbrev Stopped : Setting → Stop B → Stop C → Type 0
     Stopped setting s t = StopsAlike fitting R setting s t
 
-    passes_alike : (setting : Setting) (request : Request) (s : Stop B) (t : Stop C) (go : B → Sight → Stop B) (go' : C → Sight → Stop C) → Stopped setting s t → UnlessReturned request (R s.body t.body) → UnlessReturned request (fitting.sight setting s.sight × fitting.body setting s.sight s.body) → (R s.body t.body → (fitting.sight setting s.sight × fitting.body setting s.sight s.body) → Stopped setting (go s.body s.sight) (go' t.body t.sight)) → Stopped setting (past_pass go s request) (past_pass go' t request)
+    passes_alike : (setting : Setting) (request : Request) (s : Stop B) (t : Stop C) (go : B → Sight → Stop B) (go' : C → Sight → Stop C) → Stopped setting s t → UnlessReturned request (R s.body t.body) → AtLoopPass request (fitting.sight setting s.sight × fitting.body setting s.sight s.body None) → (R s.body t.body → (fitting.sight setting s.sight × fitting.body setting s.sight s.body None) → Stopped setting (go s.body s.sight) (go' t.body t.sight)) → Stopped setting (past_pass go s request) (past_pass go' t request)
     passes_alike setting (Method target name arguments otherwise) s t go go' a r f more = a
     passes_alike setting (ParentMethod script name arguments otherwise) s t go go' a r f more = a
     passes_alike setting (GlobalFunction script name arguments otherwise) s t go go' a r f more = a
@@ -123,15 +123,15 @@ module _ {B C : Type 0} (R : B → C → Type 0) where
     passes_alike setting LoopPass s t go go' a r f more = more r f
     passes_alike setting (Return value) s t go go' a r f more = a
 
-    run_on_alike : (setting : Setting) (passes : ℕ) (b : B) (c : C) (reply : Option Value) (sight : Sight) → R b c → fitting.sight setting sight → fitting.body setting sight b → ReplyFits fitting setting sight b reply → Stopped setting (run_on left setting passes b reply sight) (run_on right setting passes c reply sight)
-    run_on_alike setting zero b c reply sight r f h g = alike.run setting b c reply sight r f h g
-    run_on_alike setting (suc passes) b c reply sight r f h g =
+    run_on_alike : (setting : Setting) (passes : ℕ) (b : B) (c : C) (reply : Option Value) (sight : Sight) → R b c → fitting.sight setting sight → fitting.body setting sight b reply → Stopped setting (run_on left setting passes b reply sight) (run_on right setting passes c reply sight)
+    run_on_alike setting zero b c reply sight r f h = alike.run setting b c reply sight r f h
+    run_on_alike setting (suc passes) b c reply sight r f h =
         let s : Stop B = left.run setting b reply sight in
         let t : Stop C = right.run setting c reply sight in
-        let a : Stopped setting s t = alike.run setting b c reply sight r f h g in
+        let a : Stopped setting s t = alike.run setting b c reply sight r f h in
         let go : B → Sight → Stop B = λ next after. run_on left setting passes next None after in
         let go' : C → Sight → Stop C = λ next after. run_on right setting passes next None after in
-        let more : R s.body t.body → (fitting.sight setting s.sight × fitting.body setting s.sight s.body) → Stopped setting (go s.body s.sight) (go' t.body t.sight) = λ related fits. subst (λ x. Stopped setting (go s.body s.sight) (go' t.body x)) a.sight (run_on_alike setting passes s.body t.body None s.sight related fits.0 fits.1 tt) in
+        let more : R s.body t.body → (fitting.sight setting s.sight × fitting.body setting s.sight s.body None) → Stopped setting (go s.body s.sight) (go' t.body t.sight) = λ related fits. subst (λ x. Stopped setting (go s.body s.sight) (go' t.body x)) a.sight (run_on_alike setting passes s.body t.body None s.sight related fits.0 fits.1) in
         subst (λ q. Stopped setting (past_pass go s s.request) (past_pass go' t q)) a.request (passes_alike setting s.request s t go go' a a.bodies a.fits more)
 
     stopped_alike : (turn : Turn) (world : World) (s : Stop B) (t : Stop C) {fs : List (Frame B)} {gs : List (Frame C)} → Stopped turn.setting s t → StackAlike fs gs → AfterAlike (stopped turn world fs s) (stopped turn world gs t)
@@ -139,16 +139,16 @@ module _ {B C : Type 0} (R : B → C → Type 0) where
         let here : AfterAlike (acted turn s.request (Running turn.own s.body None) fs (with_sight world turn.own s.sight)) (acted turn s.request (Running turn.own t.body None) gs (with_sight world turn.own s.sight)) = acted_alike turn s.request (with_sight world turn.own s.sight) (Running turn.own s.body None) (Running turn.own t.body None) (returned_or s.request (λ r. both_run turn.own None r) a.bodies) below in
         subst (λ x. AfterAlike (stopped turn world fs s) (acted turn t.request (Running turn.own t.body None) gs (with_sight world turn.own x))) a.sight (subst (λ q. AfterAlike (stopped turn world fs s) (acted turn q (Running turn.own t.body None) gs (with_sight world turn.own s.sight))) a.request here)
 
-    ran_alike : (scene : SceneShape) (turn : Turn) (world : World) (b : B) (c : C) (reply : Option Value) {fs : List (Frame B)} {gs : List (Frame C)} → R b c → fitting.sight turn.setting (sight_of world turn.own) → fitting.body turn.setting (sight_of world turn.own) b → ReplyFits fitting turn.setting (sight_of world turn.own) b reply → StackAlike fs gs → AfterAlike (ran scene left turn world fs b reply) (ran scene right turn world gs c reply)
-    ran_alike scene turn world b c reply r f h g below =
-        stopped_alike turn world (run_on left turn.setting (pred scene.quantum) b reply (sight_of world turn.own)) (run_on right turn.setting (pred scene.quantum) c reply (sight_of world turn.own)) (run_on_alike turn.setting (pred scene.quantum) b c reply (sight_of world turn.own) r f h g) below
+    ran_alike : (scene : SceneShape) (turn : Turn) (world : World) (b : B) (c : C) (reply : Option Value) {fs : List (Frame B)} {gs : List (Frame C)} → R b c → fitting.sight turn.setting (sight_of world turn.own) → fitting.body turn.setting (sight_of world turn.own) b reply → StackAlike fs gs → AfterAlike (ran scene left turn world fs b reply) (ran scene right turn world gs c reply)
+    ran_alike scene turn world b c reply r f h below =
+        stopped_alike turn world (run_on left turn.setting (pred scene.quantum) b reply (sight_of world turn.own)) (run_on right turn.setting (pred scene.quantum) c reply (sight_of world turn.own)) (run_on_alike turn.setting (pred scene.quantum) b c reply (sight_of world turn.own) r f h) below
 
     native_entered_alike : (turn : Turn) (at : FunctionPlace) (arguments : List Value) (world : World) (prompt : Bool) {fs : List (Frame B)} {gs : List (Frame C)} → StackAlike fs gs → AfterAlike (native_entered turn at arguments world fs prompt) (native_entered turn at arguments world gs prompt)
     native_entered_alike turn at arguments world true below = returned_alike turn _ _ below
     native_entered_alike turn at arguments world false below = native_alike turn at arguments world below
 
-    entered_alike : (scene : SceneShape) (turn : Turn) (world : World) (arguments : List Value) {fs : List (Frame B)} {gs : List (Frame C)} → StackAlike fs gs → fitting.sight turn.setting (sight_of world turn.own) → {e : Entered B} {d : Entered C} → EnteredAlike (λ b c. R b c × fitting.body turn.setting (sight_of world turn.own) b) e d → AfterAlike (entered scene left turn world fs arguments e) (entered scene right turn world gs arguments d)
-    entered_alike scene turn world arguments below s (both_open {b} {c} r) = ran_alike scene turn world b c None r.0 s r.1 tt below
+    entered_alike : (scene : SceneShape) (turn : Turn) (world : World) (arguments : List Value) {fs : List (Frame B)} {gs : List (Frame C)} → StackAlike fs gs → fitting.sight turn.setting (sight_of world turn.own) → {e : Entered B} {d : Entered C} → EnteredAlike (λ b c. R b c × fitting.body turn.setting (sight_of world turn.own) b None) e d → AfterAlike (entered scene left turn world fs arguments e) (entered scene right turn world gs arguments d)
+    entered_alike scene turn world arguments below s (both_open {b} {c} r) = ran_alike scene turn world b c None r.0 s r.1 below
     entered_alike scene turn world arguments below s (both_native at) = native_entered_alike turn at arguments world (is_prompt (binding_in turn.setting.natives at)) below
     entered_alike scene turn world arguments below s (both_read script variable) = returned_alike turn _ _ below
     entered_alike scene turn world arguments below s (both_write script variable) = returned_alike turn _ _ below
@@ -161,7 +161,7 @@ module _ {B C : Type 0} (R : B → C → Type 0) where
     in_turn_alike scene k setting world (both_enter instance way arguments) below i =
         entered_alike scene (turn_on k setting instance) world arguments below i.0 (alike.enter setting (sight_of world instance) (instance_script world instance) way arguments i.0 i.1)
     in_turn_alike scene k setting world (both_run {b} {c} instance reply r) below i =
-        ran_alike scene (turn_on k setting instance) world b c reply r i.0 (i.1).0 (i.1).1 below
+        ran_alike scene (turn_on k setting instance) world b c reply r i.0 i.1 below
 
     -- ---- turns
     turn_from : SceneShape → World → ℕ → Option ℕ → Bool → Turn

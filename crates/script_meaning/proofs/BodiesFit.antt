@@ -11,14 +11,14 @@ use Rattle.core_tree.specs.Scenes.{SceneShape}
 use Rattle.core_tree.specs.Set.{Script, Function, State as ScriptState, Property, Access, Auto, Full, empty_functions_of}
 use Rattle.script_meaning.specs.Evaluation.{functions_at}
 use Rattle.script_meaning.specs.First.{first_state}
-use Rattle.script_meaning.specs.Fits.{Fitting, ReplyFits, InnermostFits, NextTurnFits}
+use Rattle.script_meaning.specs.Fits.{Fitting, InnermostFits, NextTurnFits}
 use Rattle.script_meaning.specs.InnerSteps.{FitsIn, FrameFits, StateFits, EnteredFits, IsWithin, IsAccessorWithin, IsAccessWithin, IsScriptWithin}
-use Rattle.script_meaning.specs.Related.{EnteredAlike, both_open, both_native, both_read, both_write, both_nothing, UnlessReturned, StopsAlike, EnginesAlike}
+use Rattle.script_meaning.specs.Related.{EnteredAlike, both_open, both_native, both_read, both_write, both_nothing, UnlessReturned, AtLoopPass, StopsAlike, EnginesAlike}
 use Rattle.script_meaning.specs.Locks.{takes}
-use Rattle.script_meaning.specs.Requests.{Sight, Setting, Request, Method, ParentMethod, GlobalFunction, GlobalNative, Get, Set, LoopPass, Return}
+use Rattle.script_meaning.specs.Requests.{Setting, Request, Method, ParentMethod, GlobalFunction, GlobalNative, Get, Set, LoopPass, Return}
 use Rattle.script_meaning.specs.Source.{Body, run_body, body_of, opened, named, functions_of_state, state_functions, with_script, or_else_found, first_function, first_empty, method_in, native_there, function_entered, properties_of, first_property, accessor_entered, get_entered, set_entered, get_found, set_found, enter_body, source_engine}
 use Rattle.script_meaning.specs.Stacks.{Way, ByMethod, ByParent, ByGlobal, ByGet, BySet, Frame, ToEnter, Running, Entered, Opened, NativeThere, NothingThere, State, inner_instance, frames_of}
-use Rattle.script_meaning.specs.Turns.{sight_of, setting_of, begun, has_ended, step, states_from}
+use Rattle.script_meaning.specs.Turns.{setting_of, begun, has_ended, step, states_from}
 use Rattle.script_meaning.specs.Values.{lineage, parent_in}
 use Rattle.script_meaning.specs.World.{World}
 use Rattle.script_meaning.proofs.Alike.{FramesAlike, both_enter, both_run, StackAlike, no_frames, more_frames, StacksAlike, no_stacks, more_stacks, StatesAlike, step_alike}
@@ -27,17 +27,12 @@ use Rattle.script_meaning.proofs.TurnBounds.{run_fits}
 -- nothing is taken for granted here
 abbrev pub anything : Fitting Body
 anything =
-    record { sight = λ setting sight. Unit {0}; body = λ setting sight body. Unit {0}; reply = λ setting sight body value. Unit {0}; arguments = λ setting sight script way values. Unit {0} }
-
-any_reply : (setting : Setting) (sight : Sight) (body : Body) (reply : Option Value) → ReplyFits anything setting sight body reply
-any_reply setting sight body None = tt
-any_reply setting sight body (Some value) = tt
+    record { sight = λ setting sight. Unit {0}; body = λ setting sight body reply. Unit {0}; arguments = λ setting sight script way values. Unit {0} }
 
 any_innermost : (setting : Setting) (world : World) (frames : List (Frame Body)) → InnermostFits anything setting world frames
 any_innermost setting world [] = tt
 any_innermost setting world (ToEnter instance way arguments ∷ below) = (tt, tt)
-any_innermost setting world (Running instance body reply ∷ below) =
-    (tt, (tt, any_reply setting (sight_of world instance) body reply))
+any_innermost setting world (Running instance body reply ∷ below) = (tt, tt)
 
 any_turn : (scene : SceneShape) (state : State Body) → NextTurnFits anything scene state
 any_turn scene state k =
@@ -53,6 +48,16 @@ in_any_case (Get target name otherwise) x = x
 in_any_case (Set target name value) x = x
 in_any_case LoopPass x = x
 in_any_case (Return value) x = tt
+
+at_pass_too : (request : Request) → AtLoopPass request (Unit {0} × Unit {0})
+at_pass_too (Method target name arguments otherwise) = tt
+at_pass_too (ParentMethod script name arguments otherwise) = tt
+at_pass_too (GlobalFunction script name arguments otherwise) = tt
+at_pass_too (GlobalNative at arguments) = tt
+at_pass_too (Get target name otherwise) = tt
+at_pass_too (Set target name value) = tt
+at_pass_too LoopPass = (tt, tt)
+at_pass_too (Return value) = tt
 
 module _ (most : ℕ) where
   -- the same body, which fits
@@ -207,7 +212,7 @@ module _ (most : ℕ) where
     pub engine_alike : (outline : List ScriptShape) → EnginesAlike anything SameFit (source_engine outline scripts) (source_engine outline scripts)
     engine_alike outline = record {
       enter = λ setting sight script way arguments s a. entered_so (enter_alike outline script sight.state way arguments);
-      run = λ setting b c reply sight r s f a. subst (λ x. StopsAlike anything SameFit setting (run_body scripts setting b reply sight) (run_body scripts setting x reply sight)) r.0 (record { request = refl; sight = refl; fits = in_any_case (run_body scripts setting b reply sight).request (tt, tt); bodies = in_any_case (run_body scripts setting b reply sight).request (refl, run_fits scripts setting most b reply sight r.1) });
+      run = λ setting b c reply sight r s f. subst (λ x. StopsAlike anything SameFit setting (run_body scripts setting b reply sight) (run_body scripts setting x reply sight)) r.0 (record { request = refl; sight = refl; fits = at_pass_too (run_body scripts setting b reply sight).request; bodies = in_any_case (run_body scripts setting b reply sight).request (refl, run_fits scripts setting most b reply sight r.1) });
     }
 
   -- ---- what alike states say of one

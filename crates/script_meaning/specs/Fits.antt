@@ -1,5 +1,5 @@
 -- What fits: values in places of their types, in all that a running body gets.
-use Rattle.std.specs.Prelude.{◌≡◌, ℕ, Bool, true, false, List, [], ◌∷◌, map, Option, Some, None, slice_get}
+use Rattle.std.specs.Prelude.{◌≡◌, ℕ, ◌<◌, Bool, true, false, List, [], ◌∷◌, length, map, Option, Some, None, slice_get}
 use Rattle.std.specs.List.{AllByRecursion}
 use Rattle.core_tree.specs.declared.core_type.CoreType.{CoreType}
 use Rattle.core_tree.specs.declared.core_type.CoreType.TheVariants as kinds
@@ -76,6 +76,10 @@ abbrev pub script_at : List (ℕ × List ℕ) → Option ℕ → Option ℕ
 script_at instances None = None
 script_at instances (Some number) = script_in (slice_get instances number)
 
+abbrev pub IsThere : List (ℕ × List ℕ) → Option ℕ → Type 0
+IsThere instances None = Unit {0}
+IsThere instances (Some number) = number < length instances
+
 abbrev pub is_native_in : Option FunctionShape → Bool
 is_native_in None = false
 is_native_in (Some function) = function.is_native
@@ -87,48 +91,55 @@ pub record SightFits (outline : List ScriptShape) (setting : Setting) (sight : S
   pub of_set : setting.outline ≡ outline
   -- what a native function gives is of the type of its result
   pub natives : (at : FunctionPlace) → is_native_at outline at ≡ true → (arguments : List Value) (before : Sight) → IsResult setting sight (result_of outline at) (performed_at setting at arguments before).0
-  -- the own instance has the variables of its script and of those above, each with a value of its type
+  -- the own instance is there, and has the variables of its script and of those above, each with a value of its type
+  pub own : IsThere setting.instances setting.self
   pub scripts : map (λ of_script. of_script.0) sight.variables ≡ lineage outline (script_at setting.instances setting.self)
   pub variables : AllByRecursion (VariablesFit setting sight) sight.variables
   pub arrays : AllByRecursion (ArrayFits setting sight) sight.arrays
 
+-- what waits for a body is what it waits for: nothing, or a result
+abbrev pub IsReply : Setting → Sight → Option (Option CoreType) → Option Value → Type 0
+IsReply setting sight None None = Unit {0}
+IsReply setting sight (Some result) (Some value) = IsResult setting sight result value
+IsReply setting sight _ _ = ⊥
+
 -- ---- what fits in a run
--- what a comparison of two engines may take for granted: of what a body sees, of a body, of a reply to
--- it, and of the arguments of a call to enter, which is looked up from the script of its instance
+-- what a comparison of two engines may take for granted: of what a body sees, of a body with the reply
+-- that is given to it, and of the arguments of a call to enter, which is looked up from the script of its
+-- instance
 pub record Fitting (Body : Type 0) : Type 1 where
   pub sight : Setting → Sight → Type 0
-  pub body : Setting → Sight → Body → Type 0
-  pub reply : Setting → Sight → Body → Value → Type 0
+  pub body : Setting → Sight → Body → Option Value → Type 0
   pub arguments : Setting → Sight → Option ℕ → Way → List Value → Type 0
 
 -- the types of a set of scripts and of the bodies of its functions
-pub record Types (Body : Type 0) : Type 0 where
+pub record Types (Body : Type 0) : Type 1 where
   pub outline : List ScriptShape
-  -- of the parameters of what a call enters
-  pub parameters : Option ℕ → Way → List CoreType
+  -- a call that the scripts make enters a function with parameters of these types
+  pub calls : Option ℕ → Way → List CoreType → Type 0
   -- the script in which a body stands
   pub script : Body → ℕ
-  -- the values that a body holds, such as its parameters, its locals and what it took of operands, each
-  -- after the type of its place
-  pub held : Body → List (CoreType × Value)
-  -- of the reply that a body waits for, none where that is None
-  pub awaited : Body → Option CoreType
+  -- a body holds these values, such as its parameters, its locals and what it took of operands, each after
+  -- the type of its place, and it waits for nothing, or for a result
+  pub typed : Body → List (CoreType × Value) → Option (Option CoreType) → Type 0
 
-pub record BodyFits {Body : Type 0} (types : Types Body) (setting : Setting) (sight : Sight) (body : Body) : Type 0 where
+pub record BodyFits {Body : Type 0} (types : Types Body) (setting : Setting) (sight : Sight) (body : Body) (given : Option Value) : Type 0 where
   pub self : HasType setting sight (kinds.Script (types.script body)) (self_value setting.self)
-  pub held : AllByRecursion (λ typed. HasType setting sight typed.0 typed.1) (types.held body)
+  pub held : List (CoreType × Value)
+  pub awaited : Option (Option CoreType)
+  pub typed : types.typed body held awaited
+  pub values : AllByRecursion (λ of_type. HasType setting sight of_type.0 of_type.1) held
+  pub reply : IsReply setting sight awaited given
+
+pub record ArgumentsFit {Body : Type 0} (types : Types Body) (setting : Setting) (sight : Sight) (script : Option ℕ) (way : Way) (arguments : List Value) : Type 0 where
+  pub own : script ≡ script_at setting.instances setting.self
+  pub parameters : List CoreType
+  pub called : types.calls script way parameters
+  pub values : HaveTypes setting sight parameters arguments
 
 abbrev pub by_types : {Body : Type 0} → Types Body → Fitting Body
-by_types types = record {
-  sight = SightFits types.outline;
-  body = BodyFits types;
-  reply = λ setting sight body value. IsResult setting sight (types.awaited body) value;
-  arguments = λ setting sight script way values. HaveTypes setting sight (types.parameters script way) values;
-}
-
-abbrev pub ReplyFits : {Body : Type 0} → Fitting Body → Setting → Sight → Body → Option Value → Type 0
-ReplyFits fitting setting sight body None = Unit {0}
-ReplyFits fitting setting sight body (Some value) = fitting.reply setting sight body value
+by_types types =
+    record { sight = SightFits types.outline; body = BodyFits types; arguments = ArgumentsFit types }
 
 -- the innermost of these frames
 abbrev pub InnermostFits : {Body : Type 0} → Fitting Body → Setting → World → List (Frame Body) → Type 0
@@ -136,7 +147,7 @@ InnermostFits fitting setting world [] = Unit {0}
 InnermostFits fitting setting world (ToEnter instance way arguments ∷ below) =
     fitting.sight setting (sight_of world instance) × fitting.arguments setting (sight_of world instance) (instance_script world instance) way arguments
 InnermostFits fitting setting world (Running instance body reply ∷ below) =
-    fitting.sight setting (sight_of world instance) × (fitting.body setting (sight_of world instance) body × ReplyFits fitting setting (sight_of world instance) body reply)
+    fitting.sight setting (sight_of world instance) × fitting.body setting (sight_of world instance) body reply
 
 -- what stack k goes on with if it has its turn
 abbrev pub TurnFits : {Body : Type 0} → Fitting Body → SceneShape → State Body → ℕ → Type 0

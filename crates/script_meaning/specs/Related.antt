@@ -1,9 +1,9 @@
 -- Engines that do the same on bodies that are related, where what they get fits.
-use Rattle.std.specs.Prelude.{◌≡◌, ℕ, List, Option}
+use Rattle.std.specs.Prelude.{◌≡◌, ℕ, List, Option, None}
 use Rattle.core_tree.specs.declared.expression.FunctionPlace.{FunctionPlace}
 use Rattle.core_tree.specs.declared.value.Value.{Value}
-use Rattle.script_meaning.specs.Fits.{Fitting, ReplyFits}
-use Rattle.script_meaning.specs.Requests.{Sight, Setting, Request, Return}
+use Rattle.script_meaning.specs.Fits.{Fitting}
+use Rattle.script_meaning.specs.Requests.{Sight, Setting, Request, LoopPass, Return}
 use Rattle.script_meaning.specs.Stacks.{Way, Entered, Opened, NativeThere, ReadThere, WriteThere, NothingThere, Stop, Engine}
 
 -- two look-ups find related bodies, or the same
@@ -19,14 +19,19 @@ abbrev pub UnlessReturned : Request → Type 0 → Type 0
 UnlessReturned (Return value) related = Unit {0}
 UnlessReturned _ related = related
 
--- two bodies come to the same act and have changed the same, and there they are related, and fit
+-- at a loop pass, behind which a body may go on in the same turn
+abbrev pub AtLoopPass : Request → Type 0 → Type 0
+AtLoopPass LoopPass fits = fits
+AtLoopPass _ fits = Unit {0}
+
+-- two bodies come to the same act, have changed the same, and are related there
 pub record StopsAlike {B C : Type 0} (fitting : Fitting B) (R : B → C → Type 0) (setting : Setting) (left : Stop B) (right : Stop C) : Type 0 where
   pub request : left.request ≡ right.request
   pub sight : left.sight ≡ right.sight
   pub bodies : UnlessReturned left.request (R left.body right.body)
-  pub fits : UnlessReturned left.request (fitting.sight setting left.sight × fitting.body setting left.sight left.body)
+  pub fits : AtLoopPass left.request (fitting.sight setting left.sight × fitting.body setting left.sight left.body None)
 
 -- nothing is asked of the engines but where all that they get fits
 pub record EnginesAlike {B C : Type 0} (fitting : Fitting B) (R : B → C → Type 0) (left : Engine B) (right : Engine C) : Type 0 where
-  pub enter : (setting : Setting) (sight : Sight) (script : Option ℕ) (way : Way) (arguments : List Value) → fitting.sight setting sight → fitting.arguments setting sight script way arguments → EnteredAlike (λ b c. R b c × fitting.body setting sight b) (left.enter script sight.state way arguments) (right.enter script sight.state way arguments)
-  pub run : (setting : Setting) (b : B) (c : C) (reply : Option Value) (sight : Sight) → R b c → fitting.sight setting sight → fitting.body setting sight b → ReplyFits fitting setting sight b reply → StopsAlike fitting R setting (left.run setting b reply sight) (right.run setting c reply sight)
+  pub enter : (setting : Setting) (sight : Sight) (script : Option ℕ) (way : Way) (arguments : List Value) → fitting.sight setting sight → fitting.arguments setting sight script way arguments → EnteredAlike (λ b c. R b c × fitting.body setting sight b None) (left.enter script sight.state way arguments) (right.enter script sight.state way arguments)
+  pub run : (setting : Setting) (b : B) (c : C) (reply : Option Value) (sight : Sight) → R b c → fitting.sight setting sight → fitting.body setting sight b reply → StopsAlike fitting R setting (left.run setting b reply sight) (right.run setting c reply sight)

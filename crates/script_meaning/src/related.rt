@@ -10,14 +10,17 @@ ghost use Rattle.script_meaning.specs.Related.{EnginesAlike};
 ghost use Rattle.script_meaning.specs.Stacks.{Engine};
 ghost use Rattle.script_meaning.specs.Turns.{states_from};
 
-/// Bodies of one engine that are related to bodies of another one.
+/// Bodies of one engine that are related to bodies of another one, and the types of the scripts to which they
+/// belong.
 pub trait Related<C> {
     ghost related: { Self → C → Type 0 };
+
+    ghost types: { Types Self };
 }
 
 /// Two engines whose related bodies open alike and come to equal acts in equal worlds, wherever all that they
 /// get fits, have equal runs of worlds, provided that in each turn of the one run what the chosen stack goes on
 /// with fits.
 pub fn related_engines_run_alike<B: Related<C>, C>()
-    ensures { (types : Types B) (left : Engine B) (right : Engine C) → EnginesAlike (by_types types) B.related left right → (scene : SceneShape) (outline : List ScriptShape) (kinds : List DeviceKind) (turns : ℕ) → AllByRecursion (NextTurnFits (by_types types) scene) (states_from scene left turns (first_state outline scene kinds)) → map (λ state. state.world) (states_from scene left turns (first_state outline scene kinds)) ≡ map (λ state. state.world) (states_from scene right turns (first_state outline scene kinds)) }
+    ensures { (left : Engine B) (right : Engine C) → EnginesAlike (by_types B.types) B.related left right → (scene : SceneShape) (outline : List ScriptShape) (kinds : List DeviceKind) (turns : ℕ) → AllByRecursion (NextTurnFits (by_types B.types) scene) (states_from scene left turns (first_state outline scene kinds)) → map (λ state. state.world) (states_from scene left turns (first_state outline scene kinds)) ≡ map (λ state. state.world) (states_from scene right turns (first_state outline scene kinds)) }
 {}

@@ -3,4 +3,4 @@ use Rattle.script_meaning.proofs.Alike.{same_runs}
 use Rattle.script_meaning.proofs.related.related_engines_run_alike.Goals as goal
 
 pub returns : goal.returns
-returns g c = λ types left right alike scene outline kinds turns all. same_runs g.B.Related.related (by_types types) left right alike scene outline kinds turns all
+returns g c = λ left right alike scene outline kinds turns all. same_runs g.B.Related.related (by_types g.B.Related.types) left right alike scene outline kinds turns all
