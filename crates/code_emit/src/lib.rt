@@ -1,4 +1,4 @@
-//! From the typed trees of scripts to compiled files (PEX 3.2): strings, temporaries, code and debug lines.
+//! From the typed trees of scripts to compiled files (PEX 3.1): strings, temporaries, code and debug lines.
 //!
 //! The format is that of UESP's page "Skyrim Mod:File Formats/PEX" (Compiled Script File).
 #![tactic(auto)]

@@ -1,4 +1,4 @@
-//! Compiled Papyrus files (PEX 3.2): values to bytes and back.
+//! Compiled Papyrus files (PEX 3.1 and 3.2): values to bytes and back.
 //!
 //! The format is that of UESP's page "Skyrim Mod:File Formats/PEX" (Compiled Script File).
 #![tactic(auto)]

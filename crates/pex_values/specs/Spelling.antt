@@ -1,4 +1,4 @@
--- The bytes that spell a value: the fields of a PEX 3.2 file in a row. Numbers have their highest byte first.
+-- The bytes that spell a value: the fields of a PEX 3.1 or 3.2 file in a row. Numbers have their highest byte first.
 use Rattle.std.specs.Prelude.{ℕ, ◌+◌, ℤ, pos, Bool, true, List, [], ◌∷◌, ◌++◌, length, Option, Some, None}
 use Rattle.std.specs.List.{flat_map}
 use Rattle.std.specs.Int.{w32, bytes_high_first, cast_unsigned}

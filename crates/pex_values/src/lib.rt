@@ -1,4 +1,4 @@
-//! The values that compiled Papyrus files (PEX 3.2) spell, and the opcodes of their code.
+//! The values that compiled Papyrus files (PEX 3.1 and 3.2) spell, and the opcodes of their code.
 //!
 //! The format is that of UESP's page "Skyrim Mod:File Formats/PEX" (Compiled Script File).
 #![tactic(auto)]

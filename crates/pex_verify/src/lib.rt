@@ -1,4 +1,4 @@
-//! Which compiled Papyrus files (PEX 3.2) may run together: the rules V1 to V14, and sets that keep them,
+//! Which compiled Papyrus files (PEX 3.1 and 3.2) may run together: the rules V1 to V14, and sets that keep them,
 //! with every identifier, type and jump resolved.
 //!
 //! The opcodes are those of UESP's page "Skyrim Mod:File Formats/PEX" (Compiled Script File).
