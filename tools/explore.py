@@ -1,0 +1,250 @@
+#!/usr/bin/env python3
+"""Follows every order of turns of a scene and tells the outcomes that it can have, each with a shortest order that shows it.
+
+  explore.py SCENE SCRIPT..      of scripts; compiled files (.pex) may stand in their place
+      --of PROPERTY..            tells outcomes apart by these properties alone, each as `Gold` or `chest.Gold`
+      --until N                  follows orders of at most N turns (the scene's number of turns where it isn't given)
+      --states N                 stops after so many states (1000000)
+      --jobs N                   runs so many processes side by side (one for each processor)
+      --any-start                lets each call of the scene begin at any turn from its own on
+      --random N                 makes N runs of random orders in place of following all, and counts how often each outcome came
+      --seed S                   with this seed (0)
+      --to FOLDER                writes the scenes outcome-1.json .. into this folder (the current one)
+
+Each step of each run is made by the program's own commands, so what it shows is real. The status is 0 where it told what it found, and else that
+of the program, with its line: 2 for other words, 3 where a file can't be read, 5 to 9 for refused files, and 4 where nothing can be written.
+"""
+import argparse
+import multiprocessing
+import os
+import pathlib
+import shutil
+import signal
+import sys
+
+sys.path.insert(0, str(pathlib.Path(__file__).resolve().parent))
+from exploring.outcomes import Findings, kept, path_to, split, values
+from exploring.program import MOST_TURNS, NO_STACK, Program, Refused, compiled, first_look, folder
+from exploring.randomly import random_runs
+from exploring.search import Progress, Search, Walker
+from exploring.turns import Orders
+
+# The most lines of an outcome, and the most outcomes, that are printed whole.
+MOST_LINES, MOST_OUTCOMES = 60, 20
+
+
+class Words(argparse.ArgumentParser):
+    """Answers other words as the program does."""
+
+    def error(self, message):
+        raise Refused(f"papyrus: usage\n", 2)
+
+
+def whole(least, most):
+    def read(word):
+        if not (word.isdigit() and least <= int(word) <= most):
+            raise argparse.ArgumentTypeError(word)
+        return int(word)
+
+    return read
+
+
+def words_of(line):
+    parser = Words(add_help=False, allow_abbrev=False)
+    parser.add_argument("scene")
+    parser.add_argument("files", nargs="+")
+    parser.add_argument("--of", nargs="+", action="extend", default=[], metavar="PROPERTY")
+    parser.add_argument("--until", type=whole(1, MOST_TURNS))
+    parser.add_argument("--states", type=whole(1, 10 ** 9), default=10 ** 6)
+    parser.add_argument("--jobs", type=whole(1, 1024), default=len(os.sched_getaffinity(0)))
+    parser.add_argument("--any-start", action="store_true")
+    parser.add_argument("--random", type=whole(1, 10 ** 9))
+    parser.add_argument("--seed", type=whole(0, 10 ** 18), default=0)
+    parser.add_argument("--to", type=pathlib.Path, default=pathlib.Path())
+    return parser.parse_args(line)
+
+
+class Teller:
+    """Prints what was found, and writes the scenes of outcomes."""
+
+    def __init__(self, orders, words, walker):
+        self.orders, self.to, self.walker = orders, words.to, walker
+
+    def scene_of(self, path, number):
+        """Writes the scene of an outcome, and gives its name."""
+        name = f"outcome-{number}.json"
+        (self.to / name).write_text(path.scene_text(len(path.order)) + "\n")
+        return name
+
+    def outcome(self, number, head, lines, path):
+        print(f"\nOutcome {number}: {head}. {self.scene_of(path, number)} shows it in {count(len(path.order), 'turn')}: {order_text(path.order)}")
+        for line in lines[:MOST_LINES]:
+            print("  " + line.decode(errors="backslashreplace").rstrip("\n"))
+        if len(lines) > MOST_LINES:
+            print(f"  .. and {len(lines) - MOST_LINES} more lines")
+
+    def endless(self, findings, properties):
+        """What is told of the states in which stacks never end, and the first state, by what is told."""
+        told = {}
+        for state, runs, group in findings.endless():
+            path = path_to(findings.graph, state, self.orders)
+            report = self.walker.program.report(path.scene_text(len(path.order)))
+            lines = [f"stack {stack} runs on and never ends" for stack in runs]
+            for line in split(report)[1]:
+                words = line.decode(errors="backslashreplace").split()
+                if words[0] == "stack" and words[2] != "done" and int(words[1]) not in runs:
+                    lines.append(f"stack {words[1]} waits for {words[3]} for ever" if words[2] == "waits" else f"stack {words[1]} gets no turn any more")
+            old = told.get(tuple(lines))
+            if old is None or findings.graph.turns[state] < findings.graph.turns[old]:
+                told[tuple(lines)] = state
+        return told
+
+    def reason(self, findings, one, other, numbers):
+        """Where the orders of two outcomes part, and who held what there."""
+        parting = findings.parting(one, other)
+        if parting is None:
+            return
+        paths = [path_to(findings.graph, parting.state, self.orders, order) for order in parting.orders]
+        common = path_to(findings.graph, parting.state, self.orders)
+        differ = [line for line in differences(findings.lines[one], findings.lines[other])]
+        print(f"\nWhy outcomes {numbers[one]} and {numbers[other]} differ{': ' + '; '.join(differ[:4]) if differ else ''}")
+        print(f"  Both orders may begin with {count(len(common.order), 'turn')}: {order_text(common.order) or 'none'}")
+        self.held(common)
+        for number, step, path in zip((one, other), parting.steps, paths):
+            print(f"  Then turn {len(common.order) + step.idle} is stack {step.stack}'s for outcome {numbers[number]}: {order_text(path.order)}")
+
+    def held(self, path):
+        """Who holds what, and who waits, after the turns of a path."""
+        _, held = self.walker.state(path)
+        names = self.orders.scene.names
+        told = [f"stack {stack} holds {names[instance]}" for instance, stack in sorted(held.owners.items())]
+        told += [f"stack {stack} waits for {names[instance]}" for instance, stack in held.waiters]
+        told += [f"stack {stack} runs free" for stack in held.free]
+        told += [f"stack {stack} sleeps until turn {until}" for stack, until in held.asleep]
+        print(f"  Then {', '.join(told) or 'no stack holds anything'}.")
+
+
+def differences(one, other):
+    """The lines of properties in which two outcomes differ."""
+    left = dict(named(one))
+    for name, value in named(other):
+        if name in left and left[name] != value:
+            yield f"{name} is {left[name]} or {value}"
+
+
+def named(lines):
+    """The properties among the lines of an outcome, with their values."""
+    plain = [line.decode(errors="backslashreplace") for line in lines]
+    for text in plain:
+        if " = " in text and not text.startswith((" ", "#", "!")):
+            name, _, value = text.rstrip("\n").partition(" = ")
+            yield name, value
+    for instance, text in values([line for line in lines if not line.startswith((b"#", b"!"))]):
+        if instance:
+            name, _, value = text.rstrip("\n").partition(" = ")
+            yield f"{instance}.{name}", value
+
+
+def order_text(order):
+    """An order as a reader sees it: `-` stands for an idle turn, and turns in a row are counted."""
+    parts, at = [], 0
+    while at < len(order):
+        end = at
+        while end < len(order) and order[end] == order[at]:
+            end += 1
+        name = "-" if order[at] == NO_STACK else str(order[at])
+        parts.append(name if end - at == 1 else f"{name}x{end - at}")
+        at = end
+    return " ".join(parts) if len(parts) <= 40 else " ".join(parts[:40]) + " .."
+
+
+def count(number, word):
+    return f"{number} {word}" if number == 1 else f"{number} {word}s"
+
+
+def told_whole(search, whole_search, words):
+    """The answer's first line: that all orders were followed, or how many states were."""
+    graph = search.graph
+    if not graph.open:
+        return f"All orders were followed: {count(len(graph), 'state')}, {count(len(graph.made), 'step')}."
+    why = "until it was stopped" if not whole_search else f"up to {count(words.states, 'state')} and {count(words.until, 'turn')}"
+    return f"Not all orders were followed: {count(len(graph), 'state')} were met {why}, and {count(len(graph.open), 'state')} of them weren't followed."
+
+
+def tell_search(search, was_whole, words, teller):
+    findings = Findings(search.graph, words.of)
+    print(told_whole(search, was_whole, words))
+    outcomes = findings.outcomes()
+    numbers = {}
+    for place, (number, outcome) in enumerate(outcomes.items(), 1):
+        numbers[number] = place
+        if place <= MOST_OUTCOMES:
+            head = f"{outcome.leading} of {count(len(search.graph), 'state')} lead to it"
+            teller.outcome(place, head, outcome.lines, path_to(search.graph, outcome.state, teller.orders))
+    place = len(outcomes)
+    for lines, state in teller.endless(findings, words.of).items():
+        place += 1
+        if place <= MOST_OUTCOMES:
+            teller.outcome(place, "not every stack ends", [line.encode() for line in lines], path_to(search.graph, state, teller.orders))
+    if place > MOST_OUTCOMES:
+        print(f"\n.. and {place - MOST_OUTCOMES} more outcomes; --of tells fewer apart")
+    if not place:
+        print("\nNo order came to an end.")
+    for one, other in list(zip(outcomes, list(outcomes)[1:]))[:MOST_OUTCOMES]:
+        teller.reason(findings, one, other, numbers)
+
+
+def tell_random(runs, words, teller):
+    """The outcomes of random runs, the most frequent first."""
+    ended = [run for run in runs if run.report is not None]
+    print(f"{count(len(runs), 'run')} of random orders, with the seed {words.seed}; {len(runs) - len(ended)} didn't end within {count(words.until, 'turn')}.")
+    found = {}
+    for run in ended:
+        found.setdefault(kept(run.report, words.of), []).append(run.path)
+    for place, (lines, paths) in enumerate(sorted(found.items(), key=lambda item: -len(item[1])), 1):
+        if place <= MOST_OUTCOMES:
+            teller.outcome(place, f"it came {count(len(paths), 'time')}", lines, min(paths, key=lambda path: len(path.order)))
+
+
+def explore(words, program, room):
+    scene = first_look(program, words.scene, room)
+    files = compiled(program, words.files, room)
+    look = Program(program, files, room)
+    look.run(["hold", "0", words.scene, look.held, *look.files])
+    words.until = words.until or scene.turns
+    orders = Orders(scene, words.any_start)
+    walker = Walker(program, look.files, orders, not words.of)
+    teller = Teller(orders, words, walker)
+    try:
+        if words.random:
+            tell_random(random_runs((program, look.files, orders, False), words), words, teller)
+        else:
+            search = Search(program, look.files, orders, not words.of, words.jobs)
+            was_whole = search.follow(words.until, words.states, Progress(sys.stderr))
+            tell_search(search, was_whole, words, teller)
+    finally:
+        walker.close()
+
+
+def main():
+    room = folder()
+    try:
+        words = words_of(sys.argv[1:])
+        explore(words, os.path.abspath(os.environ["PAPYRUS_PROGRAM"]), room)
+        sys.stdout.flush()
+    except Refused as refused:
+        sys.stderr.write(refused.line)
+        return refused.status
+    except BrokenPipeError:
+        os.dup2(os.open(os.devnull, os.O_WRONLY), sys.stdout.fileno())
+        return 4
+    except OSError as error:
+        sys.stderr.write(f"papyrus: cannot write\n")
+        return 4
+    finally:
+        shutil.rmtree(room, ignore_errors=True)
+    return 0
+
+
+if __name__ == "__main__":
+    sys.exit(main())
