@@ -38,7 +38,7 @@ BUILT = DOCS.parent / "crates" / "papyrus" / "out"
 LAST_BUILT = max(BUILT / "papyrus", BUILT / "unproved" / "papyrus", key=lambda path: path.stat().st_mtime if path.exists() else 0)
 PROGRAM = pathlib.Path(os.environ.get("PAPYRUS_PROGRAM") or LAST_BUILT)
 EXAMPLES = DOCS.parent / "examples"
-EXPLAIN = DOCS.parent / "tools" / "explain.py"
+TOOLS = DOCS.parent / "tools"
 REFUSAL = re.compile(r"[^ ]+: (?:[^ ]+ )?([LSNKPGVC])\d+ [A-Za-z]+")
 SECONDS = 60
 # Tools that a page may use where the machine has them.
@@ -99,8 +99,8 @@ class Page:
         if EXAMPLES in self.path.resolve().parents:
             self.place = room / self.path.resolve().parent.relative_to(EXAMPLES.parent)
         shutil.copytree(EXAMPLES, room / "examples", ignore=shutil.ignore_patterns("*.pex"))
-        helper = f'[ "${{1-}}" != explain ] || {{ shift; exec python3 "{EXPLAIN}" "$@"; }}'
-        (room / "papyrus").write_text(f'#!/bin/sh\n{helper}\nexec "{self.program}" "$@"\n')
+        helpers = f'case ${{1-}} in explain | view) helper=$1; shift; exec python3 "{TOOLS}/$helper.py" "$@" ;; esac'
+        (room / "papyrus").write_text(f'#!/bin/sh\n{helpers}\nexec "{self.program}" "$@"\n')
         (room / "papyrus").chmod(0o755)
 
     def lay(self, name, content):

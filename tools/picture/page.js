@@ -36,7 +36,7 @@
     rule();
   }
 
-  const fit = () => (chart.clientWidth - names() - 8) / (4 * turns);
+  const fit = () => (chart.clientWidth - names() - parseFloat(sheet.style.getPropertyValue("--rim"))) / (4 * Math.max(turns, 1));
   const acts = {"in": () => zoom(quarter * 1.5), "out": () => zoom(quarter / 1.5), "fit": () => zoom(fit())};
   for (const button of document.querySelectorAll("[data-zoom]")) button.addEventListener("click", acts[button.dataset.zoom]);
   chart.addEventListener("keydown", event => {
@@ -73,6 +73,8 @@
   for (const link of document.querySelectorAll("a[href^='#']")) link.addEventListener("click", () => setTimeout(arrive));
   chart.addEventListener("scroll", rule);
   addEventListener("resize", rule);
+  // A run that nearly fits is shown whole.
+  if (fit() < quarter && fit() * 4 >= 24) zoom(fit());
   rule();
   arrive();
 })();

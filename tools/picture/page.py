@@ -8,8 +8,6 @@ HERE = pathlib.Path(__file__).resolve().parent
 QUARTERS = bars.QUARTERS
 # How wide a turn is at first, in pixels: the whole run where it fits, within these.
 NARROWEST, WIDEST, ROOM = 10, 84, 1000
-# A turn that is as wide has room for words.
-WORDY = 70
 # How many stacks and printed lines there may be where all panels are open at first.
 FEW_STACKS, FEW_LINES = 4, 12
 LEGEND = (
@@ -19,6 +17,7 @@ LEGEND = (
     ("free", "it runs free"),
     ("act", "it is this stack's turn"),
     ("done", "it is done"),
+    ("over", "a change that may have lost another stack's"),
 )
 
 
@@ -31,10 +30,14 @@ def colours(names):
     return "".join(f".c{at}{{--h:{hue(at):.0f}}}" for at in range(len(names)))
 
 
-def legend(with_over):
-    shown = [*LEGEND, *([("over", "a change that may have lost another stack's")] if with_over else [])]
-    sample = '<li><span><{0} class="{1}" style="--a:0;--n:4"></{0}></span>{2}</li>'
-    return f'<ul class="legend">{"".join(sample.format("u" if kind == "act" else "i", kind, text) for kind, text in shown)}</ul>'
+def legend(recorder, overwrites):
+    """What the signs mean that the picture has."""
+    kinds = {bar.kind for stack in recorder.stacks for bar in stack.bars}
+    kinds |= {"act"} if recorder.stacks else set()
+    kinds |= {"done"} if any(stack.done is not None for stack in recorder.stacks) else set()
+    kinds |= {"over"} if overwrites else set()
+    sample = '<li class="{1}"><span><{0} class="{1}" style="--a:0;--n:4"></{0}></span>{2}</li>'
+    return f'<ul class="legend">{"".join(sample.format("u" if kind == "act" else "i", kind, text) for kind, text in LEGEND if kind in kinds)}</ul>'
 
 
 def ruler(shown, width):
@@ -118,7 +121,7 @@ def chart(recorder, picture, names, width):
 def page(title, recorder, names, statuses, reports):
     """The lines of the HTML file."""
     width = min(max(ROOM // max(recorder.shown(), 1), NARROWEST), WIDEST)
-    picture = rows.Rows(recorder, names, statuses, reports, width >= WORDY)
+    picture = rows.Rows(recorder, names, statuses, reports)
     style = (HERE / "page.css").read_text(encoding="utf-8") + colours(names)
     script = (HERE / "page.js").read_text(encoding="utf-8")
     tools = (
@@ -129,7 +132,7 @@ def page(title, recorder, names, statuses, reports):
     return (
         f'<!doctype html>\n<html lang="en">\n<meta charset="utf-8">\n<meta name="viewport" content="width=device-width">\n<title>{escaped(title)}</title>\n'
         f"<style>\n{style}\n</style>\n<noscript><style>.panel{{display:block}}.bar{{display:none}}</style></noscript>\n"
-        f"<h1>{escaped(title)}</h1>\n<p>{escaped(summary(recorder, names))}</p>\n{cut_note(recorder)}{look_here(picture, names)}{legend(picture.overwrites)}{tools}"
+        f"<h1>{escaped(title)}</h1>\n<p>{escaped(summary(recorder, names))}</p>\n{cut_note(recorder)}{look_here(picture, names)}{legend(recorder, picture.overwrites)}{tools}"
         f'{chart(recorder, picture, names, width)}<output class="read">Point at a bar, and it is told here. A name opens what there is of its row.</output>\n'
         f'<div class="tables">{waits_table(recorder, names)}{longest_waits(recorder, names)}</div>\n<script>\n{script}</script>\n</html>\n'
     )

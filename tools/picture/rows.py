@@ -42,8 +42,8 @@ def sentences(titles):
 class Rows:
     """The rows of one picture."""
 
-    def __init__(self, recorder, names, statuses, reports, wide):
-        self.recorder, self.names, self.statuses, self.reports, self.wide = recorder, names, statuses, reports, wide
+    def __init__(self, recorder, names, statuses, reports):
+        self.recorder, self.names, self.statuses, self.reports = recorder, names, statuses, reports
         self.shown = recorder.shown()
         self.held_by = recorder.held_by()
         self.turn_bars = recorder.turn_bars()
@@ -108,13 +108,11 @@ class Rows:
         return row("instance", name, lanes, self.instance_panel(instance) + sentences(titles), f"instance-{instance}", heading) + self.value_rows(instance)
 
     def held_bar(self, one):
-        text = f"stack\xa0{one.stack}" if self.wide and one.stack < 10 else str(one.stack)
-        return bar(f"holds c{one.value}", one.begin, one.end - one.begin, words.holds(one, self.names), text)
+        return bar(f"holds by c{one.value}", one.begin, one.end - one.begin, words.holds(one, self.names), f"stack {one.stack}")
 
     def crowd_bar(self, instance, begin, end, number, most):
         title = words.of_crowd(number, self.names[instance], begin // QUARTERS, (end - 1) // QUARTERS)
-        text = f"{number}\xa0waits" if self.wide and number == 1 else f"{number}\xa0wait" if self.wide else str(number)
-        return bar(f"crowd c{instance}", begin, end - begin, title, text).replace("--a", f"--k:{number / max(most, 1):.3g};--a", 1)
+        return bar(f"crowd c{instance}", begin, end - begin, title, f"{number} {'waits' if number == 1 else 'wait'}").replace("--a", f"--k:{number / max(most, 1):.3g};--a", 1)
 
     def instance_panel(self, instance):
         sums = self.recorder.sums()[instance]
