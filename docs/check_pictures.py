@@ -197,7 +197,14 @@ def values_fault(picture, reports):
                 name, _, value = line[2:].partition(" = ")
                 wanted[(f"instance-{number}", name, turns - 1)] = value
     plain = {key: text[2:] if text.startswith("! ") else text for key, text in cells.items()}
-    return "" if plain == wanted else f"values are {plain} and not {wanted}"
+    changed = {key[:2] for key in wanted if len({value for other, value in wanted.items() if other[:2] == key[:2]}) > 1}
+    seen = {key[:2] for key in plain}
+    if not changed <= seen or plain != {key: value for key, value in wanted.items() if key[:2] in seen}:
+        return f"values are {plain} and not {wanted}"
+    panels = {row.anchor: row.panel.splitlines() for row in picture.of_kind("instance")}
+    last = max((turn for _, _, turn in wanted), default=0)
+    missing = [key for key, value in wanted.items() if key[2] == last and f"{key[1]} = {value}" not in panels[key[0]]]
+    return f"the panel of {missing[0][0]} lacks {missing[0][1]}" if missing else ""
 
 
 def printed_fault(picture, report):

@@ -8,8 +8,6 @@ HERE = pathlib.Path(__file__).resolve().parent
 QUARTERS = bars.QUARTERS
 # How wide a turn is at first, in pixels: the whole run where it fits, within these.
 NARROWEST, WIDEST, ROOM = 10, 84, 1000
-# How many stacks and printed lines there may be where all panels are open at first.
-FEW_STACKS, FEW_LINES = 4, 12
 LEGEND = (
     ("holds", "a stack holds an instance, in its colour and with its name"),
     ("waits", "it waits for that instance"),
@@ -18,6 +16,11 @@ LEGEND = (
     ("act", "it is this stack's turn"),
     ("done", "it is done"),
     ("over", "a change that may have lost another stack's"),
+)
+
+NO_OVERWRITE = (
+    '<section class="look none"><h2>No change came over another</h2><p>No stack changed a property that another had changed since it last held the instance. '
+    "A stack that writes the value that is there already changes nothing.</p></section>"
 )
 
 
@@ -65,7 +68,7 @@ def cut_note(recorder):
 def look_here(picture, names):
     """What may be a lost update, on top."""
     if not picture.overwrites:
-        return ""
+        return NO_OVERWRITE if picture.reports.wanted >= set(range(picture.recorder.turns + 1)) else ""
     first = picture.overwrites[: bars.LONGEST]
     rest = len(picture.overwrites) - len(first)
     lines = [
@@ -108,8 +111,6 @@ def chart(recorder, picture, names, width):
     shown = picture.shown
     stacks = "".join(map(picture.stack_row, range(len(recorder.stacks))))
     instances = "".join(map(picture.instance_row, range(len(names))))
-    if len(recorder.stacks) <= FEW_STACKS and 0 < len(picture.printed) <= FEW_LINES and not any(len(one.turns) == 1 for one in picture.printed):
-        stacks = stacks.replace('<div class="row stack"', '<div class="row stack open"').replace('aria-expanded="false"', 'aria-expanded="true"')
     rim = 16 if any(one.done is not None for one in recorder.stacks) or picture.printed else 1
     head = f'<div class="row head"><div class="name">turn</div><div class="lanes"><div class="lane">{ruler(shown, width)}</div></div></div>\n'
     return (

@@ -28,8 +28,8 @@ def row(kind, name, lanes, panel, anchor, heading=""):
     )
 
 
-def items(lines):
-    return f"<ol>{''.join(f'<li>{line}</li>' for line in lines)}</ol>" if lines else ""
+def items(lines, tag="ol"):
+    return f"<{tag}>{''.join(f'<li>{line}</li>' for line in lines)}</{tag}>" if lines else ""
 
 
 def sentences(titles):
@@ -65,7 +65,7 @@ class Rows:
             whose = "is idle" if stack is None else f"is stack {stack}'s"
             title = f"turn {first} {whose}" if count == 1 else f"each of the turns {first} to {first + count - 1} {whose}"
             found.append(bar("idle" if stack is None else "whose", first * QUARTERS, count * QUARTERS, title, "idle" if stack is None else str(stack)))
-        return f'<div class="row turns"><div class="name"><b>stack</b></div><div class="lanes"><div class="lane">{"".join(found)}</div></div></div>\n'
+        return f'<div class="row turns"><div class="name"><b>turn of stack</b></div><div class="lanes"><div class="lane">{"".join(found)}</div></div></div>\n'
 
     def stack_row(self, stack):
         gathered = self.recorder.stacks[stack]
@@ -78,7 +78,7 @@ class Rows:
         printed = [one for one in self.printed if one.stack == stack]
         lanes = [("lane", "".join(found)), *self.print_lane(printed)]
         summary = f"<p>{escaped(words.summary_of_stack(stack, gathered.bars, self.statuses[stack]))}</p>"
-        panel = summary + items([printed_line(one) for one in printed]) + sentences(titles)
+        panel = summary + items([printed_line(one) for one in printed], "ul") + sentences(titles)
         return row("stack", f"stack {stack}", lanes, panel, f"stack-{stack}", escaped(self.statuses[stack].replace("asleep", "asleep until")))
 
     def stack_bar(self, one, title):
@@ -121,14 +121,14 @@ class Rows:
             return told
         values = self.last.values[instance]
         state = f", in the state {self.last.states[instance]}" if self.last.states[instance] else ""
-        lines = [f"{escaped(name)} = {escaped(value)}" for name, value in values.items()]
-        return f"{told}<p>At the end of the run it is of the script {escaped(self.last.scripts[instance])}{escaped(state)}.</p>{items(lines)}"
+        lines = items([f"{escaped(name)} = {escaped(value)}" for name, value in values.items()], "ul")
+        return f"{told}<p>At the end of the run it is of the script {escaped(self.last.scripts[instance])}{escaped(state)}.</p>{lines}"
 
     def value_rows(self, instance):
-        """A row for each property whose value is known in some turn."""
+        """A row for each property whose value is seen to change."""
         if instance not in self.told:
             return ""
-        return "".join(self.value_row(instance, name, known) for name, known in self.reports.values(instance).items())
+        return "".join(self.value_row(instance, name, known) for name, known in self.reports.values(instance).items() if len({value for _, _, value in known}) > 1)
 
     def value_row(self, instance, name, known):
         overs = {over.change.turn: over for over in self.overwrites if (over.instance, over.name) == (instance, name)}
