@@ -6,7 +6,8 @@
 
   bars       the bars of each picture, read back from its HTML file, tell the whole journal again, of every example and of 200 journals that are made;
              the rows of instances and the table tell what they and `papyrus waits` do, and the links lead to the longest waits
-  reports    what stacks print, and the values of properties, stand where the reports have them, and what may be a lost update is shown
+  reports    what stacks print, and the values of properties, stand where the reports have them, and what may be a lost update is shown, of the examples
+             and of reports that are made; and reports that were changed are refused
   refusals   a journal that `papyrus waits` refuses gets the same line and status, and reports of other runs are refused
   cut        of a long run the first 20,000 turns are drawn, and the page says so
 """
@@ -15,6 +16,7 @@ import collections
 import json
 import os
 import pathlib
+import random
 import re
 import subprocess
 import sys
@@ -30,7 +32,7 @@ import picture_files
 import view
 
 QUARTERS = picture_files.QUARTERS
-MADE, SPOILED = 200, 600
+MADE, TOLD, SPOILED = 200, 60, 900
 FIRST_TURNS = 12
 
 
@@ -249,6 +251,75 @@ def check_examples_of(tally, program, room):
     tally.note("" if found == wanted else f"what may be a lost update: {found}")
 
 
+def printed_bars(picture):
+    """What stands below the bars of each stack in each turn, with its kind."""
+    found = {}
+    for stack, row in enumerate(picture.of_kind("stack")):
+        found.update({(bar.begin // QUARTERS, stack): (bar.kind, bar.text) for bar in row.bars() if bar.kind in ("trace", "fault")})
+    return found
+
+
+def made_fault(run, page):
+    """What a picture with all reports of a run that was made tells otherwise than these, or nothing."""
+    if isinstance(page, tuple):
+        return f"its own reports are refused: {page}"
+    picture = picture_files.Picture(page)
+    numbers = {row.anchor: at for at, row in enumerate(picture.of_kind("instance"))}
+    overs, changed, anchor = set(), set(), ""
+    for row in picture.rows:
+        anchor = row.anchor or anchor
+        overs |= {(numbers[anchor], bar.begin // QUARTERS) for bar in row.bars("known") if bar.kind == "known over"}
+        changed |= {(numbers[anchor], bar.begin // QUARTERS) for bar in row.bars("known") if bar.kind != "known"}
+    wanted = {(instance, turn) for turn, _, instance in run.changes}
+    if (overs, changed) != (run.overwrites(), wanted):
+        return f"overwritten {overs} and not {run.overwrites()}, or changed {changed} and not {wanted}"
+    lines = printed_bars(picture)
+    own = collections.defaultdict(list)
+    for turn, stack, text in run.printed:
+        own[(turn, stack)].append(text)
+    if lines != {key: ("fault" if any(text[0] == "!" for text in texts) else "trace", "; ".join(text.split(" ", 1)[1] for text in texts)) for key, texts in own.items()}:
+        return f"printed {lines} and not {dict(own)}"
+    box = "Look here" in picture.look if overs else "No change came over" in picture.look
+    return next(iter(picture.wrong), "") or ("" if box else "the page doesn't say so on top")
+
+
+def spoiled_reports(reports, chance):
+    """One of these reports with a change, or one more, which no run of the journal has."""
+    at = chance.randrange(len(reports))
+    lines = reports[at].splitlines()
+    turns = next(number for number, line in enumerate(lines) if line.startswith("turns "))
+    change = chance.randrange(6)
+    if change == 0 and "stack " in reports[at]:
+        lines[-1] = lines[-1].rsplit(" ", 1)[0] + chance.choice([" 77", " sick", ""])
+    elif change == 1:
+        lines[turns + 1] = f"other{lines[turns + 1]}"
+    elif change == 2:
+        lines[turns] = f"turns {len(reports)}"
+    elif change == 3:
+        lines.append(f"stack {sum(line.startswith('stack ') for line in lines)} done")
+    elif change == 4:
+        return [*reports, reports[at]]
+    elif turns and at < len(reports) - 1:
+        lines[turns - 1] += "x"
+    else:
+        del lines[turns]
+    return [*reports[:at], "".join(f"{line}\n" for line in lines), *reports[at + 1 :]]
+
+
+def check_told(tally, room):
+    for seed in range(TOLD):
+        run = journal_texts.Run(seed)
+        (room / "told").write_bytes(run.text())
+        for spoiled in (False, True):
+            reports = spoiled_reports(run.reports, random.Random(seed)) if spoiled else run.reports
+            paths = [room / f"told{at}" for at in range(len(reports))]
+            for path, text in zip(paths, reports):
+                path.write_text(text)
+            page = shown([room / "told", *paths])
+            fault = ("" if page[0] == 2 else "spoiled reports are taken") if spoiled else made_fault(run, page)
+            tally.note(fault and f"reports {seed}: {fault}")
+
+
 def check_cut(tally, room):
     """A run of 20,005 turns in which one stack takes an instance and another waits for it."""
     turns = 20_005
@@ -294,6 +365,7 @@ def main():
         room = pathlib.Path(top)
         check_words(tally, room)
         check_cut(tally, room)
+        check_told(tally, room)
         check_examples_of(tally, program, room)
         check_made(tally, program, room)
         check_refusals(tally, program, room)

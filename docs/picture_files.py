@@ -67,7 +67,7 @@ class Picture(html.parser.HTMLParser):
     def handle_data(self, data):
         tags = [tag for tag, _ in self.open]
         kinds = [kind for _, kind in self.open]
-        if "look" in kinds:
+        if any(kind.split()[:1] == ["look"] for kind in kinds):
             self.look += data
         elif "name" in kinds and {"b", "button"} & set(tags):
             self.rows[-1].name += data
@@ -108,6 +108,8 @@ class Picture(html.parser.HTMLParser):
         for bar in bars:
             kind, _, instance = bar.kind.partition(" c")
             turn, behind = divmod(bar.begin, QUARTERS)
+            if behind not in (0, ACT):
+                self.wrong.append(f"a bar begins at {bar.begin}")
             new = last is None
             if behind:
                 acted[turn].append({"waits": f"join {stack} {instance}", "asleep": f"sleep {stack} {bar.title.split()[-1]}"}.get(kind, f"{kind} {stack}"))

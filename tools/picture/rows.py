@@ -4,6 +4,8 @@ import html
 from . import bars, report, words
 
 QUARTERS = bars.QUARTERS
+# How many turns a printed line may be wide behind the last turn, where the page cuts it.
+LONGEST_LINE = 40
 # The most sentences on bars in the panel of a row.
 MOST_SENTENCES = 200
 
@@ -88,15 +90,19 @@ class Rows:
         return bar(kind, one.begin, one.end - one.begin, title, text, anchor)
 
     def print_lane(self, printed):
-        """What was printed in turns that are known, where each begins."""
-        known = [(one.turns[0], one) for one in printed if len(one.turns) == 1]
-        ends = [turn for turn, _ in known[1:]] + [self.shown + 40]
-        found = [
-            bar("fault" if one.fault else "trace", turn * QUARTERS, max(end - turn, 0) * QUARTERS, f"in turn {turn} {printed_text(one)}", one.text)
-            for (turn, one), end in zip(known, ends)
-            if end > turn
-        ]
+        """What was printed in turns that are known, each up to what was printed next."""
+        known = {}
+        for one in printed:
+            if len(one.turns) == 1 and one.turns[0] < self.shown:
+                known.setdefault(one.turns[0], []).append(one)
+        ends = [*list(known)[1:], self.shown + LONGEST_LINE]
+        found = [self.print_bar(turn, ones, end) for (turn, ones), end in zip(known.items(), ends)]
         return [("lane prints", "".join(found))] if found else []
+
+    def print_bar(self, turn, ones, end):
+        kind = "fault" if any(one.fault for one in ones) else "trace"
+        title = f"in turn {turn} {words.listed([printed_text(one) for one in ones])}"
+        return bar(kind, turn * QUARTERS, (end - turn) * QUARTERS, title, "; ".join(one.text for one in ones))
 
     def instance_row(self, instance):
         name, sums = self.names[instance], self.recorder.sums()[instance]
