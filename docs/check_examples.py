@@ -21,7 +21,8 @@ begins in the folder of that example. The launcher is on the PATH.
   (nothing)                       else, where the page has changed to another folder: lines of a file of that folder
   (another word)                  isn't looked at
 
-A table that begins with a column of turns is compared with the page's last command `run` (turn_tables.py).
+A table that begins with a column of turns is compared with the page's last command `run` (turn_tables.py). One with the columns `Journal` and `Script`
+has all lines of the journal that the page's last command `journal` wrote, in their order, each in backticks, beside lines of the scripts.
 """
 import argparse
 import os
@@ -38,9 +39,10 @@ BUILT = DOCS.parent / "crates" / "papyrus" / "out"
 LAST_BUILT = max(BUILT / "papyrus", BUILT / "unproved" / "papyrus", key=lambda path: path.stat().st_mtime if path.exists() else 0)
 PROGRAM = pathlib.Path(os.environ.get("PAPYRUS_PROGRAM") or LAST_BUILT)
 EXAMPLES = DOCS.parent / "examples"
-EXPLAIN = DOCS.parent / "tools" / "explain.py"
+TOOLS = DOCS.parent / "tools"
 REFUSAL = re.compile(r"[^ ]+: (?:[^ ]+ )?([LSNKPGVC])\d+ [A-Za-z]+")
 SECONDS = 60
+JOURNAL_TABLE = re.compile(r"\| Journal \| Script \|")
 # Tools that a page may use where the machine has them.
 OPTIONAL = {"make"}
 
@@ -58,9 +60,9 @@ def fences(text):
             kind, _, name = lines[at][3:].partition(" ")
             yield at + 1, kind, name, lines[at + 1 : end]
             at = end
-        elif turn_tables.TABLE.match(lines[at]):
+        elif turn_tables.TABLE.match(lines[at]) or JOURNAL_TABLE.match(lines[at]):
             end = next((place for place in range(at, len(lines)) if not lines[place].startswith("|")), len(lines))
-            yield at + 1, "turns", "", lines[at:end]
+            yield at + 1, "turns" if turn_tables.TABLE.match(lines[at]) else "journal", "", lines[at:end]
             at = end
         at += 1
 
@@ -89,6 +91,7 @@ class Page:
         self.place = None
         self.base = []
         self.last_run = None
+        self.last_journal = None
         self.names = []
         self.wrong = []
         self.count = 0
@@ -99,8 +102,8 @@ class Page:
         if EXAMPLES in self.path.resolve().parents:
             self.place = room / self.path.resolve().parent.relative_to(EXAMPLES.parent)
         shutil.copytree(EXAMPLES, room / "examples", ignore=shutil.ignore_patterns("*.pex"))
-        helper = f'[ "${{1-}}" != explain ] || {{ shift; exec python3 "{EXPLAIN}" "$@"; }}'
-        (room / "papyrus").write_text(f'#!/bin/sh\n{helper}\nexec "{self.program}" "$@"\n')
+        helpers = f'case ${{1-}} in explain | view) helper=$1; shift; exec python3 "{TOOLS}/$helper.py" "$@" ;; esac'
+        (room / "papyrus").write_text(f'#!/bin/sh\n{helpers}\nexec "{self.program}" "$@"\n')
         (room / "papyrus").chmod(0o755)
 
     def lay(self, name, content):
@@ -126,6 +129,8 @@ class Page:
         self.count += 1
         if re.match(r"(\S*/)?papyrus run ", command):
             self.last_run = command
+        if re.match(r"(\S*/)?papyrus journal ", command):
+            self.last_journal = self.place / command.split()[3]
         found = self.shell(command)
         if not agrees(wanted, found):
             self.wrong.append(f"{self.path}:{line}: {command}")
@@ -177,6 +182,21 @@ class Page:
             self.wrong.append(f"{self.path}:{line}: a table of turns of {self.last_run}")
             self.wrong += [f"  {fault}" for fault in faults]
 
+    def journal(self, line, lines):
+        """Compares a table's first column with the journal, and its second with the scripts of the folder."""
+        self.count += 1
+        cells = [re.split(r"(?<!\\)\|", row)[1:3] for row in lines[2:]]
+        told, scripts = (re.findall(r"`([^`]+)`", "\n".join(row[at] for row in cells)) for at in (0, 1))
+        there = self.last_journal.read_text().splitlines() if self.last_journal and self.last_journal.exists() else []
+        if told != there:
+            at = next((number for number, (one, other) in enumerate(zip(told, there), 1) if one != other), min(len(told), len(there)) + 1)
+            self.wrong.append(f"{self.path}:{line}: a table of another journal, from its line {at}")
+            return
+        written = stripped("\n".join(path.read_text() for path in self.place.glob("*.psc")))
+        missing = [text for text in scripts if stripped(text) not in written]
+        if missing or not scripts:
+            self.wrong.append(f"{self.path}:{line}: a table of a journal, with a line of no script: {missing}")
+
     def script(self, name, lines):
         if not name and not lines[0].lower().startswith("scriptname"):
             lines = ["ScriptName A", "Event OnInit()", *lines, "EndEvent"]
@@ -192,6 +212,8 @@ class Page:
     def fence(self, line, kind, name, lines):
         if kind == "turns":
             self.turns(line, lines)
+        elif kind == "journal":
+            self.journal(line, lines)
         elif kind == "papyrus":
             self.script(name, lines)
         elif kind == "listing":

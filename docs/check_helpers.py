@@ -7,7 +7,8 @@
   rules      `explain` prints all that rules.md says of each rule, and of C4 to C10 what scenes.md says of finding the entry, as plain text that is
              wrapped; a rule is found by its code and its name in any case; and the files of its examples, as they are printed, are refused as it says
   near       of words that name no rule, `explain` lists the rules that are near
-  launcher   the launcher knows the helpers and tells of them behind the program's own help, and runs the program on all other words
+  launcher   the launcher knows the helpers and tells of them behind the program's own help, and runs the program on all other words. What `view`
+             draws is checked by check_pictures.py
 """
 import argparse
 import os
@@ -25,8 +26,10 @@ import check_examples
 import check_pages
 import explain
 import make_rule_index
+import view
 
 WIDTHS = (80, 100)
+JOURNAL = "journal 1\ninstance a\nturn 0\njoin 0 0\nrun 0\ntake 0 0\nrelease 0 0\ndone 0\nend 1\n"
 FILE = re.compile(r"([\w.]+\.\w+)(, in hexadecimal digits)?:")
 
 
@@ -192,6 +195,12 @@ def answers(pages, program, folder):
     for words in ((), ("l4",), ("FLOATLITERAL",), ("A.psc:3:", "L4", "FloatLiteral"), ("L0",), ("",)):
         status, lines, notes = explain.answer(words, pages, WIDTHS[1])
         cases[("explain", *words)] = (status, *("".join(line + "\n" for line in text).encode() for text in (lines, notes)))
+    (folder / "journal").write_text(JOURNAL)
+    (folder / "spoiled").write_text(JOURNAL.replace("take 0 0", "take 0 1"))
+    cases[("view", "journal")] = (0, view.drawn([str(folder / "journal")]).encode(), b"")
+    cases[("view", "spoiled")] = (12, b"", b"spoiled:6: J1 BadLine\n")
+    cases[("view", "missing")] = (3, b"", b"papyrus: cannot read missing\n")
+    cases[("view",)] = (2, b"", b"papyrus: usage\n")
     return cases
 
 
@@ -203,7 +212,7 @@ def check_launcher(tally, pages, program):
             found = ran(launcher, words, folder)
             tally.note("" if found == wanted else f"papyrus {' '.join(words)}: {found} isn't {wanted}")
         with open("/dev/full", "wb") as full:
-            for words in (["--help"], ["explain", "l4"]):
+            for words in (["--help"], ["explain", "l4"], ["view", "journal"]):
                 found = ran(launcher, words, folder, stdout=full)
                 tally.note("" if found == (4, None, b"papyrus: cannot write\n") else f"papyrus {' '.join(words)}, where no room is: {found}")
         (folder / "docs").unlink()

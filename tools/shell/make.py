@@ -27,7 +27,7 @@ class Table:
         self.codes = " ".join(rule.code for rule in explain.read_pages().rules)
 
     def pattern(self, word):
-        return self.words[word.rstrip(".")][0]
+        return self.words[word.strip("[].")][0]
 
 
 def lines_of(rows, all_rows):
@@ -47,7 +47,7 @@ def help_lines(table):
 
 def helpers(table):
     """What the launcher prints behind that."""
-    lines = ["", "Beside the program, this launcher has", "", *lines_of(table.helpers, table.commands)]
+    lines = ["", "Beside the program, this launcher has", "", *lines_of(table.helpers, table.commands + table.helpers)]
     return "\n".join(lines) + "\n"
 
 
@@ -62,8 +62,11 @@ def bash(table):
              "    case ${COMP_WORDS[1]} in"]
     for command, words, _, _ in table.commands:
         lines += bash_arm(command, words.split(), table)
-    for helper, _, _, _ in table.helpers:
-        lines += [f"    {helper})", f"        [ \"$COMP_CWORD\" -gt 2 ] || COMPREPLY=($(compgen -W \"{table.codes}\" -- \"${{word^^}}\"))", "        ;;"]
+    for helper, words, _, _ in table.helpers:
+        if words == "[RULE]":
+            lines += [f"    {helper})", f"        [ \"$COMP_CWORD\" -gt 2 ] || COMPREPLY=($(compgen -W \"{table.codes}\" -- \"${{word^^}}\"))", "        ;;"]
+        else:
+            lines += bash_arm(helper, unbracketed(words), table)
     lines += ["    esac",
               "    [ -n \"$pattern\" ] || return",
               "    local IFS=$'\\n'",
@@ -72,6 +75,11 @@ def bash(table):
               "}", "",
               "complete -F _papyrus papyrus ./papyrus"]
     return "\n".join(lines) + "\n"
+
+
+def unbracketed(words):
+    """The words of a command or a helper, without the signs of those that may lack."""
+    return [word.strip("[]") for word in words.split()]
 
 
 def bash_arm(command, words, table):
@@ -93,17 +101,18 @@ def zsh(table):
         escaped = line.replace("'", "'\\''")
         lines.append(f"    '{command}:{escaped}'")
     lines += [")", "if (( CURRENT == 2 )); then", "    _describe command commands", "    return", "fi", "case $words[2] in"]
-    for command, words, _, _ in table.commands:
-        spec = []
-        for word in words.split():
-            pattern, meaning = table.words[word.rstrip(".")]
-            action = f"_files -g \"{pattern}\"" if pattern else ""
-            spec.append(f"'{'*' if word.endswith('..') else ''}:{meaning.split(',')[0]}:{action}'")
+    for command, words, _, _ in table.commands + table.helpers:
+        spec = [zsh_word(word, table) for word in unbracketed(words)]
         if spec:
             lines.append(f"    {command}) shift words; (( CURRENT-- )); _arguments {' '.join(spec)} ;;")
-    for helper, words, _, _ in table.helpers:
-        lines.append(f"    {helper}) shift words; (( CURRENT-- )); _arguments ':{table.words[words.strip('[]')][1].split(',')[0]}:({table.codes})' ;;")
     return "\n".join([*lines, "esac"]) + "\n"
+
+
+def zsh_word(word, table):
+    """What completes a word of a command."""
+    pattern, meaning = table.words[word.rstrip(".")]
+    action = f"({table.codes})" if word == "RULE" else f"_files -g \"{pattern}\"" if pattern else ""
+    return f"'{'*' if word.endswith('..') else ''}:{meaning.split(',')[0]}:{action}'"
 
 
 def roff(text):

@@ -1,0 +1,377 @@
+#!/usr/bin/env python3
+"""Checks the pictures of `papyrus view`, prints what is wrong, and ends with 'N passed, M failed'.
+
+  check_pictures.py                  all of these
+  check_pictures.py --program PATH   another program than PAPYRUS_PROGRAM in the environment, or the one that was built last
+
+  bars       the bars of each picture, read back from its HTML file, tell the whole journal again, of every example and of 200 journals that are made;
+             the rows of instances and the table tell what they and `papyrus waits` do, and the links lead to the longest waits
+  reports    what stacks print, and the values of properties, stand where the reports have them, and what may be a lost update is shown, of the examples
+             and of reports that are made; and reports that were changed are refused
+  refusals   a journal that `papyrus waits` refuses gets the same line and status, and reports of other runs are refused
+  cut        of a long run the first 20,000 turns are drawn, and the page says so
+"""
+import argparse
+import collections
+import json
+import os
+import pathlib
+import random
+import re
+import subprocess
+import sys
+import tempfile
+
+DOCS = pathlib.Path(__file__).resolve().parent
+ROOT = DOCS.parent
+sys.path[:0] = [str(DOCS), str(ROOT / "tools")]
+import check_examples
+import check_pages
+import journal_texts
+import picture_files
+import view
+
+QUARTERS = picture_files.QUARTERS
+MADE, TOLD, SPOILED = 200, 60, 900
+FIRST_TURNS = 12
+
+
+def ran(program, words, folder):
+    """The status, standard output and standard error of a program."""
+    process = subprocess.run([str(program), *words], cwd=folder, stdin=subprocess.DEVNULL, stdout=subprocess.PIPE, stderr=subprocess.PIPE)
+    return process.returncode, process.stdout, process.stderr
+
+
+def shown(words):
+    """The picture of these files, or the status and the line of its refusal."""
+    try:
+        return view.drawn([str(word) for word in words])
+    except view.Refused as refused:
+        return refused.status, refused.line
+
+
+class Run:
+    """An example that is run: its folder with a journal of it, and reports after its first turns."""
+
+    def __init__(self, program, folder, scene, scripts):
+        self.program, self.folder, self.scene, self.scripts = program, folder, scene, scripts
+        self.report = folder / "report"
+        (folder / "scene.json").write_text(json.dumps(self.scene))
+        for script in scripts:
+            (folder / script.name).write_bytes(script.read_bytes())
+        compiled = [script.with_suffix(".pex").name for script in scripts]
+        self.wrong = self.must(["compile", *(script.name for script in scripts)])[1] or self.must(["journal", "scene.json", "journal", *compiled], self.report)[1]
+
+    def must(self, words, to=None):
+        """What a command that must do well prints, and what is wrong."""
+        status, out, notes = ran(self.program, words, self.folder)
+        if to:
+            to.write_bytes(out)
+        return out, f"papyrus {' '.join(words)}: status {status}: {notes.decode()}" if status else ""
+
+    def after(self, turns):
+        """The report of the first turns."""
+        path = self.folder / f"after{turns}"
+        (self.folder / "cut.json").write_text(json.dumps({**self.scene, "turns": turns}))
+        path.write_bytes(self.must(["run", "cut.json", *(script.name for script in self.scripts)])[0])
+        return path
+
+
+def examples():
+    """What the pages of the examples run: where, the scene and the scripts. What runs without a scene has that of `once`."""
+    found = {}
+    for page in sorted((ROOT / "examples").rglob("README.md")):
+        for command, words in re.findall(r"^\$ (?:\.\./)+papyrus (once|run) ([^|\n]*)", page.read_text(), re.MULTILINE):
+            files = [path for word in words.split() for path in sorted(page.parent.glob(word) if "*" in word else [page.parent / word])]
+            scripts = [path for path in files if path.suffix == ".psc"]
+            call = {"turn": 0, "instance": "it", "function": "OnInit"}
+            once = {"version": 1, "instances": [{"name": "it", "script": scripts[0].stem}], "calls": [call], "order": "round", "turns": 10_000}
+            found[f"{page.parent.relative_to(ROOT)}: {words.strip()}"] = (once if command == "once" else json.loads(files[0].read_text()), scripts)
+    return found
+
+
+def crowds_of(picture, instance):
+    """How many stacks wait for an instance in each quarter, by the rows of the stacks."""
+    found = collections.Counter()
+    for row in picture.of_kind("stack"):
+        for bar in row.lanes[0]:
+            if bar.kind == f"waits c{instance}":
+                found.update(range(bar.begin, bar.begin + bar.length))
+    return found
+
+
+def rows_fault(picture):
+    """What the rows of the instances tell otherwise than those of the stacks, or nothing."""
+    stacks = [[bar for bar in row.lanes[0] if bar.kind != "act"] for row in picture.of_kind("stack")]
+    for instance, row in enumerate(picture.of_kind("instance")):
+        held = sorted((bar.begin, bar.length, stack) for stack, bars in enumerate(stacks) for bar in bars if bar.kind == f"holds c{instance}")
+        if [(bar.begin, bar.length, int(re.search(r"\d+$", bar.text)[0])) for bar in row.lanes[0]] != held:
+            return f"instance {instance} is held otherwise"
+        waiting = collections.Counter()
+        for bar in row.lanes[1]:
+            waiting.update({at: int(re.match(r"\d+", bar.text)[0]) for at in range(bar.begin, bar.begin + bar.length)})
+        if waiting != crowds_of(picture, instance):
+            return f"others wait for instance {instance}"
+    acts = {bar.begin // QUARTERS + at: stack for stack, row in enumerate(picture.of_kind("stack")) for bar in row.bars("act") for at in range(bar.length // QUARTERS)}
+    return "" if acts == {turn: stack for turn, stack in enumerate(picture.whose()) if stack is not None} else "other stacks are marked than have the turns"
+
+
+def waits_of(text):
+    """Each wait of a journal as (turns, since, stack), counted by its lines alone."""
+    found, since, turn = [], {}, -1
+    for word, *numbers in (line.split() for line in text.decode().splitlines()):
+        if word == "turn":
+            turn = int(numbers[0])
+        elif word == "join":
+            since[numbers[0]] = turn
+        elif word == "take":
+            begun = since.pop(numbers[0])
+            found.append((turn - begun, begun, int(numbers[0])))
+    return found + [(turn + 1 - begun, begun, int(stack)) for stack, begun in since.items()]
+
+
+def table_fault(picture, text, waits):
+    """What the table of waits and the links to the longest tell otherwise than the journal and `papyrus waits`, or nothing."""
+    lines = [line.rsplit(" ", 1) for line in waits.decode().splitlines()[1:]]
+    order = sorted(lines, key=lambda line: -int(line[1]))
+    cells = [picture.cells[at : at + 2] for at in range(4, len(picture.cells), 4)]
+    if cells != [[name, f"{int(number):,}"] for name, number in order]:
+        return "the table has other waits than `papyrus waits`"
+    longest = sorted((wait for wait in waits_of(text) if wait[0]), key=lambda wait: (-wait[0], wait[1], wait[2]))[:10]
+    links = [link for link in picture.links if link.startswith("#wait-")]
+    return "" if links == [f"#wait-{stack}-{since}" for _, since, stack in longest] else "other waits are the longest"
+
+
+def picture_fault(path, program, reports=()):
+    """What the picture of a journal tells otherwise than the journal, or nothing."""
+    text = path.read_bytes()
+    page = shown([path, *reports])
+    status, waits, notes = ran(program, ["waits", path.name], path.parent)
+    if isinstance(page, tuple) or status:
+        return f"view: {page if isinstance(page, tuple) else 'a picture'}; waits: {status} {notes.decode()}"
+    picture = picture_files.Picture(page)
+    again = picture.journal()
+    if again != text:
+        lines = zip(text.decode().splitlines(), again.decode().splitlines())
+        return f"the bars tell another journal, from line {next((at for at, (one, other) in enumerate(lines, 1) if one != other), 'last')}"
+    return next(iter(picture.wrong), "") or rows_fault(picture) or table_fault(picture, text, waits)
+
+
+def check_made(tally, program, room):
+    for seed in range(MADE):
+        path = room / f"made{seed}"
+        path.write_bytes(journal_texts.Run(seed).text())
+        fault = picture_fault(path, program)
+        tally.note(fault and f"journal {seed}: {fault}")
+
+
+def check_refusals(tally, program, room):
+    """Spoiled journals are refused as the program does, and not all of them are alike."""
+    answers = collections.Counter()
+    for seed in range(SPOILED):
+        path = room / f"spoiled{seed}"
+        path.write_bytes(journal_texts.spoiled(journal_texts.Run(seed % MADE).text(), seed))
+        status, _, notes = ran(program, ["waits", str(path)], room)
+        found = shown([path])
+        found = (found[0], f"{found[1]}\n".encode()) if isinstance(found, tuple) else (0, b"")
+        answers.update(notes.split()[1:2])
+        tally.note("" if found == (status, notes) else f"spoiled journal {seed}: view {found}, waits {(status, notes)}")
+    tally.note("" if min(answers[b"J1"], answers[b"J2"]) > SPOILED / 10 else f"of the spoiled journals {dict(answers)} were refused")
+
+
+def values_fault(picture, reports):
+    """What the rows of properties tell otherwise than the reports, or nothing."""
+    cells = {}
+    for row in picture.rows:
+        if row.kind == "instance":
+            instance = row.anchor
+        elif row.kind == "value":
+            for bar in row.lanes[0]:
+                cells.update({(instance, row.name, at): bar.text for at in range(bar.begin // QUARTERS, (bar.begin + bar.length) // QUARTERS)})
+    wanted = {}
+    for report in reports:
+        lines = report.read_text().splitlines()
+        turns = int(next(line for line in lines if line.startswith("turns ")).split()[1])
+        number = -1
+        for line in lines[lines.index(f"turns {turns}") + 1 :]:
+            number += not line.startswith(("  ", "stack "))
+            if line.startswith("  ") and turns:
+                name, _, value = line[2:].partition(" = ")
+                wanted[(f"instance-{number}", name, turns - 1)] = value
+    plain = {key: text[2:] if text.startswith("! ") else text for key, text in cells.items()}
+    changed = {key[:2] for key in wanted if len({value for other, value in wanted.items() if other[:2] == key[:2]}) > 1}
+    seen = {key[:2] for key in plain}
+    if not changed <= seen or plain != {key: value for key, value in wanted.items() if key[:2] in seen}:
+        return f"values are {plain} and not {wanted}"
+    panels = {row.anchor: row.panel.splitlines() for row in picture.of_kind("instance")}
+    last = max((turn for _, _, turn in wanted), default=0)
+    missing = [key for key, value in wanted.items() if key[2] == last and f"{key[1]} = {value}" not in panels[key[0]]]
+    return f"the panel of {missing[0][0]} lacks {missing[0][1]}" if missing else ""
+
+
+def printed_fault(picture, report):
+    """What a stack printed that doesn't stand in its panel, in this order, or nothing."""
+    lines = [line for line in report.read_text().splitlines() if re.match(r"[#!]\d+ ", line)]
+    for stack, row in enumerate(picture.of_kind("stack")):
+        own = [line for line in lines if int(line[1:].split()[0]) == stack]
+        there = [line for line in row.panel.splitlines() if line[:1] in ("#", "!")]
+        if there != own:
+            return f"stack {stack} printed {own}, and the panel has {there}"
+    return ""
+
+
+def check_examples_of(tally, program, room):
+    overs = {}
+    other = room / "other"
+    other.write_text("#0 x\nturns 0\n")
+    for number, (name, (scene, scripts)) in enumerate(examples().items()):
+        folder = room / f"example{number}"
+        folder.mkdir()
+        run = Run(program, folder, scene, scripts)
+        tally.note(run.wrong and f"{name}: {run.wrong}")
+        if run.wrong:
+            continue
+        turns = int(re.search(r"^turns (\d+)$", run.report.read_text(), re.MULTILINE)[1])
+        reports = [*map(run.after, range(min(turns, FIRST_TURNS))), run.report]
+        for those in ([], [run.report], reports):
+            fault = picture_fault(folder / "journal", program, those)
+            tally.note(fault and f"{name}: {fault}")
+        page = shown([folder / "journal", *reports])
+        if isinstance(page, tuple):
+            tally.note(f"{name}: {page}")
+            continue
+        picture = picture_files.Picture(page)
+        for fault in (values_fault(picture, reports), printed_fault(picture, run.report)):
+            tally.note(fault and f"{name}: {fault}")
+        overs[name] = [(row.name, bar.begin // QUARTERS) for row in picture.rows for bar in row.bars("known") if "over" in bar.kind]
+        for others in ([other], [reports[0], reports[0]]):
+            tally.note("" if shown([folder / "journal", *others])[0] == 2 else f"{name}: reports of another run are taken")
+    wanted = {"examples/lost_update: scene.json Chest.psc": [("Gold", 5)], "examples/lost_update: scene.json repaired/Chest.psc": []}
+    found = {name: overs.get(name) for name in wanted}
+    tally.note("" if found == wanted else f"what may be a lost update: {found}")
+
+
+def printed_bars(picture):
+    """What stands below the bars of each stack in each turn, with its kind."""
+    found = {}
+    for stack, row in enumerate(picture.of_kind("stack")):
+        found.update({(bar.begin // QUARTERS, stack): (bar.kind, bar.text) for bar in row.bars() if bar.kind in ("trace", "fault")})
+    return found
+
+
+def made_fault(run, page):
+    """What a picture with all reports of a run that was made tells otherwise than these, or nothing."""
+    if isinstance(page, tuple):
+        return f"its own reports are refused: {page}"
+    picture = picture_files.Picture(page)
+    numbers = {row.anchor: at for at, row in enumerate(picture.of_kind("instance"))}
+    overs, changed, anchor = set(), set(), ""
+    for row in picture.rows:
+        anchor = row.anchor or anchor
+        overs |= {(numbers[anchor], bar.begin // QUARTERS) for bar in row.bars("known") if bar.kind == "known over"}
+        changed |= {(numbers[anchor], bar.begin // QUARTERS) for bar in row.bars("known") if bar.kind != "known"}
+    wanted = {(instance, turn) for turn, _, instance in run.changes}
+    if (overs, changed) != (run.overwrites(), wanted):
+        return f"overwritten {overs} and not {run.overwrites()}, or changed {changed} and not {wanted}"
+    lines = printed_bars(picture)
+    own = collections.defaultdict(list)
+    for turn, stack, text in run.printed:
+        own[(turn, stack)].append(text)
+    if lines != {key: ("fault" if any(text[0] == "!" for text in texts) else "trace", "; ".join(text.split(" ", 1)[1] for text in texts)) for key, texts in own.items()}:
+        return f"printed {lines} and not {dict(own)}"
+    box = "Look here" in picture.look if overs else "No change came over" in picture.look
+    return next(iter(picture.wrong), "") or ("" if box else "the page doesn't say so on top")
+
+
+def spoiled_reports(reports, chance):
+    """One of these reports with a change, or one more, which no run of the journal has."""
+    at = chance.randrange(len(reports))
+    lines = reports[at].splitlines()
+    turns = next(number for number, line in enumerate(lines) if line.startswith("turns "))
+    change = chance.randrange(6)
+    if change == 0 and "stack " in reports[at]:
+        lines[-1] = lines[-1].rsplit(" ", 1)[0] + chance.choice([" 77", " sick", ""])
+    elif change == 1:
+        lines[turns + 1] = f"other{lines[turns + 1]}"
+    elif change == 2:
+        lines[turns] = f"turns {len(reports)}"
+    elif change == 3:
+        lines.append(f"stack {sum(line.startswith('stack ') for line in lines)} done")
+    elif change == 4:
+        return [*reports, reports[at]]
+    elif turns and at < len(reports) - 1:
+        lines[turns - 1] += "x"
+    else:
+        del lines[turns]
+    return [*reports[:at], "".join(f"{line}\n" for line in lines), *reports[at + 1 :]]
+
+
+def check_told(tally, room):
+    for seed in range(TOLD):
+        run = journal_texts.Run(seed)
+        (room / "told").write_bytes(run.text())
+        for spoiled in (False, True):
+            reports = spoiled_reports(run.reports, random.Random(seed)) if spoiled else run.reports
+            paths = [room / f"told{at}" for at in range(len(reports))]
+            for path, text in zip(paths, reports):
+                path.write_text(text)
+            page = shown([room / "told", *paths])
+            fault = ("" if page[0] == 2 else "spoiled reports are taken") if spoiled else made_fault(run, page)
+            tally.note(fault and f"reports {seed}: {fault}")
+
+
+def check_cut(tally, room):
+    """A run of 20,005 turns in which one stack takes an instance and another waits for it."""
+    turns = 20_005
+    lines = ["journal 1", "instance a", "turn 0", "join 0 0", "join 1 0", "run 0", "take 0 0"]
+    for turn in range(1, turns):
+        lines += [f"turn {turn}", "run 0"]
+    (room / "long").write_text("".join(f"{line}\n" for line in [*lines, f"end {turns}"]))
+    page = shown([room / "long"])
+    told = not isinstance(page, tuple) and "The run has 20,005 turns, and the first 20,000 of them are drawn" in page and "papyrus hold 20000" in page
+    tally.note("" if told else "a long run isn't told")
+    if told:
+        picture = picture_files.Picture(page)
+        lengths = [row.lanes[0][0].length for row in picture.of_kind("stack")]
+        tally.note("" if (picture.turns, lengths, picture.wrong) == (20_000, [80_000, 80_000], []) else f"a long run has bars of {lengths}")
+        tally.note("" if picture.cells[5] == f"{turns:,}" else "the table of a long run isn't that of all turns")
+
+
+def check_words(tally, room):
+    """The statuses of words and files."""
+    (room / "text").write_text("no report\n")
+    (room / "short").write_text("journal 1\nend 0\n")
+    cases = {
+        (): (2, "papyrus: usage"),
+        ("",): (2, "papyrus: usage"),
+        ("missing",): (3, "papyrus: cannot read missing"),
+        (str(room / "short"), str(room / "text")): (2, f"papyrus: {room / 'text'} is no report"),
+        (str(room / "text"), str(room / "missing")): (3, f"papyrus: cannot read {room / 'missing'}"),
+        (os.devnull,): (12, f"{os.devnull}:1: J1 BadLine"),
+    }
+    for words, wanted in cases.items():
+        tally.note("" if shown(words) == wanted else f"view {words}: {shown(words)}")
+
+
+def main():
+    parser = argparse.ArgumentParser(description=__doc__, formatter_class=argparse.RawDescriptionHelpFormatter)
+    parser.add_argument("--program", type=pathlib.Path, default=check_examples.PROGRAM)
+    words = parser.parse_args()
+    if not words.program.exists():
+        print("the program isn't built: run ./papyrus --version first")
+        return 2
+    tally, program = check_pages.Tally(), words.program.resolve()
+    with tempfile.TemporaryDirectory(prefix="papyrus-pictures-") as top:
+        room = pathlib.Path(top)
+        check_words(tally, room)
+        check_cut(tally, room)
+        check_told(tally, room)
+        check_examples_of(tally, program, room)
+        check_made(tally, program, room)
+        check_refusals(tally, program, room)
+    print("\n".join([*tally.wrong, f"{tally.passed} passed, {len(tally.wrong)} failed"]))
+    return 1 if tally.wrong else 0
+
+
+if __name__ == "__main__":
+    sys.exit(main())

@@ -1,0 +1,96 @@
+"""What is said of the bars of a picture, in the words of docs/locking.md."""
+
+
+def counted(number, thing):
+    return f"{number:,} {thing}{'' if number == 1 else 's'}"
+
+
+def turns(number):
+    return counted(number, "turn")
+
+
+def listed(things):
+    """These things in a row, with `and` before the last."""
+    return " and ".join([", ".join(things[:-1]), things[-1]] if len(things) > 1 else things)
+
+
+def span(first, last):
+    return f"in turn {first}" if first == last else f"in turns {first} to {last}"
+
+
+def ending(bar):
+    """Until when a bar lasts."""
+    if bar.until is None:
+        return f"from turn {bar.since} to the end of the run"
+    return f"in turn {bar.since}" if bar.since == bar.until else f"from turn {bar.since} to turn {bar.until}"
+
+
+def holds(bar, names):
+    waited = f", after {turns(bar.waited)} of waiting" if bar.waited else ""
+    return f"stack {bar.stack} holds {names[bar.value]} {ending(bar)}{waited}"
+
+
+def waits(bar, names):
+    """A wait, as the command `waits` counts it."""
+    if bar.until is None:
+        return f"stack {bar.stack} waits for {names[bar.value]} from turn {bar.since} to the end of the run: {turns(bar.waited)}"
+    return f"stack {bar.stack} waits for {names[bar.value]} from turn {bar.since}, and takes it in turn {bar.until}: {turns(bar.waited)}"
+
+
+def asleep(bar, _):
+    return f"stack {bar.stack} is asleep from turn {bar.since}, and due at turn {bar.value}"
+
+
+def free(bar, _):
+    return f"stack {bar.stack} runs free {ending(bar)}"
+
+
+def of_bar(bar, names):
+    return {"holds": holds, "waits": waits, "asleep": asleep, "free": free}[bar.kind](bar, names)
+
+
+def of_crowd(number, name, first, last):
+    return f"{span(first, last)} {counted(number, 'stack')} {'waits' if number == 1 else 'wait'} for {name}"
+
+
+def of_value(name, instance, first, count, value):
+    last = first + count - 1
+    return f"{name} of {instance} is {value} after turn {first}" + (f" and up to turn {last}" if last > first else "")
+
+
+def of_change(change, name, instance):
+    return f"stack {change.stack} changes {name} of {instance} from {change.old} to {change.new} in turn {change.turn}"
+
+
+def of_overwrite(over, instance):
+    """An overwritten change, as a sentence with the reason to look at it."""
+    change, other = over.change, over.other
+    return (
+        f"In turn {change.turn} stack {change.stack} changes {over.name} of {instance} from {change.old} to {change.new}. It had let {instance} go in turn {over.left}, "
+        f"and in turn {other.turn} stack {other.stack} changed {over.name} from {other.old} to {other.new}."
+    )
+
+
+def of_wait(wait, names):
+    end = "still at the end of the run" if wait.until is None else f"until turn {wait.until}"
+    return f"{turns(wait.turns)}: stack {wait.stack} for {names[wait.instance]}, from turn {wait.since}, {end}"
+
+
+def summary_of_stack(stack, bars, status):
+    """What a stack did in the turns that are drawn."""
+    held = [bar for bar in bars if bar.kind == "holds"]
+    waited = sum(bar.waited for bar in bars if bar.kind == "waits")
+    slept = [bar for bar in bars if bar.kind == "asleep"]
+    parts = [f"took instances {len(held):,} {'time' if len(held) == 1 else 'times'}", f"waited {turns(waited)}", f"slept {len(slept):,} {'time' if len(slept) == 1 else 'times'}"]
+    return f"Stack {stack} {listed(parts)}. At the end it {at_end(status)}."
+
+
+def at_end(status):
+    """A status of a report, as a sentence goes on."""
+    kind, _, value = status.partition(" ")
+    return {
+        "done": "is done",
+        "ready": "is ready",
+        "waits": f"waits for {value}",
+        "asleep": f"is asleep until turn {value}",
+    }[kind]
