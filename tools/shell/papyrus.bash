@@ -4,7 +4,7 @@ _papyrus() {
     local word=${COMP_WORDS[COMP_CWORD]} pattern=
     COMPREPLY=()
     if [ "$COMP_CWORD" -eq 1 ]; then
-        COMPREPLY=($(compgen -W "once run compile exec check show asm sample upgrade --help --version explain view" -- "$word"))
+        COMPREPLY=($(compgen -W "once run compile exec check show asm sample upgrade --help --version explain view explore" -- "$word"))
         return
     fi
     case ${COMP_WORDS[1]} in
@@ -51,6 +51,12 @@ _papyrus() {
         case $COMP_CWORD in
         2) pattern='*' ;;
         *) pattern='*' ;;
+        esac
+        ;;
+    explore)
+        case $COMP_CWORD in
+        2) pattern='*.json' ;;
+        *) pattern='*.psc' ;;
         esac
         ;;
     esac
