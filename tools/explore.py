@@ -111,7 +111,14 @@ class Teller:
         print(f"  Both orders may begin with {count(len(common.order), 'turn')}: {order_text(common.order) or 'none'}")
         self.held(common)
         for number, step, path in zip((one, other), parting.steps, paths):
-            print(f"  Then turn {len(common.order) + step.idle} is stack {step.stack}'s for outcome {numbers[number]}: {order_text(path.order)}")
+            begun = self.begun(step) if self.orders.any_start else ""
+            print(f"  Then turn {len(common.order) + step.idle}{begun} is stack {step.stack}'s for outcome {numbers[number]}: {order_text(path.order)}")
+
+    def begun(self, step):
+        """Which calls begin with a step."""
+        calls = [self.orders.scene.calls[call] for call in step.calls]
+        names = [f"{call['instance']}.{call['function']} of call {number}" for number, call in zip(step.calls, calls)]
+        return f", in which {' and '.join(names)} {'begins' if len(names) == 1 else 'begin'}," if names else ""
 
     def held(self, path):
         """Who holds what, and who waits, after the turns of a path."""
