@@ -60,7 +60,8 @@ class Run:
         for script in scripts:
             (folder / script.name).write_bytes(script.read_bytes())
         compiled = [script.with_suffix(".pex").name for script in scripts]
-        self.wrong = self.must(["compile", *(script.name for script in scripts)])[1] or self.must(["journal", "scene.json", "journal", *compiled], self.report)[1]
+        self.wrong = self.must(["compile", *(script.name for script in scripts)])[1]
+        self.wrong = self.wrong or self.must(["journal", "scene.json", "journal", *compiled], self.report)[1]
 
     def must(self, words, to=None):
         """What a command that must do well prints, and what is wrong."""
@@ -112,7 +113,10 @@ def rows_fault(picture):
             waiting.update({at: int(re.match(r"\d+", bar.text)[0]) for at in range(bar.begin, bar.begin + bar.length)})
         if waiting != crowds_of(picture, instance):
             return f"others wait for instance {instance}"
-    acts = {bar.begin // QUARTERS + at: stack for stack, row in enumerate(picture.of_kind("stack")) for bar in row.bars("act") for at in range(bar.length // QUARTERS)}
+    acts = {}
+    for stack, row in enumerate(picture.of_kind("stack")):
+        for bar in row.bars("act"):
+            acts.update({turn: stack for turn in range(bar.begin // QUARTERS, (bar.begin + bar.length) // QUARTERS)})
     return "" if acts == {turn: stack for turn, stack in enumerate(picture.whose()) if stack is not None} else "other stacks are marked than have the turns"
 
 
@@ -259,6 +263,12 @@ def printed_bars(picture):
     return found
 
 
+def printed_bar(lines):
+    """The kind and the text of the bar for these lines of a report."""
+    kind = "fault" if any(line[0] == "!" for line in lines) else "trace"
+    return kind, "; ".join(line.split(" ", 1)[1] for line in lines)
+
+
 def made_fault(run, page):
     """What a picture with all reports of a run that was made tells otherwise than these, or nothing."""
     if isinstance(page, tuple):
@@ -273,12 +283,11 @@ def made_fault(run, page):
     wanted = {(instance, turn) for turn, _, instance in run.changes}
     if (overs, changed) != (run.overwrites(), wanted):
         return f"overwritten {overs} and not {run.overwrites()}, or changed {changed} and not {wanted}"
-    lines = printed_bars(picture)
     own = collections.defaultdict(list)
     for turn, stack, text in run.printed:
         own[(turn, stack)].append(text)
-    if lines != {key: ("fault" if any(text[0] == "!" for text in texts) else "trace", "; ".join(text.split(" ", 1)[1] for text in texts)) for key, texts in own.items()}:
-        return f"printed {lines} and not {dict(own)}"
+    if printed_bars(picture) != {key: printed_bar(texts) for key, texts in own.items()}:
+        return f"printed {printed_bars(picture)} and not {dict(own)}"
     box = "Look here" in picture.look if overs else "No change came over" in picture.look
     return next(iter(picture.wrong), "") or ("" if box else "the page doesn't say so on top")
 

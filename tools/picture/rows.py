@@ -14,10 +14,11 @@ def escaped(text):
     return html.escape(text, quote=True)
 
 
-def bar(kind, begin, length, title, text="", anchor=""):
-    """A bar of a lane. Where its text doesn't fit, the text isn't shown."""
+def bar(kind, begin, length, title, text="", anchor="", height=None):
+    """A bar of a lane, of which it may have a part of the height. Where its text doesn't fit, the text isn't shown."""
+    style = f"--a:{begin};--n:{length}" + (f";--k:{height:.3g}" if height is not None else "")
     place = f' id="{anchor}"' if anchor else ""
-    return f'<i class="{kind}" style="--a:{begin};--n:{length}"{place} role="img" title="{escaped(title)}">{escaped(text)}</i>'
+    return f'<i class="{kind}" style="{style}"{place} role="img" title="{escaped(title)}">{escaped(text)}</i>'
 
 
 def row(kind, name, lanes, panel, anchor, heading=""):
@@ -54,7 +55,9 @@ class Rows:
         self.told = range(len(names)) if reports.all else []
         self.changes = {instance: reports.changes(instance, recorder.runs) for instance in self.told}
         self.overwrites = [
-            over for instance in self.told for over in report.overwrites(instance, self.changes[instance], self.held_by[instance], QUARTERS)
+            over
+            for instance in self.told
+            for over in report.overwrites(instance, self.changes[instance], self.held_by[instance], QUARTERS)
         ]
         self.acts = {}
         for stack, first, count in self.turn_bars:
@@ -85,7 +88,8 @@ class Rows:
 
     def stack_bar(self, one, title):
         kind = f"{one.kind} c{one.value}" if one.kind in ("holds", "waits") else one.kind
-        text = {"holds": lambda: self.names[one.value], "waits": lambda: f"waits for\xa0{self.names[one.value]}", "free": str}.get(one.kind, lambda: one.kind)()
+        text = {"asleep": "asleep", "free": ""}.get(one.kind) if kind == one.kind else self.names[one.value]
+        text = f"waits for\xa0{text}" if one.kind == "waits" else text
         anchor = f"wait-{one.stack}-{one.since}" if one.kind == "waits" else ""
         return bar(kind, one.begin, one.end - one.begin, title, text, anchor)
 
@@ -111,18 +115,20 @@ class Rows:
         lanes = [("lane", "".join(held)), ("lane crowds", "".join(crowds))]
         titles = [words.holds(one, self.names) for one in self.held_by[instance]]
         heading = f"{words.turns(sums.waited)} of waiting"
-        return row("instance", name, lanes, self.instance_panel(instance) + sentences(titles), f"instance-{instance}", heading) + self.value_rows(instance)
+        panel = self.instance_panel(instance) + sentences(titles)
+        return row("instance", name, lanes, panel, f"instance-{instance}", heading) + self.value_rows(instance)
 
     def held_bar(self, one):
         return bar(f"holds by c{one.value}", one.begin, one.end - one.begin, words.holds(one, self.names), f"stack {one.stack}")
 
     def crowd_bar(self, instance, begin, end, number, most):
         title = words.of_crowd(number, self.names[instance], begin // QUARTERS, (end - 1) // QUARTERS)
-        return bar(f"crowd c{instance}", begin, end - begin, title, f"{number} {'waits' if number == 1 else 'wait'}").replace("--a", f"--k:{number / max(most, 1):.3g};--a", 1)
+        text = f"{number} {'waits' if number == 1 else 'wait'}"
+        return bar(f"crowd c{instance}", begin, end - begin, title, text, height=number / max(most, 1))
 
     def instance_panel(self, instance):
         sums = self.recorder.sums()[instance]
-        told = f"<p>Taken {sums.takes:,} {'time' if sums.takes == 1 else 'times'}; stacks waited {words.turns(sums.waited)} for it, at most {sums.most:,} at once.</p>"
+        told = f"<p>Taken {words.times(sums.takes)}; stacks waited {words.turns(sums.waited)} for it, at most {sums.most:,} at once.</p>"
         if not self.last:
             return told
         values = self.last.values[instance]
@@ -134,7 +140,8 @@ class Rows:
         """A row for each property whose value is seen to change."""
         if instance not in self.told:
             return ""
-        return "".join(self.value_row(instance, name, known) for name, known in self.reports.values(instance).items() if len({value for _, _, value in known}) > 1)
+        known = self.reports.values(instance)
+        return "".join(self.value_row(instance, name, known[name]) for name in known if len({value for _, _, value in known[name]}) > 1)
 
     def value_row(self, instance, name, known):
         overs = {over.change.turn: over for over in self.overwrites if (over.instance, over.name) == (instance, name)}
