@@ -32,7 +32,7 @@ import picture_files
 import view
 
 QUARTERS = picture_files.QUARTERS
-MADE, TOLD, SPOILED = 200, 60, 900
+MADE, TOLD, SPOILED = 200, 40, 600
 FIRST_TURNS = 12
 
 
