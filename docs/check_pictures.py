@@ -330,20 +330,26 @@ def check_told(tally, room):
 
 
 def check_cut(tally, room):
-    """A run of 20,005 turns in which one stack takes an instance and another waits for it."""
+    """A run of 20,005 turns, in which a stack holds an instance but in turn 6 and in the last two, where another one has it, which prints in the last."""
     turns = 20_005
-    lines = ["journal 1", "instance a", "turn 0", "join 0 0", "join 1 0", "run 0", "take 0 0"]
-    for turn in range(1, turns):
-        lines += [f"turn {turn}", "run 0"]
-    (room / "long").write_text("".join(f"{line}\n" for line in [*lines, f"end {turns}"]))
-    page = shown([room / "long"])
+    moves = {0: ["join 0 0", "join 1 0", "run 0", "take 0 0"], 6: ["run 1", "take 1 0", "release 1 0", "join 1 0"], 7: ["run 0", "take 0 0"]}
+    moves.update({turn: ["run 0", "release 0 0", "join 0 0"] for turn in (5, turns - 3)})
+    moves.update({turns - 2: ["run 1", "take 1 0"], turns - 1: ["run 1"]})
+    lines = [line for turn in range(turns) for line in (f"turn {turn}", *moves.get(turn, ["run 0"]))]
+    (room / "long").write_text("".join(f"{line}\n" for line in ["journal 1", "instance a", *lines, f"end {turns}"]))
+    (room / "late").write_text(f"#1 late\nturns {turns}\na : A @\nstack 0 waits a\nstack 1 ready\n")
+    page = shown([room / "long", room / "late"])
     told = not isinstance(page, tuple) and "The run has 20,005 turns, and the first 20,000 of them are drawn" in page and "papyrus hold 20000" in page
     tally.note("" if told else "a long run isn't told")
     if told:
         picture = picture_files.Picture(page)
-        lengths = [row.lanes[0][0].length for row in picture.of_kind("stack")]
-        tally.note("" if (picture.turns, lengths, picture.wrong) == (20_000, [80_000, 80_000], []) else f"a long run has bars of {lengths}")
-        tally.note("" if picture.cells[5] == f"{turns:,}" else "the table of a long run isn't that of all turns")
+        bars = [[(bar.kind.split()[0], bar.begin, bar.length) for bar in row.bars() if bar.kind != "act"] for row in picture.of_kind("stack")]
+        wanted = [
+            [("holds", 0, 23), ("waits", 23, 5), ("holds", 28, 79_972)],
+            [("waits", 0, 24), ("holds", 24, 3), ("waits", 27, 79_973)],
+        ]
+        tally.note("" if (picture.turns, bars, picture.wrong) == (20_000, wanted, []) else f"a long run has the bars {bars}")
+        tally.note("" if picture.cells[5] == f"{6 + 2 + turns - 2 - 6 + 3:,}" else f"the table of a long run isn't that of all turns: {picture.cells}")
 
 
 def check_words(tally, room):
