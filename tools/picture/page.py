@@ -74,12 +74,9 @@ def look_here(picture, names):
         return NO_OVERWRITE if picture.reports.wanted >= set(range(picture.recorder.turns + 1)) else ""
     first = picture.overwrites[: bars.LONGEST]
     rest = len(picture.overwrites) - len(first)
-    place = '<a href="#over-{}-{}-{}">Show turn {}</a>'
-    lines = [
-        f"<li>{escaped(words.of_overwrite(over, names[over.instance]))} "
-        f"{place.format(over.instance, escaped(over.name), over.change.turn, over.change.turn)}</li>"
-        for over in first
-    ]
+    texts = [escaped(words.of_overwrite(over, names[over.instance])) for over in first]
+    links = [f'<a href="#{picture.anchor_of(over)}">Show turn {over.change.turn}</a>' for over in first]
+    lines = [f"<li>{text} {link}</li>" for text, link in zip(texts, links)]
     more = f"<li>and {rest} more</li>" if rest else ""
     return (
         '<section class="look"><h2>Look here: an update may be lost</h2>'
@@ -125,7 +122,7 @@ def chart(recorder, picture, names, width):
 
 
 def page(title, recorder, names, statuses, reports):
-    """The lines of the HTML file."""
+    """The text of the HTML file."""
     width = min(max(ROOM // max(recorder.shown(), 1), NARROWEST), WIDEST)
     picture = rows.Rows(recorder, names, statuses, reports)
     style = (HERE / "page.css").read_text(encoding="utf-8") + colours(names)

@@ -3,7 +3,7 @@ import bisect
 import collections
 import re
 
-INSTANCE = re.compile(r"([A-Za-z0-9_]+) : (\S+) @(.*)")
+INSTANCE = re.compile(r"([A-Za-z0-9_]+) : (.*?) @(.*)")
 STATUS = re.compile(r"stack (\d+) (done|ready|waits [A-Za-z0-9_]+|asleep \d+)")
 
 # What a stack printed, as a trace or a fault, and the turns in which it may have done so.

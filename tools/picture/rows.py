@@ -50,18 +50,23 @@ class Rows:
         self.shown = recorder.shown()
         self.held_by = recorder.held_by()
         self.turn_bars = recorder.turn_bars()
-        self.printed = reports.printed(recorder.runs)
+        self.printed = {}
+        for one in reports.printed(recorder.runs):
+            self.printed.setdefault(one.stack, []).append(one)
         self.last = reports.last(recorder.turns)
         self.told = range(len(names)) if reports.all else []
         self.changes = {instance: reports.changes(instance, recorder.runs) for instance in self.told}
-        self.overwrites = [
-            over
-            for instance in self.told
-            for over in report.overwrites(instance, self.changes[instance], self.held_by[instance], QUARTERS)
-        ]
+        self.overwrites = []
+        for instance in self.told:
+            self.overwrites += report.overwrites(instance, self.changes[instance], self.held_by[instance], QUARTERS)
+        self.overwrites.sort(key=lambda over: over.change.turn)
         self.acts = {}
         for stack, first, count in self.turn_bars:
             self.acts.setdefault(stack, []).append((first, count))
+
+    def anchor_of(self, over):
+        """The name of the place of an overwritten change."""
+        return f"over-{over.instance}-{list(self.changes[over.instance]).index(over.name)}-{over.change.turn}"
 
     def turns_row(self):
         """Whose each turn is."""
@@ -80,7 +85,7 @@ class Rows:
         if gathered.done is not None and gathered.done < self.shown * QUARTERS:
             found.append(bar("done", gathered.done, 0, f"stack {stack} is done in turn {gathered.done // QUARTERS}", "done"))
             titles.append(f"stack {stack} is done in turn {gathered.done // QUARTERS}")
-        printed = [one for one in self.printed if one.stack == stack]
+        printed = self.printed.get(stack, [])
         lanes = [("lane", "".join(found)), *self.print_lane(printed)]
         summary = f"<p>{escaped(words.summary_of_stack(stack, gathered.bars, self.statuses[stack]))}</p>"
         panel = summary + items([printed_line(one) for one in printed], "ul") + sentences(titles)
@@ -165,8 +170,8 @@ class Rows:
         title += "; this may lose an update" if over else ""
         kind = "known over" if over else "known changed" if change else "known"
         count = min(count, self.shown - first)
-        anchor = f"over-{instance}-{name}-{first}" if over else ""
-        return bar(kind, first * QUARTERS, count * QUARTERS, title, f"{'! ' if over else ''}{value}", escaped(anchor))
+        anchor = self.anchor_of(over) if over else ""
+        return bar(kind, first * QUARTERS, count * QUARTERS, title, f"{'! ' if over else ''}{value}", anchor)
 
 
 def printed_text(one):
