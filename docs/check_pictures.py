@@ -32,7 +32,7 @@ import picture_files
 import view
 
 QUARTERS = picture_files.QUARTERS
-MADE, TOLD, SPOILED = 200, 60, 900
+MADE, TOLD, SPOILED = 200, 40, 600
 FIRST_TURNS = 12
 
 
@@ -60,7 +60,8 @@ class Run:
         for script in scripts:
             (folder / script.name).write_bytes(script.read_bytes())
         compiled = [script.with_suffix(".pex").name for script in scripts]
-        self.wrong = self.must(["compile", *(script.name for script in scripts)])[1] or self.must(["journal", "scene.json", "journal", *compiled], self.report)[1]
+        self.wrong = self.must(["compile", *(script.name for script in scripts)])[1]
+        self.wrong = self.wrong or self.must(["journal", "scene.json", "journal", *compiled], self.report)[1]
 
     def must(self, words, to=None):
         """What a command that must do well prints, and what is wrong."""
@@ -112,7 +113,10 @@ def rows_fault(picture):
             waiting.update({at: int(re.match(r"\d+", bar.text)[0]) for at in range(bar.begin, bar.begin + bar.length)})
         if waiting != crowds_of(picture, instance):
             return f"others wait for instance {instance}"
-    acts = {bar.begin // QUARTERS + at: stack for stack, row in enumerate(picture.of_kind("stack")) for bar in row.bars("act") for at in range(bar.length // QUARTERS)}
+    acts = {}
+    for stack, row in enumerate(picture.of_kind("stack")):
+        for bar in row.bars("act"):
+            acts.update({turn: stack for turn in range(bar.begin // QUARTERS, (bar.begin + bar.length) // QUARTERS)})
     return "" if acts == {turn: stack for turn, stack in enumerate(picture.whose()) if stack is not None} else "other stacks are marked than have the turns"
 
 
@@ -259,6 +263,12 @@ def printed_bars(picture):
     return found
 
 
+def printed_bar(lines):
+    """The kind and the text of the bar for these lines of a report."""
+    kind = "fault" if any(line[0] == "!" for line in lines) else "trace"
+    return kind, "; ".join(line.split(" ", 1)[1] for line in lines)
+
+
 def made_fault(run, page):
     """What a picture with all reports of a run that was made tells otherwise than these, or nothing."""
     if isinstance(page, tuple):
@@ -273,12 +283,11 @@ def made_fault(run, page):
     wanted = {(instance, turn) for turn, _, instance in run.changes}
     if (overs, changed) != (run.overwrites(), wanted):
         return f"overwritten {overs} and not {run.overwrites()}, or changed {changed} and not {wanted}"
-    lines = printed_bars(picture)
     own = collections.defaultdict(list)
     for turn, stack, text in run.printed:
         own[(turn, stack)].append(text)
-    if lines != {key: ("fault" if any(text[0] == "!" for text in texts) else "trace", "; ".join(text.split(" ", 1)[1] for text in texts)) for key, texts in own.items()}:
-        return f"printed {lines} and not {dict(own)}"
+    if printed_bars(picture) != {key: printed_bar(texts) for key, texts in own.items()}:
+        return f"printed {printed_bars(picture)} and not {dict(own)}"
     box = "Look here" in picture.look if overs else "No change came over" in picture.look
     return next(iter(picture.wrong), "") or ("" if box else "the page doesn't say so on top")
 
@@ -321,20 +330,26 @@ def check_told(tally, room):
 
 
 def check_cut(tally, room):
-    """A run of 20,005 turns in which one stack takes an instance and another waits for it."""
+    """A run of 20,005 turns, in which a stack holds an instance but in turn 6 and in the last two, where another one has it, which prints in the last."""
     turns = 20_005
-    lines = ["journal 1", "instance a", "turn 0", "join 0 0", "join 1 0", "run 0", "take 0 0"]
-    for turn in range(1, turns):
-        lines += [f"turn {turn}", "run 0"]
-    (room / "long").write_text("".join(f"{line}\n" for line in [*lines, f"end {turns}"]))
-    page = shown([room / "long"])
+    moves = {0: ["join 0 0", "join 1 0", "run 0", "take 0 0"], 6: ["run 1", "take 1 0", "release 1 0", "join 1 0"], 7: ["run 0", "take 0 0"]}
+    moves.update({turn: ["run 0", "release 0 0", "join 0 0"] for turn in (5, turns - 3)})
+    moves.update({turns - 2: ["run 1", "take 1 0"], turns - 1: ["run 1"]})
+    lines = [line for turn in range(turns) for line in (f"turn {turn}", *moves.get(turn, ["run 0"]))]
+    (room / "long").write_text("".join(f"{line}\n" for line in ["journal 1", "instance a", *lines, f"end {turns}"]))
+    (room / "late").write_text(f"#1 late\nturns {turns}\na : A @\nstack 0 waits a\nstack 1 ready\n")
+    page = shown([room / "long", room / "late"])
     told = not isinstance(page, tuple) and "The run has 20,005 turns, and the first 20,000 of them are drawn" in page and "papyrus hold 20000" in page
     tally.note("" if told else "a long run isn't told")
     if told:
         picture = picture_files.Picture(page)
-        lengths = [row.lanes[0][0].length for row in picture.of_kind("stack")]
-        tally.note("" if (picture.turns, lengths, picture.wrong) == (20_000, [80_000, 80_000], []) else f"a long run has bars of {lengths}")
-        tally.note("" if picture.cells[5] == f"{turns:,}" else "the table of a long run isn't that of all turns")
+        bars = [[(bar.kind.split()[0], bar.begin, bar.length) for bar in row.bars() if bar.kind != "act"] for row in picture.of_kind("stack")]
+        wanted = [
+            [("holds", 0, 23), ("waits", 23, 5), ("holds", 28, 79_972)],
+            [("waits", 0, 24), ("holds", 24, 3), ("waits", 27, 79_973)],
+        ]
+        tally.note("" if (picture.turns, bars, picture.wrong) == (20_000, wanted, []) else f"a long run has the bars {bars}")
+        tally.note("" if picture.cells[5] == f"{6 + 2 + turns - 2 - 6 + 3:,}" else f"the table of a long run isn't that of all turns: {picture.cells}")
 
 
 def check_words(tally, room):

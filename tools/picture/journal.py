@@ -1,5 +1,6 @@
 """Reads a journal by the rules J1 and J2, a line at a time, as the program's command `waits` does."""
 import collections
+import functools
 import heapq
 import io
 import re
@@ -12,6 +13,8 @@ INSTANCE = re.compile(rb"[A-Za-z0-9_]{1,64}")
 # How many numbers stand behind each word.
 NUMBERS = {"turn": 1, "end": 1, "run": 1, "idle": 0, "free": 1, "leave": 1, "done": 1, "join": 2, "take": 2, "release": 2, "sleep": 2}
 OF_INSTANCES = {"join", "take", "release"}
+
+ON = {word: f"on_{word}" for word in ("journal", "instance", *NUMBERS)}
 
 # A line that was read: its turn, whether it stands behind the turn's `run`, its word and its numbers.
 Line = collections.namedtuple("Line", "turn acted word numbers")
@@ -33,18 +36,20 @@ class BadMove(Exception):
     """A line breaks J2."""
 
 
+# Most lines of a long journal stand in it many times.
+@functools.lru_cache(maxsize=1 << 15)
 def parsed(text):
-    """The word of a line and what stands behind it: a name of bytes or a list of numbers."""
+    """The word of a line and what stands behind it: a name of bytes, or numbers."""
     first, *rest = text.split(b" ")
     word = first.decode("ascii", "replace")
     if word == "journal" and rest == [b"1"]:
-        return word, []
+        return word, ()
     if word == "instance" and len(rest) == 1 and INSTANCE.fullmatch(rest[0]):
-        return word, rest
+        return word, tuple(rest)
     if NUMBERS.get(word) != len(rest) or not all(map(NUMBER.fullmatch, rest)):
         raise BadLine
-    numbers = [int(digits) for digits in rest]
-    if any(number > LARGEST for number in numbers):
+    numbers = tuple(map(int, rest))
+    if max(numbers, default=0) > LARGEST:
         raise BadLine
     return word, numbers
 
@@ -88,7 +93,7 @@ class Standing:
         if word == "take":
             self.take(just_ran, *numbers)
         else:
-            getattr(self, f"on_{word}")(*numbers)
+            getattr(self, ON[word])(*numbers)
 
     def place(self, stack):
         return self.places[stack] if stack < len(self.places) else ("new", None)

@@ -8,6 +8,8 @@ HERE = pathlib.Path(__file__).resolve().parent
 QUARTERS = bars.QUARTERS
 # How wide a turn is at first, in pixels: the whole run where it fits, within these.
 NARROWEST, WIDEST, ROOM = 10, 84, 1000
+# What may stand behind the last turn, in pixels.
+RIM = 48
 LEGEND = (
     ("holds", "a stack holds an instance, in its colour and with its name"),
     ("waits", "it waits for that instance"),
@@ -60,8 +62,9 @@ def cut_note(recorder):
         return ""
     shown = recorder.shown()
     return (
-        f'<p class="note">The run has {words.turns(recorder.turns)}, and the first {shown:,} of them are drawn; the tables below tell of all. To come nearer to a later place, '
-        f"<code>papyrus hold {shown} SCENE HELD PEX..</code> holds the run there in a file, and <code>papyrus resume TURNS HELD</code> goes on from it and reports.</p>"
+        f'<p class="note">The run has {words.turns(recorder.turns)}, and the first {shown:,} of them are drawn; the tables below tell of all. '
+        f"To come nearer to a later place, <code>papyrus hold {shown} SCENE HELD PEX..</code> holds the run there in a file, "
+        "and <code>papyrus resume TURNS HELD</code> goes on from it and reports.</p>"
     )
 
 
@@ -71,10 +74,9 @@ def look_here(picture, names):
         return NO_OVERWRITE if picture.reports.wanted >= set(range(picture.recorder.turns + 1)) else ""
     first = picture.overwrites[: bars.LONGEST]
     rest = len(picture.overwrites) - len(first)
-    lines = [
-        f'<li>{escaped(words.of_overwrite(over, names[over.instance]))} <a href="#over-{over.instance}-{escaped(over.name)}-{over.change.turn}">Show turn {over.change.turn}</a></li>'
-        for over in first
-    ]
+    texts = [escaped(words.of_overwrite(over, names[over.instance])) for over in first]
+    links = [f'<a href="#{picture.anchor_of(over)}">Show turn {over.change.turn}</a>' for over in first]
+    lines = [f"<li>{text} {link}</li>" for text, link in zip(texts, links)]
     more = f"<li>and {rest} more</li>" if rest else ""
     return (
         '<section class="look"><h2>Look here: an update may be lost</h2>'
@@ -85,9 +87,8 @@ def look_here(picture, names):
 def waits_table(recorder, names):
     sums = recorder.sums()
     order = sorted(range(len(names)), key=lambda at: (-sums[at].waited, at))
-    lines = [
-        f'<tr><td><a href="#instance-{at}">{escaped(names[at])}</a></td><td>{sums[at].waited:,}</td><td>{sums[at].takes:,}</td><td>{sums[at].most:,}</td></tr>' for at in order
-    ]
+    cells = [(f'<a href="#instance-{at}">{escaped(names[at])}</a>', *(f"{number:,}" for number in sums[at])) for at in order]
+    lines = ["".join(["<tr>", *(f"<td>{cell}</td>" for cell in row), "</tr>"]) for row in cells]
     head = "<tr><th>instance</th><th>turns of waiting</th><th>times taken</th><th>most at once</th></tr>"
     return f'<div><h2>Waits for instances</h2><table id="waits">{head}{"".join(lines)}</table></div>'
 
@@ -111,16 +112,17 @@ def chart(recorder, picture, names, width):
     shown = picture.shown
     stacks = "".join(map(picture.stack_row, range(len(recorder.stacks))))
     instances = "".join(map(picture.instance_row, range(len(names))))
-    rim = 16 if any(one.done is not None for one in recorder.stacks) or picture.printed else 1
+    rim = RIM if any(one.done is not None for one in recorder.stacks) or picture.printed else 1
     head = f'<div class="row head"><div class="name">turn</div><div class="lanes"><div class="lane">{ruler(shown, width)}</div></div></div>\n'
     return (
-        f'<div class="chart" tabindex="0" role="region" aria-label="The run, turn by turn"><div class="sheet" style="--t:{shown};--q:{width / QUARTERS:g}px;--rim:{rim * 3}px">\n'
+        '<div class="chart" tabindex="0" role="region" aria-label="The run, turn by turn">'
+        f'<div class="sheet" style="--t:{shown};--q:{width / QUARTERS:g}px;--rim:{rim}px">\n'
         f'{head}{picture.turns_row()}{stacks}<div class="break"></div>\n{instances}{bands(picture)}</div></div>\n'
     )
 
 
 def page(title, recorder, names, statuses, reports):
-    """The lines of the HTML file."""
+    """The text of the HTML file."""
     width = min(max(ROOM // max(recorder.shown(), 1), NARROWEST), WIDEST)
     picture = rows.Rows(recorder, names, statuses, reports)
     style = (HERE / "page.css").read_text(encoding="utf-8") + colours(names)
@@ -131,9 +133,11 @@ def page(title, recorder, names, statuses, reports):
         f'<label>turn <input name="turn" type="number" min="0" max="{max(picture.shown - 1, 0)}" value="0"></label><button>go there</button></form>\n'
     )
     return (
-        f'<!doctype html>\n<html lang="en">\n<meta charset="utf-8">\n<meta name="viewport" content="width=device-width">\n<title>{escaped(title)}</title>\n'
-        f"<style>\n{style}\n</style>\n<noscript><style>.panel{{display:block}}.bar{{display:none}}</style></noscript>\n"
-        f"<h1>{escaped(title)}</h1>\n<p>{escaped(summary(recorder, names))}</p>\n{cut_note(recorder)}{look_here(picture, names)}{legend(recorder, picture.overwrites)}{tools}"
-        f'{chart(recorder, picture, names, width)}<output class="read">Point at a bar, and it is told here. A name opens what there is of its row.</output>\n'
+        '<!doctype html>\n<html lang="en">\n<meta charset="utf-8">\n<meta name="viewport" content="width=device-width">\n'
+        f"<title>{escaped(title)}</title>\n<style>\n{style}\n</style>\n"
+        "<noscript><style>.panel{display:block}.bar{display:none}</style></noscript>\n"
+        f"<h1>{escaped(title)}</h1>\n<p>{escaped(summary(recorder, names))}</p>\n"
+        f"{cut_note(recorder)}{look_here(picture, names)}{legend(recorder, picture.overwrites)}{tools}{chart(recorder, picture, names, width)}"
+        '<output class="read">Point at a bar, and it is told here. A name opens what there is of its row.</output>\n'
         f'<div class="tables">{waits_table(recorder, names)}{longest_waits(recorder, names)}</div>\n<script>\n{script}</script>\n</html>\n'
     )

@@ -1,8 +1,9 @@
 """Reads reports of a run, and tells whether they are those of a journal."""
+import bisect
 import collections
 import re
 
-INSTANCE = re.compile(r"([A-Za-z0-9_]+) : (\S+) @(.*)")
+INSTANCE = re.compile(r"([A-Za-z0-9_]+) : (.*?) @(.*)")
 STATUS = re.compile(r"stack (\d+) (done|ready|waits [A-Za-z0-9_]+|asleep \d+)")
 
 # What a stack printed, as a trace or a fault, and the turns in which it may have done so.
@@ -78,18 +79,19 @@ class Reports:
         return self.all[-1] if self.all and self.all[-1].turns == turns else None
 
     def printed(self, runs):
-        """What was printed, in its order. A stack prints in its own turns alone."""
+        """What was printed, in its order. A stack prints in its own turns alone. Behind the turns that are drawn none are known."""
+        own = {}
+        for turn, stack in enumerate(runs):
+            own.setdefault(stack, []).append(turn)
         before, count, found = 0, 0, []
         for report in self.all:
-            own = {}
             for line in report.printed[count:]:
-                form = re.match(r"[#!](\d+) (.*)", line)
-                if not form:
-                    continue
-                stack = int(form[1])
-                if stack not in own:
-                    own[stack] = [turn for turn in range(before, min(report.turns, len(runs))) if runs[turn] == stack]
-                found.append(Printed(stack, line[0] == "!", form[2], own[stack]))
+                form = re.fullmatch(r"[#!](\d+) (.*)", line)
+                if form:
+                    stack = int(form[1])
+                    turns = own.get(stack, []) if report.turns <= len(runs) else []
+                    turns = turns[bisect.bisect_left(turns, before) : bisect.bisect_left(turns, report.turns)]
+                    found.append(Printed(stack, line[0] == "!", form[2], turns))
             before, count = report.turns, len(report.printed)
         return found
 

@@ -14,10 +14,11 @@ def escaped(text):
     return html.escape(text, quote=True)
 
 
-def bar(kind, begin, length, title, text="", anchor=""):
-    """A bar of a lane. Where its text doesn't fit, the text isn't shown."""
+def bar(kind, begin, length, title, text="", anchor="", height=None):
+    """A bar of a lane, of which it may have a part of the height. Where its text doesn't fit, the text isn't shown."""
+    style = f"--a:{begin};--n:{length}" + (f";--k:{height:.3g}" if height is not None else "")
     place = f' id="{anchor}"' if anchor else ""
-    return f'<i class="{kind}" style="--a:{begin};--n:{length}"{place} role="img" title="{escaped(title)}">{escaped(text)}</i>'
+    return f'<i class="{kind}" style="{style}"{place} role="img" title="{escaped(title)}">{escaped(text)}</i>'
 
 
 def row(kind, name, lanes, panel, anchor, heading=""):
@@ -49,16 +50,23 @@ class Rows:
         self.shown = recorder.shown()
         self.held_by = recorder.held_by()
         self.turn_bars = recorder.turn_bars()
-        self.printed = reports.printed(recorder.runs)
+        self.printed = {}
+        for one in reports.printed(recorder.runs):
+            self.printed.setdefault(one.stack, []).append(one)
         self.last = reports.last(recorder.turns)
         self.told = range(len(names)) if reports.all else []
         self.changes = {instance: reports.changes(instance, recorder.runs) for instance in self.told}
-        self.overwrites = [
-            over for instance in self.told for over in report.overwrites(instance, self.changes[instance], self.held_by[instance], QUARTERS)
-        ]
+        self.overwrites = []
+        for instance in self.told:
+            self.overwrites += report.overwrites(instance, self.changes[instance], self.held_by[instance], QUARTERS)
+        self.overwrites.sort(key=lambda over: over.change.turn)
         self.acts = {}
         for stack, first, count in self.turn_bars:
             self.acts.setdefault(stack, []).append((first, count))
+
+    def anchor_of(self, over):
+        """The name of the place of an overwritten change."""
+        return f"over-{over.instance}-{list(self.changes[over.instance]).index(over.name)}-{over.change.turn}"
 
     def turns_row(self):
         """Whose each turn is."""
@@ -77,7 +85,7 @@ class Rows:
         if gathered.done is not None and gathered.done < self.shown * QUARTERS:
             found.append(bar("done", gathered.done, 0, f"stack {stack} is done in turn {gathered.done // QUARTERS}", "done"))
             titles.append(f"stack {stack} is done in turn {gathered.done // QUARTERS}")
-        printed = [one for one in self.printed if one.stack == stack]
+        printed = self.printed.get(stack, [])
         lanes = [("lane", "".join(found)), *self.print_lane(printed)]
         summary = f"<p>{escaped(words.summary_of_stack(stack, gathered.bars, self.statuses[stack]))}</p>"
         panel = summary + items([printed_line(one) for one in printed], "ul") + sentences(titles)
@@ -85,7 +93,8 @@ class Rows:
 
     def stack_bar(self, one, title):
         kind = f"{one.kind} c{one.value}" if one.kind in ("holds", "waits") else one.kind
-        text = {"holds": lambda: self.names[one.value], "waits": lambda: f"waits for\xa0{self.names[one.value]}", "free": str}.get(one.kind, lambda: one.kind)()
+        text = {"asleep": "asleep", "free": ""}.get(one.kind) if kind == one.kind else self.names[one.value]
+        text = f"waits for\xa0{text}" if one.kind == "waits" else text
         anchor = f"wait-{one.stack}-{one.since}" if one.kind == "waits" else ""
         return bar(kind, one.begin, one.end - one.begin, title, text, anchor)
 
@@ -111,18 +120,20 @@ class Rows:
         lanes = [("lane", "".join(held)), ("lane crowds", "".join(crowds))]
         titles = [words.holds(one, self.names) for one in self.held_by[instance]]
         heading = f"{words.turns(sums.waited)} of waiting"
-        return row("instance", name, lanes, self.instance_panel(instance) + sentences(titles), f"instance-{instance}", heading) + self.value_rows(instance)
+        panel = self.instance_panel(instance) + sentences(titles)
+        return row("instance", name, lanes, panel, f"instance-{instance}", heading) + self.value_rows(instance)
 
     def held_bar(self, one):
         return bar(f"holds by c{one.value}", one.begin, one.end - one.begin, words.holds(one, self.names), f"stack {one.stack}")
 
     def crowd_bar(self, instance, begin, end, number, most):
         title = words.of_crowd(number, self.names[instance], begin // QUARTERS, (end - 1) // QUARTERS)
-        return bar(f"crowd c{instance}", begin, end - begin, title, f"{number} {'waits' if number == 1 else 'wait'}").replace("--a", f"--k:{number / max(most, 1):.3g};--a", 1)
+        text = f"{number} {'waits' if number == 1 else 'wait'}"
+        return bar(f"crowd c{instance}", begin, end - begin, title, text, height=number / max(most, 1))
 
     def instance_panel(self, instance):
         sums = self.recorder.sums()[instance]
-        told = f"<p>Taken {sums.takes:,} {'time' if sums.takes == 1 else 'times'}; stacks waited {words.turns(sums.waited)} for it, at most {sums.most:,} at once.</p>"
+        told = f"<p>Taken {words.times(sums.takes)}; stacks waited {words.turns(sums.waited)} for it, at most {sums.most:,} at once.</p>"
         if not self.last:
             return told
         values = self.last.values[instance]
@@ -134,7 +145,8 @@ class Rows:
         """A row for each property whose value is seen to change."""
         if instance not in self.told:
             return ""
-        return "".join(self.value_row(instance, name, known) for name, known in self.reports.values(instance).items() if len({value for _, _, value in known}) > 1)
+        known = self.reports.values(instance)
+        return "".join(self.value_row(instance, name, known[name]) for name in known if len({value for _, _, value in known[name]}) > 1)
 
     def value_row(self, instance, name, known):
         overs = {over.change.turn: over for over in self.overwrites if (over.instance, over.name) == (instance, name)}
@@ -158,8 +170,8 @@ class Rows:
         title += "; this may lose an update" if over else ""
         kind = "known over" if over else "known changed" if change else "known"
         count = min(count, self.shown - first)
-        anchor = f"over-{instance}-{name}-{first}" if over else ""
-        return bar(kind, first * QUARTERS, count * QUARTERS, title, f"{'! ' if over else ''}{value}", escaped(anchor))
+        anchor = self.anchor_of(over) if over else ""
+        return bar(kind, first * QUARTERS, count * QUARTERS, title, f"{'! ' if over else ''}{value}", anchor)
 
 
 def printed_text(one):

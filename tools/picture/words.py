@@ -9,6 +9,10 @@ def turns(number):
     return counted(number, "turn")
 
 
+def times(number):
+    return "once" if number == 1 else f"{number:,} times"
+
+
 def listed(things):
     """These things in a row, with `and` before the last."""
     return " and ".join([", ".join(things[:-1]), things[-1]] if len(things) > 1 else things)
@@ -66,8 +70,8 @@ def of_overwrite(over, instance):
     """An overwritten change, as a sentence with the reason to look at it."""
     change, other = over.change, over.other
     return (
-        f"In turn {change.turn} stack {change.stack} changes {over.name} of {instance} from {change.old} to {change.new}. It had let {instance} go in turn {over.left}, "
-        f"and in turn {other.turn} stack {other.stack} changed {over.name} from {other.old} to {other.new}."
+        f"In turn {change.turn} stack {change.stack} changes {over.name} of {instance} from {change.old} to {change.new}. "
+        f"It had let {instance} go in turn {over.left}, and in turn {other.turn} stack {other.stack} changed {over.name} from {other.old} to {other.new}."
     )
 
 
@@ -78,11 +82,12 @@ def of_wait(wait, names):
 
 def summary_of_stack(stack, bars, status):
     """What a stack did in the turns that are drawn."""
-    held = [bar for bar in bars if bar.kind == "holds"]
+    held = sum(bar.kind == "holds" for bar in bars)
     waited = sum(bar.waited for bar in bars if bar.kind == "waits")
-    slept = [bar for bar in bars if bar.kind == "asleep"]
-    parts = [f"took instances {len(held):,} {'time' if len(held) == 1 else 'times'}", f"waited {turns(waited)}", f"slept {len(slept):,} {'time' if len(slept) == 1 else 'times'}"]
-    return f"Stack {stack} {listed(parts)}. At the end it {at_end(status)}."
+    slept = sum(bar.kind == "asleep" for bar in bars)
+    parts = [f"took instances {times(held)}"] * (held > 0) + [f"waited {turns(waited)}"] * (waited > 0) + [f"slept {times(slept)}"] * (slept > 0)
+    did = f"Stack {stack} {listed(parts)}. " if parts else ""
+    return f"{did}At the end of the run it {at_end(status)}."
 
 
 def at_end(status):
