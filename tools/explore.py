@@ -77,7 +77,10 @@ class Teller:
         return name
 
     def outcome(self, number, head, lines, path):
-        print(f"\nOutcome {number}: {head}. {self.scene_of(path, number)} shows it in {count(len(path.order), 'turn')}: {order_text(path.order)}")
+        shown = f"{self.scene_of(path, number)} shows it in {count(len(path.order), 'turn')}: {order_text(path.order)}"
+        if self.orders.any_start:
+            shown += "; " + ", ".join(f"call {call} begins at turn {turn}" for call, turn in sorted(path.begun.items()))
+        print(f"\nOutcome {number}: {head}. {shown}")
         for line in lines[:MOST_LINES]:
             print("  " + line.decode(errors="backslashreplace").rstrip("\n"))
         if len(lines) > MOST_LINES:
