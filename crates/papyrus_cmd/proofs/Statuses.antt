@@ -1,5 +1,5 @@
 -- What the status of the top call says of how its command ended.
-use Rattle.std.proofs.Common.{arith, ◌≡◌, ◌≢◌, ◌⊎◌, ◌∙◌, sym, inl, inr, ℕ, List, [], drop}
+use Rattle.std.proofs.Common.{arith, ◌<◌, ◌≡◌, ◌≢◌, ◌⊎◌, ◌∙◌, sym, inl, inr, ℕ, List, [], drop}
 use Rattle.std.specs.Prelude.{false, Option, None, Some, Ok, Err}
 use Rattle.papy_io.specs.declared.fault.IoFault.TheVariants as io
 use Rattle.papy_io.specs.Count.{HasRisen}
@@ -8,12 +8,12 @@ use Rattle.papy_io.specs.Sink.{Appended}
 use Rattle.papyrus_cmd.specs.declared.command.Command.{Command}
 use Rattle.papyrus_cmd.specs.declared.command.Command.TheVariants as command
 use Rattle.papyrus_cmd.specs.declared.command.FileCommand.{FileCommand}
-use Rattle.papyrus_cmd.specs.declared.command.FileCommand.TheVariants.{Compile, Check, Show, Asm, Upgrade}
+use Rattle.papyrus_cmd.specs.declared.command.FileCommand.TheVariants.{Compile, Check, Show, Asm, Upgrade, Waits}
 use Rattle.command_files.specs.declared.ending.Ending.{Ending}
 use Rattle.command_files.specs.declared.ending.Ending.TheVariants.{Done, OutOfMemory, Usage, ReadFault, WriteFault, Refused, NotBuilt}
 use Rattle.command_files.specs.declared.refusal.Place.{Place}
 use Rattle.command_files.specs.declared.refusal.Rule.{Rule}
-use Rattle.command_files.specs.declared.refusal.Rule.TheVariants.{Pex, Listing, Lexical, Grammar, Link, Typing, Scene, Verification}
+use Rattle.command_files.specs.declared.refusal.Rule.TheVariants.{Pex, Listing, Lexical, Grammar, Link, Typing, Scene, Verification, Held, Journal}
 use Rattle.command_files.specs.Outputs.{Outputs}
 use Rattle.papyrus_cmd.specs.Answers.{Answers}
 use Rattle.papyrus_cmd.specs.Asm.{AsmLeaves, MayWrite}
@@ -48,20 +48,29 @@ answered words holds left NotBuilt status out out' notes notes' f f' (same, ends
 answered words holds left (ReadFault word) status out out' notes notes' f f' same (inl told) leaves answer =
     absurd (answer.was_read (noted _ _ status notes notes' f f' told answer.memory answer.was_written).0)
 answered words holds left (ReadFault word) status out out' notes notes' f f' same (inr (is, tried)) leaves answer = absurd (answer.memory is)
-answered words holds left (Refused word place rule) status out out' notes notes' f f' (same, ends) (inl told) leaves answer =
+answered words holds left (Refused word place rule) status out out' notes notes' f f' (inl (same, ends)) (inl told) leaves answer =
     let line = noted _ _ status notes notes' f f' told answer.memory answer.was_written in
     record { ending = Refused word place rule; text = []; status_is = line.0; out = appended_nothing out out' same; notes = line.1; answers = ends; files = leaves }
-answered words holds left (Refused word place rule) status out out' notes notes' f f' (same, ends) (inr (is, tried)) leaves answer = absurd (answer.memory is)
+answered words holds left (Refused word place rule) status out out' notes notes' f f' (inr late) (inl told) leaves answer =
+    let line = noted _ _ status notes notes' f f' told answer.memory answer.was_written in
+    record { ending = Refused word place rule; text = late.text; status_is = line.0; out = late.appended; notes = line.1; answers = late.ends; files = leaves }
+answered words holds left (Refused word place rule) status out out' notes notes' f f' outputs (inr (is, tried)) leaves answer = absurd (answer.memory is)
+
+-- the statuses of rules stand behind those of memory, words, reads and writes
+above-four : (rule : Rule) → 4 < rule_status rule
+above-four (Pex rule) = omega arith
+above-four (Listing rule) = omega arith
+above-four (Lexical rule) = omega arith
+above-four (Grammar rule) = omega arith
+above-four (Link rule) = omega arith
+above-four (Typing rule) = omega arith
+above-four (Scene rule) = omega arith
+above-four (Verification rule) = omega arith
+above-four (Held rule) = omega arith
+above-four (Journal rule) = omega arith
 
 not-three : (rule : Rule) → rule_status rule ≢ 3
-not-three (Pex rule) = λ is. absurd (omega arith)
-not-three (Listing rule) = λ is. absurd (omega arith)
-not-three (Lexical rule) = λ is. absurd (omega arith)
-not-three (Grammar rule) = λ is. absurd (omega arith)
-not-three (Link rule) = λ is. absurd (omega arith)
-not-three (Typing rule) = λ is. absurd (omega arith)
-not-three (Scene rule) = λ is. absurd (omega arith)
-not-three (Verification rule) = λ is. absurd (omega arith)
+not-three rule = λ is. absurd (let above = above-four rule in omega arith)
 
 -- a status that tells of a line
 told-wanted : (line : List ℕ) (wanted status : ℕ) (before now : Option (List ℕ)) (f f' : ℕ) → Noted line wanted status before now f f' → status ≡ 3 → (wanted ≡ 3) × Appended line before now
@@ -106,14 +115,7 @@ all_read words (ReadFault word) status notes notes' f f' r r' risen (inl told) a
 all_read words (ReadFault word) status notes notes' f f' r r' risen (inr (is, tried)) answer = absurd (answer.memory is)
 
 not-zero : (rule : Rule) → rule_status rule ≢ 0
-not-zero (Pex rule) = λ is. absurd (omega arith)
-not-zero (Listing rule) = λ is. absurd (omega arith)
-not-zero (Lexical rule) = λ is. absurd (omega arith)
-not-zero (Grammar rule) = λ is. absurd (omega arith)
-not-zero (Link rule) = λ is. absurd (omega arith)
-not-zero (Typing rule) = λ is. absurd (omega arith)
-not-zero (Scene rule) = λ is. absurd (omega arith)
-not-zero (Verification rule) = λ is. absurd (omega arith)
+not-zero rule = λ is. absurd (let above = above-four rule in omega arith)
 
 -- a status that tells that all went well
 well-wanted : (line : List ℕ) (wanted status : ℕ) (before now : Option (List ℕ)) (f f' : ℕ) → Noted line wanted status before now f f' → status ≡ 0 → wanted ≡ 0
@@ -161,6 +163,7 @@ unread-work Compile names words ending status old new notes notes' f f' told thr
     unread-left (λ e. CompileLeaves names e old new) (new ≡ old) (λ word same. same) (λ word place rule same. same) (λ none. absurd none) (λ same. same) words ending status notes notes' f f' told three leaves
 unread-work Check names words ending status old new notes notes' f f' told three leaves = leaves
 unread-work Show names words ending status old new notes notes' f f' told three leaves = leaves
+unread-work Waits names words ending status old new notes notes' f f' told three leaves = leaves
 
 unread-by : (found : Option Command) (names words : List (List ℕ)) (ending : Ending) (status : ℕ) (old new : Option Files) (notes notes' : Option (List ℕ)) (f f' : ℕ) → Told words ending status notes notes' f f' → status ≡ 3 →
     CommandLeaves found names ending old new → new ≡ old
@@ -179,6 +182,7 @@ unread_kept words ending status old new notes notes' f f' told three left = unre
 work-kept : (work : FileCommand) (names : List (List ℕ)) (ending : Ending) (old new : Option Files) → FileCommandLeaves work names ending old new → file_command_writes work ≡ false → new ≡ old
 work-kept Check names ending old new leaves none = leaves
 work-kept Show names ending old new leaves none = leaves
+work-kept Waits names ending old new leaves none = leaves
 work-kept Asm names ending old new leaves none = absurd (cc)
 work-kept Upgrade names ending old new leaves none = absurd (cc)
 work-kept Compile names ending old new leaves none = absurd (cc)
@@ -215,6 +219,7 @@ cut-work Compile names words ending status old new notes notes' f f' told cut le
     cut-left (λ e. CompileLeaves names e old new) (MayCompile names old new) (λ may. may) (λ may. may) (λ none. absurd none) (λ same. inl same) (λ word same. inl same) (λ word place rule same. inl same) words ending status notes notes' f f' told cut leaves
 cut-work Check names words ending status old new notes notes' f f' told cut leaves = leaves
 cut-work Show names words ending status old new notes notes' f f' told cut leaves = leaves
+cut-work Waits names words ending status old new notes notes' f f' told cut leaves = leaves
 
 cut-by : (found : Option Command) (names words : List (List ℕ)) (ending : Ending) (status : ℕ) (old new : Option Files) (notes notes' : Option (List ℕ)) (f f' : ℕ) → Told words ending status notes notes' f f' → WasCut status →
     CommandLeaves found names ending old new → CommandCut found names old new
@@ -238,14 +243,7 @@ noted-count line wanted status before now f f' (Err io.Failed, is, writes, count
 noted-count line wanted status before now f f' (Err io.OutOfMemory, is, writes, counts) other = (λ four. absurd (omega arith), λ one four. absurd (one is))
 
 not-four : (rule : Rule) → rule_status rule ≢ 4
-not-four (Pex rule) = λ is. absurd (omega arith)
-not-four (Listing rule) = λ is. absurd (omega arith)
-not-four (Lexical rule) = λ is. absurd (omega arith)
-not-four (Grammar rule) = λ is. absurd (omega arith)
-not-four (Link rule) = λ is. absurd (omega arith)
-not-four (Typing rule) = λ is. absurd (omega arith)
-not-four (Scene rule) = λ is. absurd (omega arith)
-not-four (Verification rule) = λ is. absurd (omega arith)
+not-four rule = λ is. absurd (let above = above-four rule in omega arith)
 
 abbrev Risen : ℕ → ℕ → ℕ → ℕ → ℕ → ℕ → Type 0
 Risen s s' f f' d d' = HasRisen s s' ⊎ HasRisen f f' ⊎ HasRisen d d'

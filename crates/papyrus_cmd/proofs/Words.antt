@@ -10,7 +10,7 @@ use Rattle.std.proofs.lemmas.List.{length-map}
 use Rattle.papyrus_cmd.specs.declared.command.Command.{Command}
 use Rattle.papyrus_cmd.specs.declared.command.Command.TheVariants.{Help, Version, Files, Play}
 use Rattle.papyrus_cmd.specs.declared.command.FileCommand.{FileCommand}
-use Rattle.papyrus_cmd.specs.declared.command.FileCommand.TheVariants.{Compile, Check, Show, Asm, Upgrade}
+use Rattle.papyrus_cmd.specs.declared.command.FileCommand.TheVariants.{Compile, Check, Show, Asm, Upgrade, Waits}
 use Rattle.papyrus_cmd.specs.declared.command.PlayCommand.{PlayCommand}
 use Rattle.papyrus_cmd.specs.declared.command.PlayCommand.TheVariants.{Once, Run, Exec, Sample}
 use Rattle.command_files.specs.declared.ending.Ending.{Ending}
@@ -112,23 +112,25 @@ play-suits name words command is =
     (λ b. behind-file are_pex_words pex-words words (both-true (bytes_eq name (codes "exec")) (stand_behind_file are_pex_words words) b))
     (sample-words words command (length words)) is
 
-files-found : (b1 b2 b3 b4 b5 : Bool) (command : FileCommand) (count : ℕ) → (b1 ≡ true → SuitsFiles Compile count) → (b2 ≡ true → SuitsFiles Check count) → (b3 ≡ true → SuitsFiles Show count) → (b4 ≡ true → SuitsFiles Asm count) → (b5 ≡ true → SuitsFiles Upgrade count) →
-    (if b1 then Some Compile else if b2 then Some Check else if b3 then Some Show else if b4 then Some Asm else if b5 then Some Upgrade else None) ≡ Some command → SuitsFiles command count
-files-found true b2 b3 b4 b5 command count compile check show asm upgrade is = let e : Compile ≡ command = cc in subst (λ c. SuitsFiles c count) e (compile refl)
-files-found false true b3 b4 b5 command count compile check show asm upgrade is = let e : Check ≡ command = cc in subst (λ c. SuitsFiles c count) e (check refl)
-files-found false false true b4 b5 command count compile check show asm upgrade is = let e : Show ≡ command = cc in subst (λ c. SuitsFiles c count) e (show refl)
-files-found false false false true b5 command count compile check show asm upgrade is = let e : Asm ≡ command = cc in subst (λ c. SuitsFiles c count) e (asm refl)
-files-found false false false false true command count compile check show asm upgrade is = let e : Upgrade ≡ command = cc in subst (λ c. SuitsFiles c count) e (upgrade refl)
-files-found false false false false false command count compile check show asm upgrade is = absurd (cc)
+files-found : (b1 b2 b3 b4 b5 b6 : Bool) (command : FileCommand) (count : ℕ) → (b1 ≡ true → SuitsFiles Compile count) → (b2 ≡ true → SuitsFiles Check count) → (b3 ≡ true → SuitsFiles Show count) → (b4 ≡ true → SuitsFiles Asm count) → (b5 ≡ true → SuitsFiles Upgrade count) → (b6 ≡ true → SuitsFiles Waits count) →
+    (if b1 then Some Compile else if b2 then Some Check else if b3 then Some Show else if b4 then Some Asm else if b5 then Some Upgrade else if b6 then Some Waits else None) ≡ Some command → SuitsFiles command count
+files-found true b2 b3 b4 b5 b6 command count compile check show asm upgrade waits is = let e : Compile ≡ command = cc in subst (λ c. SuitsFiles c count) e (compile refl)
+files-found false true b3 b4 b5 b6 command count compile check show asm upgrade waits is = let e : Check ≡ command = cc in subst (λ c. SuitsFiles c count) e (check refl)
+files-found false false true b4 b5 b6 command count compile check show asm upgrade waits is = let e : Show ≡ command = cc in subst (λ c. SuitsFiles c count) e (show refl)
+files-found false false false true b5 b6 command count compile check show asm upgrade waits is = let e : Asm ≡ command = cc in subst (λ c. SuitsFiles c count) e (asm refl)
+files-found false false false false true b6 command count compile check show asm upgrade waits is = let e : Upgrade ≡ command = cc in subst (λ c. SuitsFiles c count) e (upgrade refl)
+files-found false false false false false true command count compile check show asm upgrade waits is = let e : Waits ≡ command = cc in subst (λ c. SuitsFiles c count) e (waits refl)
+files-found false false false false false false command count compile check show asm upgrade waits is = absurd (cc)
 
 files-suit : (name : List ℕ) (words : List (List ℕ)) (command : FileCommand) → file_command name words ≡ Some command → SuitsFiles command (length words)
 files-suit name words command is =
-    files-found (bytes_eq name (codes "compile") && are_script_words words) (bytes_eq name (codes "check") && are_file_words 1 words) (bytes_eq name (codes "show") && are_file_words 1 words) (bytes_eq name (codes "asm") && are_file_words 2 words) (bytes_eq name (codes "upgrade") && are_file_words 2 words) command (length words)
+    files-found (bytes_eq name (codes "compile") && are_script_words words) (bytes_eq name (codes "check") && are_file_words 1 words) (bytes_eq name (codes "show") && are_file_words 1 words) (bytes_eq name (codes "asm") && are_file_words 2 words) (bytes_eq name (codes "upgrade") && are_file_words 2 words) (bytes_eq name (codes "waits") && are_file_words 1 words) command (length words)
     (λ b. script-words words (both-true (bytes_eq name (codes "compile")) (are_script_words words) b))
     (λ b. file-words 1 words (both-true (bytes_eq name (codes "check")) (are_file_words 1 words) b))
     (λ b. file-words 1 words (both-true (bytes_eq name (codes "show")) (are_file_words 1 words) b))
     (λ b. file-words 2 words (both-true (bytes_eq name (codes "asm")) (are_file_words 2 words) b))
-    (λ b. file-words 2 words (both-true (bytes_eq name (codes "upgrade")) (are_file_words 2 words) b)) is
+    (λ b. file-words 2 words (both-true (bytes_eq name (codes "upgrade")) (are_file_words 2 words) b))
+    (λ b. file-words 1 words (both-true (bytes_eq name (codes "waits")) (are_file_words 1 words) b)) is
 
 either-play : (play : Option PlayCommand) (files : Option FileCommand) (command : PlayCommand) → either_command play files ≡ Some (Play command) → play ≡ Some command
 either-play (Some play) files command is = let e : play ≡ command = cc in ap Some e
@@ -223,6 +225,7 @@ used-first Check names = (length names, whole names)
 used-first Show names = (length names, whole names)
 used-first Asm names = (1, refl)
 used-first Upgrade names = (1, refl)
+used-first Waits names = (length names, whole names)
 
 pub play_misses : (words : List (String Global)) (command : PlayCommand) (ending : Ending) (missed : Option (List ℕ)) → command_of (map string_bytes words) ≡ Some (Play command) → MissesScript (files_played command (names_behind words)) ending missed → MissesWord (map string_bytes words) ending missed
 play_misses words command ending missed is misses =

@@ -5,7 +5,7 @@ use Rattle.std.specs.Str.{all_ascii_digits, bytes_eq}
 use Rattle.papyrus_cmd.specs.declared.command.Command.{Command}
 use Rattle.papyrus_cmd.specs.declared.command.Command.TheVariants.{Help, Version, Files, Play}
 use Rattle.papyrus_cmd.specs.declared.command.FileCommand.{FileCommand}
-use Rattle.papyrus_cmd.specs.declared.command.FileCommand.TheVariants.{Compile, Check, Show, Asm, Upgrade}
+use Rattle.papyrus_cmd.specs.declared.command.FileCommand.TheVariants.{Compile, Check, Show, Asm, Upgrade, Waits}
 use Rattle.papyrus_cmd.specs.declared.command.PlayCommand.{PlayCommand}
 use Rattle.papyrus_cmd.specs.declared.command.PlayCommand.TheVariants.{Once, Run, Exec, Sample}
 
@@ -79,6 +79,7 @@ file_command name words =
     else if bytes_eq name (codes "show") && are_file_words 1 words then Some Show
     else if bytes_eq name (codes "asm") && are_file_words 2 words then Some Asm
     else if bytes_eq name (codes "upgrade") && are_file_words 2 words then Some Upgrade
+    else if bytes_eq name (codes "waits") && are_file_words 1 words then Some Waits
     else None
 
 abbrev pub either_command : Option PlayCommand → Option FileCommand → Option Command
@@ -112,6 +113,7 @@ files_used Check names = names
 files_used Show names = names
 files_used Asm names = take 1 names
 files_used Upgrade names = take 1 names
+files_used Waits names = names
 
 -- the words that name a file which the command reads
 abbrev pub files_of : List (List ℕ) → Option Command → List (List ℕ)

@@ -1,7 +1,7 @@
 -- How many words a command may have behind it.
 use Rattle.std.specs.Prelude.{ℕ, ◌≤◌}
 use Rattle.papyrus_cmd.specs.declared.command.FileCommand.{FileCommand}
-use Rattle.papyrus_cmd.specs.declared.command.FileCommand.TheVariants.{Compile, Check, Show, Asm, Upgrade}
+use Rattle.papyrus_cmd.specs.declared.command.FileCommand.TheVariants.{Compile, Check, Show, Asm, Upgrade, Waits}
 use Rattle.papyrus_cmd.specs.declared.command.PlayCommand.{PlayCommand}
 use Rattle.papyrus_cmd.specs.declared.command.PlayCommand.TheVariants.{Once, Run, Exec, Sample}
 
@@ -16,6 +16,7 @@ SuitsFiles Check count = IsBetween 1 1 count
 SuitsFiles Show count = IsBetween 1 1 count
 SuitsFiles Asm count = IsBetween 2 2 count
 SuitsFiles Upgrade count = IsBetween 2 2 count
+SuitsFiles Waits count = IsBetween 1 1 count
 
 -- a scene stands before 1 to 256 scripts or compiled files; a sample has 1 to 200 workers
 abbrev pub SuitsPlay : PlayCommand → ℕ → Type 0

@@ -23,7 +23,7 @@ use Rattle.command_files.specs.Refusal.{rule_status}
 
 -- every status that there is
 abbrev pub IsStatus : ℕ → Type 0
-IsStatus status = (status ≡ 0) ⊎ (status ≡ 1) ⊎ (status ≡ 2) ⊎ (status ≡ 3) ⊎ (status ≡ 4) ⊎ (status ≡ 5) ⊎ (status ≡ 6) ⊎ (status ≡ 7) ⊎ (status ≡ 8) ⊎ (status ≡ 9) ⊎ (status ≡ 10)
+IsStatus status = (status ≡ 0) ⊎ (status ≡ 1) ⊎ (status ≡ 2) ⊎ (status ≡ 3) ⊎ (status ≡ 4) ⊎ (status ≡ 5) ⊎ (status ≡ 6) ⊎ (status ≡ 7) ⊎ (status ≡ 8) ⊎ (status ≡ 9) ⊎ (status ≡ 10) ⊎ (status ≡ 11) ⊎ (status ≡ 12)
 
 -- memory was found, and no device failed
 pub record IsAnswer (status : ℕ) : Type 0 where
@@ -40,6 +40,7 @@ abbrev pub FileCommandLeaves : FileCommand → List (List ℕ) → Ending → Op
 FileCommandLeaves files.Compile names ending holds left = CompileLeaves names ending holds left
 FileCommandLeaves files.Check names ending holds left = left ≡ holds
 FileCommandLeaves files.Show names ending holds left = left ≡ holds
+FileCommandLeaves files.Waits names ending holds left = left ≡ holds
 FileCommandLeaves files.Asm names ending holds left = AsmLeaves (word_at names 0) (word_at names 1) ending holds left
 FileCommandLeaves files.Upgrade names ending holds left = UpgradeLeaves (word_at names 1) ending holds left
 
@@ -61,6 +62,7 @@ FileCommandLists files.Compile names ending holds before now = Unit {0}
 FileCommandLists files.Check names ending holds before now = Unit {0}
 FileCommandLists files.Asm names ending holds before now = Unit {0}
 FileCommandLists files.Upgrade names ending holds before now = Unit {0}
+FileCommandLists files.Waits names ending holds before now = Unit {0}
 
 abbrev pub CommandLists : Option Command → List (List ℕ) → Ending → Option Files → Option (List ℕ) → Option (List ℕ) → Type 0
 CommandLists (Some (command.Files work)) names ending holds before now = FileCommandLists work names ending holds before now
@@ -77,6 +79,7 @@ abbrev pub FileCommandCut : FileCommand → List (List ℕ) → Option Files →
 FileCommandCut files.Compile names holds left = MayCompile names holds left
 FileCommandCut files.Check names holds left = left ≡ holds
 FileCommandCut files.Show names holds left = left ≡ holds
+FileCommandCut files.Waits names holds left = left ≡ holds
 FileCommandCut files.Asm names holds left = MayWrite (word_at names 0) (word_at names 1) holds left
 FileCommandCut files.Upgrade names holds left = MayUpgrade (word_at names 1) holds left
 
@@ -98,6 +101,7 @@ file_command_writes files.Check = false
 file_command_writes files.Show = false
 file_command_writes files.Asm = true
 file_command_writes files.Upgrade = true
+file_command_writes files.Waits = false
 
 abbrev pub writes_files : Option Command → Bool
 writes_files (Some (command.Files work)) = file_command_writes work

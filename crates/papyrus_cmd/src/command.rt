@@ -44,6 +44,8 @@ pub enum FileCommand {
     /// Writes a scene in the current version. The word after the first names the scene, and the next one
     /// the file.
     Upgrade,
+    /// Checks a journal, and counts for how many turns stacks waited. The word after the first names it.
+    Waits,
 }
 
 /// A command that runs scripts.
@@ -125,6 +127,8 @@ fn file_command(word: &String, rest: &[String]) -> Option<FileCommand>
         Some(FileCommand::Asm)
     } else if name == "upgrade" && are_file_words(2, rest) {
         Some(FileCommand::Upgrade)
+    } else if name == "waits" && are_file_words(1, rest) {
+        Some(FileCommand::Waits)
     } else {
         None
     }

@@ -18,6 +18,7 @@ use crate::compile::compile;
 use crate::help::{help, version};
 use crate::show::show;
 use crate::upgrade::upgrade;
+use crate::waits::waits;
 use command_files::Ending;
 use latent_natives::Device;
 use papy_io::{Desk, Sink};
@@ -60,6 +61,7 @@ fn use_files<D: Desk, S: Sink>(
         FileCommand::Show => show(alloc, files, desk, out),
         FileCommand::Asm => asm(alloc, files, desk),
         FileCommand::Upgrade => upgrade(alloc, files, desk),
+        FileCommand::Waits => waits(alloc, files, desk, out),
     }
 }
 

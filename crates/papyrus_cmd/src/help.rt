@@ -8,6 +8,7 @@ const HELP: &[u8] = b"papyrus: compiles Papyrus scripts and runs them under inst
   papyrus run SCENE SCRIPT..  runs scripts on a scene and prints a report
   papyrus compile SCRIPT..    writes the compiled files of scripts
   papyrus exec SCENE PEX..    runs compiled files on a scene and prints a report
+  papyrus waits FILE          checks a journal and prints how long stacks waited
   papyrus check PEX           tells whether a compiled file breaks a rule
   papyrus show PEX            prints the listing of a compiled file
   papyrus asm TEXT PEX        writes the compiled file of a listing
@@ -17,8 +18,8 @@ const HELP: &[u8] = b"papyrus: compiles Papyrus scripts and runs them under inst
   papyrus --version           prints the version
 
 A SCRIPT is a file whose name ends with .psc, a PEX a compiled file, a TEXT a
-listing, a SCENE a JSON file, and N a number from 1 to 200. The statuses and the
-lines on standard error are described in docs/commands.md.
+listing, a SCENE a JSON file, a FILE a journal, and N a number from 1 to 200. The
+statuses and the lines on standard error are described in docs/commands.md.
 ";
 
 const VERSION: &[u8] = b"papyrus 0.1.0\n";

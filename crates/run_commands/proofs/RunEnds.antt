@@ -140,7 +140,7 @@ play_outputs Ends tree most named holds OutOfMemory before now few run plays =
 play_outputs Ends tree most named holds WriteFault before now few run plays =
     (plays.bytes, plays.appended, told _ _ holds (λ files ends. part-of Ends most named files plays.bytes ends) run)
 play_outputs Ends tree most named holds (Refused word place rule) before now few run plays =
-    (plays.1, told _ _ holds (λ files ends. ends.refused word place rule plays.0) run)
+    inl (plays.1, told _ _ holds (λ files ends. ends.refused word place rule plays.0) run)
 play_outputs Ends tree most named holds NotBuilt before now few run plays = absurd plays
 play_outputs Ends tree most named holds Usage before now few run plays = absurd plays
 play_outputs Ends tree most named holds (ReadFault word) before now few run plays = absurd plays
