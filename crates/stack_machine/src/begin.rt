@@ -5,7 +5,7 @@ ghost use Rattle.std.specs.Option.{ForSome};
 ghost use Rattle.stack_machine.specs.Threads.{HasGrown};
 ghost use Rattle.stack_machine.specs.Choices.{chosen};
 
-use crate::frame::{Call, Frame, Way};
+use crate::frame::{Call, Frame, CallWay};
 use crate::plan::PlannedCall;
 use crate::setting::Setting;
 use crate::threads::Threads;
@@ -51,7 +51,7 @@ fn start(
     let arguments = copies(alloc, &call.arguments)?;
     let first = Frame::Pending(Call {
         instance: Some(call.instance),
-        way: Way::Method(planned.name.unwrap_or(0)),
+        way: CallWay::Method(planned.name.unwrap_or(0)),
         arguments,
     });
     threads.start(alloc, first)

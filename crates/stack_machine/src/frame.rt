@@ -5,7 +5,7 @@ use pex_verify::{MethodPlace, PropertyPlace};
 
 /// How a call names its function. Names stand as their numbers.
 #[derive(Clone, Copy, PartialEq, Eq)]
-pub enum Way {
+pub enum CallWay {
     /// A method, from the instance's script upward.
     Method(usize),
     /// A method, from the parent of the script in which the call stands.
@@ -23,7 +23,7 @@ pub enum Way {
 pub struct Call {
     /// None for a global function.
     pub instance: Option<u16>,
-    pub way: Way,
+    pub way: CallWay,
     /// By parameter.
     pub arguments: Vec<Value>,
 }

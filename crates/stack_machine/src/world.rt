@@ -8,7 +8,7 @@ ghost use Rattle.papy_io.specs.Sink.{AppendsSome};
 
 use crate::begin::{begin, choose};
 use crate::entry::{Found, look_up, open};
-use crate::frame::{Body, Call, Frame, Way};
+use crate::frame::{Body, Call, Frame, CallWay};
 use crate::natives::{Performed, perform};
 use crate::operands::Turn;
 use crate::run::{Ending, run_frame};
@@ -233,7 +233,7 @@ impl World {
             return Ok(false);
         };
         let value = match way {
-            Way::Set(_) => self.set_or_get(instance, script, variable, last)?,
+            CallWay::Set(_) => self.set_or_get(instance, script, variable, last)?,
             _ => {
                 drop(last);
                 self.store.variable(instance, script, variable)?
