@@ -39,9 +39,9 @@ pub struct Machine {
 impl Model for Machine {
     ghost use Rattle.std.specs.Prelude.{◌<◌, ◌≤◌, vec_len};
     ghost use Rattle.stack_machine.specs.Casts.{IsTextOf};
-    ghost use Rattle.stack_machine.specs.Machine.{MachineState};
+    ghost use Rattle.stack_machine.specs.Machine.{MachineView};
 
-    ghost Value = { MachineState };
+    ghost Value = { MachineView };
 
     ghost view = { λ m. record { outline = m.setting.loaded.outline; scene = m.setting.scene; turns = m.turns; started = m.world.threads.started; done = m.world.threads.done; fault = m.fault } };
 

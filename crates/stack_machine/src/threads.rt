@@ -1,10 +1,10 @@
 //! Stacks, and where each of them is: it holds an instance, waits for one, runs free, sleeps or is done.
 #![tactic(auto, using(crate::proofs::Seats::seats))]
 
-ghost use Rattle.std.specs.Prelude.{◌≡◌, ◌↔◌, ◌+◌, ◌<◌, ◌≤◌, [], None, IfOk, IfSome, IsTrue, replicate, slice_index_or};
+ghost use Rattle.std.specs.Prelude.{◌≡◌, ◌↔◌, ◌+◌, ◌<◌, ◌≤◌, [], None, IfOk, IfSome, IsTrue, OnOk, replicate, slice_index_or};
 ghost use Rattle.std.specs.Option.{ForSome};
 ghost use Rattle.lock_queue.specs.declared.seat.Seat.TheVariants.{Resting};
-ghost use Rattle.lock_queue.specs.LockTable.{seat_of, waits_for, is_ready, ready_after, start_after};
+ghost use Rattle.lock_queue.specs.LockTable.{seat_of, held_by, waits_for, is_ready, ready_after, start_after};
 ghost use Rattle.stack_machine.specs.Threads.{GoesToWait, HasGrown, IsSameSize, due_after, let_go, put_to_sleep, taken};
 
 use crate::frame::Frame;
@@ -298,11 +298,8 @@ impl Threads {
             self.go_to_wait(stack);
             return;
         }
-        if stack >= self.room || self.sleepers.until(stack).is_some() {
-            return;
-        }
         let until = turn.saturating_add(1).saturating_add(latency);
-        self.sleepers.rest(stack, until);
+        self.sleep(stack, until);
     }
 
     /// Lets the sleepers that are due at a turn wait, in order of stack number.
@@ -344,6 +341,63 @@ impl Threads {
         ensures* writes_back { sem 𝓛 (LendsIf the_row stack_row self.entry result (λ w. self.old) self.old) }
     {
         self.stacks.get_mut(usize::from(stack))
+    }
+}
+
+// What a state of a run tells of stacks, and takes from them.
+impl Threads {
+    /// A stack that has started.
+    pub fn stack(&self, stack: u16) -> Option<&Stack> {
+        self.stacks.get(usize::from(stack))
+    }
+
+    /// The instance that a stack holds.
+    pub fn held_by(&self, stack: u16) -> Option<u16>
+        ensures { result ≡ held_by (seat_of self.now.locks stack) }
+    {
+        if stack >= self.room {
+            return None;
+        }
+        self.locks.held_by(stack)
+    }
+
+    /// The stack that follows a waiting one in order of joining, or the first of all.
+    pub fn next_waiter(&self, after: Option<u16>) -> Option<u16> {
+        match after {
+            None => self.locks.next_waiter(None),
+            Some(stack) => {
+                self.waits_for(stack)?;
+                self.locks.next_waiter(Some(stack))
+            }
+        }
+    }
+
+    /// Adds a stack of these frames, which rests. It is done where it has no frame.
+    pub fn add(&mut self, frames: Vec<Frame>) -> Result<(), OutOfMemory>
+        requires { self.old.started < self.old.room }
+        ensures size { (self.new.instances ≡ self.old.instances) × (self.new.room ≡ self.old.room) }
+        ensures started { OnOk result (self.new.started ≡ self.old.started + 1) }
+    {
+        let (extra, is_done) = (frames.len().saturating_sub(1), frames.is_empty());
+        self.stacks.push(Stack::of(frames))?;
+        let extra = u16::try_from(extra).unwrap_or(u16::MAX);
+        self.extra = self.extra.saturating_add(extra);
+        if is_done {
+            self.done = self.done.saturating_add(1);
+        }
+        Ok(())
+    }
+
+    /// Lets a stack that doesn't sleep sleep until a turn.
+    pub fn sleep(&mut self, stack: u16, until: u32)
+        ensures size { IsSameSize self.old self.new }
+        ensures asleep { self.new.sleepers ≡ put_to_sleep self.old.sleepers stack until }
+        ensures locks { self.new.locks ≡ self.old.locks }
+    {
+        if stack >= self.room || self.sleepers.until(stack).is_some() {
+            return;
+        }
+        self.sleepers.rest(stack, until);
     }
 }
 
