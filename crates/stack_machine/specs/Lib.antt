@@ -8,6 +8,7 @@ pub mod Lines
 pub mod Machine
 pub mod Natives
 pub mod Operands
+pub mod Restoring
 pub mod Settings
 pub mod Stores
 pub mod Threads

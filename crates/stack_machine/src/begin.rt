@@ -57,7 +57,8 @@ fn start(
     threads.start(alloc, first)
 }
 
-fn copies(alloc: Global, values: &[Value]) -> Result<Vec<Value>, OutOfMemory>
+/// Copies of the values.
+pub fn copies(alloc: Global, values: &[Value]) -> Result<Vec<Value>, OutOfMemory>
     ensures { IfOk result (λ copies. copies.items ≡ values.now) }
 {
     let mut copies = Vec::with_capacity(alloc, values.len())?;

@@ -137,8 +137,8 @@ impl Work<'_> {
     }
 }
 
-// Which fixed operand of a call takes its reply.
-fn result_place(instruction: &LoadedInstruction) -> Option<usize>
+/// Which fixed operand of a call takes its reply.
+pub fn result_place(instruction: &LoadedInstruction) -> Option<usize>
     ensures { result ≡ option_and_then reply_place (action_by instruction.now.opcode) }
 {
     match action_of(instruction.opcode)? {

@@ -26,14 +26,14 @@ use std::marker::Model;
 /// A world of loaded scripts that a scene set up, which runs in turns.
 #[derive(Drop)]
 pub struct Machine {
-    setting: Setting,
-    world: World,
+    pub(crate) setting: Setting,
+    pub(crate) world: World,
     // The turns that were done.
-    turns: u32,
+    pub(crate) turns: u32,
     // The fault that was answered.
-    fault: Option<TurnFault>,
+    pub(crate) fault: Option<TurnFault>,
     // The state of an instance that isn't there.
-    no_state: Text,
+    pub(crate) no_state: Text,
 }
 
 impl Model for Machine {
@@ -296,6 +296,7 @@ fn initial_world(alloc: Global, loaded: &Loaded, scene: &Scene) -> Result<World,
         store,
         threads,
         last: None,
+        kept: Vec::new(alloc),
     })
 }
 

@@ -8,6 +8,7 @@ ghost use Rattle.stack_machine.specs.Settings.{function_of, is_above, method_at,
 use crate::frame::Body;
 use crate::plan::Plan;
 use core_tree::{CoreType, Scene};
+use papy_base::Name;
 use pex_verify::{Loaded, LoadedFunction, LoadedProperty, MethodPlace, Operand, PropertyPlace};
 
 /// What no turn changes.
@@ -39,6 +40,15 @@ impl Setting {
         }
         let (_, functions) = self.loaded.script(at.script).states.get(at.state)?;
         functions.get(at.place)
+    }
+
+    /// The name of the state that declares the function at a place.
+    pub fn state_name(&self, at: MethodPlace) -> Option<&Name> {
+        if usize::from(at.script) >= self.loaded.outline().scripts.len() {
+            return None;
+        }
+        let (name, _) = self.loaded.script(at.script).states.get(at.state)?;
+        Some(name)
     }
 
     /// The property at a place.

@@ -19,6 +19,7 @@ use crate::store::Store;
 use crate::threads::Threads;
 use core_tree::Value;
 use latent_natives::Device;
+use machine_state::Way;
 use papy_base::OutOfMemory;
 use papy_io::Sink;
 use pex_verify::MethodPlace;
@@ -32,6 +33,9 @@ pub struct World {
     pub threads: Threads,
     /// The stack that was chosen last.
     pub last: Option<u16>,
+    /// Of each stack, how a call names its function that a restored machine began with and that is still pending. A
+    /// call that a machine made itself is spelled in the code or in the scene.
+    pub kept: Vec<Option<Way>>,
 }
 
 impl World {
@@ -131,12 +135,22 @@ impl World {
         ensures kinds { SameKinds (map (λ d. device_state d) devices.old.items) (map (λ d. device_state d) devices.new.items) }
         ensures started { self.new.threads.started ≡ self.old.threads.started }
     {
+        self.forget_way(turn.stack);
         match self.threads.pop(turn.stack) {
             Some(Frame::Pending(call)) => self.enter_call(turn, call, sink, devices),
             other => {
                 drop(other);
                 Ok(false)
             }
+        }
+    }
+
+    // The stack's pending call is entered.
+    fn forget_way(&mut self, stack: u16)
+        ensures { self.new.threads ≡ self.old.threads }
+    {
+        if let Some(kept) = self.kept.get_mut(usize::from(stack)) {
+            *kept = None;
         }
     }
 

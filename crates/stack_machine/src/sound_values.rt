@@ -1,0 +1,124 @@
+//! Whether the values of a state fit their places.
+
+use crate::sound::Judged;
+use core_tree::{CoreType, DeviceKind, OutlineVariable, Value};
+use machine_state::FrameState;
+use papy_base::{OutOfMemory, TEXT_LIMIT, Text};
+use pex_verify::LoadedFunction;
+
+/// The most arrays of a run, the most elements of one, and the most cells of a device.
+const ARRAY_LIMIT: usize = 4096;
+const ELEMENT_LIMIT: usize = 128;
+const CELL_LIMIT: usize = 100_000;
+
+/// Whether instances have as many values as their scripts have variables, of their types, arrays have 1 to 128 elements
+/// of theirs, and devices are what loading them with their own cells and place makes.
+pub fn has_sound_values(judged: &Judged<'_>) -> bool {
+    let state = judged.state;
+    judged.have_sound_variables(&state.instances)
+        && state.arrays.len() <= ARRAY_LIMIT
+        && state.arrays.iter().all(|array| judged.is_sound_array(array.0, &array.1))
+        && state.devices.iter().all(|device| is_sound_device(device.0, &device.1, device.2))
+}
+
+/// Whether a running frame has as many slots as its function has parameters and locals, of their types.
+pub fn has_fitting_slots(judged: &Judged<'_>, frame: &FrameState) -> Result<bool, OutOfMemory> {
+    let FrameState::Running { at, slots, .. } = frame else {
+        return Ok(true);
+    };
+    match judged.function_of(at)? {
+        Some(function) => Ok(judged.fit_function(slots, function)),
+        None => Ok(false),
+    }
+}
+
+impl Judged<'_> {
+    fn have_sound_variables(&self, instances: &[(Text, Vec<Value>)]) -> bool {
+        for (instance, bound) in instances.iter().zip(&self.setting.scene.instances) {
+            if instance.0.as_bytes().len() > TEXT_LIMIT || !self.fit_scripts(&instance.1, bound.script) {
+                return false;
+            }
+        }
+        true
+    }
+
+    // Whether values are those of a script and all above it. The script's own stand last.
+    fn fit_scripts(&self, values: &[Value], script: u16) -> bool {
+        let scripts = &self.setting.loaded.outline().scripts;
+        let (mut left, mut next) = (values, Some(script));
+        for _ in 0..scripts.len() {
+            let Some(found) = next else {
+                break;
+            };
+            let Some(outline) = scripts.get(usize::from(found)) else {
+                break;
+            };
+            let Some(above) = left.len().checked_sub(outline.variables.len()) else {
+                return false;
+            };
+            if !self.fit_variables(&left[above..], &outline.variables) {
+                return false;
+            }
+            left = &left[..above];
+            next = outline.parent;
+        }
+        left.is_empty()
+    }
+
+    fn fit_variables(&self, values: &[Value], variables: &[OutlineVariable]) -> bool {
+        values
+            .iter()
+            .zip(variables)
+            .all(|(value, variable)| self.fits(value, Some(variable.kind)))
+    }
+
+    // The parameters, then the locals.
+    fn fit_function(&self, slots: &[Value], function: &LoadedFunction) -> bool {
+        let parameters = function.parameters.len();
+        if slots.len() < parameters || slots.len() - parameters != function.locals.len() {
+            return false;
+        }
+        self.fit_parameters(&slots[..parameters], function)
+            && slots[parameters..]
+                .iter()
+                .zip(&function.locals)
+                .all(|(value, local)| self.fits(value, local.1))
+    }
+
+    /// Whether values are of the types of a function's parameters, as many as there are.
+    pub fn fit_parameters(&self, values: &[Value], function: &LoadedFunction) -> bool {
+        values.len() == function.parameters.len()
+            && values
+                .iter()
+                .zip(&function.parameters)
+                .all(|(value, parameter)| self.fits(value, Some(parameter.1)))
+    }
+
+    fn is_sound_array(&self, element: CoreType, items: &[Value]) -> bool {
+        !is_array_type(element)
+            && !items.is_empty()
+            && items.len() <= ELEMENT_LIMIT
+            && items.iter().all(|item| self.fits(item, Some(element)))
+    }
+}
+
+/// Whether a type is one of arrays.
+pub fn is_array_type(kind: CoreType) -> bool {
+    match kind {
+        CoreType::IntArray
+        | CoreType::BoolArray
+        | CoreType::TextArray
+        | CoreType::ScriptArray(_) => true,
+        CoreType::Int | CoreType::Bool | CoreType::Text | CoreType::Script(_) => false,
+    }
+}
+
+// A tape and dice have their place within their cells or at their end. A sum and a latch have one cell, and the place 0.
+fn is_sound_device(kind: DeviceKind, cells: &[i32], place: u64) -> bool {
+    match kind {
+        DeviceKind::Tape | DeviceKind::Dice => {
+            cells.len() <= CELL_LIMIT && place <= cells.len() as u64
+        }
+        DeviceKind::Sum | DeviceKind::Latch => cells.len() == 1 && place == 0,
+    }
+}
