@@ -1,4 +1,6 @@
 pub mod AsMany
+pub mod Ascending
+pub mod Each
 pub mod Scripts
 pub mod Seats
 pub mod Sinks

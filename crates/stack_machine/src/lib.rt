@@ -4,6 +4,7 @@
 mod acts;
 mod arithmetic;
 mod array_work;
+mod ascending;
 mod begin;
 mod calls;
 mod casts;

@@ -1,6 +1,6 @@
 //! The stacks of a state that was found sound, each in its place.
 
-ghost use Rattle.std.specs.Prelude.{◌≡◌, ◌+◌, ◌≤◌, ◌<◌, IfOk, OnOk, vec_len};
+ghost use Rattle.std.specs.Prelude.{◌≡◌, ◌+◌, ◌≤◌, ◌<◌, IfOk, OnOk, length, vec_len};
 ghost use Rattle.stack_machine.specs.Threads.{IsSameSize};
 
 use crate::frame::{Call, Frame, Running};
@@ -60,11 +60,11 @@ pub fn revived_threads(
 fn revive_stacks(
     alloc: Global,
     setting: &Setting,
-    stacks: &mut Vec<Vec<FrameState>>,
+    stacks: &mut [Vec<FrameState>],
     threads: &mut Threads,
 ) -> Result<(), OutOfMemory>
-    requires room { threads.old.started + vec_len stacks.old ≤ threads.old.room }
-    ensures started { OnOk result (threads.new.started ≡ threads.old.started + vec_len stacks.old) }
+    requires room { threads.old.started + length stacks.old ≤ threads.old.room }
+    ensures started { OnOk result (threads.new.started ≡ threads.old.started + length stacks.old) }
 {
     for place in 0..stacks.len() {
         let frames = revived_frames(alloc, setting, &mut stacks[place])?;

@@ -1,5 +1,6 @@
 //! Whether each stack of a state is in one place, as its frames allow.
 
+use crate::ascending::{pairs_ascend, sleepers_ascend, stacks_ascend};
 use machine_state::{FrameState, MachineState};
 use papy_base::OutOfMemory;
 use std::alloc::Global;
@@ -17,39 +18,6 @@ pub fn has_sound_locks(alloc: Global, state: &MachineState) -> Result<bool, OutO
         && are_on_their_instances(state, &state.waiters)
         && state.free.iter().all(|stack| is_on(state, *stack, None))
         && state.asleep.iter().all(|sleeper| has_reply(state, sleeper.0)))
-}
-
-fn pairs_ascend(pairs: &[(u16, u16)]) -> bool {
-    let mut least = 0;
-    for pair in pairs {
-        if u32::from(pair.0) < least {
-            return false;
-        }
-        least = u32::from(pair.0) + 1;
-    }
-    true
-}
-
-fn stacks_ascend(stacks: &[u16]) -> bool {
-    let mut least = 0;
-    for stack in stacks {
-        if u32::from(*stack) < least {
-            return false;
-        }
-        least = u32::from(*stack) + 1;
-    }
-    true
-}
-
-fn sleepers_ascend(sleepers: &[(u16, u32)]) -> bool {
-    let mut least = 0;
-    for sleeper in sleepers {
-        if u32::from(sleeper.0) < least {
-            return false;
-        }
-        least = u32::from(sleeper.0) + 1;
-    }
-    true
 }
 
 // No stack is listed twice, and one has frames exactly where it is listed.

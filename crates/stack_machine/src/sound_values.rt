@@ -1,5 +1,6 @@
 //! Whether the values of a state fit their places.
 
+use crate::savable::is_element_type;
 use crate::sound::Judged;
 use core_tree::{CoreType, DeviceKind, OutlineVariable, Value};
 use machine_state::FrameState;
@@ -53,13 +54,14 @@ impl Judged<'_> {
             let Some(outline) = scripts.get(usize::from(found)) else {
                 break;
             };
-            let Some(above) = left.len().checked_sub(outline.variables.len()) else {
-                return false;
-            };
-            if !self.fit_variables(&left[above..], &outline.variables) {
+            if left.len() < outline.variables.len() {
                 return false;
             }
-            left = &left[..above];
+            let (above, own) = left.split_at(left.len() - outline.variables.len());
+            if !self.fit_variables(own, &outline.variables) {
+                return false;
+            }
+            left = above;
             next = outline.parent;
         }
         left.is_empty()
@@ -74,12 +76,13 @@ impl Judged<'_> {
 
     // The parameters, then the locals.
     fn fit_function(&self, slots: &[Value], function: &LoadedFunction) -> bool {
-        let parameters = function.parameters.len();
-        if slots.len() < parameters || slots.len() - parameters != function.locals.len() {
+        if slots.len() < function.parameters.len() {
             return false;
         }
-        self.fit_parameters(&slots[..parameters], function)
-            && slots[parameters..]
+        let (parameters, locals) = slots.split_at(function.parameters.len());
+        self.fit_parameters(parameters, function)
+            && locals.len() == function.locals.len()
+            && locals
                 .iter()
                 .zip(&function.locals)
                 .all(|(value, local)| self.fits(value, local.1))
@@ -95,21 +98,10 @@ impl Judged<'_> {
     }
 
     fn is_sound_array(&self, element: CoreType, items: &[Value]) -> bool {
-        !is_array_type(element)
+        is_element_type(element)
             && !items.is_empty()
             && items.len() <= ELEMENT_LIMIT
             && items.iter().all(|item| self.fits(item, Some(element)))
-    }
-}
-
-/// Whether a type is one of arrays.
-pub fn is_array_type(kind: CoreType) -> bool {
-    match kind {
-        CoreType::IntArray
-        | CoreType::BoolArray
-        | CoreType::TextArray
-        | CoreType::ScriptArray(_) => true,
-        CoreType::Int | CoreType::Bool | CoreType::Text | CoreType::Script(_) => false,
     }
 }
 
