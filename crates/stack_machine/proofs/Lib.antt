@@ -1,6 +1,5 @@
 pub mod AsMany
-pub mod Ascending
-pub mod Each
+pub mod Ascent
 pub mod Scripts
 pub mod Seats
 pub mod Sinks

@@ -10,10 +10,11 @@ pub fn pairs_ascend(pairs: &[(u16, u16)]) -> bool
 {
     let mut least = 0;
     for pair in pairs {
-        if u32::from(pair.0) < least {
+        let first = u32::from(pair.0);
+        if first < least {
             return false;
         }
-        least = u32::from(pair.0) + 1;
+        least = first + 1;
     }
     true
 }
@@ -24,10 +25,11 @@ pub fn stacks_ascend(stacks: &[u16]) -> bool
 {
     let mut least = 0;
     for stack in stacks {
-        if u32::from(*stack) < least {
+        let number = u32::from(*stack);
+        if number < least {
             return false;
         }
-        least = u32::from(*stack) + 1;
+        least = number + 1;
     }
     true
 }
@@ -38,10 +40,11 @@ pub fn sleepers_ascend(sleepers: &[(u16, u32)]) -> bool
 {
     let mut least = 0;
     for sleeper in sleepers {
-        if u32::from(sleeper.0) < least {
+        let first = u32::from(sleeper.0);
+        if first < least {
             return false;
         }
-        least = u32::from(sleeper.0) + 1;
+        least = first + 1;
     }
     true
 }

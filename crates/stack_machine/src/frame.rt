@@ -1,5 +1,7 @@
 //! The frames of stacks.
 
+ghost use Rattle.std.specs.Prelude.{◌≤◌};
+
 use core_tree::Value;
 use pex_verify::{MethodPlace, PropertyPlace};
 
@@ -45,6 +47,19 @@ impl Body {
         match self {
             Body::Method(method) => method.script,
             Body::Reader(property) | Body::Writer(property) => property.script,
+        }
+    }
+}
+
+impl Body {
+    /// 0 for a function of a state, 1 for one that reads a property, 2 for one that writes it.
+    pub fn kind(self) -> u8
+        ensures { result ≤ 2 }
+    {
+        match self {
+            Body::Method(_) => 0,
+            Body::Reader(_) => 1,
+            Body::Writer(_) => 2,
         }
     }
 }

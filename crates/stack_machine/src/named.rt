@@ -4,7 +4,6 @@ use crate::frame::{Body, CallWay};
 use crate::setting::Setting;
 use machine_state::{BodyPlace, Way};
 use papy_base::OutOfMemory;
-use pex_verify::{MethodPlace, PropertyPlace};
 use std::alloc::Global;
 
 impl Setting {
@@ -15,57 +14,33 @@ impl Setting {
         let (Some(state), Some(name)) = (state, name) else {
             return Ok(None);
         };
-        Ok(match at.kind {
-            0 => self.method_named(at, state, name),
-            1 => self.reader_named(at, name),
-            2 => self.writer_named(at, name),
-            _ => None,
-        })
+        Ok(self.body_found(at, state, name))
     }
 
-    fn method_named(&self, at: &BodyPlace, state: usize, name: usize) -> Option<Body> {
-        let found = self.loaded.find_method(at.script, Some(state), name)?;
-        if found.script != at.script || !self.is_spelled(at, found) {
-            return None;
-        }
-        Some(Body::Method(found))
-    }
-
-    // Whether the function that was found has a body, and its state and name are spelled as here.
-    fn is_spelled(&self, at: &BodyPlace, found: MethodPlace) -> bool {
-        match (self.state_name(found), self.method(found)) {
-            (Some(state), Some(function)) => {
-                !function.is_native
-                    && state.as_bytes() == at.state.as_bytes()
-                    && function.name.as_bytes() == at.function.as_bytes()
-            }
-            _ => false,
-        }
-    }
-
-    fn reader_named(&self, at: &BodyPlace, name: usize) -> Option<Body> {
-        let found = self.property_named(at, name)?;
-        self.property(found)?.read.as_ref()?;
-        Some(Body::Reader(found))
-    }
-
-    fn writer_named(&self, at: &BodyPlace, name: usize) -> Option<Body> {
-        let found = self.property_named(at, name)?;
-        self.property(found)?.write.as_ref()?;
-        Some(Body::Writer(found))
-    }
-
-    // The property of the place's script. A property stands in no state.
-    fn property_named(&self, at: &BodyPlace, name: usize) -> Option<PropertyPlace> {
-        let found = self.loaded.find_property(at.script, name)?;
-        let property = self.property(found)?;
-        if found.script == at.script
-            && at.state.as_bytes().is_empty()
-            && property.name.as_bytes() == at.function.as_bytes()
-        {
-            return Some(found);
+    // The body that look-ups find, where it is spelled as the place.
+    fn body_found(&self, at: &BodyPlace, state: usize, name: usize) -> Option<Body> {
+        let body = match at.kind {
+            0 => Body::Method(self.loaded.find_method(at.script, Some(state), name)?),
+            1 => Body::Reader(self.loaded.find_property(at.script, name)?),
+            2 => Body::Writer(self.loaded.find_property(at.script, name)?),
+            _ => return None,
+        };
+        if body.script() == at.script && self.is_spelled(at, body) {
+            return Some(body);
         }
         None
+    }
+
+    // Whether there is such a body, whose state and name are spelled as the place.
+    fn is_spelled(&self, at: &BodyPlace, body: Body) -> bool {
+        match self.function(body) {
+            Some(function) => {
+                !function.is_native
+                    && self.state_name(body) == at.state.as_bytes()
+                    && function.name.as_bytes() == at.function.as_bytes()
+            }
+            None => false,
+        }
     }
 
     /// The number of the name by which a call looks its function up, none where no file has the name.

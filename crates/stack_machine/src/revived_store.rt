@@ -61,9 +61,9 @@ fn revived_instances(
     let bound = &setting.scene.instances;
     let mut instances = Vec::with_capacity(alloc, bound.len())?;
     for (place, instance) in bound.iter().enumerate() {
-        if let Some((state, values)) = told.get_mut(place) {
+        if let Some(entry) = told.get_mut(place) {
             let outline = setting.loaded.outline();
-            instances.push(revived_instance(alloc, outline, instance.script, state, values)?)?;
+            instances.push(revived_instance(alloc, outline, instance.script, entry)?)?;
         }
     }
     Ok(instances)
@@ -73,11 +73,10 @@ fn revived_instance(
     alloc: Global,
     outline: &Outline,
     script: u16,
-    state: &Text,
-    values: &mut Vec<Value>,
+    told: &mut (Text, Vec<Value>),
 ) -> Result<Instance, OutOfMemory> {
-    let state = state.try_clone(alloc)?;
-    let scripts = revived_scripts(alloc, outline, script, values)?;
+    let state = told.0.try_clone(alloc)?;
+    let scripts = revived_scripts(alloc, outline, script, &mut told.1)?;
     Ok(Instance::new(state, scripts))
 }
 

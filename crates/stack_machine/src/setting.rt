@@ -8,7 +8,6 @@ ghost use Rattle.stack_machine.specs.Settings.{function_of, is_above, method_at,
 use crate::frame::Body;
 use crate::plan::Plan;
 use core_tree::{CoreType, Scene};
-use papy_base::Name;
 use pex_verify::{Loaded, LoadedFunction, LoadedProperty, MethodPlace, Operand, PropertyPlace};
 
 /// What no turn changes.
@@ -42,13 +41,18 @@ impl Setting {
         functions.get(at.place)
     }
 
-    /// The name of the state that declares the function at a place.
-    pub fn state_name(&self, at: MethodPlace) -> Option<&Name> {
+    /// The name of the state that declares a body. A property stands in none.
+    pub fn state_name(&self, body: Body) -> &[u8] {
+        let Body::Method(at) = body else {
+            return &[];
+        };
         if usize::from(at.script) >= self.loaded.outline().scripts.len() {
-            return None;
+            return &[];
         }
-        let (name, _) = self.loaded.script(at.script).states.get(at.state)?;
-        Some(name)
+        match self.loaded.script(at.script).states.get(at.state) {
+            Some((name, _)) => name.as_bytes(),
+            None => &[],
+        }
     }
 
     /// The property at a place.

@@ -1,11 +1,10 @@
 //! Whether the pending calls of a state find what they may enter.
 
-use crate::setting::Setting;
 use crate::sound::{Judged, Standing};
 use core_tree::{CoreType, Value};
 use machine_state::{FrameState, Way};
 use papy_base::OutOfMemory;
-use pex_verify::{LoadedFunction, MethodPlace, PropertyPlace};
+use pex_verify::{LoadedFunction, LoadedProperty};
 
 /// What a call finds.
 #[derive(Clone, Copy)]
@@ -78,7 +77,9 @@ impl Judged<'_> {
 
     fn fit_callee(&self, arguments: &[Value], callee: Callee<'_>) -> bool {
         match callee {
-            Callee::Function(function) => self.fit_parameters(arguments, function),
+            Callee::Function(function) => {
+                arguments.len() == function.parameters.len() && self.fit_slots(arguments, function)
+            }
             Callee::AutoGet(_) => arguments.is_empty(),
             Callee::AutoSet(kind) => match arguments {
                 [value] => self.fits(value, Some(kind)),
@@ -121,51 +122,56 @@ impl Judged<'_> {
         state: Option<usize>,
         name: usize,
     ) -> Option<Callee<'_>> {
-        let setting = self.setting;
+        let script = self.first_script(instance, way)?;
         match way {
-            Way::Global { script, .. } => {
-                method(setting, setting.loaded.find_method(*script, None, name)?)
-            }
-            Way::Method(_) => {
-                let script = setting.script_of(instance?)?;
-                method(setting, setting.loaded.find_method(script, state, name)?)
-            }
-            Way::Parent { script, .. } => {
-                let parent = setting.parent_of(*script)?;
-                method(setting, setting.loaded.find_method(parent, state, name)?)
-            }
-            Way::Get(_) => {
-                let script = setting.script_of(instance?)?;
-                reading(setting, setting.loaded.find_property(script, name)?)
-            }
-            Way::Set(_) => {
-                let script = setting.script_of(instance?)?;
-                writing(setting, setting.loaded.find_property(script, name)?)
-            }
+            Way::Method(_) | Way::Parent { .. } => self.found_method(script, state, name),
+            Way::Global { .. } => self.found_method(script, None, name),
+            Way::Get(_) => reading(self.found_property(script, name)?),
+            Way::Set(_) => writing(self.found_property(script, name)?),
         }
     }
-}
 
-fn method(setting: &Setting, at: MethodPlace) -> Option<Callee<'_>> {
-    Some(Callee::Function(setting.method(at)?))
-}
-
-fn reading(setting: &Setting, at: PropertyPlace) -> Option<Callee<'_>> {
-    let property = setting.property(at)?;
-    if property.variable.is_some() {
-        return auto(property.bits & READ != 0, Callee::AutoGet(property.kind));
+    // The script from which a call looks upward.
+    fn first_script(&self, instance: Option<u16>, way: &Way) -> Option<u16> {
+        match way {
+            Way::Global { script, .. } => Some(*script),
+            Way::Parent { script, .. } => self.setting.parent_of(*script),
+            Way::Method(_) | Way::Get(_) | Way::Set(_) => self.setting.script_of(instance?),
+        }
     }
-    Some(Callee::Function(property.read.as_ref()?))
-}
 
-fn writing(setting: &Setting, at: PropertyPlace) -> Option<Callee<'_>> {
-    let property = setting.property(at)?;
-    if property.variable.is_some() {
-        return auto(property.bits & WRITE != 0, Callee::AutoSet(property.kind));
+    fn found_method(
+        &self,
+        script: u16,
+        state: Option<usize>,
+        name: usize,
+    ) -> Option<Callee<'_>> {
+        let at = self.setting.loaded.find_method(script, state, name)?;
+        Some(Callee::Function(self.setting.method(at)?))
     }
-    Some(Callee::Function(property.write.as_ref()?))
+
+    fn found_property(&self, script: u16, name: usize) -> Option<&LoadedProperty> {
+        let at = self.setting.loaded.find_property(script, name)?;
+        self.setting.property(at)
+    }
 }
 
-fn auto(may: bool, callee: Callee<'_>) -> Option<Callee<'_>> {
-    if may { Some(callee) } else { None }
+fn reading(property: &LoadedProperty) -> Option<Callee<'_>> {
+    if property.variable.is_none() {
+        return Some(Callee::Function(property.read.as_ref()?));
+    }
+    if property.bits & READ == 0 {
+        return None;
+    }
+    Some(Callee::AutoGet(property.kind))
+}
+
+fn writing(property: &LoadedProperty) -> Option<Callee<'_>> {
+    if property.variable.is_none() {
+        return Some(Callee::Function(property.write.as_ref()?));
+    }
+    if property.bits & WRITE == 0 {
+        return None;
+    }
+    Some(Callee::AutoSet(property.kind))
 }

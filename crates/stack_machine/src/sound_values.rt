@@ -1,6 +1,7 @@
 //! Whether the values of a state fit their places.
 
 use crate::savable::is_element_type;
+use crate::setting::slot_type;
 use crate::sound::Judged;
 use core_tree::{CoreType, DeviceKind, OutlineVariable, Value};
 use machine_state::FrameState;
@@ -28,7 +29,13 @@ pub fn has_fitting_slots(judged: &Judged<'_>, frame: &FrameState) -> Result<bool
         return Ok(true);
     };
     match judged.function_of(at)? {
-        Some(function) => Ok(judged.fit_function(slots, function)),
+        Some(function) => {
+            let places = function
+                .parameters
+                .len()
+                .saturating_add(function.locals.len());
+            Ok(slots.len() == places && judged.fit_slots(slots, function))
+        }
         None => Ok(false),
     }
 }
@@ -74,27 +81,14 @@ impl Judged<'_> {
             .all(|(value, variable)| self.fits(value, Some(variable.kind)))
     }
 
-    // The parameters, then the locals.
-    fn fit_function(&self, slots: &[Value], function: &LoadedFunction) -> bool {
-        if slots.len() < function.parameters.len() {
-            return false;
+    /// Whether each slot is of the type of the parameter or local at its place.
+    pub fn fit_slots(&self, slots: &[Value], function: &LoadedFunction) -> bool {
+        for (number, value) in slots.iter().enumerate() {
+            if !self.fits(value, slot_type(function, number)) {
+                return false;
+            }
         }
-        let (parameters, locals) = slots.split_at(function.parameters.len());
-        self.fit_parameters(parameters, function)
-            && locals.len() == function.locals.len()
-            && locals
-                .iter()
-                .zip(&function.locals)
-                .all(|(value, local)| self.fits(value, local.1))
-    }
-
-    /// Whether values are of the types of a function's parameters, as many as there are.
-    pub fn fit_parameters(&self, values: &[Value], function: &LoadedFunction) -> bool {
-        values.len() == function.parameters.len()
-            && values
-                .iter()
-                .zip(&function.parameters)
-                .all(|(value, parameter)| self.fits(value, Some(parameter.1)))
+        true
     }
 
     fn is_sound_array(&self, element: CoreType, items: &[Value]) -> bool {

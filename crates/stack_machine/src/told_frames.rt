@@ -8,8 +8,8 @@ use crate::setting::Setting;
 use crate::world::World;
 use core_tree::Value;
 use machine_state::{BodyPlace, FrameState, Way};
-use papy_base::{Name, OutOfMemory, Text};
-use pex_verify::{LoadedInstruction, MethodPlace, Operand, PropertyPlace};
+use papy_base::{OutOfMemory, Text};
+use pex_verify::{LoadedInstruction, MethodPlace, Operand};
 use std::alloc::Global;
 
 /// What tells frames of the stacks of a world.
@@ -171,45 +171,17 @@ impl FrameTeller<'_> {
 
     // Where a body stands, spelled as it is declared.
     fn told_place(&self, body: Body) -> Result<BodyPlace, OutOfMemory> {
-        match body {
-            Body::Method(at) => self.told_method(at),
-            Body::Reader(at) => self.told_accessor(at, 1),
-            Body::Writer(at) => self.told_accessor(at, 2),
-        }
-    }
-
-    fn told_method(&self, at: MethodPlace) -> Result<BodyPlace, OutOfMemory> {
-        let (Some(state), Some(function)) = (
-            self.setting.state_name(at),
-            self.setting.method(at),
-        ) else {
+        let Some(function) = self.setting.function(body) else {
             return Err(OutOfMemory);
         };
-        let state = text_of(self.alloc, state)?;
+        let state = Text::try_from_bytes(self.alloc, self.setting.state_name(body))?;
         Ok(BodyPlace {
-            script: at.script,
+            script: body.script(),
             state,
-            function: text_of(self.alloc, &function.name)?,
-            kind: 0,
+            function: Text::try_from_bytes(self.alloc, function.name.as_bytes())?,
+            kind: body.kind(),
         })
     }
-
-    fn told_accessor(&self, at: PropertyPlace, kind: u8) -> Result<BodyPlace, OutOfMemory> {
-        let Some(property) = self.setting.property(at) else {
-            return Err(OutOfMemory);
-        };
-        let state = Text::try_from_bytes(self.alloc, &[])?;
-        Ok(BodyPlace {
-            script: at.script,
-            state,
-            function: text_of(self.alloc, &property.name)?,
-            kind,
-        })
-    }
-}
-
-fn text_of(alloc: Global, name: &Name) -> Result<Text, OutOfMemory> {
-    Text::try_from_bytes(alloc, name.as_bytes())
 }
 
 fn copy_if(alloc: Global, value: Option<&Value>) -> Result<Option<Value>, OutOfMemory> {

@@ -1,6 +1,6 @@
 use Rattle.std.proofs.Common.{ℕ, take}
 use Rattle.machine_state.specs.Savable.{firsts}
-use Rattle.stack_machine.proofs.Ascending.{AscendsTo}
+use Rattle.stack_machine.proofs.Ascent.{AscendsTo}
 use Rattle.stack_machine.proofs.ascending.pairs_ascend.Given as goal
 
 abbrev pub invariant-loop-pair : goal.invariant-loop-pair

@@ -1,5 +1,5 @@
 use Rattle.std.proofs.Common.{take}
-use Rattle.stack_machine.proofs.Ascending.{AscendsTo}
+use Rattle.stack_machine.proofs.Ascent.{AscendsTo}
 use Rattle.stack_machine.proofs.ascending.stacks_ascend.Given as goal
 
 abbrev pub invariant-loop-stack : goal.invariant-loop-stack
