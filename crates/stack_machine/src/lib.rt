@@ -13,7 +13,9 @@ mod instruction;
 mod lines;
 mod machine;
 mod natives;
+mod notes;
 mod operands;
+mod place;
 mod plan;
 mod run;
 mod setting;
@@ -26,4 +28,5 @@ mod world;
 
 pub use lines::append_escaped;
 pub use machine::Machine;
+pub use run_replay::LockMove;
 pub use status::{Status, TurnEnd, TurnFault};

@@ -1,6 +1,6 @@
 use Rattle.std.proofs.Common.{◌≡◌, ℕ, ◌+◌, ◌∙◌, ap, sym, arith}
 use Rattle.stack_machine.specs.Machine.{MachineState}
-use Rattle.stack_machine.proofs.machine.Machine.turn.Goals as goal
+use Rattle.stack_machine.proofs.machine.Machine.turn_with.Goals as goal
 
 pub overflow_add-self : goal.overflow_add-self
 overflow_add-self g c =
