@@ -1,7 +1,7 @@
 -- How many calls of a plan have a turn before one.
-use Rattle.std.proofs.Common.{◌≡◌, ℕ, zero, suc, ◌+◌, ◌<◌, ◌≤◌, Bool, true, false, cond, List, [], ◌∷◌, length, get_or, map, sym, ap, ◌∙◌, refl, ⊎_elim, arith}
+use Rattle.std.proofs.Common.{◌≡◌, ℕ, zero, suc, ◌+◌, ◌-◌, ◌<◌, ◌≤◌, Bool, true, false, cond, List, [], ◌∷◌, length, get_or, take, drop, map, sym, ap, ◌∙◌, refl, ⊎_elim, arith}
 use Rattle.std.proofs.lemmas.Bool.{lt-ltb, le-ltb, cases_lt, cond-true, cond-false}
-use Rattle.std.proofs.lemmas.List.{length-map}
+use Rattle.std.proofs.lemmas.List.{get_or-drop, get_or-take, length-drop, length-map, length-take}
 use Rattle.std.proofs.lemmas.List.Sums.{sum_by-cons, count_by-le-length}
 use Rattle.std.proofs.lemmas.List.Sorted.{sum_by-IsPermutation, length_permutation, All-permutation}
 use Rattle.std.specs.Prelude.{count_by, nat_lt}
@@ -9,7 +9,8 @@ use Rattle.std.specs.List.{All}
 use Rattle.std.specs.List.Sorted.{IsNonDecreasingBy, IsPermutation}
 use Rattle.core_tree.specs.declared.scene.BoundCall.{BoundCall}
 use Rattle.stack_machine.specs.declared.plan.PlannedCall.{PlannedCall}
-use Rattle.stack_machine.specs.Plans.{ArePlanned, calls_before, planned_before}
+use Rattle.stack_machine.specs.Plans.{ArePlanned, HasBegun, calls_before, planned_before}
+use Rattle.stack_machine.specs.Threads.{ThreadTable}
 
 -- how many elements have a number before this one
 abbrev pub count_before : {X : Type 0} → (X → ℕ) → ℕ → List X → ℕ
@@ -39,9 +40,9 @@ before_next n turn (x ∷ xs) =
     ⊎_elim
     (λ (below : n x < turn). omega (arith, before_yes n turn x xs below, before_yes n (turn + 1) x xs (omega arith), before_next n turn xs))
     (λ (above : turn ≤ n x). ⊎_elim
-        (λ (here : n x < turn + 1). omega (arith, before_no n turn x xs above, before_yes n (turn + 1) x xs here, before_next n turn xs))
-        (λ (past : turn + 1 ≤ n x). omega (arith, before_no n turn x xs above, before_no n (turn + 1) x xs past, before_next n turn xs))
-        (cases_lt (n x) (turn + 1)))
+    (λ (here : n x < turn + 1). omega (arith, before_no n turn x xs above, before_yes n (turn + 1) x xs here, before_next n turn xs))
+    (λ (past : turn + 1 ≤ n x). omega (arith, before_no n turn x xs above, before_no n (turn + 1) x xs past, before_next n turn xs))
+    (cases_lt (n x) (turn + 1)))
     (cases_lt (n x) turn)
 
 -- ---- elements in order
@@ -94,3 +95,43 @@ are_planned listed planned calls same numbers moved up =
       turns = λ turn. sum_by-IsPermutation (λ call. cond (nat_lt call.turn turn) 1 0) listed planned moved ∙ same_before (λ call. call.turn) (λ call. call.turn) turn listed calls same;
       many = length_permutation listed planned moved ∙ sym (length-map listed (λ call. call.turn)) ∙ ap length same ∙ length-map calls (λ call. call.turn);
     }
+
+-- ---- the stacks that start in a turn
+pub few_at_first : (planned : List PlannedCall) (calls : List BoundCall) (threads : ThreadTable) (turn : ℕ) → HasBegun planned calls threads turn → threads.started ≤ planned_before (turn + 1) planned
+few_at_first planned calls threads turn begun =
+    omega (arith, begun.started, begun.calls_planned.turns turn, before_next (λ (call : PlannedCall). call.turn) turn planned)
+
+pub one_starts : (planned : List PlannedCall) (calls : List BoundCall) (turn place : ℕ) (d : PlannedCall) → ArePlanned planned calls → place < length planned → (get_or planned place d).turn ≤ turn → place + 1 ≤ planned_before (turn + 1) planned
+one_starts planned calls turn place d are within at =
+    omega (arith, place_within (λ (call : PlannedCall). call.turn) (turn + 1) place d planned are.in_order within (omega (arith, at)))
+
+pub next_is_later : (planned : List PlannedCall) (calls : List BoundCall) (turn place : ℕ) (d : PlannedCall) → ArePlanned planned calls → place < length planned → turn < (get_or planned place d).turn → place ≤ planned_before (turn + 1) planned → place ≡ calls_before (turn + 1) calls
+next_is_later planned calls turn place d are within later few =
+    omega (arith, few, are.turns (turn + 1), place_past (λ (call : PlannedCall). call.turn) (turn + 1) place d planned are.in_order within (omega (arith, later)))
+
+pub none_is_left : (planned : List PlannedCall) (calls : List BoundCall) (turn place : ℕ) → ArePlanned planned calls → length planned ≤ place → place ≤ planned_before (turn + 1) planned → place ≡ calls_before (turn + 1) calls
+none_is_left planned calls turn place are past few =
+    omega (arith, past, few, are.turns (turn + 1), count_by-le-length (λ (call : PlannedCall). nat_lt call.turn (turn + 1)) planned)
+
+-- the calls from a place on
+abbrev pub from_place : ℕ → List PlannedCall → List PlannedCall
+from_place first calls = take (length calls - first) (drop first calls)
+
+pub left_within : (read planned : List PlannedCall) (first index : ℕ) → read ≡ planned → index < length (from_place first read) → first + index < length planned
+left_within read planned first index same within =
+    omega (arith, within, ap length same, length-take (length read - first) (drop first read), length-drop first read)
+
+pub left_at : (read planned : List PlannedCall) (first index : ℕ) (d : PlannedCall) → read ≡ planned → index < length (from_place first read) → get_or (from_place first read) index d ≡ get_or planned (first + index) d
+left_at read planned first index d same within =
+    get_or-take (length read - first) (drop first read) index d (omega (arith, within, length-take (length read - first) (drop first read), length-drop first read))
+    ∙ get_or-drop first read index d
+    ∙ ap (λ (calls : List PlannedCall). get_or calls (first + index) d) same
+
+pub left_past : (read planned : List PlannedCall) (first index : ℕ) → read ≡ planned → first ≤ length planned → length (from_place first read) ≤ index → length planned ≤ first + index
+left_past read planned first index same within past =
+    omega (arith, within, past, ap length same, length-take (length read - first) (drop first read), length-drop first read)
+
+-- before the first turn no stack has started
+pub begun_at_first : (planned : List PlannedCall) (calls : List BoundCall) (threads : ThreadTable) → ArePlanned planned calls → threads.room ≡ length calls → threads.started ≡ 0 → HasBegun planned calls threads 0
+begun_at_first planned calls threads are room started =
+    record { calls_planned = are; room = room; started = started ∙ sym (before_first (λ (call : BoundCall). call.turn) calls) }

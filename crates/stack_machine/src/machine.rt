@@ -1,7 +1,7 @@
 //! The machine.
 #![tactic(auto, using(crate::proofs::AsMany::as_many))]
 
-ghost use Rattle.std.specs.Prelude.{◌≡◌, ◌↔◌, ◌+◌, ◌<◌, ◌≤◌, ◌^◌, false, Ok, Err, None, IfOk, IfSome, IsTrue, OnOk, map, vec_len};
+ghost use Rattle.std.specs.Prelude.{◌≡◌, ◌↔◌, ◌+◌, ◌<◌, ◌≤◌, ◌^◌, false, Ok, Err, None, IfOk, IfSome, IsTrue, MatchResult, OnOk, map, take, vec_len};
 ghost use Rattle.latent_natives.specs.Devices.{SameKinds};
 ghost use Rattle.stack_machine.specs.Casts.{IsTextOf};
 ghost use Rattle.stack_machine.specs.Machine.{turns_after, fault_after, CountsTurn, HasEnded, HasNothingLeft, HasStarted};
@@ -159,9 +159,7 @@ impl Machine {
     {
         let before = moves.len();
         let result = self.turn_with(sink, devices, moves);
-        if result.is_err() {
-            moves.truncate(before);
-        }
+        cut_after_fault(result, before, moves);
         result
     }
 
@@ -379,6 +377,15 @@ fn initial_world(alloc: Global, loaded: &Loaded, scene: &Scene) -> Result<World,
         threads,
         last: None,
     })
+}
+
+// After a fault no more than so many moves are left.
+fn cut_after_fault(end: Result<TurnEnd, TurnFault>, before: usize, moves: &mut Vec<LockMove>)
+    ensures { MatchResult end (λ _. moves.new.items ≡ moves.old.items) (λ _. moves.new.items ≡ take before moves.old.items) }
+{
+    if end.is_err() {
+        moves.truncate(before);
+    }
 }
 
 // Loads each device with its tape, or with no cells.

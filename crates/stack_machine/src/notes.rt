@@ -1,6 +1,7 @@
 //! Who is told the moves of a turn.
 
 ghost use Rattle.std.specs.Prelude.{◌≡◌, ◌∷◌, [], List, Option, None, Some, OnErr, OnOk};
+ghost use Rattle.std.specs.Option.{option_to_list};
 ghost use Rattle.run_replay.specs.declared.lock_move.LockMove.{LockMove};
 ghost use Rattle.stack_machine.specs.Moves.{Adds};
 
@@ -46,5 +47,16 @@ impl Notes for Vec<LockMove> {
     fn note(&mut self, moved: LockMove) -> Result<(), OutOfMemory> {
         self.push(moved)?;
         Ok(())
+    }
+}
+
+/// Notes a move where there is one.
+pub fn note_any<N: Notes>(moved: Option<LockMove>, notes: &mut N) -> Result<(), OutOfMemory>
+    ensures added { OnOk result (Adds (option_to_list moved) (N.noted notes.old) (N.noted notes.new)) }
+    ensures kept { OnErr result (N.noted notes.new ≡ N.noted notes.old) }
+{
+    match moved {
+        Some(moved) => notes.note(moved),
+        None => Ok(()),
     }
 }

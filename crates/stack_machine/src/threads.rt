@@ -5,11 +5,11 @@ ghost use Rattle.std.specs.Prelude.{◌≡◌, ◌↔◌, ◌+◌, ◌<◌, ◌�
 ghost use Rattle.std.specs.Option.{ForSome};
 ghost use Rattle.lock_queue.specs.declared.seat.Seat.TheVariants.{Resting};
 ghost use Rattle.lock_queue.specs.LockTable.{seat_of, waits_for, is_ready, ready_after, start_after};
-ghost use Rattle.stack_machine.specs.Moves.{AddsSome, AreWakes, Begins, Noted};
+ghost use Rattle.stack_machine.specs.Moves.{AddsSome, AreWakes, Begins, Noted, Takes};
 ghost use Rattle.stack_machine.specs.Threads.{GoesToWait, HasGrown, IsOn, IsSameSize, due_after, let_go, put_to_sleep, taken};
 
 use crate::frame::Frame;
-use crate::notes::Notes;
+use crate::notes::{Notes, note_any};
 use crate::place::Place;
 use crate::stack::Stack;
 use crate::status::Status;
@@ -247,11 +247,13 @@ impl Threads {
         }
     }
 
-    /// Gives a stack that waits and may take its instance that instance, and tells which it is.
-    pub fn take(&mut self, stack: u16) -> Option<u16>
+    /// Gives a stack that waits and may take its instance that instance. It gives the stack's move, none where it
+    /// takes none.
+    pub fn take(&mut self, stack: u16) -> Option<LockMove>
         ensures size { IsSameSize self.old self.new }
         ensures locks { self.new.locks ≡ taken self.old.locks self.old.instances stack (seat_of self.old.locks stack) }
         ensures sleepers { self.new.sleepers ≡ self.old.sleepers }
+        ensures moved { IfSome result (Takes stack) }
     {
         if stack >= self.room {
             return None;
@@ -261,7 +263,7 @@ impl Threads {
             return None;
         }
         self.locks.take(stack, instance);
-        Some(instance)
+        Some(LockMove::Take(stack, instance))
     }
 
     /// Releases what a stack holds, or lets a free one rest.
@@ -354,9 +356,7 @@ impl Threads {
             let Some(stack) = self.sleepers.due(turn) else {
                 break;
             };
-            if let Some(moved) = self.go_to_wait(stack) {
-                notes.note(moved)?;
-            }
+            note_any(self.go_to_wait(stack), notes)?;
         }
         Ok(())
     }

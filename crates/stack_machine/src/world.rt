@@ -13,7 +13,7 @@ use crate::begin::{begin, choose};
 use crate::entry::{Found, look_up, open};
 use crate::frame::{Body, Call, Frame, Way};
 use crate::natives::{Performed, perform};
-use crate::notes::Notes;
+use crate::notes::{Notes, note_any};
 use crate::operands::Turn;
 use crate::place::{Place, moves_between};
 use crate::run::{Ending, run_frame};
@@ -93,9 +93,7 @@ impl World {
         ensures noted { MatchResult result (λ _. Noted (AreOfEnd (TurnEnd.Ran turn.now.stack)) (N.noted notes.old) (N.noted notes.new)) (λ _. AddsSome (N.noted notes.old) (N.noted notes.new)) }
     {
         notes.note(LockMove::Run(turn.stack))?;
-        if let Some(instance) = self.threads.take(turn.stack) {
-            notes.note(LockMove::Take(turn.stack, instance))?;
-        }
+        note_any(self.threads.take(turn.stack), notes)?;
         let from = self.place_before(turn.stack, notes);
         self.run_stack(turn, sink, devices)?;
         self.note_act(turn.stack, from, notes)?;
@@ -122,13 +120,12 @@ impl World {
         let Some(from) = from else {
             return Ok(());
         };
-        if let Some((departure, arrival)) =
-            moves_between(stack, from, self.threads.place_of(stack))
-        {
-            notes.note(departure)?;
-            notes.note(arrival)?;
-        }
-        Ok(())
+        let to = self.threads.place_of(stack);
+        let Some((departure, arrival)) = moves_between(stack, from, to) else {
+            return Ok(());
+        };
+        notes.note(departure)?;
+        notes.note(arrival)
     }
 
     // Enters the stack's call where one is pending, and runs its body.

@@ -6,11 +6,3 @@ pub overflow_add-self : goal.overflow_add-self
 overflow_add-self g c =
     let same : c.self.inside.turns ≡ c.args.self.now.turns = ap (λ (machine : MachineState). machine.turns) c.self.view_is in
     omega (arith, same, c.has_ended.ensures.room c.if-has_ended.false)
-
-pub returns-in-Ok-clause-turns : goal.returns-in-Ok-clause-turns
-returns-in-Ok-clause-turns g c =
-    let same : c.self.inside.turns ≡ c.args.self.now.turns = ap (λ (machine : MachineState). machine.turns) c.self.view_is in
-    ap (λ (n : ℕ). n + 1) same ∙ sym (c.end_of.ensures.counts c.args.self.now.turns)
-
-pub returns-in-Ok-clause-ended : goal.returns-in-Ok-clause-ended
-returns-in-Ok-clause-ended g c = λ ended. absurd (c.end_of.ensures.goes_on (cc))
