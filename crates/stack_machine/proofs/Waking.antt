@@ -1,5 +1,5 @@
 -- Sleepers that are due are woken in order of their numbers.
-use Rattle.std.proofs.Common.{◌≡◌, ◌≢◌, ℕ, ◌+◌, ◌<◌, ◌≤◌, Bool, true, false, List, [], ◌∷◌, length, get_or, set, Option, None, Some, sym, ◌∙◌, ap, refl, ⊎_elim, arith, append-nil, get_or-set_other, get_or-set_same, subst}
+use Rattle.std.proofs.Common.{◌≡◌, ℕ, ◌+◌, ◌<◌, ◌≤◌, false, List, [], ◌∷◌, get_or, set, Option, None, Some, sym, ◌∙◌, ap, refl, ⊎_elim, arith, append-nil, get_or-set_other, get_or-set_same, subst}
 use Rattle.std.proofs.lemmas.Bool.{false≢true, cases_lt}
 use Rattle.std.proofs.lemmas.List.Quantifiers.{position-Some}
 use Rattle.std.specs.Option.{option_to_list}

@@ -1,4 +1,4 @@
-use Rattle.std.proofs.Common.{◌≡◌, ℕ, ◌+◌, ◌∙◌, ap, sym, arith}
+use Rattle.std.proofs.Common.{◌≡◌, ap, arith}
 use Rattle.stack_machine.specs.Machine.{MachineState}
 use Rattle.stack_machine.proofs.machine.Machine.turn_with.Goals as goal
 
