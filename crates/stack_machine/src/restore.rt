@@ -2,6 +2,7 @@
 
 ghost use Rattle.std.specs.Prelude.{◌≡◌, ◌≤◌, ◌<◌, None, IfErr, IfOk, map, vec_len};
 ghost use Rattle.latent_natives.specs.Devices.{SameKinds};
+ghost use Rattle.stack_machine.specs.Plans.{ArePlanned, HasBegun};
 ghost use Rattle.stack_machine.specs.Restoring.{LeavesDevices};
 
 use crate::machine::Machine;
@@ -79,16 +80,19 @@ struct Revived {
 }
 
 // The state's vectors of values are emptied.
+#[tactic(auto, using(crate::proofs::Begun::has_begun))]
 fn revive(
     alloc: Global,
     setting: &Setting,
     state: &mut MachineState,
     devices: &mut Vec<Box<dyn Device>>,
 ) -> Result<Revived, RestoreFault>
+    requires planned { ArePlanned setting.now.plan.calls.items setting.now.scene.calls.items }
     requires instances { vec_len setting.now.scene.instances < 65536 }
     requires calls { vec_len setting.now.scene.calls < 65536 }
     ensures turn { IfOk result (λ _. state.old.turn ≤ setting.now.scene.turns) }
     ensures started { IfOk result (λ parts. parts.world.threads.started ≡ vec_len state.old.stacks) }
+    ensures begun { IfOk result (λ parts. HasBegun setting.now.plan.calls.items setting.now.scene.calls.items parts.world.threads state.old.turn) }
     ensures devices { IfErr result (λ fault. LeavesDevices fault (map (λ d. device_state d) devices.old.items) (map (λ d. device_state d) devices.new.items)) }
     ensures kinds { SameKinds (map (λ d. device_state d) devices.old.items) (map (λ d. device_state d) devices.new.items) }
 {
@@ -131,6 +135,7 @@ fn revived_world(
     requires instances { vec_len setting.now.scene.instances < 65536 }
     requires calls { vec_len setting.now.scene.calls < 65536 }
     requires stacks { vec_len state.old.stacks ≤ vec_len setting.now.scene.calls }
+    ensures room { IfOk result (λ world. world.threads.room ≡ vec_len setting.now.scene.calls) }
     ensures started { IfOk result (λ world. world.threads.started ≡ vec_len state.old.stacks) }
 {
     let kept = kept_ways(alloc, &state.stacks)?;

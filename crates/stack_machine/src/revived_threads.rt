@@ -43,6 +43,7 @@ pub fn revived_threads(
     requires instances { vec_len setting.now.scene.instances < 65536 }
     requires calls { vec_len setting.now.scene.calls < 65536 }
     requires stacks { vec_len state.old.stacks ≤ vec_len setting.now.scene.calls }
+    ensures room { IfOk result (λ threads. threads.room ≡ vec_len setting.now.scene.calls) }
     ensures started { IfOk result (λ threads. threads.started ≡ vec_len state.old.stacks) }
 {
     let scene = &setting.scene;
@@ -64,6 +65,7 @@ fn revive_stacks(
     threads: &mut Threads,
 ) -> Result<(), OutOfMemory>
     requires room { threads.old.started + length stacks.old ≤ threads.old.room }
+    ensures room { threads.new.room ≡ threads.old.room }
     ensures started { OnOk result (threads.new.started ≡ threads.old.started + length stacks.old) }
 {
     for place in 0..stacks.len() {

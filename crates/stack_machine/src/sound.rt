@@ -2,6 +2,7 @@
 //! stands in a function, and in a file with those near it.
 
 ghost use Rattle.std.specs.Prelude.{◌≡◌, ◌≤◌, true, IfOk, vec_len};
+ghost use Rattle.stack_machine.specs.Plans.{calls_before};
 
 use crate::setting::Setting;
 use crate::sound_bodies::{has_fitting_reply, has_sound_body};
@@ -41,7 +42,8 @@ pub fn is_sound(
     state: &MachineState,
 ) -> Result<bool, OutOfMemory>
     ensures turn { IfOk result (λ sound. sound ≡ true → state.now.turn ≤ setting.now.scene.turns) }
-    ensures stacks { IfOk result (λ sound. sound ≡ true → vec_len state.now.stacks ≤ vec_len setting.now.scene.calls) }
+    ensures stacks { IfOk result (λ sound. sound ≡ true → vec_len state.now.stacks ≡ calls_before state.now.turn setting.now.scene.calls.items) }
+    ensures within { IfOk result (λ sound. sound ≡ true → vec_len state.now.stacks ≤ vec_len setting.now.scene.calls) }
 {
     if !has_sound_numbers(&setting.scene, state) {
         return Ok(false);

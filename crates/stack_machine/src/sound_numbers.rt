@@ -1,6 +1,7 @@
 //! Whether the numbers of a state are those of the scene, and name what is there.
 
 ghost use Rattle.std.specs.Prelude.{◌≡◌, ◌≤◌, length, true, vec_len};
+ghost use Rattle.stack_machine.specs.Plans.{calls_before};
 
 use crate::sound::Judged;
 use core_tree::{BoundCall, CoreType, Scene, Value};
@@ -11,7 +12,8 @@ use papy_base::TEXT_LIMIT;
 /// is one of them, and the instances are the scene's in number.
 pub fn has_sound_numbers(scene: &Scene, state: &MachineState) -> bool
     ensures turn { result ≡ true → state.now.turn ≤ scene.now.turns }
-    ensures stacks { result ≡ true → vec_len state.now.stacks ≤ vec_len scene.now.calls }
+    ensures stacks { result ≡ true → vec_len state.now.stacks ≡ calls_before state.now.turn scene.now.calls.items }
+    ensures within { result ≡ true → vec_len state.now.stacks ≤ vec_len scene.now.calls }
 {
     let stacks = state.stacks.len();
     state.turn <= scene.turns
@@ -21,7 +23,8 @@ pub fn has_sound_numbers(scene: &Scene, state: &MachineState) -> bool
 }
 
 fn calls_before(calls: &[BoundCall], turn: u32) -> usize
-    ensures { result ≤ length calls.now }
+    ensures number { result ≡ calls_before turn calls.now }
+    ensures within { result ≤ length calls.now }
 {
     calls.iter().filter(|call| call.turn < turn).count()
 }

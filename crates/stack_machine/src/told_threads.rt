@@ -1,5 +1,6 @@
 //! What a state tells of where stacks are. A stack that it doesn't tell is done.
 
+use crate::place::Place;
 use crate::threads::Threads;
 use papy_base::OutOfMemory;
 
@@ -38,19 +39,11 @@ pub fn tell_waiters(
 /// Tells the stacks that run free.
 pub fn tell_free(threads: &Threads, free: &mut Vec<u16>) -> Result<(), OutOfMemory> {
     for stack in 0..threads.count() {
-        if is_free(threads, stack) {
+        if matches!(threads.place_of(stack), Place::Free) {
             free.push(stack)?;
         }
     }
     Ok(())
-}
-
-// A stack that is neither done nor asleep, holds nothing and waits for nothing.
-fn is_free(threads: &Threads, stack: u16) -> bool {
-    !threads.is_done(stack)
-        && threads.due_at(stack).is_none()
-        && threads.held_by(stack).is_none()
-        && threads.waits_for(stack).is_none()
 }
 
 /// Tells the stacks that sleep, with the turns at which they are due.
@@ -59,7 +52,7 @@ pub fn tell_asleep(
     asleep: &mut Vec<(u16, u32)>,
 ) -> Result<(), OutOfMemory> {
     for stack in 0..threads.count() {
-        if let Some(until) = threads.due_at(stack) {
+        if let Place::Asleep(until) = threads.place_of(stack) {
             asleep.push((stack, until))?;
         }
     }
