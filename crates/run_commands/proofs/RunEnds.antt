@@ -17,7 +17,7 @@ use Rattle.command_files.specs.Outputs.{IsPart, Outputs}
 use Rattle.scene_runner.proofs.Appending.{appends_nothing}
 use Rattle.scene_binder.specs.Kept.{IsOfTree}
 use Rattle.scene_runner.specs.Report.{IsClosing, Reports, turns_line}
-use Rattle.stack_machine.specs.Machine.{CountsFault, HasEnded, MachineState}
+use Rattle.stack_machine.specs.Machine.{CountsFault, HasEnded, MachineView}
 use Rattle.papy_io.specs.Sink.{AppendsSome}
 use Rattle.stack_machine.specs.declared.status.TurnFault.{TurnFault}
 use Rattle.stack_machine.specs.declared.status.TurnFault.TheVariants as turn
@@ -35,12 +35,12 @@ turns_play tree named turn.WriteFault before now appends = appends
 turns_play tree named turn.OutOfMemory before now appends = appends
 
 -- in another order than the round one a run ends after all turns of its scene
-all-turns : (tree : SceneTree) (machine : MachineState) → machine.scene.turns ≡ tree.turns → machine.scene.order ≡ tree.order → HasEnded machine → machine.turns ≤ machine.scene.turns →
+all-turns : (tree : SceneTree) (machine : MachineView) → machine.scene.turns ≡ tree.turns → machine.scene.order ≡ tree.order → HasEnded machine → machine.turns ≤ machine.scene.turns →
     tree.order ≢ orders.Round → machine.turns ≡ tree.turns
 all-turns tree machine turns order (inl done) within other = omega arith
 all-turns tree machine turns order (inr nothing) within other = absurd (other (sym order ∙ nothing.order))
 
-pub run_writes : (tree : SceneTree) (count : ℕ) (scene : Scene) (machine : MachineState) (before now : Option (List ℕ)) → IsOfTree tree count scene → machine.scene ≡ scene → HasEnded machine →
+pub run_writes : (tree : SceneTree) (count : ℕ) (scene : Scene) (machine : MachineView) (before now : Option (List ℕ)) → IsOfTree tree count scene → machine.scene ≡ scene → HasEnded machine →
     machine.turns ≤ machine.scene.turns → Reports machine.turns before now → WritesReport tree before now
 run_writes tree count scene machine before now kept same ended within reports =
     let turns : machine.scene.turns ≡ tree.turns = ap (λ (s : Scene). s.turns) same ∙ kept.turns in
