@@ -11,7 +11,7 @@ launcher `papyrus` and the folder `examples` in it, unless the page has changed 
 begins in the folder of that example. The launcher is on the PATH.
 
   papyrus A.psc, json s.json,     the file of this name; sh, makefile and yaml likewise
-  listing J.txt
+  listing J.txt                   a listing or a journal
   hex A.pex                       the file with these bytes
   papyrus                         A.psc, whose OnInit has these lines; or, where they begin with ScriptName, A.psc itself
   listing                         J.txt, these lines behind those of the page's last fence `listing J.txt`
@@ -40,7 +40,7 @@ LAST_BUILT = max(BUILT / "papyrus", BUILT / "unproved" / "papyrus", key=lambda p
 PROGRAM = pathlib.Path(os.environ.get("PAPYRUS_PROGRAM") or LAST_BUILT)
 EXAMPLES = DOCS.parent / "examples"
 TOOLS = DOCS.parent / "tools"
-REFUSAL = re.compile(r"[^ ]+: (?:[^ ]+ )?([LSNKPGVC])\d+ [A-Za-z]+")
+REFUSAL = re.compile(r"[^ ]+: (?:[^ ]+ )?([LSNKPGVCJ])\d+ [A-Za-z]+")
 SECONDS = 60
 JOURNAL_TABLE = re.compile(r"\| Journal \| Script \|")
 # Tools that a page may use where the machine has them.
@@ -147,12 +147,14 @@ class Page:
             command, wanted = text[2:], []
 
     def refusal(self, line, text, letter):
-        ending = {"P": ".pex", "G": ".txt", "V": ".txt"}.get(letter, ".psc")
+        ending = {"P": ".pex", "G": ".txt", "V": ".txt", "J": ".journal"}.get(letter, ".psc")
         files = [name for name in self.names if name.endswith(ending)]
         if letter == "P":
             command = f"papyrus check {files[-1]}"
         elif letter == "G":
             command = f"papyrus asm {files[-1]} new.pex"
+        elif letter == "J":
+            command = f"papyrus waits {files[-1]}"
         elif letter == "C":
             command = " ".join(["papyrus run", *(name for name in self.names if name.endswith(".json")), *files])
         elif letter == "V":

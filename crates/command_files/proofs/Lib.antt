@@ -3,3 +3,4 @@ pub mod HeldScripts
 pub mod PexCounting
 pub mod PexRead
 pub mod ScriptFaults
+pub mod TextRead

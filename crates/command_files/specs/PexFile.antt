@@ -13,6 +13,7 @@ use Rattle.pex_codec.specs.declared.progress.Standing.TheVariants as decoder
 use Rattle.pex_codec.specs.Decoding.{Progress, IsDecoded, SpellOne}
 use Rattle.command_files.specs.declared.file_fault.FileFault.{FileFault}
 use Rattle.command_files.specs.declared.file_fault.FileFault.TheVariants.{ReadFault, OutOfMemory, Refused}
+use Rattle.command_files.specs.declared.pex_file.KeptPex.{KeptPex}
 use Rattle.command_files.specs.declared.pex_file.PexFile.{PexFile}
 use Rattle.command_files.specs.declared.refusal.Place.{Place}
 use Rattle.command_files.specs.declared.refusal.Place.TheVariants.{Offset}
@@ -94,6 +95,14 @@ ReadsPex holds name result = ReadsSized (λ file. file.size) holds name result
 -- the same without the value
 abbrev pub CountsPex : Option Files → List ℕ → Result ℕ FileFault → Type 0
 CountsPex holds name result = ReadsSized (λ n. n) holds name result
+
+-- the same where an Ok has the file's bytes
+abbrev pub ReadsKept : Option Files → List ℕ → Result KeptPex FileFault → Type 0
+ReadsKept None name result = Unit {0}
+ReadsKept (Some files) name (Ok file) = told_bytes (Some files) name ≡ Some file.bytes.items
+ReadsKept (Some files) name (Err (Refused place rule)) = (bytes : List ℕ) × (told_bytes (Some files) name ≡ Some bytes) × RefusesPex bytes place rule
+ReadsKept (Some files) name (Err ReadFault) = Unit {0}
+ReadsKept (Some files) name (Err OutOfMemory) = Unit {0}
 
 -- what handing the file of this name to a decoder gives: the decoder, and the number of bytes, which are no more than a file may have
 abbrev pub Hands : Option Files → List ℕ → Result (Progress × ℕ) FileFault → Type 0

@@ -15,12 +15,16 @@ use Rattle.pex_listing.specs.declared.faults.ListingRule.{ListingRule}
 use Rattle.pex_listing.specs.declared.faults.ListingRule.TheVariants as listing
 use Rattle.pex_verify.specs.declared.fault.VerifyRule.{VerifyRule}
 use Rattle.pex_verify.specs.declared.fault.VerifyRule.TheVariants as verify
+use Rattle.run_replay.specs.declared.fault.JournalRule.{JournalRule}
+use Rattle.run_replay.specs.declared.fault.JournalRule.TheVariants as journal
 use Rattle.scene_reader.specs.declared.fault.SceneRule.{SceneRule}
 use Rattle.scene_reader.specs.declared.fault.SceneRule.TheVariants as scene
+use Rattle.stack_save.specs.declared.fault.HeldRule.{HeldRule}
+use Rattle.stack_save.specs.declared.fault.HeldRule.TheVariants as held
 use Rattle.command_files.specs.declared.refusal.Place.{Place}
 use Rattle.command_files.specs.declared.refusal.Place.TheVariants.{Offset, Line, Whole, Member}
 use Rattle.command_files.specs.declared.refusal.Rule.{Rule}
-use Rattle.command_files.specs.declared.refusal.Rule.TheVariants.{Pex, Listing, Lexical, Grammar, Link, Typing, Scene, Verification}
+use Rattle.command_files.specs.declared.refusal.Rule.TheVariants.{Pex, Listing, Lexical, Grammar, Link, Typing, Scene, Verification, Held, Journal}
 
 -- the code and the name of each rule
 abbrev pub pex_rule_text : PexRule → List ℕ
@@ -119,6 +123,19 @@ verify_rule_text verify.TextTooLong = codes "V12 TextTooLong"
 verify_rule_text verify.TooMany = codes "V13 TooMany"
 verify_rule_text verify.BadPropertyBits = codes "V14 BadPropertyBits"
 
+abbrev pub held_rule_text : HeldRule → List ℕ
+held_rule_text held.BadMagic = codes "H1 BadMagic"
+held_rule_text held.BadLayout = codes "H2 BadLayout"
+held_rule_text held.BadFiles = codes "H3 BadFiles"
+held_rule_text held.BadScene = codes "H4 BadScene"
+held_rule_text held.BadState = codes "H5 BadState"
+held_rule_text held.OtherDevices = codes "H6 OtherDevices"
+held_rule_text held.TooLarge = codes "H7 TooLarge"
+
+abbrev pub journal_rule_text : JournalRule → List ℕ
+journal_rule_text journal.BadLine = codes "J1 BadLine"
+journal_rule_text journal.BadMove = codes "J2 BadMove"
+
 abbrev pub rule_text : Rule → List ℕ
 rule_text (Pex rule) = pex_rule_text rule
 rule_text (Listing rule) = listing_rule_text rule
@@ -128,6 +145,8 @@ rule_text (Link rule) = link_rule_text rule
 rule_text (Typing rule) = type_rule_text rule
 rule_text (Scene rule) = scene_rule_text rule
 rule_text (Verification rule) = verify_rule_text rule
+rule_text (Held rule) = held_rule_text rule
+rule_text (Journal rule) = journal_rule_text rule
 
 -- the status of a command that refuses a file by the rule
 abbrev pub rule_status : Rule → ℕ
@@ -139,6 +158,8 @@ rule_status (Link rule) = 5
 rule_status (Typing rule) = 5
 rule_status (Scene rule) = 7
 rule_status (Verification rule) = 9
+rule_status (Held rule) = 11
+rule_status (Journal rule) = 12
 
 -- the member of an object, where there is one
 abbrev pub member_text : Option (List ℕ) → List ℕ

@@ -17,7 +17,7 @@ use Rattle.command_files.specs.declared.file_fault.FileFault.TheVariants.{ReadFa
 use Rattle.command_files.specs.declared.refusal.Place.{Place}
 use Rattle.command_files.specs.declared.refusal.Place.TheVariants.{Line}
 use Rattle.command_files.specs.declared.refusal.Rule.{Rule}
-use Rattle.command_files.specs.declared.refusal.Rule.TheVariants.{Pex, Listing, Lexical, Grammar, Link, Typing, Scene, Verification}
+use Rattle.command_files.specs.declared.refusal.Rule.TheVariants.{Pex, Listing, Lexical, Grammar, Link, Typing, Scene, Verification, Held, Journal}
 use Rattle.command_files.specs.Ending.{CountsReads, word_at}
 
 -- at most 1 MiB, and no rule of a script's lexical form is broken
@@ -57,6 +57,8 @@ RefusesScript text place (Pex rule) = ⊥
 RefusesScript text place (Listing rule) = ⊥
 RefusesScript text place (Scene rule) = ⊥
 RefusesScript text place (Verification rule) = ⊥
+RefusesScript text place (Held rule) = ⊥
+RefusesScript text place (Journal rule) = ⊥
 
 -- lines, or the rule that the text breaks
 abbrev pub CutsLines : List ℕ → Result Lines FileFault → Type 0
@@ -101,6 +103,8 @@ IsRuleOfSets (Pex rule) = ⊥
 IsRuleOfSets (Listing rule) = ⊥
 IsRuleOfSets (Scene rule) = ⊥
 IsRuleOfSets (Verification rule) = ⊥
+IsRuleOfSets (Held rule) = ⊥
+IsRuleOfSets (Journal rule) = ⊥
 
 -- a rule of sets of so many scripts is broken in one of them
 pub record RefusesSet (count word : ℕ) (place : Place) (rule : Rule) : Type 0 where

@@ -1,14 +1,15 @@
 //! Compiled files, read part by part.
-ghost use Rattle.std.specs.Prelude.{◌≡◌, ◌+◌, ℕ, length, IfOk, IfSome};
+ghost use Rattle.std.specs.Prelude.{◌≡◌, ◌+◌, ◌≤◌, ℕ, length, vec_len, IfOk, IfSome};
 ghost use Rattle.papy_io.specs.Activity.{Idle, IsReading};
 ghost use Rattle.papy_io.specs.Count.{CountsFailures, CountsFaults};
 ghost use Rattle.papy_io.specs.Desk.{MissesRead, MissesStart};
 ghost use Rattle.pex_codec.specs.Decoding.{IsDecoded, SpellOne};
 ghost use Rattle.command_files.specs.FileFault.{CountsFile, MissesFile};
-ghost use Rattle.command_files.specs.PexFile.{Counts, CountsHeld, CountsLeft, CountsPex, Decodes, Hands, HasGot, IsRefusalOf, ReadsPex};
+ghost use Rattle.command_files.specs.PexFile.{Counts, CountsHeld, CountsLeft, CountsPex, Decodes, Hands, HasGot, IsRefusalOf, ReadsKept, ReadsPex};
 
 use crate::file_fault::FileFault;
 use crate::refusal::{Place, Rule};
+use crate::text_file::read_text;
 use papy_io::{Desk, Failed, IoFault};
 use pex_codec::{Decoder, Fed, PexFault, PexRule};
 use pex_values::{FILE_LIMIT, Pex};
@@ -24,6 +25,15 @@ pub struct PexFile {
     pub value: Pex,
     /// The number of its bytes.
     pub size: usize,
+}
+
+/// A compiled file that was read, with its bytes.
+#[derive(Drop)]
+pub struct KeptPex {
+    /// What it spells.
+    pub value: Pex,
+    /// Its bytes.
+    pub bytes: Vec<u8>,
 }
 
 /// Hands the next part of a file to its decoder, also what lies behind the value's end.
@@ -175,6 +185,51 @@ pub fn read_pex<D: Desk>(alloc: Global, desk: &mut D, name: &[u8]) -> Result<Pex
 {
     match fed_decoder(alloc, desk, name) {
         Ok((decoder, size)) => decoded(decoder, size),
+        Err(fault) => Err(fault),
+    }
+}
+
+/// What all of these bytes spell, which are no more than a file may have.
+fn decoded_whole(alloc: Global, bytes: &[u8]) -> Result<PexFile, FileFault>
+    ensures { Decodes (length bytes.now) result }
+{
+    let mut decoder = Decoder::new(alloc)?;
+    feed_part(&mut decoder, bytes);
+    decoded(decoder, bytes.len())
+}
+
+/// Reads a compiled file as `read_pex` does, and gives its bytes too.
+pub fn read_kept_pex<D: Desk>(
+    alloc: Global,
+    desk: &mut D,
+    name: &[u8],
+) -> Result<KeptPex, FileFault>
+    requires { D.busy desk.old ≡ Idle }
+    ensures holds { D.holds desk.new ≡ D.holds desk.old }
+    ensures busy { D.busy desk.new ≡ Idle }
+    ensures write_faults { D.write_faults desk.new ≡ D.write_faults desk.old }
+    ensures read_faults { CountsFile result (D.read_faults desk.old) (D.read_faults desk.new) }
+    ensures missed { MissesFile name.now result (D.missed desk.new) }
+    ensures decoded { IfOk result (λ file. IsDecoded (vec_len file.bytes) file.value) }
+    ensures small { IfOk result (λ file. vec_len file.bytes ≤ 16777216) }
+    ensures read { ReadsKept (D.holds desk.old) name.now result }
+{
+    let bytes = match read_text(
+        alloc,
+        desk,
+        name,
+        FILE_LIMIT,
+        Place::Offset(FILE_LIMIT),
+        Rule::Pex(PexRule::TooLarge),
+    ) {
+        Ok(bytes) => bytes,
+        Err(fault) => return Err(fault),
+    };
+    match decoded_whole(alloc, &bytes) {
+        Ok(file) => Ok(KeptPex {
+            value: file.value,
+            bytes,
+        }),
         Err(fault) => Err(fault),
     }
 }

@@ -1,16 +1,18 @@
 //! Which rule a file breaks, and the line that tells it.
 ghost use Rattle.std.specs.Prelude.{◌≡◌, ◌++◌, IfOk, codes};
 ghost use Rattle.std.specs.Fmt.{decimal};
-ghost use Rattle.command_files.specs.Refusal.{at_text, lex_rule_text, line_rule_text, listing_rule_text, link_rule_text, member_text, pex_rule_text, place_text, refusal_line, rule_status, rule_text, scene_rule_text, type_rule_text, verify_rule_text};
+ghost use Rattle.command_files.specs.Refusal.{at_text, held_rule_text, journal_rule_text, lex_rule_text, line_rule_text, listing_rule_text, link_rule_text, member_text, pex_rule_text, place_text, refusal_line, rule_status, rule_text, scene_rule_text, type_rule_text, verify_rule_text};
 
 use line_parser::LineRule;
 use papy_base::{OutOfMemory, Text};
 use pex_codec::PexRule;
 use pex_listing::ListingRule;
 use pex_verify::VerifyRule;
+use run_replay::JournalRule;
 use scene_reader::SceneRule;
 use script_lexer::LexRule;
 use script_linker::LinkRule;
+use stack_save::HeldRule;
 use std::alloc::Global;
 use type_rules::TypeRule;
 
@@ -54,6 +56,10 @@ pub enum Rule {
     Scene(SceneRule),
     /// One of the rules of compiled files that run together.
     Verification(VerifyRule),
+    /// One of the rules of held files.
+    Held(HeldRule),
+    /// One of the rules of journals.
+    Journal(JournalRule),
 }
 
 impl Rule {
@@ -67,6 +73,8 @@ impl Rule {
             Rule::Lexical(_) | Rule::Grammar(_) | Rule::Link(_) | Rule::Typing(_) => 5,
             Rule::Scene(_) => 7,
             Rule::Verification(_) => 9,
+            Rule::Held(_) => 11,
+            Rule::Journal(_) => 12,
         }
     }
 
@@ -83,6 +91,8 @@ impl Rule {
             Rule::Typing(rule) => type_rule_text(rule),
             Rule::Scene(rule) => scene_rule_text(rule),
             Rule::Verification(rule) => verify_rule_text(rule),
+            Rule::Held(rule) => held_rule_text(rule),
+            Rule::Journal(rule) => journal_rule_text(rule),
         }
     }
 }
@@ -220,6 +230,29 @@ fn verify_rule_text(rule: VerifyRule) -> &'static [u8]
         VerifyRule::TextTooLong => b"V12 TextTooLong",
         VerifyRule::TooMany => b"V13 TooMany",
         VerifyRule::BadPropertyBits => b"V14 BadPropertyBits",
+    }
+}
+
+fn held_rule_text(rule: HeldRule) -> &'static [u8]
+    ensures { result.now ≡ held_rule_text rule }
+{
+    match rule {
+        HeldRule::BadMagic => b"H1 BadMagic",
+        HeldRule::BadLayout => b"H2 BadLayout",
+        HeldRule::BadFiles => b"H3 BadFiles",
+        HeldRule::BadScene => b"H4 BadScene",
+        HeldRule::BadState => b"H5 BadState",
+        HeldRule::OtherDevices => b"H6 OtherDevices",
+        HeldRule::TooLarge => b"H7 TooLarge",
+    }
+}
+
+fn journal_rule_text(rule: JournalRule) -> &'static [u8]
+    ensures { result.now ≡ journal_rule_text rule }
+{
+    match rule {
+        JournalRule::BadLine => b"J1 BadLine",
+        JournalRule::BadMove => b"J2 BadMove",
     }
 }
 

@@ -1,10 +1,10 @@
 //! Scene files.
-ghost use Rattle.std.specs.Prelude.{◌≡◌, IfOk};
+ghost use Rattle.std.specs.Prelude.{◌≡◌, ◌≤◌, vec_len, IfErr, IfOk};
 ghost use Rattle.papy_io.specs.Activity.{Idle};
 ghost use Rattle.scene_reader.specs.Limits.{KeepsLimits};
 ghost use Rattle.scene_reader.specs.declared.fault.SceneRule.TheVariants as SceneRule;
 ghost use Rattle.command_files.specs.FileFault.{CountsFile, MissesFile};
-ghost use Rattle.command_files.specs.SceneFile.{ReadsScene};
+ghost use Rattle.command_files.specs.SceneFile.{IsSceneFault, ReadsKeptScene, ReadsScene};
 ghost use Rattle.command_files.specs.TextFile.{ReadsText};
 ghost use Rattle.command_files.specs.declared.refusal.Place.TheVariants as Place;
 ghost use Rattle.command_files.specs.declared.refusal.Rule.TheVariants as Rule;
@@ -53,6 +53,7 @@ pub fn read_scene_text<D: Desk>(
     ensures write_faults { D.write_faults desk.new ≡ D.write_faults desk.old }
     ensures read_faults { CountsFile result (D.read_faults desk.old) (D.read_faults desk.new) }
     ensures missed { MissesFile name.now result (D.missed desk.new) }
+    ensures small { IfOk result (λ text. vec_len text ≤ 16777216) }
     ensures read { ReadsText (D.holds desk.old) name.now 16777216 Place.Whole (Rule.Scene SceneRule.Limit) result }
 {
     read_text(
@@ -65,12 +66,62 @@ pub fn read_scene_text<D: Desk>(
     )
 }
 
-/// Reads a scene file. The first of the rules C1 to C3 that it breaks is told.
+/// A scene that was read, with its text.
+#[derive(Drop)]
+pub struct KeptScene {
+    /// What it says.
+    pub tree: SceneTree,
+    /// Its bytes.
+    pub text: Vec<u8>,
+}
+
+/// What the text of a scene says. The first of the rules C1 to C3 that it breaks is told.
+fn parsed(alloc: Global, text: &[u8]) -> Result<SceneTree, FileFault>
+    ensures limits { IfOk result KeepsLimits }
+    ensures refused { IfErr result IsSceneFault }
+{
+    match read_scene(alloc, text) {
+        Ok(tree) => Ok(tree),
+        Err(fault) => Err(FileFault::from(fault)),
+    }
+}
+
+/// Reads a scene file, and gives its text too. The first of the rules C1 to C3 that it breaks is told.
 ///
 /// # Errors
 ///
 /// `ReadFault` comes where the desk refused to read, `Refused` where a rule is broken, and
 /// `OutOfMemory` where there is no room.
+pub fn load_kept_scene<D: Desk>(
+    alloc: Global,
+    desk: &mut D,
+    name: &[u8],
+) -> Result<KeptScene, FileFault>
+    requires { D.busy desk.old ≡ Idle }
+    ensures holds { D.holds desk.new ≡ D.holds desk.old }
+    ensures busy { D.busy desk.new ≡ Idle }
+    ensures write_faults { D.write_faults desk.new ≡ D.write_faults desk.old }
+    ensures read_faults { CountsFile result (D.read_faults desk.old) (D.read_faults desk.new) }
+    ensures missed { MissesFile name.now result (D.missed desk.new) }
+    ensures limits { IfOk result (λ scene. KeepsLimits scene.tree) }
+    ensures small { IfOk result (λ scene. vec_len scene.text ≤ 16777216) }
+    ensures read { ReadsKeptScene (D.holds desk.old) name.now result }
+{
+    let text = match read_scene_text(alloc, desk, name) {
+        Ok(text) => text,
+        Err(fault) => return Err(fault),
+    };
+    match parsed(alloc, &text) {
+        Ok(tree) => Ok(KeptScene { tree, text }),
+        Err(fault) => Err(fault),
+    }
+}
+
+/// Reads a scene file as `load_kept_scene` does, without its text.
+///
+/// # Errors
+///
+/// Those of `load_kept_scene`, in the same cases.
 pub fn load_scene<D: Desk>(alloc: Global, desk: &mut D, name: &[u8]) -> Result<SceneTree, FileFault>
     requires { D.busy desk.old ≡ Idle }
     ensures holds { D.holds desk.new ≡ D.holds desk.old }
@@ -81,12 +132,8 @@ pub fn load_scene<D: Desk>(alloc: Global, desk: &mut D, name: &[u8]) -> Result<S
     ensures limits { IfOk result KeepsLimits }
     ensures read { ReadsScene (D.holds desk.old) name.now result }
 {
-    let text = match read_scene_text(alloc, desk, name) {
-        Ok(text) => text,
-        Err(fault) => return Err(fault),
-    };
-    match read_scene(alloc, &text) {
-        Ok(tree) => Ok(tree),
-        Err(fault) => Err(FileFault::from(fault)),
+    match load_kept_scene(alloc, desk, name) {
+        Ok(scene) => Ok(scene.tree),
+        Err(fault) => Err(fault),
     }
 }

@@ -1,5 +1,5 @@
 //! Files that are read whole.
-ghost use Rattle.std.specs.Prelude.{◌≡◌};
+ghost use Rattle.std.specs.Prelude.{◌≡◌, ◌≤◌, vec_len, IfOk};
 ghost use Rattle.papy_io.specs.Activity.{Idle};
 ghost use Rattle.command_files.specs.FileFault.{CountsFile, MissesFile};
 ghost use Rattle.command_files.specs.TextFile.{ReadsText};
@@ -29,6 +29,7 @@ pub fn read_text<D: Desk>(
     ensures write_faults { D.write_faults desk.new ≡ D.write_faults desk.old }
     ensures read_faults { CountsFile result (D.read_faults desk.old) (D.read_faults desk.new) }
     ensures missed { MissesFile name.now result (D.missed desk.new) }
+    ensures small { IfOk result (λ text. vec_len text ≤ limit) }
     ensures read { ReadsText (D.holds desk.old) name.now limit place rule result }
 {
     match read_all(alloc, desk, name, limit) {

@@ -39,7 +39,12 @@ cut_short words holds (ReadFault word) status out out' notes notes' f f' same (i
     silently_cut words holds (ReadFault word) out out' notes notes' same (tried_line wrote _ notes notes' writes)
 cut_short words holds (ReadFault word) status out out' notes notes' f f' same (inr (is, tried)) cut =
     silently_cut words holds OutOfMemory out out' notes notes' same tried
-cut_short words holds (Refused word place rule) status out out' notes notes' f f' (same, ends) (inl (wrote, is, writes, counts)) cut =
+cut_short words holds (Refused word place rule) status out out' notes notes' f f' (inl (same, ends)) (inl (wrote, is, writes, counts)) cut =
     silently_cut words holds (Refused word place rule) out out' notes notes' same (tried_line wrote _ notes notes' writes)
-cut_short words holds (Refused word place rule) status out out' notes notes' f f' (same, ends) (inr (is, tried)) cut =
+cut_short words holds (Refused word place rule) status out out' notes notes' f f' (inl (same, ends)) (inr (is, tried)) cut =
     silently_cut words holds OutOfMemory out out' notes notes' same tried
+cut_short words holds (Refused word place rule) status out out' notes notes' f f' (inr late) (inl (wrote, is, writes, counts)) cut =
+    let tried : Tried (note_of words (Refused word place rule)) notes notes' = tried_line wrote _ notes notes' writes in
+    record { part = late.text; ending = Refused word place rule; length_noted = tried.0; out = late.appended; notes = tried.1; is_part = late.part }
+cut_short words holds (Refused word place rule) status out out' notes notes' f f' (inr late) (inr (is, (n, tried))) cut =
+    record { part = late.text; ending = OutOfMemory; length_noted = n; out = late.appended; notes = tried; is_part = late.part }

@@ -7,3 +7,4 @@ pub mod PartOutput
 pub mod PexShown
 pub mod Statuses
 pub mod Words
+pub mod WaitsTold

@@ -38,7 +38,15 @@ outputs-implied Ends Others implies holds OutOfMemory before now (part, appended
 outputs-implied Ends Others implies holds WriteFault before now (part, appended, is) = (part, appended, told-part-implied Ends Others implies holds part is)
 outputs-implied Ends Others implies holds (ReadFault word) before now same = same
 outputs-implied Ends Others implies holds Usage before now (same, ends) = (same, told-implied Ends Others implies holds Usage [] ends)
-outputs-implied Ends Others implies holds (Refused word place rule) before now (same, ends) = (same, told-implied Ends Others implies holds (Refused word place rule) [] ends)
+outputs-implied Ends Others implies holds (Refused word place rule) before now (inl (same, ends)) = inl (same, told-implied Ends Others implies holds (Refused word place rule) [] ends)
+outputs-implied Ends Others implies holds (Refused word place rule) before now (inr late) =
+    inr (record {
+      rule_is = late.rule_is;
+      text = late.text;
+      appended = late.appended;
+      ends = told-implied Ends Others implies holds (Refused word place rule) late.text late.ends;
+      part = told-part-implied Ends Others implies holds late.text late.part;
+    })
 outputs-implied Ends Others implies holds NotBuilt before now (same, ends) = (same, told-implied Ends Others implies holds NotBuilt [] ends)
 
 command-answers : (command : Command) (words : List (List ℕ)) → command_of words ≡ Some command → Implies (CommandOn command (drop 1 words)) (Answers words)

@@ -16,7 +16,8 @@ use Rattle.papyrus_cmd.specs.Command.{command_of}
 use Rattle.command_files.specs.Ending.{word_at}
 use Rattle.papyrus_cmd.specs.Help.{help_text, version_text}
 use Rattle.papyrus_cmd.specs.Upgrade.{RefusesText}
-use Rattle.run_commands.specs.Answers.{ExecAnswers, OnceAnswers, RunAnswers, SampleAnswers}
+use Rattle.papyrus_cmd.specs.Waits.{PassesWith, RefusesJournal}
+use Rattle.run_commands.specs.Answers.{ExecAnswers, HoldAnswers, JournalAnswers, OnceAnswers, ResumeAnswers, RunAnswers, SampleAnswers}
 use Rattle.command_files.specs.Outputs.{AnswersTo}
 use Rattle.command_files.specs.PexFile.{RefusesPex}
 use Rattle.command_files.specs.Scripts.{HoldScripts, RefusesScripts}
@@ -75,6 +76,16 @@ UpgradeAnswers scene Usage text = ⊥
 UpgradeAnswers scene (ReadFault word) text = ⊥
 UpgradeAnswers scene WriteFault text = ⊥
 
+-- how `waits` ends on a journal, and what it writes
+abbrev pub WaitsAnswers : List ℕ → Ending → List ℕ → Type 0
+WaitsAnswers journal Done text = PassesWith journal text
+WaitsAnswers journal (Refused word place rule) text = (word ≡ 1) × RefusesJournal journal place rule × (text ≡ [])
+WaitsAnswers journal NotBuilt text = ⊥
+WaitsAnswers journal OutOfMemory text = ⊥
+WaitsAnswers journal Usage text = ⊥
+WaitsAnswers journal (ReadFault word) text = ⊥
+WaitsAnswers journal WriteFault text = ⊥
+
 -- how a command that works on files ends on the words behind it
 abbrev pub FileCommandOn : FileCommand → List (List ℕ) → Files → Ending → List ℕ → Type 0
 FileCommandOn files.Compile names held ending text = CompileAnswersTo names held ending text
@@ -82,12 +93,16 @@ FileCommandOn files.Check names held ending text = AnswersTo CheckAnswers (word_
 FileCommandOn files.Show names held ending text = AnswersTo ShowAnswers (word_at names 0) held ending text
 FileCommandOn files.Asm names held ending text = AnswersTo AsmAnswers (word_at names 0) held ending text
 FileCommandOn files.Upgrade names held ending text = AnswersTo UpgradeAnswers (word_at names 0) held ending text
+FileCommandOn files.Waits names held ending text = AnswersTo WaitsAnswers (word_at names 0) held ending text
 
 -- how a command that runs scripts ends on the words behind it
 abbrev pub PlayCommandOn : PlayCommand → List (List ℕ) → Files → Ending → List ℕ → Type 0
 PlayCommandOn play.Once names held ending text = OnceAnswers names held ending text
 PlayCommandOn play.Run names held ending text = RunAnswers names held ending text
 PlayCommandOn play.Exec names held ending text = ExecAnswers names held ending text
+PlayCommandOn play.Journal names held ending text = JournalAnswers names held ending text
+PlayCommandOn (play.Hold turns) names held ending text = HoldAnswers names held ending text
+PlayCommandOn (play.Resume turns) names held ending text = AnswersTo (ResumeAnswers turns) (word_at names 1) held ending text
 PlayCommandOn (play.Sample workers) names held ending text = SampleAnswers workers ending text
 
 -- how a command ends on the words behind it

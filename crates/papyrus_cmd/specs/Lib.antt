@@ -9,5 +9,6 @@ pub mod Missed
 pub mod Show
 pub mod TopCall
 pub mod Upgrade
+pub mod Waits
 pub mod WritesText
 pub mod Written

@@ -14,7 +14,8 @@ use papy_base::OutOfMemory;
 use papy_io::{Desk, IoFault, Sink};
 use std::alloc::Global;
 
-fn accepted_line(alloc: Global, size: usize) -> Result<String, OutOfMemory>
+/// The line of a file that was accepted, with a number.
+pub fn accepted_line(alloc: Global, size: usize) -> Result<String, OutOfMemory>
     ensures { IfOk result (λ line. string_bytes line ≡ accepted_line size) }
 {
     Ok(format!(in alloc; "ok {size}\n")?)

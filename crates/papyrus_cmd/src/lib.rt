@@ -11,6 +11,7 @@ mod notes;
 mod show;
 mod top;
 mod upgrade;
+mod waits;
 mod written;
 
 pub use top::papyrus;

@@ -27,7 +27,7 @@ appended-nothing None = refl
 appended-nothing (Some text) = ap Some (sym (append-nil text))
 
 pub early_outputs : (Ends : Files → Ending → List ℕ → Type 0) (holds : Option Files) (ending : Ending) (written : Option (List ℕ)) → EndsEarly Ends holds ending → Outputs Ends holds ending written written
-early_outputs Ends holds (Refused word place rule) written ends = (refl, ends)
+early_outputs Ends holds (Refused word place rule) written ends = inl (refl, ends)
 early_outputs Ends holds (ReadFault word) written ends = refl
 early_outputs Ends holds OutOfMemory written ends = ([], appended-nothing written, nothing-yet Ends holds)
 early_outputs Ends holds Done written ends = absurd ends
