@@ -317,7 +317,7 @@ def spoiled_reports(reports, chance):
 
 def check_told(tally, room):
     for seed in range(TOLD):
-        run = journal_texts.Run(seed)
+        run = journal_texts.Run(seed, told=True)
         (room / "told").write_bytes(run.text())
         for spoiled in (False, True):
             reports = spoiled_reports(run.reports, random.Random(seed)) if spoiled else run.reports

@@ -47,7 +47,7 @@ class Rows:
 
     def __init__(self, recorder, names, statuses, reports):
         self.recorder, self.names, self.statuses, self.reports = recorder, names, statuses, reports
-        self.shown = recorder.shown()
+        self.shown, self.sums = recorder.shown(), recorder.sums()
         self.held_by = recorder.held_by()
         self.turn_bars = recorder.turn_bars()
         self.printed = {}
@@ -114,7 +114,7 @@ class Rows:
         return bar(kind, turn * QUARTERS, (end - turn) * QUARTERS, title, "; ".join(one.text for one in ones))
 
     def instance_row(self, instance):
-        name, sums = self.names[instance], self.recorder.sums()[instance]
+        name, sums = self.names[instance], self.sums[instance]
         held = [self.held_bar(one) for one in self.held_by[instance]]
         crowds = [self.crowd_bar(instance, *crowd, sums.most) for crowd in self.recorder.crowds(instance)]
         lanes = [("lane", "".join(held)), ("lane crowds", "".join(crowds))]
@@ -132,7 +132,7 @@ class Rows:
         return bar(f"crowd c{instance}", begin, end - begin, title, text, height=number / max(most, 1))
 
     def instance_panel(self, instance):
-        sums = self.recorder.sums()[instance]
+        sums = self.sums[instance]
         told = f"<p>Taken {words.times(sums.takes)}; stacks waited {words.turns(sums.waited)} for it, at most {sums.most:,} at once.</p>"
         if not self.last:
             return told
