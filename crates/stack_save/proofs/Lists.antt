@@ -161,9 +161,9 @@ zip_more R [] (b ∷ ys) x y zip here = absurd zip
 zip_more R (a ∷ xs) [] x y zip here = absurd zip
 zip_more R (a ∷ xs) (b ∷ ys) x y zip here = (zip.0, zip_more R xs ys x y zip.1 here)
 
-pub zip_next : {X A B : Type 0} (R : A → B → Type 0) (view : X → A) (xs : List X) (i : ℕ) (x : X) (ys : List B) (y : B)
-    → AllZip R (map view (take i xs)) ys → i < length xs → x ≡ get_or xs i x → R (view x) y → AllZip R (map view (take (i + 1) xs)) (ys ++ y ∷ [])
-zip_next R view xs i x ys y zip below is here =
-    let grown = one_more xs i x below is in
-    let listed : map view (take (i + 1) xs) ≡ map view (take i xs) ++ view x ∷ [] = ap (λ zs. map view zs) grown ∙ map-append view (take i xs) (x ∷ []) in
+pub zip_next : {X A B : Type 0} (R : A → B → Type 0) (view : X → A) (xs : List X) (i : ℕ) (d : X) (ys : List B) (y : B)
+    → AllZip R (map view (take i xs)) ys → i < length xs → R (view (get_or xs i d)) y → AllZip R (map view (take (i + 1) xs)) (ys ++ y ∷ [])
+zip_next R view xs i d ys y zip below here =
+    let x = get_or xs i d in
+    let listed : map view (take (i + 1) xs) ≡ map view (take i xs) ++ view x ∷ [] = ap (λ zs. map view zs) (take_at_read xs i d below).1 ∙ map-append view (take i xs) (x ∷ []) in
     subst (λ zs. AllZip R zs (ys ++ y ∷ [])) (sym listed) (zip_more R (map view (take i xs)) ys (view x) y zip here)
