@@ -4,6 +4,7 @@ pub mod Exclusive
 pub mod First
 pub mod Fits
 pub mod InnerSteps
+pub mod Keeps
 pub mod Locks
 pub mod Related
 pub mod Report
