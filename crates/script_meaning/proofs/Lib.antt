@@ -9,3 +9,5 @@ pub mod StepBounds
 pub mod Steps
 pub mod Touches
 pub mod TurnBounds
+pub mod Typing
+pub mod Kept
