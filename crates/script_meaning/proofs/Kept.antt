@@ -17,7 +17,6 @@ use Rattle.core_tree.specs.declared.value.Value.{Value}
 use Rattle.core_tree.specs.declared.value.Value.TheVariants as values
 use Rattle.core_tree.specs.Outlines.{ScriptShape}
 use Rattle.core_tree.specs.Scenes.{SceneShape, InstanceShape, CallShape}
-use Rattle.script_meaning.specs.Evaluation.{self_value}
 use Rattle.script_meaning.specs.First.{initial_in, initial_variables, variables_set, first_instance, first_state}
 use Rattle.script_meaning.specs.Fits.{Known, known, HasType, IsResult, HaveTypes, typed, Extends, variable_kinds, VariablesFit, ArrayFits, script_in, script_at, IsThere, is_native_at, IsOfDevice, BindingFits, NativesFit, SightFits, IsReply, Types, BodyHolds, BodyFits, CallFits, ArgumentsFit, by_types, InnermostFits, TurnFits, NextTurnFits}
 use Rattle.script_meaning.specs.Keeps.{seen, IsVariable, IsOfOwn, RequestFits, StopFits, FoundFits, KeepsFit, first_known, SetFits, InstanceFits, StartFits, SceneFits}
@@ -227,7 +226,7 @@ module _ {Body : Type 0} (types : Types Body) where
     -- ---- more arrays
     body_moved : (now then : Known) (self : Option ℕ) (body : Body) (awaited : Option (Option CoreType)) (result : Option CoreType) → Extends now then → BodyHolds types now self body awaited result → BodyHolds types then self body awaited result
     body_moved now then self body awaited result e b =
-        record { on = has_moved now then e (kinds.Script (types.script body)) (self_value self) b.on; holds = keeps.stable now then body awaited result e b.holds }
+        keeps.stable now then (script_at then.instances self) body awaited result e (subst (λ is. types.holds now (script_at is self) body awaited result) e.instances b)
 
     there_moved : (now then : Known) (o : Option ℕ) → Extends now then → IsThere now.instances o → IsThere then.instances o
     there_moved now then o e h = subst (λ is. IsThere is o) e.instances h

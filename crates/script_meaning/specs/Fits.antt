@@ -11,7 +11,6 @@ use Rattle.core_tree.specs.declared.value.Value.{Value}
 use Rattle.core_tree.specs.declared.value.Value.TheVariants as values
 use Rattle.core_tree.specs.Outlines.{ScriptShape, FunctionShape}
 use Rattle.core_tree.specs.Scenes.{SceneShape}
-use Rattle.script_meaning.specs.Evaluation.{self_value}
 use Rattle.script_meaning.specs.Locks.{takes}
 use Rattle.script_meaning.specs.Requests.{Sight, Setting, binding_in, functions_in, result_of}
 use Rattle.script_meaning.specs.Stacks.{Way, Frame, ToEnter, Running, State, inner_instance, frames_of}
@@ -157,16 +156,13 @@ pub record Types (Body : Type 0) : Type 1 where
   pub outline : List ScriptShape
   -- what is found by this way, from the script of an instance, has parameters and a result of these types
   pub calls : Option ℕ → Way → List CoreType → Option CoreType → Type 0
-  -- the script in which a body stands
-  pub script : Body → ℕ
-  -- what a body holds is of the types of its places; it waits for nothing, or for a result of a type; and it
-  -- gives a result of a type
-  pub holds : Known → Body → Option (Option CoreType) → Option CoreType → Type 0
+  -- on an instance of this script, or on none, what a body holds is of the types of its places; it waits for
+  -- nothing, or for a result of a type; and it gives a result of a type
+  pub holds : Known → Option ℕ → Body → Option (Option CoreType) → Option CoreType → Type 0
 
--- a body on the instance that stands there
-pub record BodyHolds {Body : Type 0} (types : Types Body) (known : Known) (self : Option ℕ) (body : Body) (awaited : Option (Option CoreType)) (result : Option CoreType) : Type 0 where
-  pub on : HasType known (kinds.Script (types.script body)) (self_value self)
-  pub holds : types.holds known body awaited result
+-- a body on this instance, or on none
+abbrev pub BodyHolds : {Body : Type 0} → Types Body → Known → Option ℕ → Body → Option (Option CoreType) → Option CoreType → Type 0
+BodyHolds types known self body awaited result = types.holds known (script_at known.instances self) body awaited result
 
 pub record BodyFits {Body : Type 0} (types : Types Body) (setting : Setting) (sight : Sight) (body : Body) (given : Option Value) : Type 0 where
   pub awaited : Option (Option CoreType)

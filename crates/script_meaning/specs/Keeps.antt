@@ -65,7 +65,7 @@ FoundFits types known self arguments result NothingThere = ⊥
 -- ---- engines
 pub record KeepsFit {Body : Type 0} (types : Types Body) (engine : Engine Body) : Type 0 where
   -- what a body holds is of its types however many arrays are added
-  pub stable : (now then : Known) (body : Body) (awaited : Option (Option CoreType)) (result : Option CoreType) → Extends now then → types.holds now body awaited result → types.holds then body awaited result
+  pub stable : (now then : Known) (own : Option ℕ) (body : Body) (awaited : Option (Option CoreType)) (result : Option CoreType) → Extends now then → types.holds now own body awaited result → types.holds then own body awaited result
   pub enter : (setting : Setting) (sight : Sight) (way : Way) (arguments : List Value) (result : Option CoreType) → SightFits types.outline setting sight → CallFits types (seen types.outline setting sight) setting.self way arguments result → FoundFits types (seen types.outline setting sight) setting.self arguments result (engine.enter (script_at setting.instances setting.self) sight.state way arguments)
   pub run : (setting : Setting) (sight : Sight) (body : Body) (awaited : Option (Option CoreType)) (result : Option CoreType) (given : Option Value) → SightFits types.outline setting sight → BodyHolds types (seen types.outline setting sight) setting.self body awaited result → IsReply (seen types.outline setting sight) awaited given → StopFits types setting sight result (engine.run setting body given sight)
 
