@@ -5,3 +5,4 @@ pub mod Laws
 pub mod LookUp
 pub mod Operands
 pub mod Steps
+pub mod Typed
