@@ -1,3 +1,5 @@
+pub mod Enters
+pub mod Keeps
 pub mod Rows
 pub mod Runs
 pub mod TurnBounds

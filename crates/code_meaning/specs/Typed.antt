@@ -7,7 +7,7 @@ use Rattle.core_tree.specs.declared.value.Value.{Value}
 use Rattle.core_tree.specs.declared.value.Value.TheVariants as values
 use Rattle.core_tree.specs.Outlines.{ScriptShape}
 use Rattle.script_meaning.specs.Fits.{Known, known, holds_none, HasType, IsResult, HaveTypes, is_native_at, Types}
-use Rattle.script_meaning.specs.Keeps.{IsVariable}
+use Rattle.script_meaning.specs.Keeps.{IsVariable, IsOn}
 use Rattle.script_meaning.specs.Requests.{result_of}
 use Rattle.script_meaning.specs.Stacks.{Way, ByMethod, ByParent, ByGlobal, ByGet, BySet}
 use Rattle.script_meaning.specs.Values.{element_kind, is_child, lineage, parent_in}
@@ -18,11 +18,6 @@ use Rattle.code_meaning.specs.LookUp.{BodyPlace, OfState, OfGet, OfSet, Body, sc
 use Rattle.code_meaning.specs.Operands.{slot_kinds, type_of}
 
 -- ---- calls
--- an instance of the first script is of the second one too; without an instance that is none's
-abbrev pub IsOn : List ScriptShape → Option ℕ → ℕ → Bool → Type 0
-IsOn outline None script is_global = is_global ≡ true
-IsOn outline (Some own) script is_global = is_child outline own script ≡ true
-
 -- parameters and result, as `is_global` wants it; a native function stands in the outline
 abbrev pub MethodMeets : List ScriptShape → Bool → List CoreType → Option CoreType → Option FoundMethod → Type 0
 MethodMeets outline is_global parameters result None = ⊥
@@ -86,7 +81,9 @@ IsSeen scope _ = Unit {0}
 -- an operand whose value fits the type
 abbrev pub Gives : Scope → CoreType → Operand → Type 0
 Gives scope kind (Literal value) = HasType (known scope.outline [] []) kind value
-Gives scope kind operand = IsSeen scope operand × Fits scope.outline (type_of scope.outline scope.script scope.function operand) kind
+Gives scope kind (Variable number) =
+    (scope.function.is_global ≡ false) × ((from : CoreType) × IsVariable scope.outline scope.script number from × Fits scope.outline (Some from) kind)
+Gives scope kind operand = Fits scope.outline (type_of scope.outline scope.script scope.function operand) kind
 
 abbrev pub AllGive : Scope → List CoreType → List Operand → Type 0
 AllGive scope [] [] = Unit {0}

@@ -64,7 +64,7 @@ same_all stacks (first ∷ rest) w =
     same_all stacks rest (goes_to_wait first.0 (inner_instance (frames_of stacks first.0)) w) ∙ same_waiting first.0 (inner_instance (frames_of stacks first.0)) w
 
 -- ---- natives
-abbrev SameSight : Sight → Sight → Type 0
+abbrev pub SameSight : Sight → Sight → Type 0
 SameSight a b = (a.variables ≡ b.variables) × (a.state ≡ b.state) × (a.arrays ≡ b.arrays)
 
 traced_same : (setting : Setting) (value : Value) (sight : Sight) → SameSight (traced setting value sight) sight

@@ -11,3 +11,4 @@ pub mod Touches
 pub mod TurnBounds
 pub mod Typing
 pub mod Kept
+pub mod Operating

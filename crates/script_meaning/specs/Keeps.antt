@@ -1,5 +1,5 @@
 -- Engines that keep what fits, and scenes that begin with it.
-use Rattle.std.specs.Prelude.{◌≡◌, ℕ, ◌==◌, true, List, [], ◌∷◌, map, Option, Some, None, slice_get}
+use Rattle.std.specs.Prelude.{◌≡◌, ℕ, ◌==◌, Bool, true, List, [], ◌∷◌, map, Option, Some, None, slice_get}
 use Rattle.std.specs.List.{list_any, AllByRecursion}
 use Rattle.core_tree.specs.declared.core_type.CoreType.{CoreType}
 use Rattle.core_tree.specs.declared.value.Value.{Value}
@@ -9,7 +9,7 @@ use Rattle.script_meaning.specs.First.{initial_in, first_instance}
 use Rattle.script_meaning.specs.Fits.{Known, known, HasType, IsResult, HaveTypes, typed, Extends, variable_kinds, script_at, is_native_at, NativesFit, SightFits, IsReply, Types, BodyHolds, CallFits}
 use Rattle.script_meaning.specs.Requests.{Sight, Setting, Request, Method, ParentMethod, GlobalFunction, GlobalNative, Get, Set, LoopPass, Return, result_of, first_argument}
 use Rattle.script_meaning.specs.Stacks.{Way, ByMethod, ByParent, ByGlobal, ByGet, BySet, Entered, Opened, NativeThere, ReadThere, WriteThere, NothingThere, Stop, Engine}
-use Rattle.script_meaning.specs.Values.{lineage}
+use Rattle.script_meaning.specs.Values.{lineage, is_child}
 use Rattle.script_meaning.specs.World.{title}
 
 -- what a body knows in its turn
@@ -25,6 +25,11 @@ IsVariable outline script number kind = slice_get (variable_kinds (slice_get out
 abbrev pub IsOfOwn : Known → Option ℕ → ℕ → Type 0
 IsOfOwn known self script =
     list_any (λ above. above == script) (lineage known.outline (script_at known.instances self)) ≡ true
+
+-- code of a script stands on an instance of that script or of one below it, and code of a Global function on none
+abbrev pub IsOn : List ScriptShape → Option ℕ → ℕ → Bool → Type 0
+IsOn outline None script is_global = is_global ≡ true
+IsOn outline (Some own) script is_global = is_child outline own script ≡ true
 
 -- ---- requests
 -- what a body asks for fits, and it goes on with a result of the type that is given; what it returns is of the

@@ -13,5 +13,6 @@ pub mod Source
 pub mod Stacks
 pub mod Touch
 pub mod Turns
+pub mod Typed
 pub mod Values
 pub mod World

@@ -46,6 +46,11 @@ element_kind kinds.TextArray = Some kinds.Text
 element_kind (kinds.ScriptArray script) = Some (kinds.Script script)
 element_kind _ = None
 
+-- of the operands and the result of an operator
+abbrev pub arith_kind : Arith → CoreType
+arith_kind signs.Join = kinds.Text
+arith_kind _ = kinds.Int
+
 -- ---- defaults
 abbrev pub default_of : CoreType → Value
 default_of kinds.Int = values.Int (pos 0)
