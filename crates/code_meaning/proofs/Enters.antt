@@ -15,6 +15,7 @@ use Rattle.script_meaning.specs.Requests.{Sight, Setting}
 use Rattle.script_meaning.specs.Stacks.{Way, ByMethod, ByParent, ByGlobal, ByGet, BySet, Entered, Opened, NativeThere, ReadThere, WriteThere, NothingThere}
 use Rattle.script_meaning.specs.Values.{default_result, upward, lineage, parent_in, is_child}
 use Rattle.script_meaning.proofs.Operating.{nothing_up, has_above, parent_above}
+use Rattle.script_meaning.proofs.TreesEnter.{same_length}
 use Rattle.script_meaning.proofs.Typing.{types_moved, types_joined, default_result_fits}
 use Rattle.code_meaning.specs.Code.{Function, Access, Auto, Full, Property, State, Script}
 use Rattle.code_meaning.specs.Engine.{code_engine}
@@ -112,12 +113,6 @@ locals_fit : (now : Known) (ks : List (Option CoreType)) → HaveTypes now ks (m
 locals_fit now [] = tt
 locals_fit now (k ∷ ks) = (default_result_fits now k, locals_fit now ks)
 
-same_length : (now : Known) (ks : List CoreType) (vs : List Value) → HaveTypes now (typed ks) vs → eqb (length vs) (length ks) ≡ true
-same_length now [] [] h = refl
-same_length now (k ∷ ks) (v ∷ vs) h = same_length now ks vs h.1
-same_length now [] (v ∷ vs) h = absurd h
-same_length now (k ∷ ks) [] h = absurd h
-
 module _ (scripts : List Script) (setting : Setting) (set : IsTypedSet setting.outline scripts) (sight : Sight) where
   abbrev now : Known
   now = known setting.outline setting.instances sight.arrays
@@ -213,7 +208,7 @@ module _ (scripts : List Script) (setting : Setting) (set : IsTypedSet setting.o
 
 -- ---- the engine
 holds_stable : (outline : List ScriptShape) (scripts : List Script) (now then : Known) (own : Option ℕ) (body : Body) (awaited : Option (Option CoreType)) (result : Option CoreType) → Extends now then → Holds outline scripts now own body awaited result → Holds outline scripts then own body awaited result
-holds_stable outline scripts now then own body awaited result e h =
+holds_stable outline scripts now then at body awaited result e h =
     record { function = h.function; placed = h.placed; on = h.on; gives = h.gives; slots = types_moved now then e (slot_kinds h.function) body.slots h.slots; waits = h.waits }
 
 -- an outline that equals that of the setting

@@ -12,3 +12,5 @@ pub mod TurnBounds
 pub mod Typing
 pub mod Kept
 pub mod Operating
+pub mod TreesEnter
+pub mod TreesKeep
