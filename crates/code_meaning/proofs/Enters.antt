@@ -26,11 +26,13 @@ use Rattle.code_meaning.proofs.Keeps.{run_code_fits}
 
 -- ---- the first of a list
 numbered_by : {X : Type 0} (here : Bool) (x : X) (xs : List X) (rest : Option (ℕ × X)) (n : ℕ) (y : X) → ((m : ℕ) → rest ≡ Some (m, y) → slice_get xs m ≡ Some y) → cond here (Some (0, x)) (one_on rest) ≡ Some (n, y) → slice_get (x ∷ xs) n ≡ Some y
-numbered_by true x xs rest n y more e =
-    let number : 0 ≡ n = cc in let same : x ≡ y = cc in subst (λ m. slice_get (x ∷ xs) m ≡ Some y) number (ap (λ z. Some z) same)
+numbered_by {X} true x xs rest n y more e =
+    let same : ◌≡◌ {A = ℕ × X} (0, x) (n, y) = cc in
+    subst (λ m. slice_get (x ∷ xs) m ≡ Some y) (ap (λ p. p.0) same) (ap (λ p. Some p.1) same)
 numbered_by false x xs None n y more e = absurd (cc)
-numbered_by false x xs (Some (m, z)) n y more e =
-    let number : suc m ≡ n = cc in let same : z ≡ y = cc in subst (λ k. slice_get (x ∷ xs) k ≡ Some y) number (more m (ap (λ w. Some (m, w)) same))
+numbered_by {X} false x xs (Some (m, z)) n y more e =
+    let same : ◌≡◌ {A = ℕ × X} (suc m, z) (n, y) = cc in
+    subst (λ k. slice_get (x ∷ xs) k ≡ Some y) (ap (λ p. p.0) same) (more m (ap (λ p. Some (m, p.1)) same))
 
 numbered_there : {X : Type 0} (test : X → Bool) (xs : List X) (n : ℕ) (y : X) → numbered test xs ≡ Some (n, y) → slice_get xs n ≡ Some y
 numbered_there test [] n y e = absurd (cc)

@@ -306,9 +306,12 @@ module _ (scripts : List Script) (setting : Setting) (set : IsTypedSet setting.o
 
     executed_fits : (at : ℕ) (instruction : Instruction) (inner : Inner) → slice_get function.code at ≡ Some instruction → IsTyped scope instruction → InnerFits inner → StepFits (executed home at instruction inner)
     executed_fits at op.Nop inner e t f = f
-    executed_fits at (op.IAdd result left right) inner e t f = settled_gave at result kinds.Int _ inner t.0 refl f
-    executed_fits at (op.ISub result left right) inner e t f = settled_gave at result kinds.Int _ inner t.0 refl f
-    executed_fits at (op.IMul result left right) inner e t f = settled_gave at result kinds.Int _ inner t.0 refl f
+    executed_fits at (op.IAdd result left right) inner e t f =
+        settled_gave at result kinds.Int (calculated signs.Add (worth home inner left) (worth home inner right)) inner t.0 refl f
+    executed_fits at (op.ISub result left right) inner e t f =
+        settled_gave at result kinds.Int (calculated signs.Sub (worth home inner left) (worth home inner right)) inner t.0 refl f
+    executed_fits at (op.IMul result left right) inner e t f =
+        settled_gave at result kinds.Int (calculated signs.Mul (worth home inner left) (worth home inner right)) inner t.0 refl f
     executed_fits at (op.IDiv result left right) inner e t f =
         settled_gave at result kinds.Int (calculated signs.Div (worth home inner left) (worth home inner right)) inner t.0 (calculated_fits (sees inner.sight) signs.Div (worth home inner left) (worth home inner right)) f
     executed_fits at (op.IMod result left right) inner e t f =
@@ -420,7 +423,7 @@ module _ (scripts : List Script) (setting : Setting) (set : IsTypedSet setting.o
       let stands : InnerFits place function h.on (sees sight) halt.inner = after.stands in
       record { sight = stands.sight; grown = stands.grown; request = request_so (code_types outline scripts) (sees halt.inner.sight) setting.self function.result (λ waits. Awaits (record { outline = outline; scripts = scripts; script = script_of place; function = function }) (slice_get function.code halt.at) waits) (λ waits. BodyHolds (code_types outline scripts) (sees halt.inner.sight) setting.self (record { place = place; instruction = halt.at; slots = halt.inner.slots }) waits function.result) (λ waits g. record { function = function; placed = h.placed; on = h.on; gives = refl; slots = stands.slots; waits = g }) halt.request after.comes }
 
-  run_code_fits : (sight : Sight) (body : Body) (awaited : Option (Option CoreType)) (result : Option CoreType) (given : Option Value) → SightFits outline setting sight → BodyHolds (code_types outline scripts) (sees sight) setting.self body awaited result → IsReply (sees sight) awaited given → StopFits (code_types outline scripts) setting sight result (run_code scripts setting body given sight)
+  pub run_code_fits : (sight : Sight) (body : Body) (awaited : Option (Option CoreType)) (result : Option CoreType) (given : Option Value) → SightFits outline setting sight → BodyHolds (code_types outline scripts) (sees sight) setting.self body awaited result → IsReply (sees sight) awaited given → StopFits (code_types outline scripts) setting sight result (run_code scripts setting body given sight)
   run_code_fits sight body awaited result given s h r =
       let ran : StopFits (code_types outline scripts) setting sight h.function.result (run_function scripts setting body given sight (Some h.function)) = ran_fits sight body.place body.instruction body.slots awaited result given s h r in
       subst (λ o. StopFits (code_types outline scripts) setting sight result (run_function scripts setting body given sight o)) (sym h.placed) (subst (λ k. StopFits (code_types outline scripts) setting sight k (run_function scripts setting body given sight (Some h.function))) h.gives ran)
