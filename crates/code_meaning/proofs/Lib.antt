@@ -3,3 +3,4 @@ pub mod Keeps
 pub mod Rows
 pub mod Runs
 pub mod TurnBounds
+pub mod Small
