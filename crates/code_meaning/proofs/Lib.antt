@@ -1,5 +1,6 @@
 pub mod Enters
 pub mod Keeps
+pub mod LoadedRows
 pub mod Rows
 pub mod Runs
 pub mod TurnBounds

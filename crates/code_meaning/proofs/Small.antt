@@ -26,8 +26,10 @@ use Rattle.script_meaning.proofs.TreesEnter.{source_keeps}
 use Rattle.code_meaning.specs.Code.{Slot, Function, Full, Property, Script}
 use Rattle.code_meaning.specs.Code as op
 use Rattle.code_meaning.specs.Engine.{code_engine}
-use Rattle.code_meaning.specs.LookUp.{OfGet, Body, property_at, get_entered, set_entered, enter_code}
+use Rattle.code_meaning.specs.LookUp.{BodyPlace, OfState, OfGet, OfSet, Body, script_of, function_at, property_at, get_entered, set_entered, enter_code}
 use Rattle.code_meaning.specs.Execution.{run_code}
+use Rattle.code_meaning.specs.Typed.{IsTyped as IsTypedCode, IsTypedSet as IsTypedCodeSet}
+use Rattle.std.specs.List.{AllByRecursion}
 
 -- ---- the set: a script with `Int Property N`, whose Get is `Int l = 5` and `Return l + 1`
 abbrev outline : List ScriptShape
@@ -137,3 +139,19 @@ small_alike = record {
   enter = λ setting sight script way arguments s a. found_so setting sight arguments a.result (subst (λ o. FoundFits (source_types outline scripts) (seen outline setting sight) setting.self arguments a.result (enter_body outline scripts o sight.state way arguments)) (sym a.own) ((source_keeps outline scripts small_typed).enter setting sight way arguments a.result s a.call)) (enter_alike way script sight.state arguments);
   run = λ setting b c reply sight r s f. run_alike setting b c reply sight r;
 }
+
+-- ---- its code is typed
+typed_at : (at : BodyPlace) (function : Function) → function_at loaded at ≡ Some function → AllByRecursion (IsTypedCode (record { outline = outline; scripts = loaded; script = script_of at; function = function })) function.code
+typed_at (OfState zero state number) function e = absurd (cc)
+typed_at (OfState (suc script) state number) function e = absurd (cc)
+typed_at (OfGet zero zero) function e =
+    let same : code ≡ function = cc in
+    subst (λ (f : Function). AllByRecursion (IsTypedCode (record { outline = outline; scripts = loaded; script = 0; function = f })) f.code) same (((tt, refl), tt), (((tt, refl), refl, refl), (refl, tt)))
+typed_at (OfGet zero (suc property)) function e = absurd (cc)
+typed_at (OfGet (suc script) property) function e = absurd (cc)
+typed_at (OfSet zero zero) function e = absurd (cc)
+typed_at (OfSet zero (suc property)) function e = absurd (cc)
+typed_at (OfSet (suc script) property) function e = absurd (cc)
+
+pub small_code_typed : IsTypedCodeSet outline loaded
+small_code_typed = record { functions = typed_at; above = each_above }
