@@ -1,7 +1,7 @@
 -- What calls of typed code find takes their arguments.
-use Rattle.std.proofs.Common.{◌≡◌, ℕ, zero, suc, ◌==◌, Bool, true, false, cond, ◌||◌, List, [], ◌∷◌, ◌++◌, map, length, Option, Some, None, refl, sym, ap, subst, ◌∙◌, arith}
+use Rattle.std.proofs.Common.{◌≡◌, ℕ, suc, Bool, true, false, cond, ◌||◌, List, [], ◌∷◌, map, length, Option, Some, None, refl, sym, ap, subst}
 use Rattle.std.specs.Prelude.{slice_get}
-use Rattle.std.specs.List.{list_any, AllByRecursion}
+use Rattle.std.specs.List.{list_any}
 use Rattle.std.specs.Option.{option_and_then, option_or}
 use Rattle.std.specs.Str.{str_eq_ignore_ascii_case}
 use Rattle.std.proofs.Math.Dec.{eqb}
@@ -9,11 +9,11 @@ use Rattle.std.proofs.lemmas.Bool.{eq-eqb}
 use Rattle.core_tree.specs.declared.core_type.CoreType.{CoreType}
 use Rattle.core_tree.specs.declared.value.Value.{Value}
 use Rattle.core_tree.specs.Outlines.{ScriptShape}
-use Rattle.script_meaning.specs.Fits.{Known, known, HasType, HaveTypes, typed, Extends, script_at, SightFits, IsReply, BodyHolds, CallFits}
+use Rattle.script_meaning.specs.Fits.{Known, known, HaveTypes, typed, Extends, script_at, SightFits, IsReply, BodyHolds, CallFits}
 use Rattle.script_meaning.specs.Keeps.{seen, IsOn, IsVariable, IsOfOwn, StopFits, FoundFits, KeepsFit}
 use Rattle.script_meaning.specs.Requests.{Sight, Setting}
 use Rattle.script_meaning.specs.Stacks.{Way, ByMethod, ByParent, ByGlobal, ByGet, BySet, Entered, Opened, NativeThere, ReadThere, WriteThere, NothingThere}
-use Rattle.script_meaning.specs.Values.{default_result, upward, lineage, parent_in, is_child}
+use Rattle.script_meaning.specs.Values.{default_result, lineage, parent_in}
 use Rattle.script_meaning.proofs.Operating.{nothing_up, has_above, parent_above}
 use Rattle.script_meaning.proofs.TreesEnter.{same_length}
 use Rattle.script_meaning.proofs.Typing.{types_moved, types_joined, default_result_fits}
@@ -21,7 +21,7 @@ use Rattle.code_meaning.specs.Code.{Function, Access, Auto, Full, Property, Stat
 use Rattle.code_meaning.specs.Engine.{code_engine}
 use Rattle.code_meaning.specs.LookUp.{BodyPlace, OfState, OfGet, OfSet, Body, script_of, states_in, properties_in, functions_in, reader_in, writer_in, function_at, one_on, numbered, FoundMethod, method_at, method_of_state, method_of_script, first_method, method_in, native_at, body_of, opened, method_entered, property_at, first_property, accessor_entered, get_entered, set_entered, enter_code}
 use Rattle.code_meaning.specs.Operands.{slot_kinds}
-use Rattle.code_meaning.specs.Typed.{MethodMeets, AccessorMeets, GetMeets, SetMeets, Calls, IsTypedSet, Holds, code_types}
+use Rattle.code_meaning.specs.Typed.{MethodMeets, AccessorMeets, GetMeets, SetMeets, IsTypedSet, Holds, code_types}
 use Rattle.code_meaning.proofs.Keeps.{run_code_fits}
 
 -- ---- the first of a list

@@ -1,6 +1,6 @@
 -- Typed code keeps what fits.
-use Rattle.std.proofs.Common.{◌≡◌, ◌⊎◌, ℕ, zero, suc, ◌-◌, ◌<◌, ◌≤◌, Bool, true, false, cond, List, [], ◌∷◌, ◌++◌, map, length, drop, ℤ, pos, Option, Some, None, refl, sym, ap, subst, ◌∙◌, inl, inr, arith}
-use Rattle.std.specs.Prelude.{slice_get, slice_index_or, slice_set, int_lt}
+use Rattle.std.proofs.Common.{◌≡◌, ℕ, zero, suc, ◌-◌, Bool, true, false, cond, List, [], ◌∷◌, map, drop, ℤ, pos, Option, Some, None, refl, sym, ap, subst, ◌∙◌}
+use Rattle.std.specs.Prelude.{slice_get, slice_index_or, int_lt}
 use Rattle.std.specs.Int.RustNames.{unsigned_abs}
 use Rattle.std.specs.List.{list_any, AllByRecursion}
 use Rattle.std.specs.Option.{option_and_then}
@@ -15,21 +15,21 @@ use Rattle.core_tree.specs.Outlines.{ScriptShape}
 use Rattle.papy_base.specs.declared.faults.StackFault.{StackFault}
 use Rattle.script_meaning.specs.Arrays.{write_fault, with_array, new_array, with_element}
 use Rattle.script_meaning.specs.Evaluation.{self_value}
-use Rattle.script_meaning.specs.Fits.{Known, known, IsOfScript, HasType, IsResult, HaveTypes, typed, Extends, variable_kinds, VariablesFit, ArrayFits, script_in, script_at, IsThere, SightFits, IsReply, BodyHolds, CallFits}
-use Rattle.script_meaning.specs.Keeps.{seen, IsOn, IsVariable, IsOfOwn, RequestFits, StopFits}
-use Rattle.script_meaning.specs.Requests.{Sight, Setting, Request, Method, ParentMethod, GlobalFunction, GlobalNative, Get, Set, LoopPass, Return, Question, Asks, method_of, get_of, set_of, Answer, Reply, Act, answer, result_of, is_prompt, binding_in}
-use Rattle.script_meaning.specs.Stacks.{Way, ByMethod, ByParent, ByGlobal, ByGet, BySet, Stop}
-use Rattle.script_meaning.specs.Values.{Result, number_of, text_of, instance_of, array_of, default_result, is_true, arith_kind, calculated, element_kind, is_child, lineage, cast_to}
-use Rattle.script_meaning.specs.World.{Variables, ArrayState, variable_of, with_variable}
+use Rattle.script_meaning.specs.Fits.{Known, known, IsOfScript, HasType, IsResult, HaveTypes, typed, Extends, variable_kinds, VariablesFit, ArrayFits, script_at, SightFits, IsReply, BodyHolds, CallFits}
+use Rattle.script_meaning.specs.Keeps.{IsOn, RequestFits, StopFits}
+use Rattle.script_meaning.specs.Requests.{Sight, Setting, Request, ParentMethod, GlobalFunction, GlobalNative, LoopPass, Asks, Answer, Reply, Act, answer}
+use Rattle.script_meaning.specs.Stacks.{Way, ByMethod, ByParent, ByGlobal, ByGet, BySet}
+use Rattle.script_meaning.specs.Values.{Result, number_of, instance_of, array_of, default_result, is_true, calculated, element_kind, is_child, lineage}
+use Rattle.script_meaning.specs.World.{ArrayState}
 use Rattle.script_meaning.proofs.Kept.{SameSight}
 use Rattle.script_meaning.proofs.Operating.{own_line, self_has, literal_has, calculated_fits, target_is, instance_cast, child_above, ArrayIs, array_is, length_fits, found_fits, found_back_fits, element_fits, Rewritten, element_written, array_made, sight_as, AnswerIs, framed_is, method_is, get_is, set_is, native_is, request_so}
 use Rattle.script_meaning.proofs.Typing.{extends_self, extends_on, types_moved, variables_moved, type_set, variable_fits, variable_written, written_scripts, default_fits, default_result_fits, kinds_of}
 use Rattle.code_meaning.specs.Code.{Operand, Literal, Slot, Variable, Itself, StateText, Instruction, Function, Script}
 use Rattle.code_meaning.specs.Code as op
-use Rattle.code_meaning.specs.Execution.{Step, Onward, Stops, settled, computed, compared, cast_where, created, with_stored, jumped, reply_result, with_reply, asked, arguments_of, static_request, executed, Halt, followed, run_from, resumed, home_of, stop_at, run_function, run_code}
+use Rattle.code_meaning.specs.Execution.{Step, Onward, Stops, settled, cast_where, created, jumped, reply_result, with_reply, asked, arguments_of, static_request, executed, Halt, followed, run_from, resumed, home_of, run_function, run_code}
 use Rattle.code_meaning.specs.LookUp.{BodyPlace, Body, script_of, function_at, FoundMethod, first_method, native_at}
-use Rattle.code_meaning.specs.Operands.{Home, Inner, worth, slot_kinds, variables_in, kind_in, type_of, kind_of, default_at, with_value, where_kept, stored, place_of, noted}
-use Rattle.code_meaning.specs.Typed.{MethodMeets, Calls, Scope, CallsOn, Fits, IsSeen, Gives, AllGive, GivesNone, GivesResult, IsPlace, Where, Takes, Stores, GivesArray, Casts, IsTyped, IsTypedSet, StoredBy, RepliesTo, Awaits, Holds, code_types}
+use Rattle.code_meaning.specs.Operands.{Home, Inner, worth, slot_kinds, variables_in, kind_in, type_of, default_at, with_value, where_kept, stored, place_of, noted}
+use Rattle.code_meaning.specs.Typed.{MethodMeets, Calls, Scope, CallsOn, Fits, Gives, AllGive, GivesNone, GivesResult, IsPlace, Where, Stores, GivesArray, Casts, IsTyped, IsTypedSet, StoredBy, RepliesTo, Awaits, Holds, code_types}
 
 -- ---- lists
 get_slot : (ks : List (Option CoreType)) (n : ℕ) (k : CoreType) → slice_index_or ks n None ≡ Some k → slice_get ks n ≡ Some (Some k)

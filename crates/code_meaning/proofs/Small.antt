@@ -1,9 +1,8 @@
 -- Two engines that are alike: those of one small set, as trees and as code.
-use Rattle.std.proofs.Common.{◌≡◌, ℕ, zero, suc, Bool, true, false, cond, List, [], ◌∷◌, map, Option, Some, None, refl, sym, subst}
+use Rattle.std.proofs.Common.{◌≡◌, ℕ, zero, suc, Bool, true, false, cond, List, [], ◌∷◌, Option, Some, None, refl, sym, subst}
 use Rattle.std.specs.Prelude.{codes, is_some, pos, slice_get}
 use Rattle.std.specs.Option.{option_or}
 use Rattle.std.specs.Str.{str_eq_ignore_ascii_case}
-use Rattle.core_tree.specs.declared.DeviceKind.{DeviceKind}
 use Rattle.core_tree.specs.declared.core_type.CoreType.{CoreType}
 use Rattle.core_tree.specs.declared.core_type.CoreType.TheVariants as kinds
 use Rattle.core_tree.specs.declared.operator.Arith.TheVariants as signs
@@ -12,14 +11,13 @@ use Rattle.core_tree.specs.declared.value.Value.TheVariants as values
 use Rattle.core_tree.specs.Outlines.{ScriptShape}
 use Rattle.core_tree.specs.Set as trees
 use Rattle.core_tree.specs.Tree.{Calculate, Literal, Local, Apply, one, two, StoreLocal, GiveBack, Do, Block, NoStatement, MoreStatements}
-use Rattle.script_meaning.specs.First.{first_state}
-use Rattle.script_meaning.specs.Fits.{ArgumentsFit, BodyFits, SightFits, by_types, known}
-use Rattle.script_meaning.specs.Keeps.{FoundFits, KeepsFit, seen}
+use Rattle.script_meaning.specs.Fits.{BodyFits, by_types}
+use Rattle.script_meaning.specs.Keeps.{FoundFits, seen}
 use Rattle.script_meaning.specs.Related.{EnteredAlike, both_open, both_native, both_read, both_write, both_nothing, StopsAlike, EnginesAlike}
 use Rattle.script_meaning.specs.Requests.{Sight, Setting}
 use Rattle.script_meaning.specs.Source as source
 use Rattle.script_meaning.specs.Source.{run_body, enter_body, source_engine}
-use Rattle.script_meaning.specs.Stacks.{Way, ByMethod, ByParent, ByGlobal, ByGet, BySet, Entered, Opened, NativeThere, ReadThere, WriteThere, NothingThere}
+use Rattle.script_meaning.specs.Stacks.{Way, ByMethod, ByParent, ByGlobal, ByGet, BySet, Entered}
 use Rattle.script_meaning.specs.Typed.{IsTypedScript, IsTypedSet, source_types}
 use Rattle.script_meaning.specs.Values.{lineage}
 use Rattle.script_meaning.proofs.TreesEnter.{source_keeps}

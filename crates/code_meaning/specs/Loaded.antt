@@ -1,7 +1,6 @@
 -- The plain data of loaded scripts: what the scripts of a set that was verified mean.
 use Rattle.std.specs.Prelude.{ℕ, ◌==◌, ℤ, pos, unsigned_abs, bit_and, List, [], ◌∷◌, length, map, position, Option, Some, None, slice_index_or}
 use Rattle.std.specs.Str.{str_eq_ignore_ascii_case}
-use Rattle.core_tree.specs.declared.core_type.CoreType.{CoreType}
 use Rattle.core_tree.specs.declared.value.Value.TheVariants as values
 use Rattle.core_tree.specs.Outlines.{ScriptShape, script_shape}
 use Rattle.pex_verify.specs.declared.loaded.LoadedFunction.{LoadedFunction}

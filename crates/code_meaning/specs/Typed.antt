@@ -1,12 +1,11 @@
 -- Typed code: by cases on opcodes, operands are of the types that the instruction asks for.
-use Rattle.std.specs.Prelude.{◌≡◌, ◌⊎◌, ℕ, ◌≤◌, Bool, true, false, List, [], ◌∷◌, ◌++◌, Option, Some, None, slice_get}
+use Rattle.std.specs.Prelude.{◌≡◌, ◌⊎◌, ℕ, ◌≤◌, Bool, true, false, List, [], ◌∷◌, Option, Some, None, slice_get}
 use Rattle.std.specs.List.{AllByRecursion}
 use Rattle.core_tree.specs.declared.core_type.CoreType.{CoreType}
 use Rattle.core_tree.specs.declared.core_type.CoreType.TheVariants as kinds
-use Rattle.core_tree.specs.declared.value.Value.{Value}
 use Rattle.core_tree.specs.declared.value.Value.TheVariants as values
 use Rattle.core_tree.specs.Outlines.{ScriptShape}
-use Rattle.script_meaning.specs.Fits.{Known, known, holds_none, HasType, IsResult, HaveTypes, is_native_at, Types}
+use Rattle.script_meaning.specs.Fits.{Known, known, holds_none, HasType, HaveTypes, is_native_at, Types}
 use Rattle.script_meaning.specs.Keeps.{IsVariable, IsOn}
 use Rattle.script_meaning.specs.Requests.{result_of}
 use Rattle.script_meaning.specs.Stacks.{Way, ByMethod, ByParent, ByGlobal, ByGet, BySet}
@@ -14,7 +13,7 @@ use Rattle.script_meaning.specs.Values.{element_kind, is_child, lineage, parent_
 use Rattle.code_meaning.specs.Code.{Operand, Literal, Slot, Variable, Itself, StateText, Instruction, Function, Access, Auto, Full, Script}
 use Rattle.code_meaning.specs.Code as op
 use Rattle.code_meaning.specs.Execution.{reply_result}
-use Rattle.code_meaning.specs.LookUp.{BodyPlace, OfState, OfGet, OfSet, Body, script_of, function_at, FoundMethod, first_method, method_in, native_at, first_property}
+use Rattle.code_meaning.specs.LookUp.{BodyPlace, Body, script_of, function_at, FoundMethod, first_method, method_in, native_at, first_property}
 use Rattle.code_meaning.specs.Operands.{slot_kinds, type_of}
 
 -- ---- calls

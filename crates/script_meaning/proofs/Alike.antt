@@ -8,11 +8,11 @@ use Rattle.core_tree.specs.Outlines.{ScriptShape}
 use Rattle.core_tree.specs.Scenes.{SceneShape, CallShape}
 use Rattle.script_meaning.specs.First.{first_state}
 use Rattle.script_meaning.specs.Fits.{Fitting, InnermostFits, TurnFits, NextTurnFits}
-use Rattle.script_meaning.specs.Locks.{let_go, goes_to_wait, rests, moves, takes}
+use Rattle.script_meaning.specs.Locks.{goes_to_wait, takes}
 use Rattle.script_meaning.specs.Related.{EnteredAlike, both_open, both_native, both_read, both_write, both_nothing, AtRequest, AtLoopPass, StopsAlike, EnginesAlike}
-use Rattle.script_meaning.specs.Requests.{Sight, Setting, Request, Method, ParentMethod, GlobalFunction, GlobalNative, Get, Set, LoopPass, Return, binding_in, is_prompt, latency_of, performed_at}
+use Rattle.script_meaning.specs.Requests.{Sight, Setting, Request, Method, ParentMethod, GlobalFunction, GlobalNative, Get, Set, LoopPass, Return, binding_in, is_prompt, performed_at}
 use Rattle.script_meaning.specs.Stacks.{Way, ByMethod, ByParent, ByGlobal, ByGet, BySet, Frame, ToEnter, Running, Entered, Stop, Engine, State, frame_instance, inner_instance, frames_of, stack_limit, frame_limit, has_room}
-use Rattle.script_meaning.specs.Turns.{sight_of, with_sight, Turn, After, with_reply, returned, native_done, acted, past_pass, run_on, stopped, ran, native_entered, entered, in_turn, setting_of, turn_of, after_turn, turn_ended, turned, instance_script, call_started, calls_started, is_due, not_due, all_wait, awoken, begun, chosen, has_ended, chosen_turned, step, states_from}
+use Rattle.script_meaning.specs.Turns.{sight_of, with_sight, Turn, After, returned, native_done, acted, past_pass, run_on, stopped, ran, native_entered, entered, in_turn, setting_of, turn_of, after_turn, turn_ended, turned, instance_script, call_started, calls_started, is_due, not_due, all_wait, awoken, begun, chosen, has_ended, chosen_turned, step, states_from}
 use Rattle.script_meaning.specs.World.{World, title}
 use Rattle.std.specs.List.{filter, AllByRecursion}
 use Rattle.std.proofs.Math.Dec.{eqb}

@@ -1,8 +1,7 @@
 -- Runs of engines that keep what fits: in each state, whichever stack has its turn goes on with what fits.
-use Rattle.std.proofs.Common.{◌≡◌, ℕ, zero, suc, pred, ◌+◌, ◌<◌, Bool, true, false, cond, not, List, [], ◌∷◌, ◌++◌, map, length, ℤ, pos, Option, Some, None, refl, sym, ap, subst, ◌∙◌, arith}
+use Rattle.std.proofs.Common.{◌≡◌, ℕ, zero, suc, pred, ◌<◌, Bool, true, false, cond, List, [], ◌∷◌, map, length, ℤ, Option, Some, None, refl, sym, ap, subst, ◌∙◌, arith}
 use Rattle.std.specs.Prelude.{slice_get, slice_index_or, slice_set}
 use Rattle.std.specs.List.{filter, list_any, AllByRecursion}
-use Rattle.std.specs.Ordering.{int_eq}
 use Rattle.std.proofs.lemmas.List.{set-get_or}
 use Rattle.std.proofs.Math.Dec.{eqb}
 use Rattle.std.proofs.Math.Seq.{map-set_same}
@@ -18,15 +17,15 @@ use Rattle.core_tree.specs.declared.value.Value.TheVariants as values
 use Rattle.core_tree.specs.Outlines.{ScriptShape}
 use Rattle.core_tree.specs.Scenes.{SceneShape, InstanceShape, CallShape}
 use Rattle.script_meaning.specs.First.{initial_in, initial_variables, variables_set, first_instance, first_state}
-use Rattle.script_meaning.specs.Fits.{Known, known, HasType, IsResult, HaveTypes, typed, Extends, variable_kinds, VariablesFit, ArrayFits, script_in, script_at, IsThere, is_native_at, IsOfDevice, BindingFits, NativesFit, SightFits, IsReply, Types, BodyHolds, BodyFits, CallFits, ArgumentsFit, by_types, InnermostFits, TurnFits, NextTurnFits}
+use Rattle.script_meaning.specs.Fits.{Known, known, HasType, IsResult, HaveTypes, typed, Extends, variable_kinds, VariablesFit, ArrayFits, script_in, script_at, IsThere, is_native_at, IsOfDevice, BindingFits, NativesFit, SightFits, IsReply, Types, BodyHolds, CallFits, by_types, InnermostFits, TurnFits, NextTurnFits}
 use Rattle.script_meaning.specs.Keeps.{seen, IsVariable, IsOfOwn, RequestFits, StopFits, FoundFits, KeepsFit, first_known, SetFits, InstanceFits, StartFits, SceneFits}
-use Rattle.script_meaning.specs.Locks.{let_go, goes_to_wait, ends, rests, same_instance, moves, waited_for, becomes_owner, takes}
+use Rattle.script_meaning.specs.Locks.{let_go, goes_to_wait, rests, same_instance, moves, waited_for, becomes_owner, takes}
 use Rattle.script_meaning.specs.Requests.{Sight, Setting, Request, Method, ParentMethod, GlobalFunction, GlobalNative, Get, Set, LoopPass, Return, binding_in, result_of, is_prompt, latency_of, reply_as, traced, performed, performed_at, first_argument}
-use Rattle.script_meaning.specs.Stacks.{Way, ByMethod, Frame, ToEnter, Running, Entered, Opened, NativeThere, ReadThere, WriteThere, NothingThere, Stop, Engine, State, frame_instance, inner_instance, frames_of}
-use Rattle.script_meaning.specs.Turns.{sight_of, instances_after, with_sight, Turn, After, with_reply, called, returned, native_done, acted, past_pass, run_on, stopped, ran, native_entered, entered, instance_script, in_turn, setting_of, turn_of, after_turn, turn_ended, turned, call_started, calls_started, is_due, not_due, all_wait, awoken, begun, chosen, has_ended, idled, chosen_turned, step, states_from}
+use Rattle.script_meaning.specs.Stacks.{Way, ByMethod, Frame, ToEnter, Running, Entered, Opened, NativeThere, ReadThere, WriteThere, NothingThere, Stop, Engine, State, inner_instance, frames_of}
+use Rattle.script_meaning.specs.Turns.{sight_of, instances_after, with_sight, Turn, After, called, returned, native_done, acted, past_pass, run_on, stopped, ran, native_entered, entered, instance_script, turn_of, after_turn, turned, call_started, calls_started, is_due, not_due, all_wait, awoken, begun, chosen, has_ended, chosen_turned, step, states_from}
 use Rattle.script_meaning.specs.Values.{upward, lineage}
 use Rattle.script_meaning.specs.World.{World, Instance, Variables, ArrayState, title, no_instance, instance_at, variable_of, with_variable}
-use Rattle.script_meaning.proofs.Typing.{all_so, all_at, all_or, all_written, all_more, extends_self, extends_on, has_moved, result_moved, types_moved, variables_moved, arrays_moved, variable_fits, variable_written, written_scripts}
+use Rattle.script_meaning.proofs.Typing.{all_so, all_at, all_or, all_written, all_more, extends_self, extends_on, result_moved, types_moved, variables_moved, variable_fits, variable_written, written_scripts}
 
 -- ---- what a world stores
 -- its outline, its instances and its arrays

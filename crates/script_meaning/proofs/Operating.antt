@@ -1,5 +1,5 @@
 -- Operations give values of their types, and questions are answered by what fits.
-use Rattle.std.proofs.Common.{◌≡◌, ℕ, zero, suc, ◌<◌, Bool, true, false, cond, List, [], ◌∷◌, ◌++◌, map, length, ℤ, pos, ◌+ℤ◌, ◌-ℤ◌, ◌*ℤ◌, Option, Some, None, refl, sym, ap, subst, ◌∙◌, arith, replicate, ◌||◌, ◌+◌}
+use Rattle.std.proofs.Common.{◌≡◌, ℕ, zero, suc, ◌<◌, Bool, true, false, cond, List, [], ◌∷◌, ◌++◌, map, length, ℤ, pos, Option, Some, None, refl, sym, ap, subst, ◌∙◌, arith, replicate, ◌||◌, ◌+◌}
 use Rattle.std.specs.Prelude.{slice_get, slice_index_or, slice_set, int_div, int_rem, nat_lt}
 use Rattle.std.specs.Int.RustNames.{unsigned_abs}
 use Rattle.std.specs.List.{list_any, AllByRecursion}
@@ -7,7 +7,6 @@ use Rattle.std.specs.Ordering.{int_eq}
 use Rattle.std.proofs.lemmas.Bool.{eqb-true}
 use Rattle.std.proofs.lemmas.List.{map-append}
 use Rattle.std.proofs.Math.Dec.{eqb}
-use Rattle.std.proofs.lemmas.Option.{slice_get_within}
 use Rattle.core_tree.specs.declared.core_type.CoreType.{CoreType}
 use Rattle.core_tree.specs.declared.core_type.CoreType.TheVariants as kinds
 use Rattle.core_tree.specs.declared.expression.FunctionPlace.{FunctionPlace}
@@ -20,13 +19,13 @@ use Rattle.papy_base.specs.declared.faults.StackFault.{StackFault}
 use Rattle.papy_base.specs.declared.faults.StackFault.TheVariants as faults
 use Rattle.script_meaning.specs.Arrays.{array_limit, items_of, is_index, with_array, new_array, length_of, element_of, with_items, with_element, found, found_back}
 use Rattle.script_meaning.specs.Evaluation.{self_value}
-use Rattle.script_meaning.specs.Fits.{Known, known, IsOfScript, IsInstanceOf, HoldsElements, holds_none, HasType, IsResult, HaveTypes, Extends, VariablesFit, ArrayFits, script_in, script_at, IsThere, is_native_at, NativesFit, SightFits, Types}
+use Rattle.script_meaning.specs.Fits.{Known, known, IsOfScript, IsInstanceOf, HoldsElements, holds_none, HasType, IsResult, Extends, VariablesFit, ArrayFits, script_in, script_at, IsThere, is_native_at, NativesFit, SightFits, Types}
 use Rattle.script_meaning.specs.Keeps.{IsOn, RequestFits}
-use Rattle.script_meaning.specs.Requests.{Sight, Setting, Request, Method, ParentMethod, GlobalFunction, GlobalNative, Get, Set, LoopPass, Return, binding_in, result_of, is_prompt, performed_at, Question, Asks, method_of, get_of, set_of, Answer, Reply, Act, framed, request_answer, answer, replied, faulted, faulted_where}
+use Rattle.script_meaning.specs.Requests.{Sight, Setting, Request, Method, ParentMethod, GlobalFunction, GlobalNative, Get, Set, LoopPass, Return, binding_in, result_of, is_prompt, performed_at, method_of, get_of, set_of, Answer, Reply, Act, framed, request_answer, answer, replied, faulted}
 use Rattle.script_meaning.specs.Values.{Result, number_of, text_of, instance_of, array_of, default_of, upward, lineage, parent_in, is_child, instance_as, divided, joined, text_limit, calculated, arith_kind, element_kind}
 use Rattle.script_meaning.specs.World.{Place, ArrayState}
 use Rattle.script_meaning.proofs.Kept.{SameSight, performed_same, performed_fits}
-use Rattle.script_meaning.proofs.Typing.{all_at, all_so, all_written, all_repeated, all_more, get_more, get_last, arrays_moved, kinds_of, items_fit, same_kinds, arrays_written, default_fits, index_within}
+use Rattle.script_meaning.proofs.Typing.{all_at, all_written, all_repeated, all_more, get_more, arrays_moved, kinds_of, items_fit, same_kinds, arrays_written, default_fits, index_within}
 
 -- ---- literals
 no_elements : (o : Option CoreType) → HoldsElements o None → ⊥

@@ -1,5 +1,5 @@
 -- What calls of typed trees find takes their arguments.
-use Rattle.std.proofs.Common.{◌≡◌, ℕ, zero, suc, Bool, true, false, cond, ◌||◌, List, [], ◌∷◌, ◌++◌, map, length, Option, Some, None, refl, sym, ap, subst, ◌∙◌}
+use Rattle.std.proofs.Common.{◌≡◌, ℕ, zero, suc, Bool, true, false, cond, ◌||◌, List, [], ◌∷◌, ◌++◌, map, length, Option, Some, None, refl, sym, ap, subst}
 use Rattle.std.specs.Prelude.{slice_get}
 use Rattle.std.specs.List.{find, list_any, AllByRecursion}
 use Rattle.std.specs.Str.{str_eq_ignore_ascii_case}
@@ -11,13 +11,13 @@ use Rattle.core_tree.specs.declared.value.Value.{Value}
 use Rattle.core_tree.specs.Outlines.{ScriptShape}
 use Rattle.core_tree.specs.Set.{Script, Function, State as ScriptState, Property, Access, Auto, Full, empty_functions_of}
 use Rattle.script_meaning.specs.Evaluation.{functions_at}
-use Rattle.script_meaning.specs.Fits.{Known, known, HasType, HaveTypes, typed, Extends, script_at, SightFits, IsReply, BodyHolds, CallFits}
+use Rattle.script_meaning.specs.Fits.{Known, known, HaveTypes, typed, Extends, script_at, SightFits, IsReply, BodyHolds, CallFits}
 use Rattle.script_meaning.specs.Keeps.{seen, IsVariable, IsOfOwn, IsOn, StopFits, FoundFits, KeepsFit}
 use Rattle.script_meaning.specs.Requests.{Sight, Setting}
 use Rattle.script_meaning.specs.Source.{Body, body_of, opened, named, functions_of_state, state_functions, with_script, or_else_found, first_function, first_empty, method_in, native_there, function_entered, properties_of, first_property, accessor_entered, get_entered, set_entered, get_found, set_found, enter_body, source_engine}
-use Rattle.script_meaning.specs.Stacks.{Way, ByMethod, ByParent, ByGlobal, ByGet, BySet, Entered, Opened, NativeThere, ReadThere, WriteThere, NothingThere}
-use Rattle.script_meaning.specs.Typed.{FunctionMeets, AccessorMeets, GetMeets, SetMeets, WhereFound, Scope, scope_of, IsTypedFunction, IsTypedAccessor, IsTypedAccess, IsTypedScript, IsTypedSet, AllPendingFits, awaited_kind, Holds, source_types}
-use Rattle.script_meaning.specs.Values.{default_of, default_result, lineage, parent_in}
+use Rattle.script_meaning.specs.Stacks.{Way, ByMethod, ByParent, ByGlobal, ByGet, BySet, Entered, Opened, NativeThere, WriteThere, NothingThere}
+use Rattle.script_meaning.specs.Typed.{FunctionMeets, AccessorMeets, GetMeets, SetMeets, WhereFound, IsTypedFunction, IsTypedAccessor, IsTypedAccess, IsTypedSet, awaited_kind, Holds, source_types}
+use Rattle.script_meaning.specs.Values.{default_of, lineage, parent_in}
 use Rattle.script_meaning.proofs.Operating.{nothing_up, has_above, parent_above}
 use Rattle.script_meaning.proofs.TreesKeep.{all_pending_moved, run_body_fits}
 use Rattle.script_meaning.proofs.Typing.{result_moved, types_moved, types_joined, defaults_fit, default_result_fits}

@@ -1,6 +1,6 @@
 -- Typed trees keep what fits.
-use Rattle.std.proofs.Common.{◌≡◌, ℕ, zero, suc, Bool, true, false, cond, ◌||◌, List, [], ◌∷◌, ◌++◌, map, length, drop, Option, Some, None, refl, sym, ap, subst, ◌∙◌, append_assoc, arith, ℤ, not, neg_ℤ}
-use Rattle.std.specs.Prelude.{slice_get, slice_index_or, slice_set, position}
+use Rattle.std.proofs.Common.{◌≡◌, ℕ, Bool, true, false, cond, List, [], ◌∷◌, ◌++◌, map, length, drop, Option, Some, None, refl, sym, ap, subst, ◌∙◌, append_assoc, ℤ, not, neg_ℤ}
+use Rattle.std.specs.Prelude.{slice_get, position}
 use Rattle.std.specs.Int.{w32, int_wrap}
 use Rattle.std.specs.List.{list_any, range_with_len, AllByRecursion}
 use Rattle.std.proofs.lemmas.List.{append-nil}
@@ -19,14 +19,14 @@ use Rattle.script_meaning.specs.Arrays.{write_fault, with_array, new_array, leng
 use Rattle.script_meaning.specs.Evaluation.{Home, Inner, Pending, Operand, EffectOperand, AndThen, OrElse, PropertyTarget, PropertyOld, PropertyRight, ElementArray, ElementIndex, ElementRight, Test, LoopTest, LoopBody, Loop, Statements, Outcome, Gives, Stops, then_do, place_of, asked, ask, noted, settled, at_line, taken_at, place_or_zero, by_parameter, name_at, applied, evaluated, with_operands, with_stored, self_value, effected, with_effect, property_right, property_old, property_target, element_right, element_index, element_array, passed, tested, looped, done, all_done, chosen, given, onward, resumed}
 use Rattle.script_meaning.specs.Fits.{Known, known, HasType, IsResult, HaveTypes, typed, Extends, VariablesFit, ArrayFits, script_at, is_native_at, SightFits, IsReply, BodyHolds, CallFits}
 use Rattle.script_meaning.specs.Keeps.{seen, IsVariable, IsOn, RequestFits, StopFits}
-use Rattle.script_meaning.specs.Requests.{Sight, Setting, Request, GlobalFunction, GlobalNative, ParentMethod, LoopPass, Return, Asks, method_of, get_of, set_of, Answer, Reply, Act, answer, result_of}
+use Rattle.script_meaning.specs.Requests.{Sight, Setting, Request, GlobalFunction, GlobalNative, ParentMethod, Asks, get_of, set_of, Answer, Reply, Act, result_of}
 use Rattle.script_meaning.specs.Source.{Body, reply_or_none, stop_at, run_body}
-use Rattle.script_meaning.specs.Stacks.{Way, ByMethod, ByParent, ByGlobal, ByGet, BySet, Stop}
-use Rattle.script_meaning.specs.Typed.{Calls, Scope, CallsOn, ArePlaced, CanCast, IsArrayOf, Operates, HasKind, HaveKinds, returned_kinds, Affects, ChangesProperty, IsTyped, BlockTyped, BranchesTyped, PendingFits, AllPendingFits, awaited_kind, Holds, source_types}
-use Rattle.script_meaning.specs.Values.{Result, number_of, text_of, instance_of, array_of, default_of, default_result, is_true, cast_to, equal, in_order, calculated, joined, arith_kind, is_child}
+use Rattle.script_meaning.specs.Stacks.{Way, ByMethod, ByParent, ByGlobal, ByGet, BySet}
+use Rattle.script_meaning.specs.Typed.{Calls, Scope, CallsOn, ArePlaced, CanCast, IsArrayOf, Operates, HasKind, HaveKinds, returned_kinds, Affects, ChangesProperty, IsTyped, BlockTyped, BranchesTyped, PendingFits, AllPendingFits, awaited_kind, source_types}
+use Rattle.script_meaning.specs.Values.{Result, number_of, text_of, instance_of, array_of, default_of, default_result, is_true, cast_to, equal, in_order, calculated, joined, arith_kind}
 use Rattle.script_meaning.specs.World.{ArrayState, variable_of}
 use Rattle.script_meaning.proofs.Kept.{SameSight}
-use Rattle.script_meaning.proofs.Operating.{own_line, self_has, literal_fits, calculated_fits, joined_fits, target_is, instance_cast, ArrayIs, array_is, length_fits, found_fits, found_back_fits, element_fits, Rewritten, element_written, array_made, sight_as, AnswerIs, framed_is, method_is, get_is, set_is, native_is, request_so}
+use Rattle.script_meaning.proofs.Operating.{own_line, self_has, literal_fits, calculated_fits, joined_fits, target_is, instance_cast, array_is, length_fits, found_fits, found_back_fits, element_fits, Rewritten, element_written, array_made, sight_as, AnswerIs, framed_is, method_is, get_is, set_is, native_is, request_so}
 use Rattle.script_meaning.proofs.Typing.{extends_self, extends_on, has_moved, result_moved, types_moved, variables_moved, type_at, type_set, types_joined, typed_at, variable_fits, variable_written, written_scripts, default_fits, default_result_fits, kinds_of}
 
 -- ---- lists of values

@@ -4,13 +4,11 @@ use Rattle.std.specs.Prelude.{slice_get, slice_index_or, slice_set, int_lt, nat_
 use Rattle.std.specs.Int.RustNames.{unsigned_abs}
 use Rattle.std.specs.List.{list_any, AllByRecursion}
 use Rattle.std.proofs.lemmas.Bool.{eqb-true, ltb-true}
-use Rattle.std.proofs.lemmas.List.{map-append}
 use Rattle.std.proofs.Math.Dec.{eqb}
 use Rattle.core_tree.specs.declared.core_type.CoreType.{CoreType}
 use Rattle.core_tree.specs.declared.core_type.CoreType.TheVariants as kinds
 use Rattle.core_tree.specs.declared.value.Value.{Value}
 use Rattle.core_tree.specs.declared.value.Value.TheVariants as values
-use Rattle.core_tree.specs.Outlines.{ScriptShape}
 use Rattle.script_meaning.specs.Arrays.{items_of, is_index, with_items}
 use Rattle.script_meaning.specs.Fits.{Known, known, IsOfScript, IsInstanceOf, HoldsElements, HasType, IsResult, HaveTypes, typed, Extends, variable_kinds, VariablesFit, ArrayFits}
 use Rattle.script_meaning.specs.Keeps.{IsVariable}

@@ -4,9 +4,7 @@ use Rattle.std.specs.Prelude.{◌≡◌, ℕ, ◌≤◌, ◌==◌, Bool, true, f
 use Rattle.std.specs.List.{range_with_len, AllByRecursion}
 use Rattle.core_tree.specs.declared.core_type.CoreType.{CoreType}
 use Rattle.core_tree.specs.declared.core_type.CoreType.TheVariants as kinds
-use Rattle.core_tree.specs.declared.expression.FunctionPlace.{FunctionPlace}
 use Rattle.core_tree.specs.declared.operator.Arith.{Arith}
-use Rattle.core_tree.specs.declared.value.Value.{Value}
 use Rattle.core_tree.specs.Outlines.{ScriptShape, FunctionShape}
 use Rattle.core_tree.specs.Set.{Script, Function, Property, Access, Auto, Full}
 use Rattle.core_tree.specs.Tree.{Operation, Calculate, Negate, Not, Join, Equal, Compare, Cast, CallMethod, CallParent, CallGlobal, CallNative, GetProperty, NewArray, Length, Element, Find, FindBack, Expression, Literal, Local, Field, SelfValue, StateText, And, Or, Apply, Expressions, NoExpression, MoreExpressions, Effect, StoreLocal, StoreField, StoreState, StoreProperty, StoreElement, Drop, GiveBack, Statement, Do, ChangeProperty, ChangeElement, If, While, Block, NoStatement, MoreStatements, Branches, NoBranch, MoreBranches}
