@@ -13,13 +13,14 @@ use Rattle.core_tree.specs.Set as trees
 use Rattle.core_tree.specs.Tree.{Calculate, Literal, Local, Apply, one, two, StoreLocal, GiveBack, Do, Block, NoStatement, MoreStatements}
 use Rattle.script_meaning.specs.Fits.{BodyFits, by_types}
 use Rattle.script_meaning.specs.Keeps.{FoundFits, seen}
-use Rattle.script_meaning.specs.Related.{EnteredAlike, both_open, both_native, both_read, both_write, both_nothing, StopsAlike, EnginesAlike}
+use Rattle.script_meaning.specs.Related.{EnteredAlike, both_open, both_native, both_read, both_write, both_nothing, EnginesAlike, SameStop}
 use Rattle.script_meaning.specs.Requests.{Sight, Setting}
 use Rattle.script_meaning.specs.Source as source
 use Rattle.script_meaning.specs.Source.{run_body, enter_body, source_engine}
 use Rattle.script_meaning.specs.Stacks.{Way, ByMethod, ByParent, ByGlobal, ByGet, BySet, Entered}
 use Rattle.script_meaning.specs.Typed.{IsTypedScript, IsTypedSet, source_types}
 use Rattle.script_meaning.specs.Values.{lineage}
+use Rattle.script_meaning.proofs.KeptAlike.{kept_alike}
 use Rattle.script_meaning.proofs.TreesEnter.{source_keeps}
 use Rattle.code_meaning.specs.Code.{Slot, Function, Full, Property, Script}
 use Rattle.code_meaning.specs.Code as op
@@ -118,25 +119,15 @@ enter_alike (BySet name) None state arguments = both_nothing
 enter_alike (BySet name) (Some zero) state arguments = set_by arguments (str_eq_ignore_ascii_case (codes "N") name)
 enter_alike (BySet name) (Some (suc script)) state arguments = both_nothing
 
--- what fits is opened where the engine keeps it
-found_so : (setting : Setting) (sight : Sight) (arguments : List Value) (result : Option CoreType) {e : Entered source.Body} {d : Entered Body} → FoundFits (source_types outline scripts) (seen outline setting sight) setting.self arguments result e → Alike e d → EnteredAlike (λ b c. Both false b c × BodyFits (source_types outline scripts) setting sight b None) e d
-found_so setting sight arguments result f (both_open r) = both_open (r, record { awaited = None; result = result; held = f; reply = tt })
-found_so setting sight arguments result f (both_native at) = both_native at
-found_so setting sight arguments result f (both_read script variable) = both_read script variable
-found_so setting sight arguments result f (both_write script variable) = both_write script variable
-found_so setting sight arguments result f both_nothing = both_nothing
-
 -- a body runs to its Return, and gives 5 + 1 by both engines
-run_alike : (setting : Setting) (b : source.Body) (c : Body) (reply : Option Value) (sight : Sight) → Both (is_some reply) b c → StopsAlike (by_types (source_types outline scripts)) Both setting (run_body scripts setting b reply sight) (run_code loaded setting c reply sight)
+run_alike : (setting : Setting) (b : source.Body) (c : Body) (reply : Option Value) (sight : Sight) → Both (is_some reply) b c → SameStop Both (run_body scripts setting b reply sight) (run_code loaded setting c reply sight)
 run_alike setting b c None sight r =
-    subst (λ x. StopsAlike (by_types (source_types outline scripts)) Both setting (run_body scripts setting x None sight) (run_code loaded setting c None sight)) (sym r.0) (subst (λ y. StopsAlike (by_types (source_types outline scripts)) Both setting (run_body scripts setting opened_tree None sight) (run_code loaded setting y None sight)) (sym r.1) (record { request = refl; sight = refl; bodies = tt; fits = tt }))
+    subst (λ x. SameStop Both (run_body scripts setting x None sight) (run_code loaded setting c None sight)) (sym r.0) (subst (λ y. SameStop Both (run_body scripts setting opened_tree None sight) (run_code loaded setting y None sight)) (sym r.1) (record { request = refl; sight = refl; bodies = tt }))
 run_alike setting b c (Some reply) sight r = absurd r
 
 pub small_alike : EnginesAlike (by_types (source_types outline scripts)) Both (source_engine outline scripts) (code_engine outline loaded)
-small_alike = record {
-  enter = λ setting sight script way arguments s a. found_so setting sight arguments a.result (subst (λ o. FoundFits (source_types outline scripts) (seen outline setting sight) setting.self arguments a.result (enter_body outline scripts o sight.state way arguments)) (sym a.own) ((source_keeps outline scripts small_typed).enter setting sight way arguments a.result s a.call)) (enter_alike way script sight.state arguments);
-  run = λ setting b c reply sight r s f. run_alike setting b c reply sight r;
-}
+small_alike =
+    kept_alike (source_types outline scripts) Both (source_engine outline scripts) (code_engine outline loaded) (source_keeps outline scripts small_typed) (record { enter = λ setting sight script way arguments s a. enter_alike way script sight.state arguments; run = λ setting b c reply sight r s f. run_alike setting b c reply sight r })
 
 -- ---- its code is typed
 typed_at : (at : BodyPlace) (function : Function) → function_at loaded at ≡ Some function → AllByRecursion (IsTypedCode (record { outline = outline; scripts = loaded; script = script_of at; function = function })) function.code

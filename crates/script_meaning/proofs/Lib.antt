@@ -11,6 +11,7 @@ pub mod Touches
 pub mod TurnBounds
 pub mod Typing
 pub mod Kept
+pub mod KeptAlike
 pub mod Operating
 pub mod TreesEnter
 pub mod TreesKeep

@@ -38,3 +38,14 @@ pub record StopsAlike {B C : Type 0} (fitting : Fitting B) (R : Bool → B → C
 pub record EnginesAlike {B C : Type 0} (fitting : Fitting B) (R : Bool → B → C → Type 0) (left : Engine B) (right : Engine C) : Type 0 where
   pub enter : (setting : Setting) (sight : Sight) (script : Option ℕ) (way : Way) (arguments : List Value) → fitting.sight setting sight → fitting.arguments setting sight script way arguments → EnteredAlike (λ b c. R false b c × fitting.body setting sight b None) (left.enter script sight.state way arguments) (right.enter script sight.state way arguments)
   pub run : (setting : Setting) (b : B) (c : C) (reply : Option Value) (sight : Sight) → R (is_some reply) b c → fitting.sight setting sight → fitting.body setting sight b reply → StopsAlike fitting R setting (left.run setting b reply sight) (right.run setting c reply sight)
+
+-- ---- where the left engine keeps what fits
+pub record SameStop {B C : Type 0} (R : Bool → B → C → Type 0) (left : Stop B) (right : Stop C) : Type 0 where
+  pub request : left.request ≡ right.request
+  pub sight : left.sight ≡ right.sight
+  pub bodies : AtRequest left.request (λ waits. R waits left.body right.body)
+
+-- the same, but for what fits of the bodies that are found and that go on
+pub record DoAlike {B C : Type 0} (fitting : Fitting B) (R : Bool → B → C → Type 0) (left : Engine B) (right : Engine C) : Type 0 where
+  pub enter : (setting : Setting) (sight : Sight) (script : Option ℕ) (way : Way) (arguments : List Value) → fitting.sight setting sight → fitting.arguments setting sight script way arguments → EnteredAlike (R false) (left.enter script sight.state way arguments) (right.enter script sight.state way arguments)
+  pub run : (setting : Setting) (b : B) (c : C) (reply : Option Value) (sight : Sight) → R (is_some reply) b c → fitting.sight setting sight → fitting.body setting sight b reply → SameStop R (left.run setting b reply sight) (right.run setting c reply sight)
