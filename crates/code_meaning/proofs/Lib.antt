@@ -1,3 +1,7 @@
+pub mod Enters
+pub mod Keeps
+pub mod LoadedRows
 pub mod Rows
 pub mod Runs
 pub mod TurnBounds
+pub mod Small

@@ -26,11 +26,11 @@ use Rattle.code_meaning.specs.LookUp.{OfState, OfGet, Body, enter_code}
 -- ---- a set of two scripts: Debug with the native Trace, and A with one function
 abbrev function : List ℕ → List CoreType → List (Option CoreType) → Option CoreType → List Instruction → List ℕ → Function
 function name parameters locals result code lines =
-    record { name = name; parameters = parameters; locals = locals; result = result; is_native = false; code = code; lines = lines }
+    record { name = name; parameters = parameters; locals = locals; result = result; is_global = false; is_native = false; code = code; lines = lines }
 
 abbrev trace : Function
 trace =
-    record { name = codes "Trace"; parameters = kinds.Text ∷ kinds.Int ∷ []; locals = []; result = None; is_native = true; code = []; lines = [] }
+    record { name = codes "Trace"; parameters = kinds.Text ∷ kinds.Int ∷ []; locals = []; result = None; is_global = true; is_native = true; code = []; lines = [] }
 
 abbrev plain : List Function → Script
 plain functions = record { properties = []; states = record { name = []; functions = functions } ∷ [] }

@@ -69,6 +69,7 @@ pub record Function : Type 0 where
   -- a local of type None has no type here
   pub locals : List (Option CoreType)
   pub result : Option CoreType
+  pub is_global : Bool
   pub is_native : Bool
   pub code : List Instruction
   -- the source line of each instruction, 0 where the file tells none

@@ -5,7 +5,6 @@ use Rattle.std.specs.Int.{w32, int_wrap}
 use Rattle.std.specs.Int.RustNames.{unsigned_abs}
 use Rattle.std.specs.Option.{option_and_then}
 use Rattle.core_tree.specs.declared.core_type.CoreType.{CoreType}
-use Rattle.core_tree.specs.declared.core_type.CoreType.TheVariants as kinds
 use Rattle.core_tree.specs.declared.operator.Arith.{Arith}
 use Rattle.core_tree.specs.declared.operator.Arith.TheVariants as signs
 use Rattle.core_tree.specs.declared.operator.Order.{Order}
@@ -15,7 +14,7 @@ use Rattle.core_tree.specs.declared.value.Value.TheVariants as values
 use Rattle.script_meaning.specs.Arrays.{with_array, new_array, length_of, element_of, write_fault, with_element, found, found_back}
 use Rattle.script_meaning.specs.Requests.{Sight, Setting, Request, ParentMethod, GlobalFunction, GlobalNative, LoopPass, Return, Question, Asks, method_of, get_of, set_of, Answer, Reply, Act, answer}
 use Rattle.script_meaning.specs.Stacks.{Stop}
-use Rattle.script_meaning.specs.Values.{Result, number_of, instance_of, array_of, default_result, is_true, cast_to, equal, in_order, calculated, lineage}
+use Rattle.script_meaning.specs.Values.{Result, number_of, instance_of, array_of, element_kind, default_result, is_true, cast_to, equal, in_order, calculated, lineage}
 use Rattle.code_meaning.specs.Code.{Operand, Instruction, Function, Script}
 use Rattle.code_meaning.specs.Code as op
 use Rattle.code_meaning.specs.LookUp.{BodyPlace, Body, script_of, function_at, FoundMethod, first_method, native_at}
@@ -54,14 +53,6 @@ cast_where home None value = values.NoneValue
 cast_where home (Some kind) value = cast_to home.setting.outline home.setting.instances kind value
 
 -- ---- arrays
--- the type of the elements of an array type
-abbrev pub element_kind : CoreType → Option CoreType
-element_kind kinds.IntArray = Some kinds.Int
-element_kind kinds.BoolArray = Some kinds.Bool
-element_kind kinds.TextArray = Some kinds.Text
-element_kind (kinds.ScriptArray script) = Some (kinds.Script script)
-element_kind _ = None
-
 abbrev pub created : Home → ℕ → Operand → ℕ → Option CoreType → Inner → Step
 created home at result size None inner = next inner
 created home at result size (Some kind) inner =

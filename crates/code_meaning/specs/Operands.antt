@@ -46,14 +46,17 @@ abbrev pub kind_in : Option OutlineVariable → Option CoreType
 kind_in None = None
 kind_in (Some variable) = Some variable.kind
 
--- the type of an identifier, none where it is None
+-- the type of an identifier in a function of a script, none where it is None
+abbrev pub type_of : List ScriptShape → ℕ → Function → Operand → Option CoreType
+type_of outline script function (Literal value) = None
+type_of outline script function (Slot number) = slice_index_or (slot_kinds function) number None
+type_of outline script function (Variable number) =
+    kind_in (slice_get (variables_in (slice_get outline script)) number)
+type_of outline script function Itself = Some (kinds.Script script)
+type_of outline script function StateText = Some kinds.Text
+
 abbrev pub kind_of : Home → Operand → Option CoreType
-kind_of home (Literal value) = None
-kind_of home (Slot number) = slice_index_or (slot_kinds home.function) number None
-kind_of home (Variable number) =
-    kind_in (slice_get (variables_in (slice_get home.setting.outline home.script)) number)
-kind_of home Itself = Some (kinds.Script home.script)
-kind_of home StateText = Some kinds.Text
+kind_of home operand = type_of home.setting.outline home.script home.function operand
 
 -- the default of a result's type
 abbrev pub default_at : Home → Operand → Value

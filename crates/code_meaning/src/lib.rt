@@ -4,6 +4,8 @@
 
 mod bounded;
 mod each_world;
+mod fits;
 
 pub use bounded::code_turn_is_bounded;
 pub use each_world::{code_run_goes_on, code_run_is_exclusive, code_turn_touches_its_own};
+pub use fits::typed_code_keeps_what_fits;

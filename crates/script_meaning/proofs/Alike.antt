@@ -1,6 +1,6 @@
 -- Engines that do the same on related bodies have the same runs of worlds.
 use Rattle.std.proofs.Common.{◌≡◌, ℕ, zero, suc, pred, ◌+◌, ◌-◌, Bool, true, false, cond, ◌&&◌, List, [], ◌∷◌, ◌++◌, map, Option, Some, None, refl, ap, subst, ◌∙◌}
-use Rattle.std.specs.Prelude.{length, sum, nat_lt, slice_set}
+use Rattle.std.specs.Prelude.{is_some, length, sum, nat_lt, slice_set}
 use Rattle.core_tree.specs.declared.DeviceKind.{DeviceKind}
 use Rattle.core_tree.specs.declared.expression.FunctionPlace.{FunctionPlace}
 use Rattle.core_tree.specs.declared.value.Value.{Value}
@@ -8,23 +8,28 @@ use Rattle.core_tree.specs.Outlines.{ScriptShape}
 use Rattle.core_tree.specs.Scenes.{SceneShape, CallShape}
 use Rattle.script_meaning.specs.First.{first_state}
 use Rattle.script_meaning.specs.Fits.{Fitting, InnermostFits, TurnFits, NextTurnFits}
-use Rattle.script_meaning.specs.Locks.{let_go, goes_to_wait, rests, moves, takes}
-use Rattle.script_meaning.specs.Related.{EnteredAlike, both_open, both_native, both_read, both_write, both_nothing, UnlessReturned, AtLoopPass, StopsAlike, EnginesAlike}
-use Rattle.script_meaning.specs.Requests.{Sight, Setting, Request, Method, ParentMethod, GlobalFunction, GlobalNative, Get, Set, LoopPass, Return, binding_in, is_prompt, latency_of, performed_at}
+use Rattle.script_meaning.specs.Locks.{goes_to_wait, takes}
+use Rattle.script_meaning.specs.Related.{EnteredAlike, both_open, both_native, both_read, both_write, both_nothing, AtRequest, AtLoopPass, StopsAlike, EnginesAlike}
+use Rattle.script_meaning.specs.Requests.{Sight, Setting, Request, Method, ParentMethod, GlobalFunction, GlobalNative, Get, Set, LoopPass, Return, binding_in, is_prompt, performed_at}
 use Rattle.script_meaning.specs.Stacks.{Way, ByMethod, ByParent, ByGlobal, ByGet, BySet, Frame, ToEnter, Running, Entered, Stop, Engine, State, frame_instance, inner_instance, frames_of, stack_limit, frame_limit, has_room}
-use Rattle.script_meaning.specs.Turns.{sight_of, with_sight, Turn, After, with_reply, returned, native_done, acted, past_pass, run_on, stopped, ran, native_entered, entered, in_turn, setting_of, turn_of, after_turn, turn_ended, turned, instance_script, call_started, calls_started, is_due, not_due, all_wait, awoken, begun, chosen, has_ended, chosen_turned, step, states_from}
+use Rattle.script_meaning.specs.Turns.{sight_of, with_sight, Turn, After, returned, native_done, acted, past_pass, run_on, stopped, ran, native_entered, entered, in_turn, setting_of, turn_of, after_turn, turn_ended, turned, instance_script, call_started, calls_started, is_due, not_due, all_wait, awoken, begun, chosen, has_ended, chosen_turned, step, states_from}
 use Rattle.script_meaning.specs.World.{World, title}
 use Rattle.std.specs.List.{filter, AllByRecursion}
 use Rattle.std.proofs.Math.Dec.{eqb}
 
-module _ {B C : Type 0} (R : B → C → Type 0) where
+module _ {B C : Type 0} (R : Bool → B → C → Type 0) where
   pub data FramesAlike : Frame B → Frame C → Type 0 where
     both_enter : (instance : Option ℕ) (way : Way) (arguments : List Value) → FramesAlike (ToEnter instance way arguments) (ToEnter instance way arguments)
-    both_run : {b : B} {c : C} (instance : Option ℕ) (reply : Option Value) → R b c → FramesAlike (Running instance b reply) (Running instance c reply)
+    both_run : {b : B} {c : C} (instance : Option ℕ) (reply : Option Value) → R (is_some reply) b c → FramesAlike (Running instance b reply) (Running instance c reply)
+
+  -- frames below the innermost, which wait
+  pub data BelowAlike : List (Frame B) → List (Frame C) → Type 0 where
+    none_below : BelowAlike [] []
+    more_below : {b : B} {c : C} (instance : Option ℕ) {fs : List (Frame B)} {gs : List (Frame C)} → R true b c → BelowAlike fs gs → BelowAlike (Running instance b None ∷ fs) (Running instance c None ∷ gs)
 
   pub data StackAlike : List (Frame B) → List (Frame C) → Type 0 where
     no_frames : StackAlike [] []
-    more_frames : {f : Frame B} {g : Frame C} {fs : List (Frame B)} {gs : List (Frame C)} → FramesAlike f g → StackAlike fs gs → StackAlike (f ∷ fs) (g ∷ gs)
+    more_frames : {f : Frame B} {g : Frame C} {fs : List (Frame B)} {gs : List (Frame C)} → FramesAlike f g → BelowAlike fs gs → StackAlike (f ∷ fs) (g ∷ gs)
 
   pub data StacksAlike : List (List (Frame B)) → List (List (Frame C)) → Type 0 where
     no_stacks : StacksAlike [] []
@@ -45,9 +50,13 @@ module _ {B C : Type 0} (R : B → C → Type 0) where
   append_alike new no_stacks = more_stacks new no_stacks
   append_alike new (more_stacks s ss) = more_stacks s (append_alike new ss)
 
+  same_below : {s : List (Frame B)} {t : List (Frame C)} → BelowAlike s t → length s ≡ length t
+  same_below none_below = refl
+  same_below (more_below instance r fs) = ap suc (same_below fs)
+
   same_length : {s : List (Frame B)} {t : List (Frame C)} → StackAlike s t → length s ≡ length t
   same_length no_frames = refl
-  same_length (more_frames f fs) = ap suc (same_length fs)
+  same_length (more_frames f fs) = ap suc (same_below fs)
 
   same_sizes : {ss : List (List (Frame B))} {ts : List (List (Frame C))} → StacksAlike ss ts → map (λ s. length s - 1) ss ≡ map (λ t. length t - 1) ts
   same_sizes no_stacks = refl
@@ -64,45 +73,29 @@ module _ {B C : Type 0} (R : B → C → Type 0) where
   same_inner no_frames = refl
   same_inner (more_frames f fs) = same_instance_of f
 
-  replies_alike : (value : Value) {f : Frame B} {g : Frame C} → FramesAlike f g → FramesAlike (with_reply value f) (with_reply value g)
-  replies_alike value (both_enter instance way arguments) = both_enter instance way arguments
-  replies_alike value (both_run instance reply r) = both_run instance (Some value) r
-
   -- ---- acts
   abbrev pub AfterAlike : After B → After C → Type 0
   AfterAlike a b = (a.0 ≡ b.0) × StackAlike a.1 b.1
 
-  returned_alike : (turn : Turn) (value : Value) (world : World) {below : List (Frame B)} {below' : List (Frame C)} → StackAlike below below' → AfterAlike (returned turn value below world) (returned turn value below' world)
-  returned_alike turn value world no_frames = (refl, no_frames)
-  returned_alike turn value world (more_frames f fs) =
-      (ap (λ o. moves turn.stack turn.own o world) (same_instance_of f), more_frames (replies_alike value f) fs)
+  returned_alike : (turn : Turn) (value : Value) (world : World) {below : List (Frame B)} {below' : List (Frame C)} → BelowAlike below below' → AfterAlike (returned turn value below world) (returned turn value below' world)
+  returned_alike turn value world none_below = (refl, no_frames)
+  returned_alike turn value world (more_below instance r fs) = (refl, more_frames (both_run instance (Some value) r) fs)
 
-  native_alike : (turn : Turn) (at : FunctionPlace) (arguments : List Value) (world : World) {frames : List (Frame B)} {frames' : List (Frame C)} → StackAlike frames frames' → AfterAlike (native_done turn at arguments frames world) (native_done turn at arguments frames' world)
-  native_alike turn at arguments world no_frames = (refl, no_frames)
-  native_alike turn at arguments world (more_frames f fs) =
+  native_alike : (turn : Turn) (at : FunctionPlace) (arguments : List Value) (world : World) {frames : List (Frame B)} {frames' : List (Frame C)} → BelowAlike frames frames' → AfterAlike (native_done turn at arguments frames world) (native_done turn at arguments frames' world)
+  native_alike turn at arguments world none_below = (refl, no_frames)
+  native_alike turn at arguments world (more_below instance r fs) =
       let done : Value × Sight = performed_at turn.setting at arguments (sight_of world turn.own) in
-      (ap (λ o. rests turn.stack o (latency_of (binding_in turn.setting.natives at) arguments) (let_go turn.stack (with_sight world turn.own done.1))) (same_instance_of f), more_frames (replies_alike done.0 f) fs)
+      (refl, more_frames (both_run instance (Some done.0) r) fs)
 
-  -- what holds unless a body returned
-  returned_or : {X Y : Type 0} (request : Request) → (X → Y) → UnlessReturned request X → UnlessReturned request Y
-  returned_or (Method target name arguments otherwise) f x = f x
-  returned_or (ParentMethod script name arguments otherwise) f x = f x
-  returned_or (GlobalFunction script name arguments otherwise) f x = f x
-  returned_or (GlobalNative at arguments) f x = f x
-  returned_or (Get target name otherwise) f x = f x
-  returned_or (Set target name value) f x = f x
-  returned_or LoopPass f x = f x
-  returned_or (Return value) f x = tt
-
-  acted_alike : (turn : Turn) (request : Request) (world : World) (f : Frame B) (g : Frame C) {fs : List (Frame B)} {gs : List (Frame C)} → UnlessReturned request (FramesAlike f g) → StackAlike fs gs → AfterAlike (acted turn request f fs world) (acted turn request g gs world)
-  acted_alike turn (Method target name arguments otherwise) world f g a fs = (refl, more_frames (both_enter (Some target) (ByMethod name) arguments) (more_frames a fs))
-  acted_alike turn (ParentMethod script name arguments otherwise) world f g a fs = (refl, more_frames (both_enter turn.own (ByParent script name) arguments) (more_frames a fs))
-  acted_alike turn (GlobalFunction script name arguments otherwise) world f g a fs = (refl, more_frames (both_enter None (ByGlobal script name) arguments) (more_frames a fs))
-  acted_alike turn (GlobalNative at arguments) world f g a fs = native_alike turn at arguments world (more_frames a fs)
-  acted_alike turn (Get target name otherwise) world f g a fs = (refl, more_frames (both_enter (Some target) (ByGet name) []) (more_frames a fs))
-  acted_alike turn (Set target name value) world f g a fs = (refl, more_frames (both_enter (Some target) (BySet name) (value ∷ [])) (more_frames a fs))
-  acted_alike turn LoopPass world f g a fs = (refl, more_frames a fs)
-  acted_alike turn (Return value) world f g a fs = returned_alike turn value world fs
+  acted_alike : (turn : Turn) (request : Request) (world : World) (b : B) (c : C) {fs : List (Frame B)} {gs : List (Frame C)} → AtRequest request (λ waits. R waits b c) → BelowAlike fs gs → AfterAlike (acted turn request (Running turn.own b None) fs world) (acted turn request (Running turn.own c None) gs world)
+  acted_alike turn (Method target name arguments otherwise) world b c a fs = (refl, more_frames (both_enter (Some target) (ByMethod name) arguments) (more_below turn.own a fs))
+  acted_alike turn (ParentMethod script name arguments otherwise) world b c a fs = (refl, more_frames (both_enter turn.own (ByParent script name) arguments) (more_below turn.own a fs))
+  acted_alike turn (GlobalFunction script name arguments otherwise) world b c a fs = (refl, more_frames (both_enter None (ByGlobal script name) arguments) (more_below turn.own a fs))
+  acted_alike turn (GlobalNative at arguments) world b c a fs = native_alike turn at arguments world (more_below turn.own a fs)
+  acted_alike turn (Get target name otherwise) world b c a fs = (refl, more_frames (both_enter (Some target) (ByGet name) []) (more_below turn.own a fs))
+  acted_alike turn (Set target name value) world b c a fs = (refl, more_frames (both_enter (Some target) (BySet name) (value ∷ [])) (more_below turn.own a fs))
+  acted_alike turn LoopPass world b c a fs = (refl, more_frames (both_run turn.own None a) fs)
+  acted_alike turn (Return value) world b c a fs = returned_alike turn value world fs
 
   pub record StatesAlike (s : State B) (t : State C) : Type 0 where
     pub world : s.world ≡ t.world
@@ -113,7 +106,7 @@ module _ {B C : Type 0} (R : B → C → Type 0) where
     abbrev Stopped : Setting → Stop B → Stop C → Type 0
     Stopped setting s t = StopsAlike fitting R setting s t
 
-    passes_alike : (setting : Setting) (request : Request) (s : Stop B) (t : Stop C) (go : B → Sight → Stop B) (go' : C → Sight → Stop C) → Stopped setting s t → UnlessReturned request (R s.body t.body) → AtLoopPass request (fitting.sight setting s.sight × fitting.body setting s.sight s.body None) → (R s.body t.body → (fitting.sight setting s.sight × fitting.body setting s.sight s.body None) → Stopped setting (go s.body s.sight) (go' t.body t.sight)) → Stopped setting (past_pass go s request) (past_pass go' t request)
+    passes_alike : (setting : Setting) (request : Request) (s : Stop B) (t : Stop C) (go : B → Sight → Stop B) (go' : C → Sight → Stop C) → Stopped setting s t → AtRequest request (λ waits. R waits s.body t.body) → AtLoopPass request (fitting.sight setting s.sight × fitting.body setting s.sight s.body None) → (R false s.body t.body → (fitting.sight setting s.sight × fitting.body setting s.sight s.body None) → Stopped setting (go s.body s.sight) (go' t.body t.sight)) → Stopped setting (past_pass go s request) (past_pass go' t request)
     passes_alike setting (Method target name arguments otherwise) s t go go' a r f more = a
     passes_alike setting (ParentMethod script name arguments otherwise) s t go go' a r f more = a
     passes_alike setting (GlobalFunction script name arguments otherwise) s t go go' a r f more = a
@@ -123,7 +116,7 @@ module _ {B C : Type 0} (R : B → C → Type 0) where
     passes_alike setting LoopPass s t go go' a r f more = more r f
     passes_alike setting (Return value) s t go go' a r f more = a
 
-    run_on_alike : (setting : Setting) (passes : ℕ) (b : B) (c : C) (reply : Option Value) (sight : Sight) → R b c → fitting.sight setting sight → fitting.body setting sight b reply → Stopped setting (run_on left setting passes b reply sight) (run_on right setting passes c reply sight)
+    run_on_alike : (setting : Setting) (passes : ℕ) (b : B) (c : C) (reply : Option Value) (sight : Sight) → R (is_some reply) b c → fitting.sight setting sight → fitting.body setting sight b reply → Stopped setting (run_on left setting passes b reply sight) (run_on right setting passes c reply sight)
     run_on_alike setting zero b c reply sight r f h = alike.run setting b c reply sight r f h
     run_on_alike setting (suc passes) b c reply sight r f h =
         let s : Stop B = left.run setting b reply sight in
@@ -131,23 +124,23 @@ module _ {B C : Type 0} (R : B → C → Type 0) where
         let a : Stopped setting s t = alike.run setting b c reply sight r f h in
         let go : B → Sight → Stop B = λ next after. run_on left setting passes next None after in
         let go' : C → Sight → Stop C = λ next after. run_on right setting passes next None after in
-        let more : R s.body t.body → (fitting.sight setting s.sight × fitting.body setting s.sight s.body None) → Stopped setting (go s.body s.sight) (go' t.body t.sight) = λ related fits. subst (λ x. Stopped setting (go s.body s.sight) (go' t.body x)) a.sight (run_on_alike setting passes s.body t.body None s.sight related fits.0 fits.1) in
+        let more : R false s.body t.body → (fitting.sight setting s.sight × fitting.body setting s.sight s.body None) → Stopped setting (go s.body s.sight) (go' t.body t.sight) = λ related fits. subst (λ x. Stopped setting (go s.body s.sight) (go' t.body x)) a.sight (run_on_alike setting passes s.body t.body None s.sight related fits.0 fits.1) in
         subst (λ q. Stopped setting (past_pass go s s.request) (past_pass go' t q)) a.request (passes_alike setting s.request s t go go' a a.bodies a.fits more)
 
-    stopped_alike : (turn : Turn) (world : World) (s : Stop B) (t : Stop C) {fs : List (Frame B)} {gs : List (Frame C)} → Stopped turn.setting s t → StackAlike fs gs → AfterAlike (stopped turn world fs s) (stopped turn world gs t)
+    stopped_alike : (turn : Turn) (world : World) (s : Stop B) (t : Stop C) {fs : List (Frame B)} {gs : List (Frame C)} → Stopped turn.setting s t → BelowAlike fs gs → AfterAlike (stopped turn world fs s) (stopped turn world gs t)
     stopped_alike turn world s t {fs} {gs} a below =
-        let here : AfterAlike (acted turn s.request (Running turn.own s.body None) fs (with_sight world turn.own s.sight)) (acted turn s.request (Running turn.own t.body None) gs (with_sight world turn.own s.sight)) = acted_alike turn s.request (with_sight world turn.own s.sight) (Running turn.own s.body None) (Running turn.own t.body None) (returned_or s.request (λ r. both_run turn.own None r) a.bodies) below in
+        let here : AfterAlike (acted turn s.request (Running turn.own s.body None) fs (with_sight world turn.own s.sight)) (acted turn s.request (Running turn.own t.body None) gs (with_sight world turn.own s.sight)) = acted_alike turn s.request (with_sight world turn.own s.sight) s.body t.body a.bodies below in
         subst (λ x. AfterAlike (stopped turn world fs s) (acted turn t.request (Running turn.own t.body None) gs (with_sight world turn.own x))) a.sight (subst (λ q. AfterAlike (stopped turn world fs s) (acted turn q (Running turn.own t.body None) gs (with_sight world turn.own s.sight))) a.request here)
 
-    ran_alike : (scene : SceneShape) (turn : Turn) (world : World) (b : B) (c : C) (reply : Option Value) {fs : List (Frame B)} {gs : List (Frame C)} → R b c → fitting.sight turn.setting (sight_of world turn.own) → fitting.body turn.setting (sight_of world turn.own) b reply → StackAlike fs gs → AfterAlike (ran scene left turn world fs b reply) (ran scene right turn world gs c reply)
+    ran_alike : (scene : SceneShape) (turn : Turn) (world : World) (b : B) (c : C) (reply : Option Value) {fs : List (Frame B)} {gs : List (Frame C)} → R (is_some reply) b c → fitting.sight turn.setting (sight_of world turn.own) → fitting.body turn.setting (sight_of world turn.own) b reply → BelowAlike fs gs → AfterAlike (ran scene left turn world fs b reply) (ran scene right turn world gs c reply)
     ran_alike scene turn world b c reply r f h below =
         stopped_alike turn world (run_on left turn.setting (pred scene.quantum) b reply (sight_of world turn.own)) (run_on right turn.setting (pred scene.quantum) c reply (sight_of world turn.own)) (run_on_alike turn.setting (pred scene.quantum) b c reply (sight_of world turn.own) r f h) below
 
-    native_entered_alike : (turn : Turn) (at : FunctionPlace) (arguments : List Value) (world : World) (prompt : Bool) {fs : List (Frame B)} {gs : List (Frame C)} → StackAlike fs gs → AfterAlike (native_entered turn at arguments world fs prompt) (native_entered turn at arguments world gs prompt)
+    native_entered_alike : (turn : Turn) (at : FunctionPlace) (arguments : List Value) (world : World) (prompt : Bool) {fs : List (Frame B)} {gs : List (Frame C)} → BelowAlike fs gs → AfterAlike (native_entered turn at arguments world fs prompt) (native_entered turn at arguments world gs prompt)
     native_entered_alike turn at arguments world true below = returned_alike turn _ _ below
     native_entered_alike turn at arguments world false below = native_alike turn at arguments world below
 
-    entered_alike : (scene : SceneShape) (turn : Turn) (world : World) (arguments : List Value) {fs : List (Frame B)} {gs : List (Frame C)} → StackAlike fs gs → fitting.sight turn.setting (sight_of world turn.own) → {e : Entered B} {d : Entered C} → EnteredAlike (λ b c. R b c × fitting.body turn.setting (sight_of world turn.own) b None) e d → AfterAlike (entered scene left turn world fs arguments e) (entered scene right turn world gs arguments d)
+    entered_alike : (scene : SceneShape) (turn : Turn) (world : World) (arguments : List Value) {fs : List (Frame B)} {gs : List (Frame C)} → BelowAlike fs gs → fitting.sight turn.setting (sight_of world turn.own) → {e : Entered B} {d : Entered C} → EnteredAlike (λ b c. R false b c × fitting.body turn.setting (sight_of world turn.own) b None) e d → AfterAlike (entered scene left turn world fs arguments e) (entered scene right turn world gs arguments d)
     entered_alike scene turn world arguments below s (both_open {b} {c} r) = ran_alike scene turn world b c None r.0 s r.1 below
     entered_alike scene turn world arguments below s (both_native at) = native_entered_alike turn at arguments world (is_prompt (binding_in turn.setting.natives at)) below
     entered_alike scene turn world arguments below s (both_read script variable) = returned_alike turn _ _ below
@@ -157,7 +150,7 @@ module _ {B C : Type 0} (R : B → C → Type 0) where
     abbrev turn_on : ℕ → Setting → Option ℕ → Turn
     turn_on k setting own = record { stack = k; own = own; setting = setting }
 
-    in_turn_alike : (scene : SceneShape) (k : ℕ) (setting : Setting) (world : World) {f : Frame B} {g : Frame C} {fs : List (Frame B)} {gs : List (Frame C)} → FramesAlike f g → StackAlike fs gs → InnermostFits fitting setting world (f ∷ fs) → AfterAlike (in_turn scene left (turn_on k setting (frame_instance f)) world f fs) (in_turn scene right (turn_on k setting (frame_instance f)) world g gs)
+    in_turn_alike : (scene : SceneShape) (k : ℕ) (setting : Setting) (world : World) {f : Frame B} {g : Frame C} {fs : List (Frame B)} {gs : List (Frame C)} → FramesAlike f g → BelowAlike fs gs → InnermostFits fitting setting world (f ∷ fs) → AfterAlike (in_turn scene left (turn_on k setting (frame_instance f)) world f fs) (in_turn scene right (turn_on k setting (frame_instance f)) world g gs)
     in_turn_alike scene k setting world (both_enter instance way arguments) below i =
         entered_alike scene (turn_on k setting instance) world arguments below i.0 (alike.enter setting (sight_of world instance) (instance_script world instance) way arguments i.0 i.1)
     in_turn_alike scene k setting world (both_run {b} {c} instance reply r) below i =
@@ -192,7 +185,7 @@ module _ {B C : Type 0} (R : B → C → Type 0) where
 
     call_alike : (s : State B) (t : State C) (call : CallShape) → StatesAlike s t → StatesAlike (call_started s call) (call_started t call)
     call_alike s t call a =
-        record { world = ap (λ (w : World). goes_to_wait w.started (Some call.instance) (record w { started = w.started + 1 })) a.world; stacks = append_alike (more_frames (both_enter (Some call.instance) (ByMethod call.function) call.arguments) no_frames) a.stacks }
+        record { world = ap (λ (w : World). goes_to_wait w.started (Some call.instance) (record w { started = w.started + 1 })) a.world; stacks = append_alike (more_frames (both_enter (Some call.instance) (ByMethod call.function) call.arguments) none_below) a.stacks }
 
     calls_alike : (calls : List CallShape) (s : State B) (t : State C) → StatesAlike s t → StatesAlike (calls_started calls s) (calls_started calls t)
     calls_alike [] s t a = a

@@ -13,7 +13,7 @@ use Rattle.script_meaning.specs.Evaluation.{functions_at}
 use Rattle.script_meaning.specs.First.{first_state}
 use Rattle.script_meaning.specs.Fits.{Fitting, InnermostFits, NextTurnFits}
 use Rattle.script_meaning.specs.InnerSteps.{FitsIn, FrameFits, StateFits, EnteredFits, IsWithin, IsAccessorWithin, IsAccessWithin, IsScriptWithin}
-use Rattle.script_meaning.specs.Related.{EnteredAlike, both_open, both_native, both_read, both_write, both_nothing, UnlessReturned, AtLoopPass, StopsAlike, EnginesAlike}
+use Rattle.script_meaning.specs.Related.{EnteredAlike, both_open, both_native, both_read, both_write, both_nothing, AtRequest, AtLoopPass, StopsAlike, EnginesAlike}
 use Rattle.script_meaning.specs.Locks.{takes}
 use Rattle.script_meaning.specs.Requests.{Setting, Request, Method, ParentMethod, GlobalFunction, GlobalNative, Get, Set, LoopPass, Return}
 use Rattle.script_meaning.specs.Source.{Body, run_body, body_of, opened, named, functions_of_state, state_functions, with_script, or_else_found, first_function, first_empty, method_in, native_there, function_entered, properties_of, first_property, accessor_entered, get_entered, set_entered, get_found, set_found, enter_body, source_engine}
@@ -21,7 +21,7 @@ use Rattle.script_meaning.specs.Stacks.{Way, ByMethod, ByParent, ByGlobal, ByGet
 use Rattle.script_meaning.specs.Turns.{setting_of, begun, has_ended, step, states_from}
 use Rattle.script_meaning.specs.Values.{lineage, parent_in}
 use Rattle.script_meaning.specs.World.{World}
-use Rattle.script_meaning.proofs.Alike.{FramesAlike, both_enter, both_run, StackAlike, no_frames, more_frames, StacksAlike, no_stacks, more_stacks, StatesAlike, step_alike}
+use Rattle.script_meaning.proofs.Alike.{FramesAlike, both_enter, both_run, BelowAlike, none_below, more_below, StackAlike, no_frames, more_frames, StacksAlike, no_stacks, more_stacks, StatesAlike, step_alike}
 use Rattle.script_meaning.proofs.TurnBounds.{run_fits}
 
 -- nothing is taken for granted here
@@ -39,7 +39,7 @@ any_turn scene state k =
     let now : State Body = begun scene state in
     any_innermost (setting_of scene (takes k now.world) now.stacks k (inner_instance (frames_of now.stacks k))) (takes k now.world) (frames_of now.stacks k)
 
-in_any_case : {X : Type 0} (request : Request) → X → UnlessReturned request X
+in_any_case : {X : Type 0} (request : Request) → X → AtRequest request (λ waits. X)
 in_any_case (Method target name arguments otherwise) x = x
 in_any_case (ParentMethod script name arguments otherwise) x = x
 in_any_case (GlobalFunction script name arguments otherwise) x = x
@@ -63,6 +63,9 @@ module _ (most : ℕ) where
   -- the same body, which fits
   abbrev pub SameFit : Body → Body → Type 0
   SameFit b c = (b ≡ c) × FitsIn most b
+
+  abbrev pub BothFit : Bool → Body → Body → Type 0
+  BothFit waits b c = SameFit b c
 
   -- ---- what a look-up finds
   abbrev pub FoundWithin : Option (ℕ × Function) → Type 0
@@ -209,10 +212,10 @@ module _ (most : ℕ) where
     entered_so (both_write script variable) = both_write script variable
     entered_so both_nothing = both_nothing
 
-    pub engine_alike : (outline : List ScriptShape) → EnginesAlike anything SameFit (source_engine outline scripts) (source_engine outline scripts)
+    pub engine_alike : (outline : List ScriptShape) → EnginesAlike anything BothFit (source_engine outline scripts) (source_engine outline scripts)
     engine_alike outline = record {
       enter = λ setting sight script way arguments s a. entered_so (enter_alike outline script sight.state way arguments);
-      run = λ setting b c reply sight r s f. subst (λ x. StopsAlike anything SameFit setting (run_body scripts setting b reply sight) (run_body scripts setting x reply sight)) r.0 (record { request = refl; sight = refl; fits = at_pass_too (run_body scripts setting b reply sight).request; bodies = in_any_case (run_body scripts setting b reply sight).request (refl, run_fits scripts setting most b reply sight r.1) });
+      run = λ setting b c reply sight r s f. subst (λ x. StopsAlike anything BothFit setting (run_body scripts setting b reply sight) (run_body scripts setting x reply sight)) r.0 (record { request = refl; sight = refl; fits = at_pass_too (run_body scripts setting b reply sight).request; bodies = in_any_case (run_body scripts setting b reply sight).request (refl, run_fits scripts setting most b reply sight r.1) });
     }
 
   -- ---- what alike states say of one
@@ -223,15 +226,19 @@ module _ (most : ℕ) where
   entered_fits (both_write script variable) = tt
   entered_fits both_nothing = tt
 
-  frame_fits : {f g : Frame Body} → FramesAlike SameFit f g → FrameFits most f
+  frame_fits : {f g : Frame Body} → FramesAlike BothFit f g → FrameFits most f
   frame_fits (both_enter instance way arguments) = tt
   frame_fits (both_run instance reply r) = r.1
 
-  stack_fits : {fs gs : List (Frame Body)} → StackAlike SameFit fs gs → AllByRecursion (FrameFits most) fs
-  stack_fits no_frames = tt
-  stack_fits (more_frames f fs) = (frame_fits f, stack_fits fs)
+  below_fits : {fs gs : List (Frame Body)} → BelowAlike BothFit fs gs → AllByRecursion (FrameFits most) fs
+  below_fits none_below = tt
+  below_fits (more_below instance r fs) = (r.1, below_fits fs)
 
-  stacks_fit : {ss ts : List (List (Frame Body))} → StacksAlike SameFit ss ts → AllByRecursion (AllByRecursion (FrameFits most)) ss
+  stack_fits : {fs gs : List (Frame Body)} → StackAlike BothFit fs gs → AllByRecursion (FrameFits most) fs
+  stack_fits no_frames = tt
+  stack_fits (more_frames f fs) = (frame_fits f, below_fits fs)
+
+  stacks_fit : {ss ts : List (List (Frame Body))} → StacksAlike BothFit ss ts → AllByRecursion (AllByRecursion (FrameFits most)) ss
   stacks_fit no_stacks = tt
   stacks_fit (more_stacks s ss) = (stack_fits s, stacks_fit ss)
 
@@ -240,10 +247,10 @@ module _ (most : ℕ) where
   ended_or_more false more a = a
 
   module _ (scripts : List Script) (all : AllByRecursion (IsScriptWithin most) scripts) (outline : List ScriptShape) where
-    states_fit : (scene : SceneShape) (turns : ℕ) (s : State Body) → StatesAlike SameFit s s → AllByRecursion (StateFits most) (states_from scene (source_engine outline scripts) turns s)
+    states_fit : (scene : SceneShape) (turns : ℕ) (s : State Body) → StatesAlike BothFit s s → AllByRecursion (StateFits most) (states_from scene (source_engine outline scripts) turns s)
     states_fit scene zero s a = (stacks_fit a.stacks, tt)
     states_fit scene (suc turns) s a =
-        (stacks_fit a.stacks, ended_or_more (has_ended scene s.world) (states_from scene (source_engine outline scripts) turns (step scene (source_engine outline scripts) s)) (states_fit scene turns (step scene (source_engine outline scripts) s) (step_alike SameFit anything (source_engine outline scripts) (source_engine outline scripts) (engine_alike scripts all outline) scene s s (any_turn scene s) a)))
+        (stacks_fit a.stacks, ended_or_more (has_ended scene s.world) (states_from scene (source_engine outline scripts) turns (step scene (source_engine outline scripts) s)) (states_fit scene turns (step scene (source_engine outline scripts) s) (step_alike BothFit anything (source_engine outline scripts) (source_engine outline scripts) (engine_alike scripts all outline) scene s s (any_turn scene s) a)))
 
     pub run_fits_in : (scene : SceneShape) (kinds : List DeviceKind) (turns : ℕ) → AllByRecursion (StateFits most) (states_from scene (source_engine outline scripts) turns (first_state outline scene kinds))
     run_fits_in scene kinds turns = states_fit scene turns (first_state outline scene kinds) (record { world = refl; stacks = no_stacks })

@@ -9,3 +9,9 @@ pub mod StepBounds
 pub mod Steps
 pub mod Touches
 pub mod TurnBounds
+pub mod Typing
+pub mod Kept
+pub mod KeptAlike
+pub mod Operating
+pub mod TreesEnter
+pub mod TreesKeep

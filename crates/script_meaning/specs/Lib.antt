@@ -4,6 +4,7 @@ pub mod Exclusive
 pub mod First
 pub mod Fits
 pub mod InnerSteps
+pub mod Keeps
 pub mod Locks
 pub mod Related
 pub mod Report
@@ -12,5 +13,6 @@ pub mod Source
 pub mod Stacks
 pub mod Touch
 pub mod Turns
+pub mod Typed
 pub mod Values
 pub mod World

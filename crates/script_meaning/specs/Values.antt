@@ -37,6 +37,20 @@ abbrev pub array_of : Value → Option ℕ
 array_of (values.Array number) = Some number
 array_of _ = None
 
+-- ---- types
+-- of the elements of an array type
+abbrev pub element_kind : CoreType → Option CoreType
+element_kind kinds.IntArray = Some kinds.Int
+element_kind kinds.BoolArray = Some kinds.Bool
+element_kind kinds.TextArray = Some kinds.Text
+element_kind (kinds.ScriptArray script) = Some (kinds.Script script)
+element_kind _ = None
+
+-- of the operands and the result of an operator
+abbrev pub arith_kind : Arith → CoreType
+arith_kind signs.Join = kinds.Text
+arith_kind _ = kinds.Int
+
 -- ---- defaults
 abbrev pub default_of : CoreType → Value
 default_of kinds.Int = values.Int (pos 0)

@@ -1,0 +1,11 @@
+use Rattle.script_meaning.proofs.Kept.{run_keeps}
+use Rattle.code_meaning.specs.Engine.{code_engine}
+use Rattle.code_meaning.specs.Typed.{code_types}
+use Rattle.code_meaning.proofs.Enters.{code_keeps}
+use Rattle.code_meaning.proofs.fits.typed_code_keeps_what_fits.Goals as goal
+
+pub returns : goal.returns
+returns c = record {
+  keeps = λ outline scripts set. code_keeps outline scripts set;
+  runs = λ outline scripts set scene kinds turns s. run_keeps (code_types outline scripts) (code_engine outline scripts) (code_keeps outline scripts set) scene kinds turns s;
+}
