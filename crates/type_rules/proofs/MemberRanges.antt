@@ -7,13 +7,16 @@ use Rattle.core_tree.specs.declared.script.CoreState.{CoreState}
 use Rattle.core_tree.specs.InRange.{PropertyInRange, StateInRange}
 use Rattle.core_tree.specs.Set.{property_of, state_of}
 use Rattle.type_rules.specs.declared.work.Work.{Work}
-use Rattle.type_rules.specs.Ranges.{CorePropertyInRange, CoreStateInRange, KeepsScript, WorkInRange, functions_of, variables_of}
+use Rattle.type_rules.specs.Ranges.{CorePropertyInRange, CoreStateInRange, KeepsScript, WorkInRange, files_of, functions_of, variables_of}
 
 pub keeps-further : (a b c : Work) → KeepsScript a b → KeepsScript b c → KeepsScript a c
 keeps-further a b c first second = record { catalog = cc; layout = cc; number = cc }
 
 pub keeps-work : (a b : Work) → KeepsScript a b → WorkInRange a → WorkInRange b
 keeps-work a b k r = rw (k.number, k.catalog) r
+
+pub keeps-files : (a b : Work) → KeepsScript a b → files_of b ≡ files_of a
+keeps-files a b k = cc
 
 keeps-functions : (a b : Work) → KeepsScript a b → functions_of b ≡ functions_of a
 keeps-functions a b k = cc
@@ -27,7 +30,7 @@ properties-in_range a b n properties k count all =
     let variables : variables_of b ≡ n = cc (keeps-variables a b k, count) in
     let counted = subst (λ (v : ℕ). All (λ (p : CoreProperty). PropertyInRange (functions_of b) v (property_of p)) properties) variables all in
     All-map (PropertyInRange (functions_of a) n) property_of properties
-    (subst (λ (functions : List ℕ). All (λ (p : CoreProperty). PropertyInRange functions n (property_of p)) properties) (keeps-functions a b k) counted)
+    (subst (λ (functions : List (List ℕ)). All (λ (p : CoreProperty). PropertyInRange functions n (property_of p)) properties) (keeps-functions a b k) counted)
 
 pub states-in_range : (a b : Work) (n : ℕ) (states : List CoreState) → KeepsScript a b → variables_of a ≡ n → All (CoreStateInRange b) states →
     All (StateInRange (functions_of a) n) (map state_of states)
@@ -35,9 +38,9 @@ states-in_range a b n states k count all =
     let variables : variables_of b ≡ n = cc (keeps-variables a b k, count) in
     let counted = subst (λ (v : ℕ). All (λ (s : CoreState). StateInRange (functions_of b) v (state_of s)) states) variables all in
     All-map (StateInRange (functions_of a) n) state_of states
-    (subst (λ (functions : List ℕ). All (λ (s : CoreState). StateInRange functions n (state_of s)) states) (keeps-functions a b k) counted)
+    (subst (λ (functions : List (List ℕ)). All (λ (s : CoreState). StateInRange functions n (state_of s)) states) (keeps-functions a b k) counted)
 
 pub state-kept : (a b : Work) → KeepsScript a b → (s : CoreState) → CoreStateInRange b s → CoreStateInRange a s
 state-kept a b k s r =
     let counted = subst (λ (v : ℕ). StateInRange (functions_of b) v (state_of s)) (keeps-variables a b k) r in
-    subst (λ (functions : List ℕ). StateInRange functions (variables_of a) (state_of s)) (keeps-functions a b k) counted
+    subst (λ (functions : List (List ℕ)). StateInRange functions (variables_of a) (state_of s)) (keeps-functions a b k) counted

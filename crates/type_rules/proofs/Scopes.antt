@@ -1,12 +1,14 @@
 -- What trees may name in a scope that grows.
-use Rattle.std.proofs.Common.{◌≡◌, ◌<◌, ◌+◌, ℕ, [], ◌∷◌, ◌++◌, length, min, arith, sym, ap, ◌∙◌, subst, vec_len, length-append}
+use Rattle.std.proofs.Common.{◌≡◌, ◌<◌, ◌≤◌, ◌+◌, ℕ, [], ◌∷◌, ◌++◌, length, min, arith, refl, sym, ap, ◌∙◌, subst, vec_len, List, take, length-append}
 use Rattle.std.specs.Prelude.{Option}
+use Rattle.std.proofs.lemmas.List.{take-append-le}
 use Rattle.std.proofs.lemmas.List.Elements.{All-push}
 use Rattle.core_tree.specs.declared.core_type.CoreType.{CoreType}
 use Rattle.core_tree.proofs.Ranges.{with_locals, expression-more_locals, block-more_locals, branches-more_locals}
 use Rattle.core_tree.specs.InRange.{Bounds, BlockInRange, BranchesInRange, ExpressionInRange, ResultInRange}
 use Rattle.core_tree.specs.Tree.{Block, Branches, Expression}
 use Rattle.expression_rules.specs.declared.scope.Scope.{Scope}
+use Rattle.type_scope.specs.declared.locals.Locals.{Locals}
 use Rattle.expression_rules.specs.Scopes.{Keeps, ScopeInRange, scope_bounds}
 use Rattle.type_rules.specs.declared.statements.Promise.{Promise}
 use Rattle.type_rules.specs.Ranges.{Grows, PromiseInRange}
@@ -28,6 +30,7 @@ keeps-grows a b k = record {
   layout = k.layout;
   script = k.script;
   locals = rw k.locals (omega arith);
+  begins = λ n le. ap (λ (ks : List (Option CoreType)). take n ks) (ap (λ (l : Locals). l.kinds.items) k.locals);
   in_range = keeps-in_range a b k;
 }
 
@@ -39,6 +42,7 @@ grows-further a b c first second = record {
   layout = cc;
   script = cc;
   locals = omega (arith, first.locals, second.locals);
+  begins = λ n le. second.begins n (omega (arith, first.locals)) ∙ first.begins n le;
   in_range = λ r. second.in_range (first.in_range r);
 }
 
@@ -77,7 +81,7 @@ pub at_line : (s : Scope) (n : ℕ) → ScopeInRange s → ScopeInRange (record 
 at_line s n r = record { script = r.script; locals = r.locals }
 
 pub from_line : (s : Scope) (n : ℕ) (b : Scope) → Grows (record s { line = n }) b → Grows s b
-from_line s n b g = record { catalog = g.catalog; layout = g.layout; script = g.script; locals = g.locals; in_range = λ r. g.in_range (at_line s n r) }
+from_line s n b g = record { catalog = g.catalog; layout = g.layout; script = g.script; locals = g.locals; begins = g.begins; in_range = λ r. g.in_range (at_line s n r) }
 
 -- one more local
 pub added-below : (a b : Scope) (kind : Option CoreType) (number : ℕ) → b.locals.kinds.items ≡ a.locals.kinds.items ++ kind ∷ [] → number ≡ min (vec_len a.locals.kinds) 65535 → number < vec_len b.locals.kinds
@@ -91,3 +95,8 @@ added-in_range a b kind catalog script added k r = record {
   script = rw (script, catalog) r.script;
   locals = rw (catalog, added) (All-push (ResultInRange (scope_bounds a).functions) a.locals.kinds.items kind r.locals k);
 }
+
+-- what was there stays there
+pub added-begins : (a b : Scope) (kind : Option CoreType) → b.locals.kinds.items ≡ a.locals.kinds.items ++ kind ∷ [] → (n : ℕ) → n ≤ vec_len a.locals.kinds → take n b.locals.kinds.items ≡ take n a.locals.kinds.items
+added-begins a b kind added n le =
+    ap (λ (ks : List (Option CoreType)). take n ks) added ∙ take-append-le n a.locals.kinds.items (kind ∷ []) (omega (arith, a.locals.kinds.ok.0))

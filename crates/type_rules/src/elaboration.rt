@@ -18,7 +18,7 @@ use type_scope::Catalog;
 /// rules' numbers; K15 only where no other rule is broken in the set.
 pub fn elaborate(alloc: Global, set: &ScriptSet) -> Result<CoreSet, TypeFault>
     ensures in_range { IfOk result InRange }
-    ensures heads { IfOk result (λ made. map core_script_head made.scripts.items ≡ map script_head set.now) }
+    ensures heads { IfOk result (λ made. map core_script_head made.scripts.items ≡ map (script_head set.now) set.now) }
     ensures broken { IfErr result (IsFaultBelow (length set.now)) }
 {
     let catalog = Catalog::new(alloc, set)?;

@@ -1,11 +1,12 @@
 // Functions, with their parameters and statements judged.
-ghost use Rattle.std.specs.Prelude.{◌≡◌, All, map, IfOk, OnOk};
+ghost use Rattle.std.specs.Prelude.{◌≡◌, ◌++◌, All, List, length, map, option_map, take, IfOk, OnOk};
 ghost use Rattle.core_tree.specs.InRange.{BlockInRange, FunctionInRange};
 ghost use Rattle.core_tree.specs.Set.{function_of};
 ghost use Rattle.core_tree.specs.Tree.{block_of};
 ghost use Rattle.expression_rules.specs.Scopes.{Keeps, ScopeInRange, scope_bounds};
-ghost use Rattle.type_rules.specs.Ranges.{CoreFunctionInRange, Grows, KeepsScript, PromiseInRange, WorkInRange, known, promised};
-ghost use Rattle.type_rules.specs.Heads.{core_function_head, function_head};
+ghost use Rattle.script_linker.specs.declared.set.SourceFile.{SourceFile};
+ghost use Rattle.type_rules.specs.Ranges.{CoreFunctionInRange, Grows, KeepsScript, PromiseInRange, WorkInRange, files_of, promised};
+ghost use Rattle.type_rules.specs.Heads.{core_function_head, function_head, known, meant, parameter_kind};
 
 use crate::sizes::function_size;
 use crate::statements::{BLOCK_LIMIT, Promise, core_block};
@@ -23,7 +24,7 @@ pub(crate) fn core_functions(
     work: &mut Work<'_>,
     functions: &[Function],
 ) -> Result<Vec<CoreFunction>, OutOfMemory>
-    ensures heads { IfOk result (λ found. map core_function_head found.items ≡ map function_head functions.now) }
+    ensures heads { IfOk result (λ found. map core_function_head found.items ≡ map (function_head (files_of work.old)) functions.now) }
     ensures kept { OnOk result (KeepsScript work.old work.new) }
     ensures in_range { WorkInRange work.old → IfOk result (λ found. All (CoreFunctionInRange work.old) found.items) }
 {
@@ -39,7 +40,7 @@ pub(crate) fn core_function(
     work: &mut Work<'_>,
     function: &Function,
 ) -> Result<CoreFunction, OutOfMemory>
-    ensures head { IfOk result (λ made. core_function_head made ≡ function_head function.now) }
+    ensures head { IfOk result (λ made. core_function_head made ≡ function_head (files_of work.old) function.now) }
     ensures kept { OnOk result (KeepsScript work.old work.new) }
     ensures in_range { WorkInRange work.old → IfOk result (CoreFunctionInRange work.old) }
 {
@@ -56,6 +57,7 @@ pub(crate) fn core_function(
 
 fn promise_of(scope: &mut Scope<'_>, result_type: &Option<TypeName>) -> Result<Promise, OutOfMemory>
     ensures kept { Keeps scope.old scope.new }
+    ensures meant { IfOk result (λ promise. promised promise ≡ option_map (meant scope.old.catalog.now.set.now) result_type.now) }
     ensures in_range { IfOk result (PromiseInRange (scope_bounds scope.old).functions) }
 {
     match result_type {
@@ -66,7 +68,9 @@ fn promise_of(scope: &mut Scope<'_>, result_type: &Option<TypeName>) -> Result<P
 
 // A default that doesn't convert to its parameter's type by itself breaks K6.
 fn add_parameters(scope: &mut Scope<'_>, parameters: &[Parameter]) -> Result<(), OutOfMemory>
-    ensures { OnOk result (Grows scope.old scope.new) }
+    ensures grows { OnOk result (Grows scope.old scope.new) }
+    ensures kinds { OnOk result
+        (scope.new.locals.kinds.items ≡ scope.old.locals.kinds.items ++ map (parameter_kind scope.old.catalog.now.set.now) parameters.now) }
 {
     for parameter in parameters {
         let kind = scope.kind_named(&parameter.kind)?;
@@ -106,7 +110,8 @@ fn assemble(
 ) -> Result<CoreFunction, OutOfMemory>
     ensures in_range { ScopeInRange scope.now → PromiseInRange (scope_bounds scope.now).functions promise → BlockInRange (scope_bounds scope.now) (block_of body.items) →
         IfOk result (λ made. FunctionInRange (scope_bounds scope.now).functions (scope_bounds scope.now).variables (function_of made)) }
-    ensures head { IfOk result (λ made. core_function_head made ≡ function_head function.now) }
+    ensures head { (set : List SourceFile) → take (length function.now.heading.parameters.items) scope.now.locals.kinds.items ≡ map (parameter_kind set) function.now.heading.parameters.items →
+        promised promise ≡ option_map (meant set) function.now.heading.result → IfOk result (λ made. core_function_head made ≡ function_head set function.now) }
 {
     let heading = &function.heading;
     let kinds = scope.locals.kinds.as_slice();

@@ -2,8 +2,8 @@
 ghost use Rattle.std.specs.Prelude.{◌≡◌, ◌<◌, All, map, IfOk, OnOk, vec_len};
 ghost use Rattle.core_tree.specs.InRange.{AccessInRange, ResultInRange};
 ghost use Rattle.core_tree.specs.Set.{access_of};
-ghost use Rattle.type_rules.specs.Ranges.{CoreFunctionInRange, CorePropertyInRange, CoreStateInRange, KeepsScript, WorkInRange, functions_of, variables_of};
-ghost use Rattle.type_rules.specs.Heads.{auto_state_of, core_property_head, core_state_head, function_head, property_head, state_heads};
+ghost use Rattle.type_rules.specs.Ranges.{CoreFunctionInRange, CorePropertyInRange, CoreStateInRange, KeepsScript, WorkInRange, files_of, functions_of, variables_of};
+ghost use Rattle.type_rules.specs.Heads.{auto_state_of, constant_get as constant_get_head, core_access_head, core_function_head, core_property_head, core_state_head, full_head, function_head, known, property_head, state_heads};
 
 use crate::functions::{clone_text, core_function, core_functions};
 use crate::variables::{constant_value, known};
@@ -26,7 +26,7 @@ pub(crate) fn core_properties(
     work: &mut Work<'_>,
     properties: &[Property],
 ) -> Result<Vec<CoreProperty>, OutOfMemory>
-    ensures heads { IfOk result (λ found. map core_property_head found.items ≡ map property_head properties.now) }
+    ensures heads { IfOk result (λ found. map core_property_head found.items ≡ map (property_head (files_of work.old)) properties.now) }
     ensures kept { OnOk result (KeepsScript work.old work.new) }
     ensures in_range { WorkInRange work.old → IfOk result (λ found. All (CorePropertyInRange work.old) found.items) }
 {
@@ -42,7 +42,7 @@ fn core_property(
     place: usize,
     property: &Property,
 ) -> Result<CoreProperty, OutOfMemory>
-    ensures head { IfOk result (λ made. core_property_head made ≡ property_head property.now) }
+    ensures head { IfOk result (λ made. core_property_head made ≡ property_head (files_of work.old) property.now) }
     ensures kept { OnOk result (KeepsScript work.old work.new) }
     ensures in_range { WorkInRange work.old → IfOk result (CorePropertyInRange work.old) }
 {
@@ -86,6 +86,7 @@ fn constant_get(
     constant: &Constant,
     kind: Option<CoreType>,
 ) -> Result<CoreFunction, OutOfMemory>
+    ensures head { IfOk result (λ made. core_function_head made ≡ constant_get_head line (known kind)) }
     ensures kept { OnOk result (KeepsScript work.old work.new) }
     ensures in_range { ResultInRange (functions_of work.old) kind → IfOk result (CoreFunctionInRange work.old) }
 {
@@ -113,6 +114,7 @@ fn constant_get(
 
 // The functions of a full property are at most one Get and one Set.
 fn full_access(work: &mut Work<'_>, functions: &[Function]) -> Result<CoreAccess, OutOfMemory>
+    ensures head { IfOk result (λ access. core_access_head access ≡ full_head (files_of work.old) functions.now) }
     ensures kept { OnOk result (KeepsScript work.old work.new) }
     ensures in_range { WorkInRange work.old → IfOk result (λ access. AccessInRange (functions_of work.old) (variables_of work.old) (access_of access)) }
 {
@@ -134,7 +136,7 @@ pub(crate) fn core_states(
     work: &mut Work<'_>,
     script: &Script,
 ) -> Result<Vec<CoreState>, OutOfMemory>
-    ensures heads { IfOk result (λ found. map core_state_head found.items ≡ state_heads script.now) }
+    ensures heads { IfOk result (λ found. map core_state_head found.items ≡ state_heads (files_of work.old) script.now) }
     ensures kept { OnOk result (KeepsScript work.old work.new) }
     ensures in_range { WorkInRange work.old → IfOk result (λ found. All (CoreStateInRange work.old) found.items) }
 {
@@ -154,7 +156,7 @@ fn core_state(
     name: Name,
     functions: &[Function],
 ) -> Result<CoreState, OutOfMemory>
-    ensures head { IfOk result (λ made. core_state_head made ≡ record { name = name; functions = map function_head functions.now }) }
+    ensures head { IfOk result (λ made. core_state_head made ≡ record { name = name; functions = map (function_head (files_of work.old)) functions.now }) }
     ensures kept { OnOk result (KeepsScript work.old work.new) }
     ensures in_range { WorkInRange work.old → IfOk result (CoreStateInRange work.old) }
 {

@@ -1,7 +1,8 @@
 // The variables of a script, and the values with which they and its properties begin.
 ghost use Rattle.std.specs.Prelude.{◌≡◌, All, IfOk, vec_len};
 ghost use Rattle.core_tree.specs.InRange.{LiteralInRange, VariableInRange};
-ghost use Rattle.type_rules.specs.Ranges.{KeepsScript, functions_of, known, variables_of};
+ghost use Rattle.type_rules.specs.Heads.{known};
+ghost use Rattle.type_rules.specs.Ranges.{KeepsScript, functions_of, variables_of};
 
 use crate::work::Work;
 use core_tree::{CoreType, CoreVariable, Value};

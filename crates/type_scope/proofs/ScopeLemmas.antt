@@ -1,10 +1,71 @@
--- What the counts of functions say of a set's scripts.
-use Rattle.std.proofs.Common.{ℕ, zero, suc, ◌<◌, List, [], ◌∷◌, length, map, get_or, arith}
+-- What the counts of parameters say of a set's scripts, and the first script of a name.
+use Rattle.std.proofs.Common.{◌≡◌, ℕ, zero, suc, ◌<◌, ◌≤◌, ◌↔◌, Bool, true, false, cond, List, [], ◌∷◌, length, map, get_or, refl, sym, ap, ◌∙◌, arith, IsTrue, nat_lt, ⊎_elim}
+use Rattle.std.specs.Prelude.{Option, Some, None, slice_get}
+use Rattle.std.specs.List.{position, position_or_len}
+use Rattle.std.specs.Str.{bytes_eq}
+use Rattle.std.specs.Cmp.Lexicographic.{bytes_decides}
+use Rattle.std.proofs.lemmas.Bool.{cases_Bool}
+use Rattle.std.proofs.lemmas.Bool.Decides.{nat_tests}
+use Rattle.papy_base.specs.Case.{SameIgnoringCase, folded}
+use Rattle.core_tree.specs.declared.expression.FunctionPlace.{FunctionPlace}
+use Rattle.core_tree.specs.InRange.{FunctionThere}
+use Rattle.script_linker.specs.Lookup.{script_name, script_named}
 use Rattle.script_linker.specs.declared.set.SourceFile.{SourceFile}
-use Rattle.type_scope.specs.Scope.{function_count, function_counts}
+use Rattle.script_parser.specs.declared.script.Function.{Function}
+use Rattle.type_scope.specs.Types.{counts_of, parameter_count, parameter_counts}
 
--- a place below the number of functions of the script n
-pub below_count : (files : List SourceFile) (n k : ℕ) → n < length files → ((file : SourceFile) → k < function_count (get_or files n file)) → k < get_or (function_counts files) n 0
-below_count [] n k inside below = absurd (omega arith)
-below_count (file ∷ files) zero k inside below = below file
-below_count (file ∷ files) (suc n) k inside below = below_count files n k (omega arith) below
+-- ---- how many parameters a function has
+
+count-at : (functions : List Function) (k : ℕ) (function : Function) → slice_get functions k ≡ Some function → slice_get (map parameter_count functions) k ≡ Some (parameter_count function)
+count-at [] k function is = cc
+count-at (first ∷ rest) zero function is = let same : first ≡ function = cc in ap (λ f. Some (parameter_count f)) same
+count-at (first ∷ rest) (suc k) function is = count-at rest k function is
+
+-- a function of the script n
+pub function-there : (files : List SourceFile) (n k : ℕ) (function : Function) → n < length files → ((file : SourceFile) → slice_get (get_or files n file).script.functions.items k ≡ Some function) →
+    slice_get (get_or (parameter_counts files) n []) k ≡ Some (parameter_count function)
+function-there [] n k function inside is = absurd (omega arith)
+function-there (file ∷ files) zero k function inside is = count-at file.script.functions.items k function (is file)
+function-there (file ∷ files) (suc n) k function inside is = function-there files n k function (omega arith) is
+
+-- ---- the first script of a name
+
+-- whether a script has a name, as the comparison of names tells it
+pub is-named : (name word : List ℕ) (same : Bool) → (IsTrue same ↔ SameIgnoringCase name word) → bytes_eq (folded word) (folded name) ≡ same
+is-named name word true says = (bytes_decides (folded word) (folded name)).1 (sym (says.0 refl))
+is-named name word false says =
+    ⊎_elim
+    (λ (e : bytes_eq (folded word) (folded name) ≡ true). let yes : false ≡ true = says.1 (sym ((bytes_decides (folded word) (folded name)).0 e)) in cc)
+    (λ (e : bytes_eq (folded word) (folded name) ≡ false). e)
+    (cases_Bool (bytes_eq (folded word) (folded name)))
+
+len-at : {X : Type 0} (p : X → Bool) (xs : List X) (n : ℕ) → n < length xs → ((k : ℕ) (d : X) → k < n → p (get_or xs k d) ≡ false) → ((d : X) → p (get_or xs n d) ≡ true) → position_or_len p xs ≡ n
+len-at p [] n within before here = absurd (omega arith)
+len-at p (x ∷ xs) zero within before here = let yes : p x ≡ true = here x in rw yes refl
+len-at p (x ∷ xs) (suc n) within before here =
+    let no : p x ≡ false = before 0 x (omega arith) in
+    rw no (ap suc (len-at p xs n (omega arith) (λ k d l. before (suc k) d (omega arith)) here))
+
+len-past : {X : Type 0} (p : X → Bool) (xs : List X) → ((k : ℕ) (d : X) → k < length xs → p (get_or xs k d) ≡ false) → position_or_len p xs ≡ length xs
+len-past p [] before = refl
+len-past p (x ∷ xs) before =
+    let no : p x ≡ false = before 0 x (omega arith) in
+    rw no (ap suc (len-past p xs (λ k d l. before (suc k) d (omega arith))))
+
+position-from : {X : Type 0} (p : X → Bool) (xs : List X) (n : ℕ) → position_or_len p xs ≡ n → n < length xs → position p xs ≡ Some n
+position-from p xs n is within = rw is (grind (arith, nat_tests))
+
+position-none : {X : Type 0} (p : X → Bool) (xs : List X) → position_or_len p xs ≡ length xs → position p xs ≡ None
+position-none p xs is = rw is (grind (arith, nat_tests))
+
+module _ (files : List SourceFile) (name : List ℕ) where
+  pub named-first : (n : ℕ) → n < length files → ((k : ℕ) (file : SourceFile) → k < n → bytes_eq (folded name) (folded (script_name (get_or files k file))) ≡ false) →
+      ((file : SourceFile) → bytes_eq (folded name) (folded (script_name (get_or files n file))) ≡ true) → script_named files name ≡ Some n
+  named-first n within before here =
+      let p : SourceFile → Bool = λ file. bytes_eq (folded name) (folded (script_name file)) in
+      position-from p files n (len-at p files n within before here) within
+
+  pub named-none : ((k : ℕ) (file : SourceFile) → k < length files → bytes_eq (folded name) (folded (script_name (get_or files k file))) ≡ false) → script_named files name ≡ None
+  named-none before =
+      let p : SourceFile → Bool = λ file. bytes_eq (folded name) (folded (script_name file)) in
+      position-none p files (len-past p files before)

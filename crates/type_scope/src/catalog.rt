@@ -1,7 +1,9 @@
 // The scripts of a set by their names, and what names mean in them.
-ghost use Rattle.std.specs.Prelude.{◌≡◌, ◌<◌, ℕ, List, length, IfOk, IfSome, OnSome, slice_index_or};
-ghost use Rattle.core_tree.specs.InRange.{TypeInRange, ResultInRange, FunctionThere};
-ghost use Rattle.type_scope.specs.Scope.{function_counts};
+ghost use Rattle.std.specs.Prelude.{◌≡◌, ◌<◌, ℕ, List, length, IfOk, IfSome, OnSome, option_and_then, option_map, slice_index_or};
+ghost use Rattle.core_tree.specs.InRange.{TypeInRange, ResultInRange};
+ghost use Rattle.script_linker.specs.Lookup.{parent_in, script_name, script_named};
+ghost use Rattle.script_linker.specs.Table.{IsPlaceTable};
+ghost use Rattle.type_scope.specs.Types.{array_of, element_named, parameter_counts, script_type, type_named};
 
 use core_tree::{CoreType, FunctionPlace};
 use line_parser::{Heading, TypeName};
@@ -30,10 +32,12 @@ pub struct Catalog<'a> {
     pub alloc: Global,
     pub set: &'a ScriptSet,
     numbers: NameTable,
+    ghost numbered: { IsPlaceTable script_name set.now numbers },
 }
 
 impl<'a> Catalog<'a> {
     ghost use Rattle.script_linker.specs.declared.set.SourceFile.{SourceFile};
+    ghost use Rattle.type_scope.specs.Scope.{CalleeThere};
 
     /// The catalog of a set.
     pub fn new(alloc: Global, set: &'a ScriptSet) -> Result<Catalog<'a>, OutOfMemory>
@@ -52,7 +56,8 @@ impl<'a> Catalog<'a> {
 
     /// The number of the first script of this name.
     pub fn find_script(&self, name: &Name) -> Result<Option<u16>, OutOfMemory>
-        ensures { IfOk result (λ found. IfSome found (λ n. n < length self.now.set.now)) }
+        ensures found { IfOk result (λ found. found ≡ script_named self.now.set.now name.now) }
+        ensures within { IfOk result (λ found. IfSome found (λ n. n < length self.now.set.now)) }
     {
         let count = self.set.count();
         if usize::from(count) > COMPARED_LIMIT {
@@ -80,7 +85,8 @@ impl<'a> Catalog<'a> {
 
     /// The parent of a script, where it has one.
     pub fn parent_of(&self, script: u16) -> Result<Option<u16>, OutOfMemory>
-        ensures { IfOk result (λ found. IfSome found (λ n. n < length self.now.set.now)) }
+        ensures parent { (file : SourceFile) → script < length self.now.set.now → IfOk result (λ found. found ≡ parent_in self.now.set.now (slice_index_or self.now.set.now script file)) }
+        ensures within { IfOk result (λ found. IfSome found (λ n. n < length self.now.set.now)) }
     {
         match self.script(script) {
             Some(script) => self.named(&script.parent),
@@ -89,7 +95,8 @@ impl<'a> Catalog<'a> {
     }
 
     fn named(&self, name: &Option<Name>) -> Result<Option<u16>, OutOfMemory>
-        ensures { IfOk result (λ found. IfSome found (λ n. n < length self.now.set.now)) }
+        ensures found { IfOk result (λ found. found ≡ option_and_then (script_named self.now.set.now) name.now) }
+        ensures within { IfOk result (λ found. IfSome found (λ n. n < length self.now.set.now)) }
     {
         match name {
             Some(name) => self.find_script(name),
@@ -99,7 +106,8 @@ impl<'a> Catalog<'a> {
 
     /// The type that is written so, or none.
     pub fn type_of(&self, name: &TypeName) -> Result<Option<CoreType>, OutOfMemory>
-        ensures { IfOk result (ResultInRange (function_counts self.now.set.now)) }
+        ensures found { IfOk result (λ found. found ≡ type_named self.now.set.now name.now) }
+        ensures in_range { IfOk result (ResultInRange (parameter_counts self.now.set.now)) }
     {
         let element = self.element_type(&name.word)?;
         Ok(if name.is_array {
@@ -111,7 +119,8 @@ impl<'a> Catalog<'a> {
 
     /// The type of this name that is no array, or none.
     pub fn element_type(&self, word: &Name) -> Result<Option<CoreType>, OutOfMemory>
-        ensures { IfOk result (ResultInRange (function_counts self.now.set.now)) }
+        ensures found { IfOk result (λ found. found ≡ element_named self.now.set.now word.now) }
+        ensures in_range { IfOk result (ResultInRange (parameter_counts self.now.set.now)) }
     {
         match word.as_bytes() {
             b"Int" => Ok(Some(CoreType::Int)),
@@ -123,7 +132,7 @@ impl<'a> Catalog<'a> {
 
     /// The nearest function of this name in the empty states, from the script upward.
     pub fn find_function(&self, script: u16, name: &Name) -> Option<Callee<'a>>
-        ensures { IfSome result (λ callee. FunctionThere (function_counts self.now.set.now) callee.at) }
+        ensures { IfSome result (λ callee. CalleeThere (parameter_counts self.now.set.now) callee) }
     {
         if script >= self.set.count() {
             return None;
@@ -175,7 +184,7 @@ impl<'a> Catalog<'a> {
 
     /// The first Global function of this name that a script imported by this one has itself.
     pub fn find_imported(&self, script: u16, name: &Name) -> Result<Option<Callee<'a>>, OutOfMemory>
-        ensures { IfOk result (λ found. IfSome found (λ callee. FunctionThere (function_counts self.now.set.now) callee.at)) }
+        ensures { IfOk result (λ found. IfSome found (λ callee. CalleeThere (parameter_counts self.now.set.now) callee)) }
     {
         let Some(script) = self.script(script) else {
             return Ok(None);
@@ -190,7 +199,7 @@ impl<'a> Catalog<'a> {
 
     // The Global function of this name that the script of the other name has itself.
     fn import_global(&self, import: &Name, name: &Name) -> Result<Option<Callee<'a>>, OutOfMemory>
-        ensures { IfOk result (λ found. IfSome found (λ callee. FunctionThere (function_counts self.now.set.now) callee.at)) }
+        ensures { IfOk result (λ found. IfSome found (λ callee. CalleeThere (parameter_counts self.now.set.now) callee)) }
     {
         match self.find_script(import)? {
             Some(script) => Ok(self.own_global(script, name)),
@@ -199,7 +208,7 @@ impl<'a> Catalog<'a> {
     }
 
     fn own_global(&self, script: u16, name: &Name) -> Option<Callee<'a>>
-        ensures { IfSome result (λ callee. FunctionThere (function_counts self.now.set.now) callee.at) }
+        ensures { IfSome result (λ callee. CalleeThere (parameter_counts self.now.set.now) callee) }
     {
         let found = self.find_function(script, name)?;
         if found.at.script == script && found.heading.is_global {
@@ -221,7 +230,8 @@ fn place_among(properties: &[Property], name: &Name) -> Option<u16> {
 }
 
 fn number_below(number: Option<usize>, count: u16) -> Option<u16>
-    ensures { IfSome result (λ n. n < count) }
+    ensures same { IfSome number (λ n. n < count) → result ≡ number }
+    ensures below { IfSome result (λ n. n < count) }
 {
     match number {
         Some(number) if number < usize::from(count) => Some(number as u16),
@@ -230,7 +240,8 @@ fn number_below(number: Option<usize>, count: u16) -> Option<u16>
 }
 
 fn script_type(script: Option<u16>) -> Option<CoreType>
-    ensures { (functions : List ℕ) → IfSome script (λ n. n < length functions) → ResultInRange functions result }
+    ensures found { result ≡ option_and_then script_type script }
+    ensures in_range { (functions : List (List ℕ)) → IfSome script (λ n. n < length functions) → ResultInRange functions result }
 {
     match script {
         Some(script) if script >= LIBRARY_COUNT => Some(CoreType::Script(script)),
@@ -239,7 +250,8 @@ fn script_type(script: Option<u16>) -> Option<CoreType>
 }
 
 fn array_type(element: Option<CoreType>) -> Option<CoreType>
-    ensures { (functions : List ℕ) → ResultInRange functions element → ResultInRange functions result }
+    ensures found { result ≡ option_map array_of element }
+    ensures in_range { (functions : List (List ℕ)) → ResultInRange functions element → ResultInRange functions result }
 {
     match element {
         Some(element) => Some(array_of(element)),
@@ -249,7 +261,8 @@ fn array_type(element: Option<CoreType>) -> Option<CoreType>
 
 /// The type of arrays of this element type. An array type stays as it is.
 pub fn array_of(element: CoreType) -> CoreType
-    ensures { (functions : List ℕ) → TypeInRange functions element → TypeInRange functions result }
+    ensures found { result ≡ array_of element }
+    ensures in_range { (functions : List (List ℕ)) → TypeInRange functions element → TypeInRange functions result }
 {
     match element {
         CoreType::Int => CoreType::IntArray,
@@ -262,7 +275,7 @@ pub fn array_of(element: CoreType) -> CoreType
 
 /// The element type of an array type, or none.
 pub fn element_of(array: CoreType) -> Option<CoreType>
-    ensures { (functions : List ℕ) → TypeInRange functions array → ResultInRange functions result }
+    ensures { (functions : List (List ℕ)) → TypeInRange functions array → ResultInRange functions result }
 {
     match array {
         CoreType::IntArray => Some(CoreType::Int),

@@ -7,7 +7,7 @@ use Rattle.core_tree.specs.InRange.{BlockInRange, ResultInRange}
 use Rattle.core_tree.specs.Tree.{block_of}
 use Rattle.expression_rules.specs.Scopes.{scope_bounds}
 use Rattle.type_rules.proofs.Types.{promised-in_range, types-in_range}
-use Rattle.type_rules.specs.Ranges.{known}
+use Rattle.type_rules.specs.Heads.{known}
 use Rattle.type_rules.proofs.functions.assemble.Goals as goal
 
 pub returns-clause-in_range : goal.returns-clause-in_range
