@@ -1,8 +1,10 @@
 -- The heads of a set's scripts, and how many parameters the functions of their empty states have.
-use Rattle.std.proofs.Common.{◌≡◌, ◌+◌, ◌<◌, ◌≤◌, ℕ, Bool, true, false, List, [], ◌∷◌, ◌++◌, length, map, min, take, refl, sym, ap, ◌∙◌, arith, slice_index_or, subst}
-use Rattle.std.specs.Prelude.{Option, Some, None, if◌then◌else◌}
+use Rattle.std.proofs.Common.{◌≡◌, ◌+◌, ◌<◌, ◌≤◌, ℕ, Bool, true, false, List, [], ◌∷◌, ◌++◌, length, map, take, refl, sym, ap, ◌∙◌, arith, slice_index_or, subst, ⊎_elim}
+use Rattle.std.specs.Prelude.{Option, Some, None, option_map, if◌then◌else◌}
 use Rattle.std.specs.List.{All}
-use Rattle.std.proofs.lemmas.List.{length-map, length-take, map-append, take-append-le, take_more}
+use Rattle.std.proofs.Math.Seq.{get_or-append_seam}
+use Rattle.std.proofs.lemmas.Bool.{cases_lt}
+use Rattle.std.proofs.lemmas.List.{get_or_append_left, length-map, map-append, take_more}
 use Rattle.std.proofs.lemmas.List.Elements.{All-push, All-same}
 use Rattle.core_tree.specs.declared.core_type.CoreType.{CoreType}
 use Rattle.core_tree.specs.declared.script.CoreFunction.{CoreFunction}
@@ -15,8 +17,10 @@ use Rattle.line_parser.specs.declared.tree.Parameter.{Parameter}
 use Rattle.script_linker.specs.declared.set.SourceFile.{SourceFile}
 use Rattle.script_parser.specs.declared.script.Function.{Function}
 use Rattle.script_parser.specs.declared.script.State.{State}
+use Rattle.type_scope.specs.Sources.{declaration}
+use Rattle.type_scope.specs.declared.layout.Source.{Source}
 use Rattle.type_scope.specs.Types.{counts_of, parameter_count, parameter_counts}
-use Rattle.type_rules.specs.Heads.{FunctionHead, ScriptHead, StateHead, core_function_head, core_script_head, core_state_head, function_head, known, last_or, parameter_kind, parameter_type, script_head, state_head}
+use Rattle.type_rules.specs.Heads.{FunctionHead, HasVariables, ScriptHead, StateHead, core_function_head, core_script_head, core_state_head, function_head, known, VariableHead, last_or, parameter_kind, parameter_type, script_head, source_head, variable_head}
 
 -- ---- one thing more
 
@@ -64,6 +68,23 @@ scripts-push functions scripts all made pushed so_far here =
     All-same (ScriptInRange functions) (map script_of all) (map script_of scripts ++ script_of made ∷ []) (ap (map script_of) pushed ∙ map-append script_of scripts (made ∷ []))
     (All-push (ScriptInRange functions) (map script_of scripts) (script_of made) so_far here)
 
+-- one script more with its variables
+pub variables-push : (set : List SourceFile) (scripts all : List CoreScript) (made : CoreScript) (n : ℕ) → all ≡ scripts ++ made ∷ [] → length scripts ≡ n → n < length set →
+    ((file : SourceFile) → HasVariables set (slice_index_or set n file).script made.variables.items) →
+    ((k : ℕ) (file : SourceFile) (script : CoreScript) → k < n → HasVariables set (slice_index_or set k file).script (slice_index_or scripts k script).variables.items) →
+    (k : ℕ) (file : SourceFile) (script : CoreScript) → k < n + 1 → HasVariables set (slice_index_or set k file).script (slice_index_or all k script).variables.items
+variables-push set scripts all made n pushed count within here below = λ k file script less.
+    let same : slice_index_or all k script ≡ slice_index_or (scripts ++ made ∷ []) k script = ap (λ (xs : List CoreScript). slice_index_or xs k script) pushed in
+    ⊎_elim
+    (λ (l : k < n).
+    subst (λ (s : CoreScript). HasVariables set (slice_index_or set k file).script s.variables.items) (sym (same ∙ get_or_append_left scripts (made ∷ []) script k (omega arith))) (below k file script l))
+    (λ (g : n ≤ k).
+    let last : k ≡ length scripts = omega arith in
+    let is : slice_index_or all k script ≡ made = same ∙ ap (λ (j : ℕ). slice_index_or (scripts ++ made ∷ []) j script) last ∙ get_or-append_seam scripts made [] script in
+    subst (λ (s : CoreScript). HasVariables set (slice_index_or set k file).script s.variables.items) (sym is)
+    (subst (λ (j : ℕ). HasVariables set (slice_index_or set j file).script made.variables.items) (sym (last ∙ count)) (here file)))
+    (cases_lt k n)
+
 -- ---- the parameters of a function
 
 -- types that are known, of the parameters' kinds
@@ -76,6 +97,38 @@ kinds-known set (parameter ∷ rest) = ap (λ (types : List CoreType). known (pa
 pub last_or-push : (found : Option Function) (test : Function → Bool) (functions : List Function) (f : Function) → last_or found test (functions ++ f ∷ []) ≡ (if test f then Some f else last_or found test functions)
 last_or-push found test [] f = refl
 last_or-push found test (first ∷ rest) f = last_or-push (if test first then Some first else found) test rest f
+
+taken-more : (functions : List Function) (n : ℕ) (f : Function) → n < length functions → f ≡ slice_index_or functions n f → take (n + 1) functions ≡ take n functions ++ f ∷ []
+taken-more functions n f within is = take_more functions n f within ∙ ap (λ (g : Function). take n functions ++ g ∷ []) (sym is)
+
+-- it is the next one
+pub last-yes : (set : List SourceFile) (test : Function → Bool) (functions : List Function) (n : ℕ) (f : Function) (made : CoreFunction) → test f ≡ true → core_function_head made ≡ function_head set f → n < length functions →
+    f ≡ slice_index_or functions n f → option_map core_function_head (Some made) ≡ option_map (function_head set) (last_or None test (take (n + 1) functions))
+last-yes set test functions n f made yes head within is =
+    let last : last_or None test (take (n + 1) functions) ≡ Some f =
+    ap (last_or None test) (taken-more functions n f within is)
+    ∙ last_or-push None test (take n functions) f
+    ∙ ap (λ (b : Bool). if b then Some f else last_or None test (take n functions)) yes
+    in
+    ap Some head ∙ ap (option_map (function_head set)) (sym last)
+
+-- or the same as before
+pub last-no : (set : List SourceFile) (test : Function → Bool) (functions : List Function) (n : ℕ) (f : Function) (found : Option CoreFunction) → test f ≡ false →
+    option_map core_function_head found ≡ option_map (function_head set) (last_or None test (take n functions)) → n < length functions → f ≡ slice_index_or functions n f →
+    option_map core_function_head found ≡ option_map (function_head set) (last_or None test (take (n + 1) functions))
+last-no set test functions n f found no so_far within is =
+    let last : last_or None test (take (n + 1) functions) ≡ last_or None test (take n functions) =
+    ap (last_or None test) (taken-more functions n f within is)
+    ∙ last_or-push None test (take n functions) f
+    ∙ ap (λ (b : Bool). if b then Some f else last_or None test (take n functions)) no
+    in
+    so_far ∙ ap (option_map (function_head set)) (sym last)
+
+-- ---- variables
+
+pub source-heads : (set : List SourceFile) (sources : List Source) → map (source_head set) sources ≡ map (variable_head set) (map declaration sources)
+source-heads set [] = refl
+source-heads set (source ∷ rest) = ap (λ (heads : List VariableHead). source_head set source ∷ heads) (source-heads set rest)
 
 -- ---- how many parameters the functions of the empty state have
 

@@ -1,6 +1,6 @@
 -- What a set keeps of its files: the scripts, properties, states and functions, each in its place with
 -- its name, its flags, its documentation and the types that its words mean.
-use Rattle.std.specs.Prelude.{ℕ, Bool, false, List, [], ◌∷◌, codes, map, not, Option, Some, None, option_map, if◌then◌else◌}
+use Rattle.std.specs.Prelude.{◌≡◌, ℕ, ◌<◌, Bool, true, false, List, [], ◌∷◌, ◌++◌, codes, length, map, slice_index_or, not, Option, Some, None, option_map, if◌then◌else◌}
 use Rattle.std.specs.Str.{bytes_eq}
 use Rattle.papy_base.specs.Case.{folded}
 use Rattle.core_tree.specs.declared.core_type.CoreType.{CoreType}
@@ -11,6 +11,7 @@ use Rattle.core_tree.specs.declared.script.CoreFunction.{CoreFunction}
 use Rattle.core_tree.specs.declared.script.CoreProperty.{CoreProperty}
 use Rattle.core_tree.specs.declared.script.CoreScript.{CoreScript}
 use Rattle.core_tree.specs.declared.script.CoreState.{CoreState}
+use Rattle.core_tree.specs.declared.script.CoreVariable.{CoreVariable}
 use Rattle.line_parser.specs.declared.tree.Parameter.{Parameter}
 use Rattle.line_parser.specs.declared.tree.TypeName.{TypeName}
 use Rattle.script_linker.specs.Lookup.{parent_in}
@@ -21,7 +22,9 @@ use Rattle.script_parser.specs.declared.script.PropertyForm.{PropertyForm}
 use Rattle.script_parser.specs.declared.script.PropertyForm.TheVariants as forms
 use Rattle.script_parser.specs.declared.script.Script.{Script}
 use Rattle.script_parser.specs.declared.script.State.{State}
+use Rattle.type_scope.specs.Sources.{Declaration, InOrderOfLine, declaration, declarations}
 use Rattle.type_scope.specs.Types.{type_named}
+use Rattle.type_scope.specs.declared.layout.Source.{Source}
 
 pub record FunctionHead : Type 0 where
   pub name : List ℕ
@@ -43,6 +46,11 @@ pub record PropertyHead : Type 0 where
   pub kind : CoreType
   pub access : AccessHead
   pub doc : Option (List ℕ)
+  pub flags : ℕ
+
+pub record VariableHead : Type 0 where
+  pub name : List ℕ
+  pub kind : CoreType
   pub flags : ℕ
 
 pub record StateHead : Type 0 where
@@ -158,7 +166,32 @@ script_head set file = record {
   states = state_heads set file.script;
 }
 
+-- the name of a variable, and that of the variable of an Auto property
+abbrev pub variable_name : Bool → List ℕ → List ℕ
+variable_name false name = name
+variable_name true property = codes "::" ++ (property ++ codes "_var")
+
+abbrev pub variable_head : List SourceFile → Declaration → VariableHead
+variable_head set d = record { name = variable_name d.is_auto d.name; kind = meant set d.kind; flags = d.flags }
+
+abbrev pub source_head : List SourceFile → Source → VariableHead
+source_head set source = variable_head set (declaration source)
+
 -- ---- of a set
+abbrev pub core_variable_head : CoreVariable → VariableHead
+core_variable_head v = record { name = v.name; kind = v.kind; flags = v.flags }
+
+-- the variables of a script of the set, in order of the lines that declare them
+pub record HasVariables (set : List SourceFile) (script : Script) (variables : List CoreVariable) : Type 0 where
+  pub ordered : List Declaration
+  pub in_order : InOrderOfLine (declarations script) ordered
+  pub heads : map core_variable_head variables ≡ map (variable_head set) ordered
+
+-- each script has its file's variables
+abbrev pub HaveVariables : List SourceFile → List CoreScript → Type 0
+HaveVariables set scripts =
+    (n : ℕ) (file : SourceFile) (script : CoreScript) → n < length set → HasVariables set (slice_index_or set n file).script (slice_index_or scripts n script).variables.items
+
 abbrev pub core_function_head : CoreFunction → FunctionHead
 core_function_head f = record {
   name = f.name;

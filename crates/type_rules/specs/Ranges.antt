@@ -1,5 +1,5 @@
 -- That each number in the trees of a function, a script and a set names what is there.
-use Rattle.std.specs.Prelude.{◌≡◌, ◌<◌, ◌≤◌, ℕ, List, length, Option, Some, None, take, vec_len}
+use Rattle.std.specs.Prelude.{◌≡◌, ◌<◌, ◌≤◌, ℕ, List, length, Option, Some, None, vec_len}
 use Rattle.core_tree.specs.declared.core_type.CoreType.{CoreType}
 use Rattle.core_tree.specs.declared.script.CoreFunction.{CoreFunction}
 use Rattle.core_tree.specs.declared.script.CoreProperty.{CoreProperty}
@@ -30,7 +30,6 @@ pub record Grows (before after : Scope) : Type 0 where
   pub layout : after.layout ≡ before.layout
   pub script : after.script ≡ before.script
   pub locals : vec_len before.locals.kinds ≤ vec_len after.locals.kinds
-  pub begins : (n : ℕ) → n ≤ vec_len before.locals.kinds → take n after.locals.kinds.items ≡ take n before.locals.kinds.items
   pub in_range : ScopeInRange before → ScopeInRange after
 
 -- ---- scripts

@@ -3,7 +3,7 @@ ghost use Rattle.std.specs.Prelude.{◌≡◌, ◌<◌, All, map, IfOk, OnOk, ve
 ghost use Rattle.core_tree.specs.InRange.{AccessInRange, ResultInRange};
 ghost use Rattle.core_tree.specs.Set.{access_of};
 ghost use Rattle.type_rules.specs.Ranges.{CoreFunctionInRange, CorePropertyInRange, CoreStateInRange, KeepsScript, WorkInRange, files_of, functions_of, variables_of};
-ghost use Rattle.type_rules.specs.Heads.{auto_state_of, constant_get as constant_get_head, core_access_head, core_function_head, core_property_head, core_state_head, full_head, function_head, known, property_head, state_heads};
+ghost use Rattle.type_rules.specs.Heads.{access_head, is_get, meant, auto_state_of, constant_get as constant_get_head, core_access_head, core_function_head, core_property_head, core_state_head, full_head, function_head, known, property_head, state_heads};
 
 use crate::functions::{clone_text, core_function, core_functions};
 use crate::variables::{constant_value, known};
@@ -49,14 +49,7 @@ fn core_property(
     let name = property.name.try_clone(work.alloc())?;
     let doc = clone_text(work.alloc(), &property.doc)?;
     let kind = work.kind_at(property.line, &property.kind)?;
-    let access = match &property.form {
-        PropertyForm::Auto(_) => CoreAccess::Auto(auto_variable(work.layout, place)?),
-        PropertyForm::ReadOnly(constant) => {
-            let get = constant_get(work, property.line, constant, kind)?;
-            CoreAccess::Full(Some(get), None)
-        }
-        PropertyForm::Full(functions) => full_access(work, functions.as_slice())?,
-    };
+    let access = core_access(work, place, property, kind)?;
     Ok(CoreProperty {
         name,
         kind: known(kind),
@@ -64,6 +57,27 @@ fn core_property(
         doc,
         flags: property.flags,
     })
+}
+
+// How a property of this type is read and written.
+fn core_access(
+    work: &mut Work<'_>,
+    place: usize,
+    property: &Property,
+    kind: Option<CoreType>,
+) -> Result<CoreAccess, OutOfMemory>
+    ensures head { known kind ≡ meant (files_of work.old) property.now.kind → IfOk result (λ access. core_access_head access ≡ access_head (files_of work.old) property.now property.now.form) }
+    ensures kept { OnOk result (KeepsScript work.old work.new) }
+    ensures in_range { WorkInRange work.old → ResultInRange (functions_of work.old) kind → IfOk result (λ access. AccessInRange (functions_of work.old) (variables_of work.old) (access_of access)) }
+{
+    match &property.form {
+        PropertyForm::Auto(_) => Ok(CoreAccess::Auto(auto_variable(work.layout, place)?)),
+        PropertyForm::ReadOnly(constant) => {
+            let get = constant_get(work, property.line, constant, kind)?;
+            Ok(CoreAccess::Full(Some(get), None))
+        }
+        PropertyForm::Full(functions) => full_access(work, functions.as_slice()),
+    }
 }
 
 // The variable of the Auto property at this place. Its layout has one for each such property.
@@ -122,13 +136,19 @@ fn full_access(work: &mut Work<'_>, functions: &[Function]) -> Result<CoreAccess
     let mut write = None;
     for function in functions {
         let made = core_function(work, function)?;
-        if made.name.as_bytes().eq_ignore_ascii_case(b"Get") {
+        if is_get(function) {
             read = Some(made);
         } else {
             write = Some(made);
         }
     }
     Ok(CoreAccess::Full(read, write))
+}
+
+fn is_get(function: &Function) -> bool
+    ensures { result ≡ is_get function.now }
+{
+    function.heading.name.folded() == b"get".as_slice()
 }
 
 /// The states of the script, the empty state first.

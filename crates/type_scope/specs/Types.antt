@@ -14,13 +14,20 @@ use Rattle.script_parser.specs.declared.script.Function.{Function}
 abbrev pub script_type : ℕ → Option CoreType
 script_type number = if nat_lt number 3 then None else Some (types.Script number)
 
--- the type of this name that is no array
-abbrev pub element_named : List SourceFile → List ℕ → Option CoreType
-element_named set word =
+-- `Int`, `Bool` and `String`
+abbrev pub plain_type : List ℕ → Option CoreType
+plain_type word =
     if bytes_eq word (codes "Int") then Some types.Int
     else (if bytes_eq word (codes "Bool") then Some types.Bool
-    else (if bytes_eq word (codes "String") then Some types.Text
-    else option_and_then script_type (script_named set word)))
+    else (if bytes_eq word (codes "String") then Some types.Text else None))
+
+abbrev pub type_or : Option CoreType → Option CoreType → Option CoreType
+type_or (Some kind) other = Some kind
+type_or None other = other
+
+-- the type of this name that is no array
+abbrev pub element_named : List SourceFile → List ℕ → Option CoreType
+element_named set word = type_or (plain_type word) (option_and_then script_type (script_named set word))
 
 -- the type of arrays of this element type
 abbrev pub array_of : CoreType → CoreType

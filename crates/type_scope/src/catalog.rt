@@ -1,9 +1,9 @@
 // The scripts of a set by their names, and what names mean in them.
-ghost use Rattle.std.specs.Prelude.{◌≡◌, ◌<◌, ℕ, List, length, IfOk, IfSome, OnSome, option_and_then, option_map, slice_index_or};
+ghost use Rattle.std.specs.Prelude.{◌≡◌, ◌<◌, ◌≤◌, ℕ, List, length, IfNone, IfOk, IfSome, OnSome, option_and_then, option_map, slice_index_or};
 ghost use Rattle.core_tree.specs.InRange.{TypeInRange, ResultInRange};
 ghost use Rattle.script_linker.specs.Lookup.{parent_in, script_name, script_named};
 ghost use Rattle.script_linker.specs.Table.{IsPlaceTable};
-ghost use Rattle.type_scope.specs.Types.{array_of, element_named, parameter_counts, script_type, type_named};
+ghost use Rattle.type_scope.specs.Types.{array_of, element_named, parameter_counts, plain_type, script_type, type_named};
 
 use core_tree::{CoreType, FunctionPlace};
 use line_parser::{Heading, TypeName};
@@ -74,6 +74,7 @@ impl<'a> Catalog<'a> {
     /// The script of this number.
     pub fn script(&self, number: u16) -> Option<&'a Script>
         ensures within { OnSome result (number < length self.now.set.now) }
+        ensures none { IfNone result (length self.now.set.now ≤ number) }
         ensures script { (file : SourceFile) → IfSome result (λ script. script.now ≡ (slice_index_or self.now.set.now number file).script) }
     {
         if number < self.set.count() {
@@ -122,11 +123,9 @@ impl<'a> Catalog<'a> {
         ensures found { IfOk result (λ found. found ≡ element_named self.now.set.now word.now) }
         ensures in_range { IfOk result (ResultInRange (parameter_counts self.now.set.now)) }
     {
-        match word.as_bytes() {
-            b"Int" => Ok(Some(CoreType::Int)),
-            b"Bool" => Ok(Some(CoreType::Bool)),
-            b"String" => Ok(Some(CoreType::Text)),
-            _ => Ok(script_type(self.find_script(word)?)),
+        match plain_type(word.as_bytes()) {
+            Some(found) => Ok(Some(found)),
+            None => Ok(script_type(self.find_script(word)?)),
         }
     }
 
@@ -236,6 +235,22 @@ fn number_below(number: Option<usize>, count: u16) -> Option<u16>
     match number {
         Some(number) if number < usize::from(count) => Some(number as u16),
         _ => None,
+    }
+}
+
+// `Int`, `Bool` and `String`.
+fn plain_type(word: &[u8]) -> Option<CoreType>
+    ensures found { result ≡ plain_type word.now }
+    ensures in_range { (functions : List (List ℕ)) → ResultInRange functions result }
+{
+    if word == b"Int".as_slice() {
+        Some(CoreType::Int)
+    } else if word == b"Bool".as_slice() {
+        Some(CoreType::Bool)
+    } else if word == b"String".as_slice() {
+        Some(CoreType::Text)
+    } else {
+        None
     }
 }
 
