@@ -1,5 +1,5 @@
 // What is seen where an expression stands.
-ghost use Rattle.std.specs.Prelude.{IfNone, IfOk, IfSome, IsSome, IsTrue};
+ghost use Rattle.std.specs.Prelude.{◌≡◌, IfNone, IfOk, IfSome, IsSome, IsTrue};
 ghost use Rattle.core_tree.specs.InRange.{ResultInRange};
 ghost use Rattle.type_scope.specs.Scope.{KindInRange};
 ghost use Rattle.type_scope.specs.Types.{parameter_counts, type_named};
