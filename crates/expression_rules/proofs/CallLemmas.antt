@@ -2,8 +2,7 @@
 use Rattle.std.proofs.Common.{◌≡◌, suc, List, [], ◌∷◌, length, map, refl, ap, arith}
 use Rattle.std.specs.List.{All}
 use Rattle.core_tree.specs.declared.expression.Core.{Core}
-use Rattle.core_tree.specs.declared.expression.FunctionPlace.{FunctionPlace}
-use Rattle.core_tree.specs.InRange.{Bounds, FunctionThere, PlacesInRange, ResultInRange, ExpressionsInRange, count_of}
+use Rattle.core_tree.specs.InRange.{Bounds, PlacesInRange, ResultInRange, ExpressionsInRange, count_of}
 use Rattle.core_tree.specs.Tree.{expression_of, expressions}
 use Rattle.expression_rules.specs.Ranges.{CoreInRange, PassedInRange}
 use Rattle.expression_rules.specs.declared.trees.Passed.{Passed}
@@ -16,9 +15,6 @@ expressions-all b (core ∷ cores) all =
 count_of-expressions : (cores : List Core) → count_of (expressions (map expression_of cores)) ≡ length cores
 count_of-expressions [] = refl
 count_of-expressions (core ∷ cores) = ap suc (count_of-expressions cores)
-
-pub there-passed : (b : Bounds) (at : FunctionPlace) (passed : Passed) → FunctionThere b.functions at (length passed.arguments.items) → FunctionThere b.functions at (count_of (expressions (map expression_of passed.arguments.items)))
-there-passed b at passed there = rw (count_of-expressions passed.arguments.items) there
 
 pub operands-passed : (b : Bounds) (passed : Passed) → PassedInRange b passed → (PlacesInRange passed.places.items (count_of (expressions (map expression_of passed.arguments.items))) × ResultInRange b.functions passed.result) × ExpressionsInRange b (expressions (map expression_of passed.arguments.items))
 operands-passed b passed h =

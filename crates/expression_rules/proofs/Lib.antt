@@ -1,3 +1,2 @@
 pub mod CallLemmas
 pub mod ListLemmas
-pub mod PlaceLemmas

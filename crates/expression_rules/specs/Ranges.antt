@@ -1,11 +1,11 @@
 -- That each number in judged trees names what is there.
-use Rattle.std.specs.Prelude.{◌≡◌, ◌≢◌, ℕ, ◌<◌, Bool, true, List, length, slice_get, All, AllPairs, IfSome, Option, Some, vec_len}
+use Rattle.std.specs.Prelude.{◌≡◌, ◌<◌, List, length, All, IfSome, vec_len}
 use Rattle.core_tree.specs.declared.expression.Core.{Core}
 use Rattle.core_tree.specs.declared.statement.CoreStatement.{CoreStatement}
 use Rattle.core_tree.specs.InRange.{Bounds, ResultInRange, TypeInRange, PlacesInRange, ExpressionInRange, StatementInRange}
 use Rattle.core_tree.specs.Tree.{expression_of, statement_of}
 use Rattle.type_scope.specs.Scope.{KindInRange}
-use Rattle.type_scope.specs.Types.{parameter_counts}
+use Rattle.type_scope.specs.Types.{function_counts}
 use Rattle.expression_rules.specs.declared.arguments.Given.{Given}
 use Rattle.expression_rules.specs.declared.arguments.Arguments.{Arguments}
 use Rattle.expression_rules.specs.declared.assignment.Target.{Target}
@@ -48,7 +48,7 @@ pub record PassedInRange (b : Bounds) (passed : Passed) : Type 0 where
 -- what expressions may name where they stand
 abbrev pub bounds_of : Context → Bounds
 bounds_of context = record {
-  functions = parameter_counts context.catalog.now.set.now;
+  functions = function_counts context.catalog.now.set.now;
   variables = vec_len context.layout.now.sources;
   locals = vec_len context.locals.now.kinds;
 }
@@ -68,33 +68,16 @@ abbrev pub ParametersInRange : Bounds → Parameters → Type 0
 ParametersInRange b (parameters.Declared declared) = Unit {0}
 ParametersInRange b (parameters.Search element start) = TypeInRange b.functions element
 
--- how many parameters what is called has
-abbrev pub parameter_number : Parameters → ℕ
-parameter_number (parameters.Declared declared) = length declared.now
-parameter_number (parameters.Search element start) = 2
-
--- a parameter has an argument
-abbrev pub IsTaken : List Bool → ℕ → Type 0
-IsTaken filled place = slice_get filled place ≡ Some true
-
--- arguments of some of so many parameters, each of its own
+-- arguments of some of so many parameters
 pub record ArgumentsInRange (b : Bounds) (found : Arguments) : Type 0 where
   pub cores : All (CoreInRange b) found.cores.items
   pub numbered : length found.places.items ≡ length found.cores.items
-  pub taken : All (IsTaken found.filled.items) found.places.items
-  pub apart : AllPairs (λ one other. one ≢ other) found.places.items
+  pub within : All (λ place. place < length found.filled.items) found.places.items
 
 -- an argument for each parameter
 pub record CompleteInRange (b : Bounds) (found : Arguments) : Type 0 where
   pub cores : All (CoreInRange b) found.cores.items
   pub places : PlacesInRange found.places.items (length found.cores.items)
-
--- so many arguments
-abbrev pub HasCount : ℕ → Option Arguments → Type 0
-HasCount count found = IfSome found (λ all. length all.cores.items ≡ count)
-
-abbrev pub PassesCount : ℕ → Option Passed → Type 0
-PassesCount count found = IfSome found (λ passed. length passed.arguments.items ≡ count)
 
 pub record OutcomeInRange (b : Bounds) (outcome : Outcome) : Type 0 where
   pub passed : IfSome outcome.passed (PassedInRange b)

@@ -1,7 +1,7 @@
 // The arguments of a call: each finds its parameter, and default arguments follow.
-ghost use Rattle.std.specs.Prelude.{◌≡◌, ◌<◌, false, IfOk, OnOk, IfSome, Some, length, slice_get, vec_len};
+ghost use Rattle.std.specs.Prelude.{◌<◌, IfOk, OnOk, IfSome, vec_len};
 ghost use Rattle.core_tree.specs.InRange.{Bounds};
-ghost use Rattle.expression_rules.specs.Ranges.{CoreInRange, OperandInRange, GivenInRange, ParametersInRange, ArgumentsInRange, CompleteInRange, HasCount, bounds_of, parameter_number};
+ghost use Rattle.expression_rules.specs.Ranges.{CoreInRange, OperandInRange, GivenInRange, ParametersInRange, ArgumentsInRange, CompleteInRange, bounds_of};
 
 use crate::context::Context;
 use crate::conversions::convert;
@@ -33,8 +33,7 @@ pub(crate) struct Arguments {
 
 impl Arguments {
     fn new(alloc: Global, parameters: usize) -> Result<Arguments, OutOfMemory>
-        ensures in_range { (b : Bounds) → IfOk result (ArgumentsInRange b) }
-        ensures count { IfOk result (λ found. vec_len found.filled ≡ parameters) }
+        ensures { (b : Bounds) → IfOk result (ArgumentsInRange b) }
     {
         Ok(Arguments {
             cores: Vec::with_capacity(alloc, parameters)?,
@@ -45,7 +44,7 @@ impl Arguments {
 
     // The place, where it is a parameter's that has no argument yet.
     fn free(&self, place: usize) -> Option<usize>
-        ensures { IfSome result (λ found. slice_get self.now.filled.items found ≡ Some false) }
+        ensures { IfSome result (λ found. found < vec_len self.now.filled) }
     {
         match self.filled.get(place) {
             Some(false) => Some(place),
@@ -54,9 +53,8 @@ impl Arguments {
     }
 
     fn add(&mut self, place: usize, core: Core) -> Result<(), OutOfMemory>
-        requires { slice_get self.old.filled.items place ≡ Some false }
-        ensures in_range { (b : Bounds) → ArgumentsInRange b self.old → CoreInRange b core → OnOk result (ArgumentsInRange b self.new) }
-        ensures count { OnOk result (vec_len self.new.filled ≡ vec_len self.old.filled) }
+        requires { place < vec_len self.old.filled }
+        ensures { (b : Bounds) → ArgumentsInRange b self.old → CoreInRange b core → OnOk result (ArgumentsInRange b self.new) }
     {
         // A heading has at most 8,000 tokens.
         let Ok(number) = u16::try_from(place) else {
@@ -71,8 +69,7 @@ impl Arguments {
 
     // The arguments, where each parameter has one.
     fn complete(self) -> Option<Arguments>
-        ensures in_range { (b : Bounds) → ArgumentsInRange b self → IfSome result (CompleteInRange b) }
-        ensures count { HasCount (vec_len self.filled) result }
+        ensures { (b : Bounds) → ArgumentsInRange b self → IfSome result (CompleteInRange b) }
     {
         if self.cores.len() == self.filled.len() {
             Some(self)
@@ -90,8 +87,7 @@ pub(crate) fn place_arguments(
     given: Vec<Given<'_>>,
     parameters: Parameters<'_>,
 ) -> Result<Option<Arguments>, OutOfMemory>
-    ensures in_range { GivenInRange (bounds_of context.now) given.entry.items → ParametersInRange (bounds_of context.now) parameters.entry → IfOk result (λ found. IfSome found (CompleteInRange (bounds_of context.now))) }
-    ensures count { IfOk result (HasCount (parameter_number parameters.entry)) }
+    ensures { GivenInRange (bounds_of context.now) given.entry.items → ParametersInRange (bounds_of context.now) parameters.entry → IfOk result (λ found. IfSome found (CompleteInRange (bounds_of context.now))) }
 {
     let mut given = given;
     let mut found = Arguments::new(context.catalog.alloc, parameters.count())?;
@@ -130,8 +126,7 @@ fn place_argument(
     place: Option<usize>,
     value: Operand,
 ) -> Result<(), OutOfMemory>
-    ensures in_range { ParametersInRange (bounds_of context.now) parameters.entry → ArgumentsInRange (bounds_of context.now) found.old → OperandInRange (bounds_of context.now) value → OnOk result (ArgumentsInRange (bounds_of context.now) found.new) }
-    ensures count { OnOk result (vec_len found.new.filled ≡ vec_len found.old.filled) }
+    ensures { ParametersInRange (bounds_of context.now) parameters.entry → ArgumentsInRange (bounds_of context.now) found.old → OperandInRange (bounds_of context.now) value → OnOk result (ArgumentsInRange (bounds_of context.now) found.new) }
 {
     let free = match place {
         Some(place) => found.free(place),
@@ -153,8 +148,7 @@ fn add_defaults(
     found: &mut Arguments,
     parameters: Parameters<'_>,
 ) -> Result<(), OutOfMemory>
-    ensures in_range { ArgumentsInRange (bounds_of context.now) found.old → OnOk result (ArgumentsInRange (bounds_of context.now) found.new) }
-    ensures count { OnOk result (vec_len found.new.filled ≡ vec_len found.old.filled) }
+    ensures { ArgumentsInRange (bounds_of context.now) found.old → OnOk result (ArgumentsInRange (bounds_of context.now) found.new) }
 {
     for place in 0..parameters.count() {
         if let Some(place) = found.free(place)
@@ -174,9 +168,8 @@ fn add_default(
     parameters: Parameters<'_>,
     place: usize,
 ) -> Result<bool, OutOfMemory>
-    requires { slice_get found.old.filled.items place ≡ Some false }
-    ensures in_range { ArgumentsInRange (bounds_of context.now) found.old → OnOk result (ArgumentsInRange (bounds_of context.now) found.new) }
-    ensures count { OnOk result (vec_len found.new.filled ≡ vec_len found.old.filled) }
+    requires { place < vec_len found.old.filled }
+    ensures { ArgumentsInRange (bounds_of context.now) found.old → OnOk result (ArgumentsInRange (bounds_of context.now) found.new) }
 {
     let Some(default) = parameters.default(context, place)? else {
         context.fault(notes, TypeRule::Arguments);

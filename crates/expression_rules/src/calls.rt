@@ -1,8 +1,8 @@
 // The forms of calls.
-ghost use Rattle.std.specs.Prelude.{ℕ, length, IfOk, IfSome};
+ghost use Rattle.std.specs.Prelude.{IfOk, IfSome};
 ghost use Rattle.core_tree.specs.InRange.{Bounds, FunctionThere, TypeInRange, ResultInRange};
-ghost use Rattle.type_scope.specs.Scope.{CalleeThere, KindInRange};
-ghost use Rattle.expression_rules.specs.Ranges.{CoreInRange, OperandInRange, GivenInRange, CompleteInRange, PassedInRange, OutcomeInRange, PassesCount, bounds_of};
+ghost use Rattle.type_scope.specs.Scope.{KindInRange};
+ghost use Rattle.expression_rules.specs.Ranges.{CoreInRange, OperandInRange, GivenInRange, CompleteInRange, PassedInRange, OutcomeInRange, bounds_of};
 
 use crate::arguments::{Arguments, Given, place_arguments};
 use crate::context::Context;
@@ -41,7 +41,7 @@ pub(crate) fn plain_call(
 }
 
 fn plain_callee<'s>(context: &Context<'s>, name: &Name) -> Result<Option<Callee<'s>>, OutOfMemory>
-    ensures { IfOk result (λ found. IfSome found (CalleeThere (bounds_of context.now).functions)) }
+    ensures { IfOk result (λ found. IfSome found (λ callee. FunctionThere (bounds_of context.now).functions callee.at)) }
 {
     match context.catalog.find_function(context.script, name) {
         Some(callee) => Ok(Some(callee)),
@@ -203,8 +203,7 @@ fn called(
     heading: &Heading,
     given: Vec<Given<'_>>,
 ) -> Result<Outcome, OutOfMemory>
-    ensures in_range { GivenInRange (bounds_of context.now) given.entry.items → IfOk result (OutcomeInRange (bounds_of context.now)) }
-    ensures count { IfOk result (λ outcome. PassesCount (length heading.now.parameters.items) outcome.passed) }
+    ensures { GivenInRange (bounds_of context.now) given.entry.items → IfOk result (OutcomeInRange (bounds_of context.now)) }
 {
     let parameters = Parameters::Declared(heading.parameters.as_slice());
     let found = place_arguments(context, notes, given, parameters)?;
@@ -242,7 +241,7 @@ fn global_call(
     callee: Callee<'_>,
     given: Vec<Given<'_>>,
 ) -> Result<Operand, OutOfMemory>
-    ensures { CalleeThere (bounds_of context.now).functions callee.entry → GivenInRange (bounds_of context.now) given.entry.items → IfOk result (OperandInRange (bounds_of context.now)) }
+    ensures { FunctionThere (bounds_of context.now).functions callee.entry.at → GivenInRange (bounds_of context.now) given.entry.items → IfOk result (OperandInRange (bounds_of context.now)) }
 {
     notes.write_out(callee.heading.name.as_bytes())?;
     let outcome = called(context, notes, callee.heading, given)?;
@@ -256,7 +255,7 @@ fn global_value(
     is_native: bool,
     outcome: Outcome,
 ) -> Result<Operand, OutOfMemory>
-    ensures { (parameters : ℕ) → FunctionThere (bounds_of context.now).functions at parameters → PassesCount parameters outcome.passed → OutcomeInRange (bounds_of context.now) outcome → IfOk result (OperandInRange (bounds_of context.now)) }
+    ensures { FunctionThere (bounds_of context.now).functions at → OutcomeInRange (bounds_of context.now) outcome → IfOk result (OperandInRange (bounds_of context.now)) }
 {
     let Outcome { passed, kind } = outcome;
     match passed {
@@ -269,7 +268,7 @@ fn global_value(
 }
 
 fn global_core(at: FunctionPlace, is_native: bool, passed: Passed) -> Core
-    ensures { (b : Bounds) → FunctionThere b.functions at (length passed.arguments.items) → PassedInRange b passed → CoreInRange b result }
+    ensures { (b : Bounds) → FunctionThere b.functions at → PassedInRange b passed → CoreInRange b result }
 {
     if is_native {
         native_called(at, passed)

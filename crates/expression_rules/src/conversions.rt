@@ -116,7 +116,7 @@ pub(crate) fn prints(kind: Kind) -> bool
 
 /// The type that both sides of `==` have after at most one of them was cast, none where there is none.
 pub(crate) fn common_type(catalog: &Catalog<'_>, left: Kind, right: Kind) -> Option<CoreType>
-    ensures { (functions : List (List ℕ)) → KindInRange functions left → KindInRange functions right → ResultInRange functions result }
+    ensures { (functions : List ℕ) → KindInRange functions left → KindInRange functions right → ResultInRange functions result }
 {
     if left == right {
         type_of(left)
@@ -134,7 +134,7 @@ pub(crate) fn common_type(catalog: &Catalog<'_>, left: Kind, right: Kind) -> Opt
 }
 
 fn type_of(kind: Kind) -> Option<CoreType>
-    ensures { (functions : List (List ℕ)) → KindInRange functions kind → ResultInRange functions result }
+    ensures { (functions : List ℕ) → KindInRange functions kind → ResultInRange functions result }
 {
     match kind {
         Kind::Of(known) => Some(known),

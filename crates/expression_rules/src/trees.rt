@@ -1,5 +1,5 @@
 // Trees put together.
-ghost use Rattle.std.specs.Prelude.{◌<◌, length, IfOk};
+ghost use Rattle.std.specs.Prelude.{◌<◌, IfOk};
 ghost use Rattle.core_tree.specs.InRange.{Bounds, TypeInRange, LiteralInRange, FunctionThere};
 ghost use Rattle.expression_rules.specs.Ranges.{CoreInRange, PassedInRange};
 
@@ -195,7 +195,7 @@ pub(crate) fn parent_called(alloc: Global, name: &Name, passed: Passed) -> Resul
 }
 
 pub(crate) fn global_called(at: FunctionPlace, passed: Passed) -> Core
-    ensures { (b : Bounds) → FunctionThere b.functions at (length passed.arguments.items) → PassedInRange b passed → CoreInRange b result }
+    ensures { (b : Bounds) → FunctionThere b.functions at → PassedInRange b passed → CoreInRange b result }
 {
     Core::CallGlobal {
         at,
@@ -206,7 +206,7 @@ pub(crate) fn global_called(at: FunctionPlace, passed: Passed) -> Core
 }
 
 pub(crate) fn native_called(at: FunctionPlace, passed: Passed) -> Core
-    ensures { (b : Bounds) → FunctionThere b.functions at (length passed.arguments.items) → PassedInRange b passed → CoreInRange b result }
+    ensures { (b : Bounds) → FunctionThere b.functions at → PassedInRange b passed → CoreInRange b result }
 {
     Core::CallNative {
         at,

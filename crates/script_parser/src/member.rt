@@ -34,25 +34,33 @@ pub(crate) fn member(
             name,
             value,
             flags,
-        } => Ok(script.variables.push(Variable {
-            kind,
-            name,
-            value: initial_value(at, value)?,
-            flags,
-            line,
-        })?),
-        LineForm::Function(heading) => Ok(script
-            .functions
-            .push(function(reader, line, heading, doc)?)?),
-        LineForm::State { name, is_auto } => Ok(script.states.push(State {
-            name,
-            is_auto,
-            functions: state_functions(reader)?,
-            line,
-        })?),
-        other => Ok(script
-            .properties
-            .push(property(reader, &first, other, doc)?)?),
+        } => Ok(
+            script.variables.push(Variable {
+                kind,
+                name,
+                value: initial_value(at, value)?,
+                flags,
+                line,
+            })?,
+        ),
+        LineForm::Function(heading) => Ok(
+            script
+                .functions
+                .push(function(reader, line, heading, doc)?)?,
+        ),
+        LineForm::State { name, is_auto } => Ok(
+            script.states.push(State {
+                name,
+                is_auto,
+                functions: state_functions(reader)?,
+                line,
+            })?,
+        ),
+        other => Ok(
+            script
+                .properties
+                .push(property(reader, &first, other, doc)?)?,
+        ),
     }
 }
 

@@ -5,8 +5,8 @@ ghost use Rattle.indexmap.specs.IndexSet.{insert_all};
 ghost use Rattle.script_parser.specs.Held.{held};
 ghost use Rattle.script_parser.specs.Words.{word_of, words_in, words_of, same_bytes, CountsDifferent};
 
-use papy_base::OutOfMemory;
 use indexmap::IndexSet;
+use papy_base::OutOfMemory;
 use script_lexer::{Line, Spanned, Token};
 use std::alloc::Global;
 

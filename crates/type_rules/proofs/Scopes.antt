@@ -1,17 +1,12 @@
 -- What trees may name in a scope that grows.
-use Rattle.std.proofs.Common.{◌≡◌, ◌<◌, ◌+◌, ℕ, [], ◌∷◌, ◌++◌, length, min, arith, sym, ap, ◌∙◌, subst, vec_len, List, map, take, slice_index_or, append_assoc, length-append}
+use Rattle.std.proofs.Common.{◌≡◌, ◌<◌, ◌+◌, ℕ, [], ◌∷◌, ◌++◌, length, min, arith, sym, ap, ◌∙◌, subst, vec_len, length-append}
 use Rattle.std.specs.Prelude.{Option}
-use Rattle.std.proofs.lemmas.List.{map-append, take_more}
 use Rattle.std.proofs.lemmas.List.Elements.{All-push}
 use Rattle.core_tree.specs.declared.core_type.CoreType.{CoreType}
 use Rattle.core_tree.proofs.Ranges.{with_locals, expression-more_locals, block-more_locals, branches-more_locals}
 use Rattle.core_tree.specs.InRange.{Bounds, BlockInRange, BranchesInRange, ExpressionInRange, ResultInRange}
 use Rattle.core_tree.specs.Tree.{Block, Branches, Expression}
 use Rattle.expression_rules.specs.declared.scope.Scope.{Scope}
-use Rattle.line_parser.specs.declared.tree.Parameter.{Parameter}
-use Rattle.script_linker.specs.declared.set.SourceFile.{SourceFile}
-use Rattle.type_scope.specs.declared.locals.Locals.{Locals}
-use Rattle.type_rules.specs.Heads.{parameter_kind}
 use Rattle.expression_rules.specs.Scopes.{Keeps, ScopeInRange, scope_bounds}
 use Rattle.type_rules.specs.declared.statements.Promise.{Promise}
 use Rattle.type_rules.specs.Ranges.{Grows, PromiseInRange}
@@ -96,36 +91,3 @@ added-in_range a b kind catalog script added k r = record {
   script = rw (script, catalog) r.script;
   locals = rw (catalog, added) (All-push (ResultInRange (scope_bounds a).functions) a.locals.kinds.items kind r.locals k);
 }
-
--- the locals of a function are at first its parameters, with the kinds that their names mean
-pub parameters-added : (set : List SourceFile) (entry judged added : Scope) (parameters : List Parameter) → entry.locals.kinds.items ≡ [] → entry.catalog.now.set.now ≡ set → Keeps entry judged →
-    added.locals.kinds.items ≡ judged.locals.kinds.items ++ map (parameter_kind judged.catalog.now.set.now) parameters → added.locals.kinds.items ≡ map (parameter_kind set) parameters
-parameters-added set entry judged added parameters empty same kept are =
-    let files : judged.catalog.now.set.now ≡ set = cc (kept.catalog, same) in
-    let none : judged.locals.kinds.items ≡ [] = ap (λ (l : Locals). l.kinds.items) kept.locals ∙ empty in
-    are
-    ∙ ap (λ (ks : List (Option CoreType)). ks ++ map (parameter_kind judged.catalog.now.set.now) parameters) none
-    ∙ ap (λ (fs : List SourceFile). map (parameter_kind fs) parameters) files
-
--- one parameter more
-pub kinds-more : (set : List SourceFile) (start before after : List (Option CoreType)) (parameters : List Parameter) (n : ℕ) (parameter : Parameter) (kind : Option CoreType) → before ≡ start ++ map (parameter_kind set) (take n parameters) →
-    after ≡ before ++ kind ∷ [] → kind ≡ parameter_kind set parameter → n < length parameters → parameter ≡ slice_index_or parameters n parameter → after ≡ start ++ map (parameter_kind set) (take (n + 1) parameters)
-kinds-more set start before after parameters n parameter kind so_far added means within is =
-    added
-    ∙ ap (λ (ks : List (Option CoreType)). ks ++ kind ∷ []) so_far
-    ∙ append_assoc start (map (parameter_kind set) (take n parameters)) (kind ∷ [])
-    ∙ ap (λ (k : Option CoreType). start ++ (map (parameter_kind set) (take n parameters) ++ k ∷ [])) (means ∙ ap (parameter_kind set) is)
-    ∙ ap (λ (ks : List (Option CoreType)). start ++ ks) (sym (ap (map (parameter_kind set)) (take_more parameters n parameter within) ∙ map-append (parameter_kind set) (take n parameters) (slice_index_or parameters n parameter ∷ [])))
-
--- a local is added
-pub added-grows : (a b : Scope) (kind : Option CoreType) → b.catalog ≡ a.catalog → b.layout ≡ a.layout → b.script ≡ a.script → b.locals.kinds.items ≡ a.locals.kinds.items ++ kind ∷ [] →
-    ResultInRange (scope_bounds a).functions kind → Grows a b
-added-grows a b kind catalog layout script added k =
-    let longer : length b.locals.kinds.items ≡ length a.locals.kinds.items + 1 = ap length added ∙ length-append a.locals.kinds.items (kind ∷ []) in
-    record {
-      catalog = catalog;
-      layout = layout;
-      script = script;
-      locals = omega (arith, a.locals.kinds.ok.0, b.locals.kinds.ok.0, longer);
-      in_range = added-in_range a b kind catalog script added k;
-    }

@@ -4,7 +4,7 @@ use Rattle.core_tree.specs.InRange.{PropertyInRange, StateInRange, VariableInRan
 use Rattle.core_tree.specs.Set.{property_of, state_of}
 use Rattle.type_rules.specs.declared.scripts.Members.{Members}
 
-pub record MembersInRange (functions : List (List ℕ)) (members : Members) : Type 0 where
+pub record MembersInRange (functions : List ℕ) (members : Members) : Type 0 where
   pub variables : All (VariableInRange functions) members.variables.items
   pub properties : All (PropertyInRange functions (length members.variables.items)) (map property_of members.properties.items)
   pub states : All (StateInRange functions (length members.variables.items)) (map state_of members.states.items)

@@ -1,26 +1,30 @@
 -- That each number in the trees of a function, a script and a set names what is there.
 use Rattle.std.specs.Prelude.{◌≡◌, ◌<◌, ◌≤◌, ℕ, List, length, Option, Some, None, vec_len}
 use Rattle.core_tree.specs.declared.core_type.CoreType.{CoreType}
+use Rattle.core_tree.specs.declared.core_type.CoreType.TheVariants as kinds
 use Rattle.core_tree.specs.declared.script.CoreFunction.{CoreFunction}
 use Rattle.core_tree.specs.declared.script.CoreProperty.{CoreProperty}
 use Rattle.core_tree.specs.declared.script.CoreState.{CoreState}
 use Rattle.core_tree.specs.InRange.{FunctionInRange, PropertyInRange, ResultInRange, StateInRange}
 use Rattle.core_tree.specs.Set.{function_of, property_of, state_of}
-use Rattle.type_scope.specs.Types.{parameter_counts}
+use Rattle.type_scope.specs.Types.{function_counts}
 use Rattle.expression_rules.specs.declared.scope.Scope.{Scope}
 use Rattle.expression_rules.specs.Scopes.{ScopeInRange}
-use Rattle.script_linker.specs.declared.set.SourceFile.{SourceFile}
-use Rattle.type_rules.specs.Heads.{known}
 use Rattle.type_rules.specs.declared.statements.Promise.{Promise}
 use Rattle.type_rules.specs.declared.statements.Promise.TheVariants.{Nothing, Value}
 use Rattle.type_rules.specs.declared.work.Work.{Work}
 
 -- ---- functions
+-- a type, and where it isn't known some type
+abbrev pub known : Option CoreType → CoreType
+known None = kinds.Int
+known (Some kind) = kind
+
 abbrev pub promised : Promise → Option CoreType
 promised Nothing = None
 promised (Value kind) = Some (known kind)
 
-abbrev pub PromiseInRange : List (List ℕ) → Promise → Type 0
+abbrev pub PromiseInRange : List ℕ → Promise → Type 0
 PromiseInRange functions Nothing = Unit {0}
 PromiseInRange functions (Value kind) = ResultInRange functions kind
 
@@ -33,12 +37,9 @@ pub record Grows (before after : Scope) : Type 0 where
   pub in_range : ScopeInRange before → ScopeInRange after
 
 -- ---- scripts
--- the number of parameters of each function of the empty state of each script of the set, and that of the script's variables
-abbrev pub functions_of : Work → List (List ℕ)
-functions_of work = parameter_counts work.catalog.now.set.now
-
-abbrev pub files_of : Work → List SourceFile
-files_of work = work.catalog.now.set.now
+-- the number of functions of the empty state of each script of the set, and that of the script's variables
+abbrev pub functions_of : Work → List ℕ
+functions_of work = function_counts work.catalog.now.set.now
 
 abbrev pub variables_of : Work → ℕ
 variables_of work = vec_len work.layout.now.sources

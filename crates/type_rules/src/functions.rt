@@ -1,12 +1,11 @@
 // Functions, with their parameters and statements judged.
-ghost use Rattle.std.specs.Prelude.{◌≡◌, ◌≤◌, ◌++◌, All, List, map, option_map, vec_len, IfOk, OnOk};
-ghost use Rattle.core_tree.specs.InRange.{BlockInRange, FunctionInRange, TypeInRange};
+ghost use Rattle.std.specs.Prelude.{◌≡◌, All, map, IfOk, OnOk};
+ghost use Rattle.core_tree.specs.InRange.{BlockInRange, FunctionInRange};
 ghost use Rattle.core_tree.specs.Set.{function_of};
 ghost use Rattle.core_tree.specs.Tree.{block_of};
 ghost use Rattle.expression_rules.specs.Scopes.{Keeps, ScopeInRange, scope_bounds};
-ghost use Rattle.script_linker.specs.declared.set.SourceFile.{SourceFile};
-ghost use Rattle.type_rules.specs.Ranges.{CoreFunctionInRange, Grows, KeepsScript, PromiseInRange, WorkInRange, files_of, promised};
-ghost use Rattle.type_rules.specs.Heads.{core_function_head, function_head, known, meant, parameter_kind, parameter_type};
+ghost use Rattle.type_rules.specs.Ranges.{CoreFunctionInRange, Grows, KeepsScript, PromiseInRange, WorkInRange, known, promised};
+ghost use Rattle.type_rules.specs.Heads.{core_function_head, function_head};
 
 use crate::sizes::function_size;
 use crate::statements::{BLOCK_LIMIT, Promise, core_block};
@@ -24,7 +23,7 @@ pub(crate) fn core_functions(
     work: &mut Work<'_>,
     functions: &[Function],
 ) -> Result<Vec<CoreFunction>, OutOfMemory>
-    ensures heads { IfOk result (λ found. map core_function_head found.items ≡ map (function_head (files_of work.old)) functions.now) }
+    ensures heads { IfOk result (λ found. map core_function_head found.items ≡ map function_head functions.now) }
     ensures kept { OnOk result (KeepsScript work.old work.new) }
     ensures in_range { WorkInRange work.old → IfOk result (λ found. All (CoreFunctionInRange work.old) found.items) }
 {
@@ -40,7 +39,7 @@ pub(crate) fn core_function(
     work: &mut Work<'_>,
     function: &Function,
 ) -> Result<CoreFunction, OutOfMemory>
-    ensures head { IfOk result (λ made. core_function_head made ≡ function_head (files_of work.old) function.now) }
+    ensures head { IfOk result (λ made. core_function_head made ≡ function_head function.now) }
     ensures kept { OnOk result (KeepsScript work.old work.new) }
     ensures in_range { WorkInRange work.old → IfOk result (CoreFunctionInRange work.old) }
 {
@@ -48,9 +47,8 @@ pub(crate) fn core_function(
     let mut scope = work.open_scope(heading.is_global, function.line);
     let promise = promise_of(&mut scope, &heading.result)?;
     add_parameters(&mut scope, heading.parameters.as_slice())?;
-    let parameters = known_types(scope.catalog.alloc, scope.locals.kinds.as_slice())?;
     let body = core_body(&mut scope, &function.body, promise)?;
-    let made = assemble(function, &scope, promise, parameters, body)?;
+    let made = assemble(scope.catalog.alloc, function, &scope, promise, body)?;
     let size = function_size(&made);
     work.close_scope(scope.into_notes(), function.line, size);
     Ok(made)
@@ -58,7 +56,6 @@ pub(crate) fn core_function(
 
 fn promise_of(scope: &mut Scope<'_>, result_type: &Option<TypeName>) -> Result<Promise, OutOfMemory>
     ensures kept { Keeps scope.old scope.new }
-    ensures meant { IfOk result (λ promise. promised promise ≡ option_map (meant scope.old.catalog.now.set.now) result_type.now) }
     ensures in_range { IfOk result (PromiseInRange (scope_bounds scope.old).functions) }
 {
     match result_type {
@@ -69,26 +66,18 @@ fn promise_of(scope: &mut Scope<'_>, result_type: &Option<TypeName>) -> Result<P
 
 // A default that doesn't convert to its parameter's type by itself breaks K6.
 fn add_parameters(scope: &mut Scope<'_>, parameters: &[Parameter]) -> Result<(), OutOfMemory>
-    ensures grows { OnOk result (Grows scope.old scope.new) }
-    ensures kinds { OnOk result
-        (scope.new.locals.kinds.items ≡ scope.old.locals.kinds.items ++ map (parameter_kind scope.old.catalog.now.set.now) parameters.now) }
+    ensures { OnOk result (Grows scope.old scope.new) }
 {
     for parameter in parameters {
         let kind = scope.kind_named(&parameter.kind)?;
         let _number = scope.new_local(&parameter.name, kind)?;
-        judge_default(scope, parameter, kind);
-    }
-    Ok(())
-}
-
-fn judge_default(scope: &mut Scope<'_>, parameter: &Parameter, kind: Option<CoreType>)
-    ensures { Keeps scope.old scope.new }
-{
-    if let Some(default) = &parameter.default {
-        if !default_fits(scope.catalog, default, kind) {
-            scope.fault(TypeRule::NoConversion);
+        if let Some(default) = &parameter.default {
+            if !default_fits(scope.catalog, default, kind) {
+                scope.fault(TypeRule::NoConversion);
+            }
         }
     }
+    Ok(())
 }
 
 fn core_body(
@@ -108,26 +97,23 @@ fn core_body(
     }
 }
 
-// The function, whose parameters are the first of its locals.
 fn assemble(
+    alloc: Global,
     function: &Function,
     scope: &Scope<'_>,
     promise: Promise,
-    parameters: Vec<CoreType>,
     body: Vec<CoreLine>,
 ) -> Result<CoreFunction, OutOfMemory>
     ensures in_range { ScopeInRange scope.now → PromiseInRange (scope_bounds scope.now).functions promise → BlockInRange (scope_bounds scope.now) (block_of body.items) →
-        All (TypeInRange (scope_bounds scope.now).functions) parameters.items → vec_len parameters ≤ vec_len scope.now.locals.kinds →
         IfOk result (λ made. FunctionInRange (scope_bounds scope.now).functions (scope_bounds scope.now).variables (function_of made)) }
-    ensures head { (set : List SourceFile) → parameters.items ≡ map (parameter_type set) function.now.heading.parameters.items → promised promise ≡ option_map (meant set) function.now.heading.result → IfOk result (λ made. core_function_head made ≡ function_head set function.now) }
+    ensures head { IfOk result (λ made. core_function_head made ≡ function_head function.now) }
 {
     let heading = &function.heading;
-    let alloc = scope.catalog.alloc;
     let kinds = scope.locals.kinds.as_slice();
-    let (_, locals) = kinds.split_at(parameters.len().min(kinds.len()));
+    let (parameters, locals) = kinds.split_at(heading.parameters.len().min(kinds.len()));
     Ok(CoreFunction {
         name: heading.name.try_clone(alloc)?,
-        parameters,
+        parameters: known_types(alloc, parameters)?,
         locals: known_types(alloc, locals)?,
         result: result_of(promise),
         is_global: heading.is_global,

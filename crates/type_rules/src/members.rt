@@ -2,8 +2,8 @@
 ghost use Rattle.std.specs.Prelude.{◌≡◌, ◌<◌, All, map, IfOk, OnOk, vec_len};
 ghost use Rattle.core_tree.specs.InRange.{AccessInRange, ResultInRange};
 ghost use Rattle.core_tree.specs.Set.{access_of};
-ghost use Rattle.type_rules.specs.Ranges.{CoreFunctionInRange, CorePropertyInRange, CoreStateInRange, KeepsScript, WorkInRange, files_of, functions_of, variables_of};
-ghost use Rattle.type_rules.specs.Heads.{access_head, is_get, meant, auto_state_of, constant_get as constant_get_head, core_access_head, core_function_head, core_property_head, core_state_head, full_head, function_head, known, property_head, state_heads};
+ghost use Rattle.type_rules.specs.Ranges.{CoreFunctionInRange, CorePropertyInRange, CoreStateInRange, KeepsScript, WorkInRange, functions_of, variables_of};
+ghost use Rattle.type_rules.specs.Heads.{auto_state_of, core_property_head, core_state_head, function_head, property_head, state_heads};
 
 use crate::functions::{clone_text, core_function, core_functions};
 use crate::variables::{constant_value, known};
@@ -26,7 +26,7 @@ pub(crate) fn core_properties(
     work: &mut Work<'_>,
     properties: &[Property],
 ) -> Result<Vec<CoreProperty>, OutOfMemory>
-    ensures heads { IfOk result (λ found. map core_property_head found.items ≡ map (property_head (files_of work.old)) properties.now) }
+    ensures heads { IfOk result (λ found. map core_property_head found.items ≡ map property_head properties.now) }
     ensures kept { OnOk result (KeepsScript work.old work.new) }
     ensures in_range { WorkInRange work.old → IfOk result (λ found. All (CorePropertyInRange work.old) found.items) }
 {
@@ -42,14 +42,21 @@ fn core_property(
     place: usize,
     property: &Property,
 ) -> Result<CoreProperty, OutOfMemory>
-    ensures head { IfOk result (λ made. core_property_head made ≡ property_head (files_of work.old) property.now) }
+    ensures head { IfOk result (λ made. core_property_head made ≡ property_head property.now) }
     ensures kept { OnOk result (KeepsScript work.old work.new) }
     ensures in_range { WorkInRange work.old → IfOk result (CorePropertyInRange work.old) }
 {
     let name = property.name.try_clone(work.alloc())?;
     let doc = clone_text(work.alloc(), &property.doc)?;
     let kind = work.kind_at(property.line, &property.kind)?;
-    let access = core_access(work, place, property, kind)?;
+    let access = match &property.form {
+        PropertyForm::Auto(_) => CoreAccess::Auto(auto_variable(work.layout, place)?),
+        PropertyForm::ReadOnly(constant) => {
+            let get = constant_get(work, property.line, constant, kind)?;
+            CoreAccess::Full(Some(get), None)
+        }
+        PropertyForm::Full(functions) => full_access(work, functions.as_slice())?,
+    };
     Ok(CoreProperty {
         name,
         kind: known(kind),
@@ -57,27 +64,6 @@ fn core_property(
         doc,
         flags: property.flags,
     })
-}
-
-// How a property of this type is read and written.
-fn core_access(
-    work: &mut Work<'_>,
-    place: usize,
-    property: &Property,
-    kind: Option<CoreType>,
-) -> Result<CoreAccess, OutOfMemory>
-    ensures head { known kind ≡ meant (files_of work.old) property.now.kind → IfOk result (λ access. core_access_head access ≡ access_head (files_of work.old) property.now property.now.form) }
-    ensures kept { OnOk result (KeepsScript work.old work.new) }
-    ensures in_range { WorkInRange work.old → ResultInRange (functions_of work.old) kind → IfOk result (λ access. AccessInRange (functions_of work.old) (variables_of work.old) (access_of access)) }
-{
-    match &property.form {
-        PropertyForm::Auto(_) => Ok(CoreAccess::Auto(auto_variable(work.layout, place)?)),
-        PropertyForm::ReadOnly(constant) => {
-            let get = constant_get(work, property.line, constant, kind)?;
-            Ok(CoreAccess::Full(Some(get), None))
-        }
-        PropertyForm::Full(functions) => full_access(work, functions.as_slice()),
-    }
 }
 
 // The variable of the Auto property at this place. Its layout has one for each such property.
@@ -100,7 +86,6 @@ fn constant_get(
     constant: &Constant,
     kind: Option<CoreType>,
 ) -> Result<CoreFunction, OutOfMemory>
-    ensures head { IfOk result (λ made. core_function_head made ≡ constant_get_head line (known kind)) }
     ensures kept { OnOk result (KeepsScript work.old work.new) }
     ensures in_range { ResultInRange (functions_of work.old) kind → IfOk result (CoreFunctionInRange work.old) }
 {
@@ -128,7 +113,6 @@ fn constant_get(
 
 // The functions of a full property are at most one Get and one Set.
 fn full_access(work: &mut Work<'_>, functions: &[Function]) -> Result<CoreAccess, OutOfMemory>
-    ensures head { IfOk result (λ access. core_access_head access ≡ full_head (files_of work.old) functions.now) }
     ensures kept { OnOk result (KeepsScript work.old work.new) }
     ensures in_range { WorkInRange work.old → IfOk result (λ access. AccessInRange (functions_of work.old) (variables_of work.old) (access_of access)) }
 {
@@ -136,7 +120,7 @@ fn full_access(work: &mut Work<'_>, functions: &[Function]) -> Result<CoreAccess
     let mut write = None;
     for function in functions {
         let made = core_function(work, function)?;
-        if is_get(function) {
+        if made.name.as_bytes().eq_ignore_ascii_case(b"Get") {
             read = Some(made);
         } else {
             write = Some(made);
@@ -145,18 +129,12 @@ fn full_access(work: &mut Work<'_>, functions: &[Function]) -> Result<CoreAccess
     Ok(CoreAccess::Full(read, write))
 }
 
-fn is_get(function: &Function) -> bool
-    ensures { result ≡ is_get function.now }
-{
-    function.heading.name.folded() == b"get".as_slice()
-}
-
 /// The states of the script, the empty state first.
 pub(crate) fn core_states(
     work: &mut Work<'_>,
     script: &Script,
 ) -> Result<Vec<CoreState>, OutOfMemory>
-    ensures heads { IfOk result (λ found. map core_state_head found.items ≡ state_heads (files_of work.old) script.now) }
+    ensures heads { IfOk result (λ found. map core_state_head found.items ≡ state_heads script.now) }
     ensures kept { OnOk result (KeepsScript work.old work.new) }
     ensures in_range { WorkInRange work.old → IfOk result (λ found. All (CoreStateInRange work.old) found.items) }
 {
@@ -176,7 +154,7 @@ fn core_state(
     name: Name,
     functions: &[Function],
 ) -> Result<CoreState, OutOfMemory>
-    ensures head { IfOk result (λ made. core_state_head made ≡ record { name = name; functions = map (function_head (files_of work.old)) functions.now }) }
+    ensures head { IfOk result (λ made. core_state_head made ≡ record { name = name; functions = map function_head functions.now }) }
     ensures kept { OnOk result (KeepsScript work.old work.new) }
     ensures in_range { WorkInRange work.old → IfOk result (CoreStateInRange work.old) }
 {

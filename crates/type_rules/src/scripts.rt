@@ -3,10 +3,10 @@ ghost use Rattle.std.specs.Prelude.{◌≡◌, ◌<◌, length, map, slice_index
 ghost use Rattle.core_tree.specs.InRange.{ScriptInRange};
 ghost use Rattle.core_tree.specs.Set.{script_of};
 ghost use Rattle.script_linker.specs.declared.set.SourceFile.{SourceFile};
-ghost use Rattle.type_rules.specs.Heads.{HasVariables, core_property_head, core_variable_head, source_head, core_script_head, core_state_head, property_heads, script_head, state_heads};
-ghost use Rattle.type_rules.specs.Ranges.{WorkInRange, files_of, functions_of};
+ghost use Rattle.type_rules.specs.Heads.{core_property_head, core_script_head, core_state_head, property_heads, script_head, state_heads};
+ghost use Rattle.type_rules.specs.Ranges.{WorkInRange, functions_of};
 ghost use Rattle.type_rules.specs.Members.{MembersInRange};
-ghost use Rattle.type_scope.specs.Types.{parameter_counts};
+ghost use Rattle.type_scope.specs.Types.{function_counts};
 
 use crate::first_faults::ScriptFaults;
 use crate::functions::clone_text;
@@ -36,9 +36,8 @@ struct Members {
 /// The script of this number in its set.
 pub(crate) fn judge_script(catalog: &Catalog<'_>, number: u16) -> Result<Judged, OutOfMemory>
     requires { number < length catalog.now.set.now }
-    ensures in_range { IfOk result (λ judged. ScriptInRange (parameter_counts catalog.now.set.now) (script_of judged.script)) }
-    ensures variables { (file : SourceFile) → IfOk result (λ judged. HasVariables catalog.now.set.now (slice_index_or catalog.now.set.now number file).script judged.script.variables.items) }
-    ensures head { (file : SourceFile) → IfOk result (λ judged. core_script_head judged.script ≡ script_head catalog.now.set.now (slice_index_or catalog.now.set.now number file)) }
+    ensures in_range { IfOk result (λ judged. ScriptInRange (function_counts catalog.now.set.now) (script_of judged.script)) }
+    ensures head { (file : SourceFile) → IfOk result (λ judged. core_script_head judged.script ≡ script_head (slice_index_or catalog.now.set.now number file)) }
 {
     let script = catalog.set.script(number);
     let layout = Layout::new(catalog.alloc, script)?;
@@ -56,10 +55,9 @@ fn judge_layout(
     number: u16,
     script: &Script,
 ) -> Result<(Members, ScriptFaults), OutOfMemory>
-    ensures variables { IfOk result (λ judged. map core_variable_head judged.0.variables.items ≡ map (source_head catalog.now.set.now) layout.now.sources.items) }
-    ensures properties { IfOk result (λ judged. map core_property_head judged.0.properties.items ≡ property_heads catalog.now.set.now script.now) }
-    ensures states { IfOk result (λ judged. map core_state_head judged.0.states.items ≡ state_heads catalog.now.set.now script.now) }
-    ensures in_range { number < length catalog.now.set.now → IfOk result (λ judged. MembersInRange (parameter_counts catalog.now.set.now) judged.0) }
+    ensures properties { IfOk result (λ judged. map core_property_head judged.0.properties.items ≡ property_heads script.now) }
+    ensures states { IfOk result (λ judged. map core_state_head judged.0.states.items ≡ state_heads script.now) }
+    ensures in_range { number < length catalog.now.set.now → IfOk result (λ judged. MembersInRange (function_counts catalog.now.set.now) judged.0) }
 {
     judge_members(Work::new(catalog, layout, number), script)
 }
@@ -68,9 +66,8 @@ fn judge_members(
     mut work: Work<'_>,
     script: &Script,
 ) -> Result<(Members, ScriptFaults), OutOfMemory>
-    ensures variables { IfOk result (λ judged. map core_variable_head judged.0.variables.items ≡ map (source_head (files_of work.entry)) work.entry.layout.now.sources.items) }
-    ensures properties { IfOk result (λ judged. map core_property_head judged.0.properties.items ≡ property_heads (files_of work.entry) script.now) }
-    ensures states { IfOk result (λ judged. map core_state_head judged.0.states.items ≡ state_heads (files_of work.entry) script.now) }
+    ensures properties { IfOk result (λ judged. map core_property_head judged.0.properties.items ≡ property_heads script.now) }
+    ensures states { IfOk result (λ judged. map core_state_head judged.0.states.items ≡ state_heads script.now) }
     ensures in_range { WorkInRange work.entry → IfOk result (λ judged. MembersInRange (functions_of work.entry) judged.0) }
 {
     let variables = core_variables(&mut work)?;
@@ -90,11 +87,10 @@ fn core_script(
     members: Members,
 ) -> Result<CoreScript, OutOfMemory>
     requires { number < length catalog.now.set.now }
-    ensures in_range { MembersInRange (parameter_counts catalog.now.set.now) members → IfOk result (λ made. ScriptInRange (parameter_counts catalog.now.set.now) (script_of made)) }
-    ensures variables { IfOk result (λ made. made.variables.items ≡ members.variables.items) }
-    ensures head { (file : SourceFile) → map core_property_head members.properties.items ≡ property_heads catalog.now.set.now (slice_index_or catalog.now.set.now number file).script →
-        map core_state_head members.states.items ≡ state_heads catalog.now.set.now (slice_index_or catalog.now.set.now number file).script →
-        IfOk result (λ made. core_script_head made ≡ script_head catalog.now.set.now (slice_index_or catalog.now.set.now number file)) }
+    ensures in_range { MembersInRange (function_counts catalog.now.set.now) members → IfOk result (λ made. ScriptInRange (function_counts catalog.now.set.now) (script_of made)) }
+    ensures head { (file : SourceFile) → map core_property_head members.properties.items ≡ property_heads (slice_index_or catalog.now.set.now number file).script →
+        map core_state_head members.states.items ≡ state_heads (slice_index_or catalog.now.set.now number file).script →
+        IfOk result (λ made. core_script_head made ≡ script_head (slice_index_or catalog.now.set.now number file)) }
 {
     let alloc = catalog.alloc;
     let script = catalog.set.script(number);

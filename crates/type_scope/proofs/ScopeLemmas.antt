@@ -1,4 +1,4 @@
--- What the counts of parameters say of a set's scripts, and the first script of a name.
+-- What the counts of functions say of a set's scripts, and the first script of a name.
 use Rattle.std.proofs.Common.{◌≡◌, ℕ, zero, suc, ◌<◌, ◌≤◌, ◌↔◌, Bool, true, false, cond, List, [], ◌∷◌, ◌++◌, length, map, take, get_or, refl, sym, ap, ◌∙◌, ◌+◌, subst, arith, IsTrue, nat_lt, ⊎_elim}
 use Rattle.std.specs.Prelude.{Option, Some, None, slice_get}
 use Rattle.std.specs.List.{position, position_or_len}
@@ -14,23 +14,16 @@ use Rattle.script_linker.proofs.TableLemmas.{IsPlaceTable-push}
 use Rattle.script_linker.specs.Table.{IsPlaceTable, Notes}
 use Rattle.script_linker.specs.declared.name_table.NameTable.{NameTable}
 use Rattle.script_linker.specs.declared.set.SourceFile.{SourceFile}
-use Rattle.script_parser.specs.declared.script.Function.{Function}
 use Rattle.script_parser.specs.declared.script.Script.{Script}
-use Rattle.type_scope.specs.Types.{counts_of, parameter_count, parameter_counts}
+use Rattle.type_scope.specs.Types.{function_count, function_counts}
 
--- ---- how many parameters a function has
+-- ---- how many functions a script has
 
-count-at : (functions : List Function) (k : ℕ) (function : Function) → slice_get functions k ≡ Some function → slice_get (map parameter_count functions) k ≡ Some (parameter_count function)
-count-at [] k function is = cc
-count-at (first ∷ rest) zero function is = let same : first ≡ function = cc in ap (λ f. Some (parameter_count f)) same
-count-at (first ∷ rest) (suc k) function is = count-at rest k function is
-
--- a function of the script n
-pub function-there : (files : List SourceFile) (n k : ℕ) (function : Function) → n < length files → ((file : SourceFile) → slice_get (get_or files n file).script.functions.items k ≡ Some function) →
-    slice_get (get_or (parameter_counts files) n []) k ≡ Some (parameter_count function)
-function-there [] n k function inside is = absurd (omega arith)
-function-there (file ∷ files) zero k function inside is = count-at file.script.functions.items k function (is file)
-function-there (file ∷ files) (suc n) k function inside is = function-there files n k function (omega arith) is
+-- a place below the number of functions of the script n
+pub below_count : (files : List SourceFile) (n k : ℕ) → n < length files → ((file : SourceFile) → k < function_count (get_or files n file)) → k < get_or (function_counts files) n 0
+below_count [] n k inside below = absurd (omega arith)
+below_count (file ∷ files) zero k inside below = below file
+below_count (file ∷ files) (suc n) k inside below = below_count files n k (omega arith) below
 
 -- ---- the first script of a name
 

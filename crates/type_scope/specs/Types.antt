@@ -1,4 +1,4 @@
--- What names of types mean in a set of scripts, and how many parameters its functions have.
+-- What names of types mean in a set of scripts, and how many functions its scripts have.
 use Rattle.std.specs.Prelude.{ℕ, List, codes, length, map, nat_lt, Option, Some, None, option_and_then, option_map, if◌then◌else◌}
 use Rattle.std.specs.Str.{bytes_eq}
 use Rattle.core_tree.specs.declared.core_type.CoreType.{CoreType}
@@ -6,7 +6,6 @@ use Rattle.core_tree.specs.declared.core_type.CoreType.TheVariants as types
 use Rattle.line_parser.specs.declared.tree.TypeName.{TypeName}
 use Rattle.script_linker.specs.Lookup.{script_named}
 use Rattle.script_linker.specs.declared.set.SourceFile.{SourceFile}
-use Rattle.script_parser.specs.declared.script.Function.{Function}
 
 -- ---- names of types
 
@@ -44,13 +43,10 @@ type_named set name =
 
 -- ---- functions
 
-abbrev pub parameter_count : Function → ℕ
-parameter_count function = length function.heading.parameters.items
-
--- how many parameters each function of a script's empty state has
-abbrev pub counts_of : SourceFile → List ℕ
-counts_of file = map parameter_count file.script.functions.items
+-- how many functions the empty state of a script has
+abbrev pub function_count : SourceFile → ℕ
+function_count file = length file.script.functions.items
 
 -- the same of each script of a set
-abbrev pub parameter_counts : List SourceFile → List (List ℕ)
-parameter_counts files = map counts_of files
+abbrev pub function_counts : List SourceFile → List ℕ
+function_counts files = map function_count files

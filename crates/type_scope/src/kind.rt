@@ -21,7 +21,7 @@ pub enum Kind {
 impl Kind {
     /// What is known where a type was looked up.
     pub fn from_type(found: Option<CoreType>) -> Kind
-        ensures { (functions : List (List ℕ)) → ResultInRange functions found → KindInRange functions result }
+        ensures { (functions : List ℕ) → ResultInRange functions found → KindInRange functions result }
     {
         match found {
             Some(found) => Kind::Of(found),

@@ -1,7 +1,7 @@
-use Rattle.std.proofs.Common.{◌≡◌, ◌<◌, ◌≤◌, ◌+◌, [], ◌∷◌, length, map, arith, ◌∙◌, ap, length-append}
+use Rattle.std.proofs.Common.{◌<◌, ◌≤◌, length, map, arith, ◌∙◌, ap}
 use Rattle.std.proofs.lemmas.List.{take_all}
-use Rattle.type_scope.specs.Types.{parameter_counts}
-use Rattle.type_rules.proofs.Heads.{heads-push, scripts-push, set-in_range, variables-push}
+use Rattle.type_scope.specs.Types.{function_counts}
+use Rattle.type_rules.proofs.Heads.{heads-push, scripts-push, set-in_range}
 use Rattle.type_rules.specs.Heads.{script_head}
 use Rattle.type_rules.proofs.elaboration.elaborate.Goals as goal
 
@@ -15,12 +15,9 @@ loop-number-preserved c =
     let made = c.in_ok-judged.judged.script in
     let judged = c.in_ok-judged.ensures in
     let within : number < length set = omega arith in
-    let count : length scripts + length (made ∷ []) ≡ number + 1 = omega (arith, so_far.count) in
     record {
-      heads = heads-push set set number scripts all made c.in_ok-push.ensures.items so_far.heads within (rw c.in_ok-catalog.ensures at judged.head);
-      variables = variables-push set scripts all made number c.in_ok-push.ensures.items so_far.count within (rw c.in_ok-catalog.ensures at judged.variables) so_far.variables;
-      count = ap length c.in_ok-push.ensures.items ∙ length-append scripts (made ∷ []) ∙ count;
-      in_range = scripts-push (parameter_counts set) scripts all made c.in_ok-push.ensures.items so_far.in_range (rw c.in_ok-catalog.ensures at judged.in_range);
+      heads = heads-push set number scripts all made c.in_ok-push.ensures.items so_far.heads within (rw c.in_ok-catalog.ensures at judged.head);
+      in_range = scripts-push (function_counts set) scripts all made c.in_ok-push.ensures.items so_far.in_range (rw c.in_ok-catalog.ensures at judged.in_range);
       broken = c.note.ensures.broken_below (length set) within so_far.broken;
       too_large = c.note.ensures.too_large_below (length set) within so_far.too_large;
     }
@@ -28,8 +25,5 @@ loop-number-preserved c =
 pub returns-clause-in_range : goal.returns-clause-in_range
 returns-clause-in_range c =
     let past : length c.args.set.now ≤ c.loop-number.number = omega arith in
-    let heads = c.loop-number.invariant.heads ∙ ap (map (script_head c.args.set.now)) (take_all c.loop-number.number c.args.set.now past) in
-    set-in_range c.args.set.now c.args.set.now c.loop-number.scripts.items heads c.loop-number.invariant.in_range
-
-pub returns-clause-variables : goal.returns-clause-variables
-returns-clause-variables c = λ n file script within. c.loop-number.invariant.variables n file script (omega arith)
+    let heads = c.loop-number.invariant.heads ∙ ap (map script_head) (take_all c.loop-number.number c.args.set.now past) in
+    set-in_range c.args.set.now c.loop-number.scripts.items heads c.loop-number.invariant.in_range

@@ -1,6 +1,6 @@
 -- The types so far are there, and there is room for the rest.
 use Rattle.std.proofs.Common.{◌≡◌, length, map, take, vec_len, vec_capacity}
-use Rattle.type_rules.specs.Heads.{known}
+use Rattle.type_rules.specs.Ranges.{known}
 use Rattle.type_rules.proofs.functions.known_types.Given as goal
 
 abbrev pub invariant-loop-kind : goal.invariant-loop-kind

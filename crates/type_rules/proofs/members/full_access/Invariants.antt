@@ -1,17 +1,12 @@
--- What was found so far is the last of each kind, and in range.
-use Rattle.std.proofs.Common.{◌≡◌, take}
-use Rattle.std.specs.Prelude.{not, option_map}
+-- What was found so far is in range.
 use Rattle.core_tree.specs.InRange.{AccessorInRange}
 use Rattle.core_tree.specs.Set.{function_of_option}
-use Rattle.type_rules.specs.Heads.{core_function_head, function_head, is_get, last_of}
-use Rattle.type_rules.specs.Ranges.{KeepsScript, WorkInRange, files_of, functions_of, variables_of}
+use Rattle.type_rules.specs.Ranges.{KeepsScript, WorkInRange, functions_of, variables_of}
 use Rattle.type_rules.proofs.members.full_access.Given as goal
 
 abbrev pub invariant-loop-function : goal.invariant-loop-function
 invariant-loop-function l = record {
   kept : KeepsScript l.fn.work l.work;
-  read_head : option_map core_function_head l.read ≡ option_map (function_head (files_of l.fn.work)) (last_of is_get (take l.function-index l.functions));
-  write_head : option_map core_function_head l.write ≡ option_map (function_head (files_of l.fn.work)) (last_of (λ f. not (is_get f)) (take l.function-index l.functions));
   read : WorkInRange l.fn.work → AccessorInRange (functions_of l.fn.work) (variables_of l.fn.work) (function_of_option l.read);
   write : WorkInRange l.fn.work → AccessorInRange (functions_of l.fn.work) (variables_of l.fn.work) (function_of_option l.write);
 }
