@@ -1,2 +1,1 @@
-pub mod SameCode
-pub mod Scopes
+pub mod Lifted

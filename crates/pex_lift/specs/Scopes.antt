@@ -1,6 +1,0 @@
--- What a function's scope holds.
-use Rattle.pex_lift.specs.declared.scope.Scope.{Scope}
-use Rattle.pex_lift.specs.SameCode.{Naming}
-
-abbrev pub naming : Scope → Naming
-naming scope = record { strings = scope.strings.now; parameters = scope.parameters.now; locals = scope.locals.now }
