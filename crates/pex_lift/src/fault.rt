@@ -2,6 +2,7 @@ ghost use Rattle.std.specs.Prelude.{◌≡◌};
 ghost use Rattle.pex_lift.specs.declared.fault.LiftFault.TheVariants as fault;
 
 use papy_base::OutOfMemory;
+use pex_sources::SourceFault;
 use std::alloc::{AllocError, AllocFailed};
 use thiserror::Error;
 
@@ -24,7 +25,7 @@ pub enum LiftFault {
     OutOfMemory,
 }
 
-/// What is read isn't what a compiler wrote, or not in this way.
+/// No sources were found, or they don't compile to the same code.
 pub(crate) const NOT_LIFTED: LiftFault = LiftFault::Broken {
     rule: LiftRule::NotLifted,
 };
@@ -50,5 +51,14 @@ impl<T: Drop> From<AllocFailed<T>> for LiftFault {
 
     fn from(_error: AllocFailed<T>) -> LiftFault {
         LiftFault::OutOfMemory
+    }
+}
+
+impl From<SourceFault> for LiftFault {
+    fn from(fault: SourceFault) -> LiftFault {
+        match fault {
+            SourceFault::NotFound => NOT_LIFTED,
+            SourceFault::OutOfMemory => LiftFault::OutOfMemory,
+        }
     }
 }

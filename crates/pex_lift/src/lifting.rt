@@ -1,15 +1,13 @@
-ghost use Rattle.std.specs.Prelude.{◌≡◌, ◌↔◌, IsTrue, length, map, vec_len, IfOk};
+ghost use Rattle.std.specs.Prelude.{◌≡◌, ◌↔◌, IsTrue, map, vec_len, IfOk};
 ghost use Rattle.pex_values.specs.Plain.{plain};
 ghost use Rattle.pex_lift.specs.Lifted.{AreLifted};
 ghost use Rattle.pex_alike.specs.SameCode.{SameCode, SameEach};
 
 use crate::compiling::compiled;
-use crate::declarations::script_text;
 use crate::fault::{LiftFault, NOT_LIFTED};
-use pex_alike::same_code;
-use crate::world::World;
 use papy_base::Text;
-use pex_names::{PRELUDE_COUNT, Prelude};
+use pex_alike::same_code;
+use pex_sources::sources;
 use pex_values::Pex;
 use std::alloc::Global;
 
@@ -29,25 +27,13 @@ pub fn lift(alloc: Global, files: &Vec<Pex>) -> Result<Vec<Text>, LiftFault>
     if files.len() > FILE_COUNT_LIMIT {
         return Err(NOT_LIFTED);
     }
-    let texts = texts_of(alloc, files)?;
+    let texts = sources(alloc, files)?;
     let values = compiled(alloc, &texts)?;
     if have_same_code(files, &values) {
         Ok(texts)
     } else {
         Err(NOT_LIFTED)
     }
-}
-
-fn texts_of(alloc: Global, files: &[Pex]) -> Result<Vec<Text>, LiftFault>
-    ensures { IfOk result (λ texts. vec_len texts ≡ length files.now) }
-{
-    let prelude = Prelude::new(alloc)?;
-    let world = World::new(alloc, &prelude, files)?;
-    let mut texts = Vec::with_capacity(alloc, files.len())?;
-    for number in 0..files.len() {
-        texts.push(script_text(&world, PRELUDE_COUNT.saturating_add(number))?)?;
-    }
-    Ok(texts)
 }
 
 #[tactic(auto, unfolding(pex_alike::specs::SameCode::SameEach))]

@@ -2,7 +2,7 @@
 ghost use Rattle.std.specs.Prelude.{◌<◌, length, IfSome};
 
 use crate::code::Code;
-use crate::fault::{LiftFault, NOT_LIFTED};
+use crate::fault::{SourceFault, NOT_FOUND};
 use std::alloc::Global;
 
 /// Temporaries that were read, in the order in which they may be used again, each with the number of its type, and the first
@@ -39,14 +39,14 @@ impl Temporaries {
     }
 
     /// Hands out this slot, where it is the one that a compiler takes for a value of its type.
-    pub(crate) fn take(&mut self, code: &Code, slot: usize) -> Result<(), LiftFault> {
+    pub(crate) fn take(&mut self, code: &Code, slot: usize) -> Result<(), SourceFault> {
         let kind = code.kind(slot)?.number;
         let found = if kind == self.none_type {
             self.take_none()
         } else {
             self.take_spare(kind)
         };
-        if found == slot { Ok(()) } else { Err(NOT_LIFTED) }
+        if found == slot { Ok(()) } else { Err(NOT_FOUND) }
     }
 
     fn take_new(&mut self) -> usize {
@@ -75,7 +75,7 @@ impl Temporaries {
     }
 
     /// Takes a slot back, which is read no more.
-    pub(crate) fn give_back(&mut self, code: &Code, slot: usize) -> Result<(), LiftFault> {
+    pub(crate) fn give_back(&mut self, code: &Code, slot: usize) -> Result<(), SourceFault> {
         if self.has(slot) {
             let kind = code.kind(slot)?.number;
             self.spare.push((kind, slot))?;

@@ -1,7 +1,7 @@
 // The scripts of a set, the prelude's before those of the files, and what is found among them by name.
-use crate::fault::{LiftFault, NOT_LIFTED};
+use crate::fault::{SourceFault, NOT_FOUND};
 use crate::script::Script;
-use crate::words::{Words, taken_names};
+use crate::words::{Words, free_infix, taken_names};
 use papy_base::OutOfMemory;
 use pex_names::{NameTable, Prelude};
 use pex_values::{Pex, PexFunction, PexProperty};
@@ -13,8 +13,8 @@ pub(crate) struct World<'a> {
     pub alloc: Global,
     pub words: Words,
     pub scripts: Vec<Script<'a>>,
-    /// How many `_` stand in the names that are made up, so that nothing in the set has one of them.
-    pub underscores: usize,
+    /// What stands in the names that are made up, so that nothing in the set has one of them.
+    pub infix: Option<usize>,
     table: NameTable,
     by_name: HashMap<usize, usize>,
     // Names that no parameter or local may have.
@@ -29,7 +29,7 @@ impl<'a> World<'a> {
         alloc: Global,
         prelude: &'a Prelude,
         files: &'a [Pex],
-    ) -> Result<World<'a>, LiftFault> {
+    ) -> Result<World<'a>, SourceFault> {
         let mut table = NameTable::new(alloc)?;
         let words = Words::of(alloc, &mut table)?;
         let mut scripts = Vec::new(alloc);
@@ -41,7 +41,7 @@ impl<'a> World<'a> {
         Ok(World {
             alloc,
             words,
-            underscores: crate::words::free_underscores(files),
+            infix: free_infix(alloc, files)?,
             by_name: scripts_by_name(alloc, &scripts)?,
             scripts,
             table,
@@ -51,10 +51,10 @@ impl<'a> World<'a> {
     }
 
     /// The script of this number.
-    pub(crate) fn script(&self, number: usize) -> Result<&Script<'a>, LiftFault> {
+    pub(crate) fn script(&self, number: usize) -> Result<&Script<'a>, SourceFault> {
         match self.scripts.get(number) {
             Some(script) => Ok(script),
-            None => Err(NOT_LIFTED),
+            None => Err(NOT_FOUND),
         }
     }
 
@@ -137,13 +137,13 @@ impl<'a> World<'a> {
     }
 
     /// The type of the elements of an array type.
-    pub(crate) fn element(&self, kind: usize) -> Result<usize, LiftFault> {
+    pub(crate) fn element(&self, kind: usize) -> Result<usize, SourceFault> {
         let Some(element) = self.table.name(kind).strip_suffix(b"[]") else {
-            return Err(NOT_LIFTED);
+            return Err(NOT_FOUND);
         };
         match self.table.find(self.alloc, element)? {
             Some(number) => Ok(number),
-            None => Err(NOT_LIFTED),
+            None => Err(NOT_FOUND),
         }
     }
 
@@ -196,11 +196,11 @@ fn add_files<'a>(
     table: &mut NameTable,
     files: &'a [Pex],
     scripts: &mut Vec<Script<'a>>,
-) -> Result<(), LiftFault> {
+) -> Result<(), SourceFault> {
     for file in files {
         match file.objects.as_slice() {
             [object] => scripts.push(Script::new(alloc, table, file, object)?)?,
-            _ => return Err(NOT_LIFTED),
+            _ => return Err(NOT_FOUND),
         }
     }
     Ok(())

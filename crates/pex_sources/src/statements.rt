@@ -1,7 +1,7 @@
 // The text of a function's body.
 use crate::code::Operand;
 use crate::expressions::{CHAIN, Speaker};
-use crate::fault::{LiftFault, NOT_LIFTED};
+use crate::fault::{SourceFault, NOT_FOUND};
 use crate::lines::{Line, Numbered};
 use crate::opcodes::{STRCAT, change_sign_of};
 use crate::page::Page;
@@ -9,14 +9,14 @@ use crate::trees::{Form, Node};
 
 impl<'w, 'f> Speaker<'w, 'f> {
     /// Appends the lines of the body.
-    pub(crate) fn put_lines(self, page: &mut Page, lines: &[Numbered]) -> Result<(), LiftFault> {
+    pub(crate) fn put_lines(self, page: &mut Page, lines: &[Numbered]) -> Result<(), SourceFault> {
         for numbered in lines {
             self.put_line(page, numbered.line)?;
         }
         Ok(())
     }
 
-    fn put_line(self, page: &mut Page, line: Line) -> Result<(), LiftFault> {
+    fn put_line(self, page: &mut Page, line: Line) -> Result<(), SourceFault> {
         match line {
             Line::Skipped => return Ok(()),
             Line::EndIf | Line::EndWhile | Line::Else | Line::ElseIf(_) => page.outdent(),
@@ -31,7 +31,7 @@ impl<'w, 'f> Speaker<'w, 'f> {
         Ok(())
     }
 
-    fn put_content(self, page: &mut Page, line: Line) -> Result<(), LiftFault> {
+    fn put_content(self, page: &mut Page, line: Line) -> Result<(), SourceFault> {
         match line {
             Line::If(test) => self.put_test(page, b"If ", test),
             Line::ElseIf(test) => self.put_test(page, b"ElseIf ", test),
@@ -58,16 +58,16 @@ impl<'w, 'f> Speaker<'w, 'f> {
         }
     }
 
-    fn put_test(self, page: &mut Page, word: &[u8], test: usize) -> Result<(), LiftFault> {
+    fn put_test(self, page: &mut Page, word: &[u8], test: usize) -> Result<(), SourceFault> {
         page.put(word)?;
         self.put(page, self.loose(test, self.world.words.bool_type)?, 0)
     }
 
-    fn is_none(self, value: usize) -> Result<bool, LiftFault> {
+    fn is_none(self, value: usize) -> Result<bool, SourceFault> {
         Ok(self.trees.node(value)?.form == Form::Leaf(Operand::NoneValue))
     }
 
-    fn put_return(self, page: &mut Page, value: usize) -> Result<(), LiftFault> {
+    fn put_return(self, page: &mut Page, value: usize) -> Result<(), SourceFault> {
         let kind = self.script.number(self.function.result);
         if kind == self.world.words.none_type && self.is_none(value)? {
             return put_bytes(page, b"Return");
@@ -76,7 +76,7 @@ impl<'w, 'f> Speaker<'w, 'f> {
         self.put(page, self.loose(value, kind)?, 0)
     }
 
-    fn put_definition(self, page: &mut Page, slot: usize, value: usize) -> Result<(), LiftFault> {
+    fn put_definition(self, page: &mut Page, slot: usize, value: usize) -> Result<(), SourceFault> {
         let kind = self.code.kind(slot)?;
         page.put(self.script.text(kind.reference))?;
         page.put(b" ")?;
@@ -88,7 +88,7 @@ impl<'w, 'f> Speaker<'w, 'f> {
         self.put(page, self.loose(value, kind.number)?, 0)
     }
 
-    fn put_set(self, page: &mut Page, target: Operand, value: usize) -> Result<(), LiftFault> {
+    fn put_set(self, page: &mut Page, target: Operand, value: usize) -> Result<(), SourceFault> {
         let kind = match target {
             Operand::Slot(slot) => {
                 self.put_slot(page, slot)?;
@@ -103,7 +103,7 @@ impl<'w, 'f> Speaker<'w, 'f> {
                 page.put(self.script.text(name))?;
                 self.script.number(variable.kind)
             }
-            _ => return Err(NOT_LIFTED),
+            _ => return Err(NOT_FOUND),
         };
         if let Some((opcode, old, right)) = self.trees.change(value)? {
             let old = self.trees.node(old)?;
@@ -116,9 +116,9 @@ impl<'w, 'f> Speaker<'w, 'f> {
     }
 
     // The sign and the right side of an assignment that also computes.
-    fn put_change(self, page: &mut Page, opcode: u8, right: usize) -> Result<(), LiftFault> {
+    fn put_change(self, page: &mut Page, opcode: u8, right: usize) -> Result<(), SourceFault> {
         let Some(sign) = change_sign_of(opcode) else {
-            return Err(NOT_LIFTED);
+            return Err(NOT_FOUND);
         };
         page.put(sign)?;
         let right = if opcode == STRCAT {
@@ -129,14 +129,14 @@ impl<'w, 'f> Speaker<'w, 'f> {
         self.put(page, right, 0)
     }
 
-    fn put_property(self, page: &mut Page, name: u16, of: usize) -> Result<(), LiftFault> {
+    fn put_property(self, page: &mut Page, name: u16, of: usize) -> Result<(), SourceFault> {
         self.put(page, of, CHAIN)?;
         page.put(b".")?;
         page.put(self.script.text(name))?;
         Ok(())
     }
 
-    fn put_set_property(self, page: &mut Page, name: u16, of: usize, value: usize) -> Result<(), LiftFault> {
+    fn put_set_property(self, page: &mut Page, name: u16, of: usize, value: usize) -> Result<(), SourceFault> {
         self.put_property(page, name, of)?;
         let of = self.trees.node(of)?;
         if let Some((opcode, old, right)) = self.trees.change(value)? {
@@ -146,19 +146,19 @@ impl<'w, 'f> Speaker<'w, 'f> {
             }
         }
         let Some(kind) = self.world.find_property(of.kind.number, self.script.number(name)) else {
-            return Err(NOT_LIFTED);
+            return Err(NOT_FOUND);
         };
         page.put(b" = ")?;
         self.put(page, self.loose(value, kind)?, 0)
     }
 
     // Whether the operand at this place is the same name or literal.
-    fn is_part(self, node: Node, place: usize, leaf: Node) -> Result<bool, LiftFault> {
+    fn is_part(self, node: Node, place: usize, leaf: Node) -> Result<bool, SourceFault> {
         let part = self.trees.node(self.trees.part(node, place)?)?;
         Ok(part.form == leaf.form && part.at.is_none() && leaf.at.is_none() && matches!(leaf.form, Form::Leaf(_)))
     }
 
-    fn put_element(self, page: &mut Page, array: usize, index: usize) -> Result<(), LiftFault> {
+    fn put_element(self, page: &mut Page, array: usize, index: usize) -> Result<(), SourceFault> {
         self.put(page, array, CHAIN)?;
         page.put(b"[")?;
         self.put(page, index, 0)?;
@@ -166,7 +166,7 @@ impl<'w, 'f> Speaker<'w, 'f> {
         Ok(())
     }
 
-    fn put_set_element(self, page: &mut Page, array: usize, index: usize, value: usize) -> Result<(), LiftFault> {
+    fn put_set_element(self, page: &mut Page, array: usize, index: usize, value: usize) -> Result<(), SourceFault> {
         self.put_element(page, array, index)?;
         let (array, index) = (self.trees.node(array)?, self.trees.node(index)?);
         if let Some((opcode, old, right)) = self.trees.change(value)? {
@@ -183,7 +183,7 @@ impl<'w, 'f> Speaker<'w, 'f> {
     }
 }
 
-fn put_bytes(page: &mut Page, bytes: &[u8]) -> Result<(), LiftFault> {
+fn put_bytes(page: &mut Page, bytes: &[u8]) -> Result<(), SourceFault> {
     page.put(bytes)?;
     Ok(())
 }

@@ -1,6 +1,6 @@
 // Expressions, all of a function in two lists.
 use crate::code::Operand;
-use crate::fault::{LiftFault, NOT_LIFTED};
+use crate::fault::{SourceFault, NOT_FOUND};
 use crate::opcodes::STRCAT;
 use crate::script::Kind;
 use std::alloc::Global;
@@ -86,34 +86,34 @@ impl Trees {
         self.parts.len()
     }
 
-    pub(crate) fn node(&self, number: usize) -> Result<Node, LiftFault> {
+    pub(crate) fn node(&self, number: usize) -> Result<Node, SourceFault> {
         match self.nodes.get(number) {
             Some(node) => Ok(*node),
-            None => Err(NOT_LIFTED),
+            None => Err(NOT_FOUND),
         }
     }
 
     /// The operands of an expression.
-    pub(crate) fn parts(&self, node: Node) -> Result<&[Part], LiftFault> {
+    pub(crate) fn parts(&self, node: Node) -> Result<&[Part], SourceFault> {
         match self.parts.get(node.first..node.end) {
             Some(parts) => Ok(parts),
-            None => Err(NOT_LIFTED),
+            None => Err(NOT_FOUND),
         }
     }
 
     /// The number of an operand.
-    pub(crate) fn part(&self, node: Node, place: usize) -> Result<usize, LiftFault> {
+    pub(crate) fn part(&self, node: Node, place: usize) -> Result<usize, SourceFault> {
         match self.parts(node)?.get(place) {
             Some(part) => Ok(part.node),
-            None => Err(NOT_LIFTED),
+            None => Err(NOT_FOUND),
         }
     }
 
     /// The two operands of an operation.
-    pub(crate) fn pair(&self, node: Node) -> Result<(usize, usize), LiftFault> {
+    pub(crate) fn pair(&self, node: Node) -> Result<(usize, usize), SourceFault> {
         match self.parts(node)? {
             [left, right] => Ok((left.node, right.node)),
-            _ => Err(NOT_LIFTED),
+            _ => Err(NOT_FOUND),
         }
     }
 
@@ -123,7 +123,7 @@ impl Trees {
         form: Form,
         kind: Kind,
         at: Option<usize>,
-    ) -> Result<usize, LiftFault> {
+    ) -> Result<usize, SourceFault> {
         self.push(Node {
             form,
             kind,
@@ -143,7 +143,7 @@ impl Trees {
         parts: &[Part],
         from: usize,
         at: usize,
-    ) -> Result<usize, LiftFault> {
+    ) -> Result<usize, SourceFault> {
         let first = self.parts.len();
         let mut start = from;
         let mut acts = is_act(form);
@@ -167,14 +167,14 @@ impl Trees {
         })
     }
 
-    fn push(&mut self, node: Node) -> Result<usize, LiftFault> {
+    fn push(&mut self, node: Node) -> Result<usize, SourceFault> {
         let number = self.nodes.len();
         self.nodes.push(node)?;
         Ok(number)
     }
 
     /// The opcode, first and second operand of an operation that an assignment may make: on numbers, or that joins texts.
-    pub(crate) fn change(&self, number: usize) -> Result<Option<(u8, usize, usize)>, LiftFault> {
+    pub(crate) fn change(&self, number: usize) -> Result<Option<(u8, usize, usize)>, SourceFault> {
         let node = self.node(number)?;
         let Form::Apply(opcode) = node.form else {
             return Ok(None);

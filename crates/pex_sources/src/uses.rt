@@ -1,6 +1,6 @@
 // Where the slots of a function are used, and where its jumps lead.
 use crate::code::{Code, Operand, Step};
-use crate::fault::{LiftFault, NOT_LIFTED};
+use crate::fault::{SourceFault, NOT_FOUND};
 use crate::opcodes::{ASSIGN, JMP, JMPF, offset_of, result_of};
 use papy_base::OutOfMemory;
 use std::alloc::Global;
@@ -21,7 +21,7 @@ pub(crate) struct Uses {
 }
 
 impl Uses {
-    pub(crate) fn of(alloc: Global, code: &Code) -> Result<Uses, LiftFault> {
+    pub(crate) fn of(alloc: Global, code: &Code) -> Result<Uses, SourceFault> {
         let places = code.steps.len().saturating_add(1);
         let mut uses = Uses {
             read_next: vec![in alloc; false; code.operands.len()]?,
@@ -44,10 +44,10 @@ impl Uses {
     }
 
     /// Where the jump at a place leads.
-    pub(crate) fn target(&self, at: usize) -> Result<usize, LiftFault> {
+    pub(crate) fn target(&self, at: usize) -> Result<usize, SourceFault> {
         match self.targets.get(at).copied().flatten() {
             Some(target) => Ok(target),
-            None => Err(NOT_LIFTED),
+            None => Err(NOT_FOUND),
         }
     }
 
@@ -81,7 +81,7 @@ impl Uses {
         most
     }
 
-    fn note_jumps(&mut self, code: &Code) -> Result<(), LiftFault> {
+    fn note_jumps(&mut self, code: &Code) -> Result<(), SourceFault> {
         for (at, step) in code.steps.iter().enumerate() {
             if let Some(place) = offset_of(step.opcode) {
                 let target = jump_target(code, at, *step, place)?;
@@ -163,18 +163,18 @@ fn set(places: &mut Vec<Option<usize>>, at: usize, value: usize) {
 }
 
 // Where a jump leads: at most to the function's end.
-fn jump_target(code: &Code, at: usize, step: Step, place: usize) -> Result<usize, LiftFault> {
+fn jump_target(code: &Code, at: usize, step: Step, place: usize) -> Result<usize, SourceFault> {
     let Operand::Int(offset) = code.operand_of(step, place)? else {
-        return Err(NOT_LIFTED);
+        return Err(NOT_FOUND);
     };
     let Ok(from) = i64::try_from(at) else {
-        return Err(NOT_LIFTED);
+        return Err(NOT_FOUND);
     };
     let Some(target) = from.checked_add(i64::from(offset)) else {
-        return Err(NOT_LIFTED);
+        return Err(NOT_FOUND);
     };
     match usize::try_from(target) {
         Ok(target) if target <= code.steps.len() => Ok(target),
-        _ => Err(NOT_LIFTED),
+        _ => Err(NOT_FOUND),
     }
 }

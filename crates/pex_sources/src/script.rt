@@ -1,5 +1,5 @@
 // A script of the set, with the numbers of its names and its members by name.
-use crate::fault::{LiftFault, NOT_LIFTED};
+use crate::fault::{SourceFault, NOT_FOUND};
 use papy_base::{OutOfMemory, Text};
 use pex_names::{FileNames, NameTable, text_at};
 use pex_values::{Pex, PexFunction, PexObject, PexProperty, PexVariable};
@@ -87,10 +87,10 @@ impl<'a> Script<'a> {
     }
 
     /// The variable at a place.
-    pub(crate) fn variable(&self, place: usize) -> Result<&'a PexVariable, LiftFault> {
+    pub(crate) fn variable(&self, place: usize) -> Result<&'a PexVariable, SourceFault> {
         match self.object.variables.get(place) {
             Some(variable) => Ok(variable),
-            None => Err(NOT_LIFTED),
+            None => Err(NOT_FOUND),
         }
     }
 

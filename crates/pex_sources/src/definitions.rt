@@ -1,7 +1,7 @@
 // Which slots were locals of the source, and where they are defined.
 use crate::blocks::{Body, read_body};
 use crate::code::{Code, Operand};
-use crate::fault::{LiftFault, NOT_LIFTED};
+use crate::fault::{SourceFault, NOT_FOUND};
 use crate::lines::Line;
 use crate::reader::Source;
 use crate::trees::Form;
@@ -9,19 +9,19 @@ use std::alloc::Global;
 
 /// The body of a function. A file doesn't tell how many of its locals were locals of the source, so the numbers are tried in
 /// turn, the least first: it has the fewest lines.
-pub(crate) fn body_of(source: Source<'_, '_>) -> Result<Body, LiftFault> {
+pub(crate) fn body_of(source: Source<'_, '_>) -> Result<Body, SourceFault> {
     let most = source.uses.most_locals(source.code, source.world.words.none_type);
     for first in source.code.parameters..most.saturating_add(1) {
         match defined_body(source, first) {
             Ok(body) => return Ok(body),
-            Err(LiftFault::OutOfMemory) => return Err(LiftFault::OutOfMemory),
-            Err(LiftFault::Broken { .. }) => {}
+            Err(SourceFault::OutOfMemory) => return Err(SourceFault::OutOfMemory),
+            Err(SourceFault::NotFound) => {}
         }
     }
-    Err(NOT_LIFTED)
+    Err(NOT_FOUND)
 }
 
-fn defined_body(source: Source<'_, '_>, first: usize) -> Result<Body, LiftFault> {
+fn defined_body(source: Source<'_, '_>, first: usize) -> Result<Body, SourceFault> {
     let mut body = read_body(source, first)?;
     define(source.alloc, source.code, first, &mut body)?;
     Ok(body)
@@ -42,7 +42,7 @@ struct Definitions {
 
 // Marks the definitions: the first statement that has a local of the source, in the order of the slots, in a block that has all
 // its uses.
-fn define(alloc: Global, code: &Code, first: usize, body: &mut Body) -> Result<(), LiftFault> {
+fn define(alloc: Global, code: &Code, first: usize, body: &mut Body) -> Result<(), SourceFault> {
     let mut definitions = Definitions {
         parameters: code.parameters,
         next: code.parameters,
@@ -53,7 +53,7 @@ fn define(alloc: Global, code: &Code, first: usize, body: &mut Body) -> Result<(
     let mut from = 0usize;
     for place in 0..body.lines.len() {
         let Some(numbered) = body.lines.get(place).copied() else {
-            return Err(NOT_LIFTED);
+            return Err(NOT_FOUND);
         };
         let line = definitions.before(numbered.line)?;
         definitions.check_uses(body, from, numbered.nodes)?;
@@ -61,7 +61,7 @@ fn define(alloc: Global, code: &Code, first: usize, body: &mut Body) -> Result<(
         set_line(body, place, line);
         from = numbered.nodes;
     }
-    if definitions.next == first { Ok(()) } else { Err(NOT_LIFTED) }
+    if definitions.next == first { Ok(()) } else { Err(NOT_FOUND) }
 }
 
 fn set_line(body: &mut Body, place: usize, line: Line) {
@@ -83,11 +83,11 @@ impl Definitions {
     }
 
     // The line, which may be a definition, where the blocks have ended that end before its expressions are evaluated.
-    fn before(&mut self, line: Line) -> Result<Line, LiftFault> {
+    fn before(&mut self, line: Line) -> Result<Line, SourceFault> {
         match line {
             Line::Set(Operand::Slot(slot), value) if self.is_hidden(slot) => {
                 if slot != self.next {
-                    return Err(NOT_LIFTED);
+                    return Err(NOT_FOUND);
                 }
                 self.next = slot.saturating_add(1);
                 self.mark(slot, true);
@@ -102,7 +102,7 @@ impl Definitions {
     }
 
     // Opens the block that the line opens.
-    fn behind(&mut self, line: Line) -> Result<(), LiftFault> {
+    fn behind(&mut self, line: Line) -> Result<(), SourceFault> {
         if let Line::If(_) | Line::ElseIf(_) | Line::Else | Line::While(_) = line {
             self.open.push(self.next)?;
         }
@@ -125,11 +125,11 @@ impl Definitions {
     }
 
     // The expressions from one number up to another use what may be used.
-    fn check_uses(&self, body: &Body, from: usize, to: usize) -> Result<(), LiftFault> {
+    fn check_uses(&self, body: &Body, from: usize, to: usize) -> Result<(), SourceFault> {
         for number in from..to {
             if let Form::Leaf(Operand::Slot(slot)) = body.trees.node(number)?.form {
                 if self.is_hidden(slot) {
-                    return Err(NOT_LIFTED);
+                    return Err(NOT_FOUND);
                 }
             }
         }

@@ -1,5 +1,5 @@
 // Jumps, read into If and While.
-use crate::fault::{LiftFault, NOT_LIFTED};
+use crate::fault::{SourceFault, NOT_FOUND};
 use crate::lines::{Line, Numbered};
 use crate::opcodes::JMP;
 use crate::reader::{Outcome, Reader, Source};
@@ -45,7 +45,7 @@ struct Blocks<'w, 'f> {
 }
 
 /// The body of a function whose slots from `first` on are temporaries.
-pub(crate) fn read_body(source: Source<'_, '_>, first: usize) -> Result<Body, LiftFault> {
+pub(crate) fn read_body(source: Source<'_, '_>, first: usize) -> Result<Body, SourceFault> {
     let alloc = source.alloc;
     let count = source.code.steps.len();
     let function = Block {
@@ -68,7 +68,7 @@ pub(crate) fn read_body(source: Source<'_, '_>, first: usize) -> Result<Body, Li
 impl<'w, 'f> Blocks<'w, 'f> {
     // Each turn goes behind an instruction, ends the right side of And or Or, or ends a block, of which an instruction opens
     // two at most.
-    fn read(&mut self) -> Result<(), LiftFault> {
+    fn read(&mut self) -> Result<(), SourceFault> {
         let turns = self.source.code.steps.len().saturating_mul(4).saturating_add(8);
         let mut at = 0usize;
         for _ in 0..turns {
@@ -77,13 +77,13 @@ impl<'w, 'f> Blocks<'w, 'f> {
                 None => return Ok(()),
             }
         }
-        Err(NOT_LIFTED)
+        Err(NOT_FOUND)
     }
 
-    fn finish(self) -> Result<Body, LiftFault> {
+    fn finish(self) -> Result<Body, SourceFault> {
         let Blocks { source: _, reader, lines, open: _, begun: _, back: _ } = self;
         if !reader.has_all_slots() {
-            return Err(NOT_LIFTED);
+            return Err(NOT_FOUND);
         }
         Ok(Body {
             lines,
@@ -91,15 +91,15 @@ impl<'w, 'f> Blocks<'w, 'f> {
         })
     }
 
-    fn innermost(&self) -> Result<Block, LiftFault> {
+    fn innermost(&self) -> Result<Block, SourceFault> {
         match self.open.last() {
             Some(block) => Ok(*block),
-            None => Err(NOT_LIFTED),
+            None => Err(NOT_FOUND),
         }
     }
 
     // What stands at a place is read. Gives the place behind it, and none at the function's end.
-    fn turn(&mut self, at: usize) -> Result<Option<usize>, LiftFault> {
+    fn turn(&mut self, at: usize) -> Result<Option<usize>, SourceFault> {
         if self.reader.side_end() == Some(at) {
             let outcome = self.reader.end_side(at)?;
             self.take(outcome, at, at)?;
@@ -110,7 +110,7 @@ impl<'w, 'f> Blocks<'w, 'f> {
             return self.end_block(block, at);
         }
         if at >= block.end {
-            return Err(NOT_LIFTED);
+            return Err(NOT_FOUND);
         }
         self.begin(block, at)?;
         let outcome = self.reader.step(at, block.end)?;
@@ -120,17 +120,17 @@ impl<'w, 'f> Blocks<'w, 'f> {
     }
 
     // A statement or a test begins here, unless one has.
-    fn begin(&mut self, block: Block, at: usize) -> Result<(), LiftFault> {
+    fn begin(&mut self, block: Block, at: usize) -> Result<(), SourceFault> {
         let back = self.source.uses.back_to(at);
         if self.begun {
             return match back {
-                Some(_) => Err(NOT_LIFTED),
+                Some(_) => Err(NOT_FOUND),
                 None => Ok(()),
             };
         }
         if let Some(jump) = back {
             if jump >= block.end {
-                return Err(NOT_LIFTED);
+                return Err(NOT_FOUND);
             }
         }
         self.begun = true;
@@ -138,7 +138,7 @@ impl<'w, 'f> Blocks<'w, 'f> {
         Ok(())
     }
 
-    fn put(&mut self, line: Line) -> Result<(), LiftFault> {
+    fn put(&mut self, line: Line) -> Result<(), SourceFault> {
         self.lines.push(Numbered {
             line,
             nodes: self.reader.trees.count(),
@@ -153,12 +153,12 @@ impl<'w, 'f> Blocks<'w, 'f> {
         }
     }
 
-    fn take(&mut self, outcome: Outcome, at: usize, next: usize) -> Result<(), LiftFault> {
+    fn take(&mut self, outcome: Outcome, at: usize, next: usize) -> Result<(), SourceFault> {
         match outcome {
             Outcome::Open => Ok(()),
             Outcome::Done(line) => {
                 if self.back.is_some() {
-                    return Err(NOT_LIFTED);
+                    return Err(NOT_FOUND);
                 }
                 self.begun = false;
                 self.put(line)?;
@@ -176,20 +176,20 @@ impl<'w, 'f> Blocks<'w, 'f> {
     }
 
     // The test of a While ends with the jump at this place.
-    fn open_while(&mut self, node: usize, at: usize, back: usize) -> Result<(), LiftFault> {
+    fn open_while(&mut self, node: usize, at: usize, back: usize) -> Result<(), SourceFault> {
         if at >= back || self.source.uses.target(at)? != back.saturating_add(1) {
-            return Err(NOT_LIFTED);
+            return Err(NOT_FOUND);
         }
         self.put(Line::While(node))?;
         self.open_block(BlockKind::While, back)
     }
 
     // The test of an If ends with the jump at this place.
-    fn open_if(&mut self, node: usize, at: usize, next: usize) -> Result<(), LiftFault> {
+    fn open_if(&mut self, node: usize, at: usize, next: usize) -> Result<(), SourceFault> {
         let over = self.source.uses.target(at)?;
         let limit = self.innermost()?.end;
         if over <= at || over > limit {
-            return Err(NOT_LIFTED);
+            return Err(NOT_FOUND);
         }
         self.put(Line::If(node))?;
         match self.own_exit(at, next, over)? {
@@ -197,13 +197,13 @@ impl<'w, 'f> Blocks<'w, 'f> {
             Some(end) if end <= limit => {
                 self.open_block(BlockKind::ThenElse { over, end }, over.saturating_sub(1))
             }
-            Some(_) => Err(NOT_LIFTED),
+            Some(_) => Err(NOT_FOUND),
         }
     }
 
     // Where the jump before the target of a test's jump leads, if it leads ahead and belongs to that If: no test inside has the
     // same target.
-    fn own_exit(&self, at: usize, next: usize, over: usize) -> Result<Option<usize>, LiftFault> {
+    fn own_exit(&self, at: usize, next: usize, over: usize) -> Result<Option<usize>, SourceFault> {
         let last = over.saturating_sub(1);
         if last < next || self.source.code.step(last)?.opcode != JMP {
             return Ok(None);
@@ -215,7 +215,7 @@ impl<'w, 'f> Blocks<'w, 'f> {
         Ok(Some(end))
     }
 
-    fn open_block(&mut self, kind: BlockKind, end: usize) -> Result<(), LiftFault> {
+    fn open_block(&mut self, kind: BlockKind, end: usize) -> Result<(), SourceFault> {
         self.open.push(Block {
             kind,
             end,
@@ -224,7 +224,7 @@ impl<'w, 'f> Blocks<'w, 'f> {
         Ok(())
     }
 
-    fn end_block(&mut self, block: Block, at: usize) -> Result<Option<usize>, LiftFault> {
+    fn end_block(&mut self, block: Block, at: usize) -> Result<Option<usize>, SourceFault> {
         let _ = self.open.pop();
         match block.kind {
             BlockKind::Function => return Ok(None),
@@ -242,7 +242,7 @@ impl<'w, 'f> Blocks<'w, 'f> {
     }
 
     // An Else whose statements have no code has one that does nothing.
-    fn open_else(&mut self, over: usize, end: usize) -> Result<Option<usize>, LiftFault> {
+    fn open_else(&mut self, over: usize, end: usize) -> Result<Option<usize>, SourceFault> {
         let line = self.lines.len();
         self.put(Line::Else)?;
         if end == over {
@@ -253,7 +253,7 @@ impl<'w, 'f> Blocks<'w, 'f> {
     }
 
     // An If that is all of an Else is an ElseIf, and the end of that If is the end of this one.
-    fn end_else(&mut self, line: usize, statements: usize) -> Result<(), LiftFault> {
+    fn end_else(&mut self, line: usize, statements: usize) -> Result<(), SourceFault> {
         let behind = line.saturating_add(1);
         if statements == 1 {
             if let Some(test) = self.test_at(behind) {

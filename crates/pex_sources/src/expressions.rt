@@ -1,6 +1,6 @@
 // The text of expressions.
 use crate::code::{Code, Operand};
-use crate::fault::{LiftFault, NOT_LIFTED};
+use crate::fault::{SourceFault, NOT_FOUND};
 use crate::opcodes::{
     ARRAY_FINDELEMENT, ARRAY_GETELEMENT, ARRAY_LENGTH, ARRAY_RFINDELEMENT, CMP_EQ, INEG, NOT, STRCAT, sign_of,
 };
@@ -54,7 +54,7 @@ pub(crate) struct Speaker<'w, 'f> {
 
 impl<'w, 'f> Speaker<'w, 'f> {
     /// Appends an expression.
-    pub(crate) fn put(self, page: &mut Page, number: usize, level: u8) -> Result<(), LiftFault> {
+    pub(crate) fn put(self, page: &mut Page, number: usize, level: u8) -> Result<(), SourceFault> {
         let mut items = Vec::new(page.alloc);
         items.push(Item::Node(number, level))?;
         let turns = self.trees.count().saturating_add(self.trees.part_count()).saturating_mul(8).saturating_add(8);
@@ -64,10 +64,10 @@ impl<'w, 'f> Speaker<'w, 'f> {
             };
             self.put_item(page, item, &mut items)?;
         }
-        Err(NOT_LIFTED)
+        Err(NOT_FOUND)
     }
 
-    fn put_item(self, page: &mut Page, item: Item<'w>, items: &mut Vec<Item<'w>>) -> Result<(), LiftFault> {
+    fn put_item(self, page: &mut Page, item: Item<'w>, items: &mut Vec<Item<'w>>) -> Result<(), SourceFault> {
         match item {
             Item::Node(number, level) => {
                 let mut parts = Vec::new(page.alloc);
@@ -84,7 +84,7 @@ impl<'w, 'f> Speaker<'w, 'f> {
         Ok(())
     }
 
-    fn expand(self, number: usize, level: u8, items: &mut Vec<Item<'w>>) -> Result<(), LiftFault> {
+    fn expand(self, number: usize, level: u8, items: &mut Vec<Item<'w>>) -> Result<(), SourceFault> {
         let node = self.trees.node(number)?;
         if self.level(node)? >= level {
             return self.bare(node, items);
@@ -95,7 +95,7 @@ impl<'w, 'f> Speaker<'w, 'f> {
         Ok(())
     }
 
-    fn level(self, node: Node) -> Result<u8, LiftFault> {
+    fn level(self, node: Node) -> Result<u8, SourceFault> {
         match node.form {
             Form::Or => Ok(OR),
             Form::And => Ok(AND),
@@ -111,12 +111,12 @@ impl<'w, 'f> Speaker<'w, 'f> {
     }
 
     // The comparison that a negation is of.
-    fn negated_equal(self, node: Node) -> Result<Option<Node>, LiftFault> {
+    fn negated_equal(self, node: Node) -> Result<Option<Node>, SourceFault> {
         let inner = self.trees.node(self.trees.part(node, 0)?)?;
         Ok(if inner.form == Form::Apply(CMP_EQ) { Some(inner) } else { None })
     }
 
-    fn bare(self, node: Node, items: &mut Vec<Item<'w>>) -> Result<(), LiftFault> {
+    fn bare(self, node: Node, items: &mut Vec<Item<'w>>) -> Result<(), SourceFault> {
         match node.form {
             Form::Leaf(operand) => items.push(self.leaf(operand)?)?,
             Form::Or => self.binary(node, b" || ", OR, items)?,
@@ -136,7 +136,7 @@ impl<'w, 'f> Speaker<'w, 'f> {
             Form::Method(name) => self.method(node, name, items)?,
             Form::ParentMethod(name) => self.parent_method(node, name, items)?,
             Form::Static(script, name) => self.static_call(node, script, name, items)?,
-            Form::OldProperty(_, _) | Form::OldElement(_, _) => return Err(NOT_LIFTED),
+            Form::OldProperty(_, _) | Form::OldElement(_, _) => return Err(NOT_FOUND),
         }
         Ok(())
     }
@@ -146,11 +146,11 @@ impl<'w, 'f> Speaker<'w, 'f> {
     }
 
     /// The parameter or local of this place as an item.
-    fn slot(self, place: usize) -> Result<Item<'w>, LiftFault> {
+    fn slot(self, place: usize) -> Result<Item<'w>, SourceFault> {
         Ok(Item::Slot(self.number, slot_pair(self.function, place)?, place))
     }
 
-    fn leaf(self, operand: Operand) -> Result<Item<'w>, LiftFault> {
+    fn leaf(self, operand: Operand) -> Result<Item<'w>, SourceFault> {
         match operand {
             Operand::Slot(place) => self.slot(place),
             Operand::Variable(place) => {
@@ -166,12 +166,12 @@ impl<'w, 'f> Speaker<'w, 'f> {
             Operand::Bool(true) => Ok(Item::Bytes(b"True")),
             Operand::Bool(false) => Ok(Item::Bytes(b"False")),
             Operand::Text(text) => Ok(Item::Text(self.script.text(text))),
-            Operand::StateText | Operand::Name(_) => Err(NOT_LIFTED),
+            Operand::StateText | Operand::Name(_) => Err(NOT_FOUND),
         }
     }
 
     // The first operand.
-    fn first(self, node: Node, level: u8, items: &mut Vec<Item<'w>>) -> Result<(), LiftFault> {
+    fn first(self, node: Node, level: u8, items: &mut Vec<Item<'w>>) -> Result<(), SourceFault> {
         items.push(Item::Node(self.trees.part(node, 0)?, level))?;
         Ok(())
     }
@@ -183,7 +183,7 @@ impl<'w, 'f> Speaker<'w, 'f> {
         sign: &'static [u8],
         level: u8,
         items: &mut Vec<Item<'w>>,
-    ) -> Result<(), LiftFault> {
+    ) -> Result<(), SourceFault> {
         let (left, right) = self.sides(node)?;
         items.push(Item::Node(left, level))?;
         items.push(Item::Bytes(sign))?;
@@ -191,7 +191,7 @@ impl<'w, 'f> Speaker<'w, 'f> {
         Ok(())
     }
 
-    fn operation(self, node: Node, opcode: u8, items: &mut Vec<Item<'w>>) -> Result<(), LiftFault> {
+    fn operation(self, node: Node, opcode: u8, items: &mut Vec<Item<'w>>) -> Result<(), SourceFault> {
         match opcode {
             NOT => self.negation(node, items),
             INEG => {
@@ -211,12 +211,12 @@ impl<'w, 'f> Speaker<'w, 'f> {
             ARRAY_RFINDELEMENT => self.find(node, b".RFind(", -1, items),
             _ => match sign_of(opcode) {
                 Some((sign, level)) => self.binary(node, sign, level, items),
-                None => Err(NOT_LIFTED),
+                None => Err(NOT_FOUND),
             },
         }
     }
 
-    fn negation(self, node: Node, items: &mut Vec<Item<'w>>) -> Result<(), LiftFault> {
+    fn negation(self, node: Node, items: &mut Vec<Item<'w>>) -> Result<(), SourceFault> {
         if let Some(equal) = self.negated_equal(node)? {
             return self.binary(equal, b" != ", EQUAL, items);
         }
@@ -226,7 +226,7 @@ impl<'w, 'f> Speaker<'w, 'f> {
         Ok(())
     }
 
-    fn element(self, array: usize, index: usize, items: &mut Vec<Item<'w>>) -> Result<(), LiftFault> {
+    fn element(self, array: usize, index: usize, items: &mut Vec<Item<'w>>) -> Result<(), SourceFault> {
         items.push(Item::Node(array, CHAIN))?;
         items.push(Item::Bytes(b"["))?;
         items.push(Item::Node(index, 0))?;
@@ -241,9 +241,9 @@ impl<'w, 'f> Speaker<'w, 'f> {
         name: &'static [u8],
         start: i32,
         items: &mut Vec<Item<'w>>,
-    ) -> Result<(), LiftFault> {
+    ) -> Result<(), SourceFault> {
         let [array, value, from] = self.trees.parts(node)? else {
-            return Err(NOT_LIFTED);
+            return Err(NOT_FOUND);
         };
         let element = self.world.element(self.trees.node(array.node)?.kind.number)?;
         items.push(Item::Node(array.node, CHAIN))?;
@@ -257,9 +257,9 @@ impl<'w, 'f> Speaker<'w, 'f> {
         Ok(())
     }
 
-    fn new_array(self, node: Node, count: i32, items: &mut Vec<Item<'w>>) -> Result<(), LiftFault> {
+    fn new_array(self, node: Node, count: i32, items: &mut Vec<Item<'w>>) -> Result<(), SourceFault> {
         let Some(element) = self.script.text(node.kind.reference).strip_suffix(b"[]") else {
-            return Err(NOT_LIFTED);
+            return Err(NOT_FOUND);
         };
         items.push(Item::Bytes(b"new "))?;
         items.push(Item::Bytes(element))?;
@@ -269,9 +269,9 @@ impl<'w, 'f> Speaker<'w, 'f> {
         Ok(())
     }
 
-    fn method(self, node: Node, name: u16, items: &mut Vec<Item<'w>>) -> Result<(), LiftFault> {
+    fn method(self, node: Node, name: u16, items: &mut Vec<Item<'w>>) -> Result<(), SourceFault> {
         let [of, arguments @ ..] = self.trees.parts(node)? else {
-            return Err(NOT_LIFTED);
+            return Err(NOT_FOUND);
         };
         let target = self.trees.node(of.node)?;
         if target.form != Form::Leaf(Operand::OwnInstance) {
@@ -282,7 +282,7 @@ impl<'w, 'f> Speaker<'w, 'f> {
         self.arguments(target.kind.number, name, arguments, items)
     }
 
-    fn parent_method(self, node: Node, name: u16, items: &mut Vec<Item<'w>>) -> Result<(), LiftFault> {
+    fn parent_method(self, node: Node, name: u16, items: &mut Vec<Item<'w>>) -> Result<(), SourceFault> {
         items.push(Item::Bytes(b"Parent."))?;
         items.push(self.named(name))?;
         let above = self.script.number(self.script.object.parent);
@@ -295,7 +295,7 @@ impl<'w, 'f> Speaker<'w, 'f> {
         script: u16,
         name: u16,
         items: &mut Vec<Item<'w>>,
-    ) -> Result<(), LiftFault> {
+    ) -> Result<(), SourceFault> {
         let kind = self.script.number(script);
         if !self.world.hides(self.script, kind) {
             items.push(self.named(script))?;
@@ -313,12 +313,12 @@ impl<'w, 'f> Speaker<'w, 'f> {
         name: u16,
         parts: &[Part],
         items: &mut Vec<Item<'w>>,
-    ) -> Result<(), LiftFault> {
+    ) -> Result<(), SourceFault> {
         let Some((script, function)) = self.world.find_function(kind, self.script.number(name)) else {
-            return Err(NOT_LIFTED);
+            return Err(NOT_FOUND);
         };
         if function.parameters.len() != parts.len() {
-            return Err(NOT_LIFTED);
+            return Err(NOT_FOUND);
         }
         items.push(Item::Bytes(b"("))?;
         let mut is_named = false;
@@ -337,7 +337,7 @@ impl<'w, 'f> Speaker<'w, 'f> {
     }
 
     // Whether it is the argument of Debug.Trace that stands there where none is written.
-    fn is_default(self, script: usize, at: usize, part: Part) -> Result<bool, LiftFault> {
+    fn is_default(self, script: usize, at: usize, part: Part) -> Result<bool, SourceFault> {
         Ok(script == DEBUG
             && at == 1
             && part.place == 1
@@ -351,7 +351,7 @@ impl<'w, 'f> Speaker<'w, 'f> {
         part: Part,
         is_named: bool,
         items: &mut Vec<Item<'w>>,
-    ) -> Result<(), LiftFault> {
+    ) -> Result<(), SourceFault> {
         let pair = slot_pair(function, part.place)?;
         if is_named {
             items.push(Item::Slot(script, pair, part.place))?;
@@ -363,7 +363,7 @@ impl<'w, 'f> Speaker<'w, 'f> {
     }
 
     /// The expression without its cast, where a value converts to that type by itself.
-    pub(crate) fn loose(self, number: usize, to: usize) -> Result<usize, LiftFault> {
+    pub(crate) fn loose(self, number: usize, to: usize) -> Result<usize, SourceFault> {
         let node = self.trees.node(number)?;
         if node.form != Form::Cast || node.kind.number != to {
             return Ok(number);
@@ -378,7 +378,7 @@ impl<'w, 'f> Speaker<'w, 'f> {
     }
 
     // Both sides of a sign, where the cast of one side, or with And and Or of both, is left out that comes by itself.
-    fn sides(self, node: Node) -> Result<(usize, usize), LiftFault> {
+    fn sides(self, node: Node) -> Result<(usize, usize), SourceFault> {
         let (left, right) = self.trees.pair(node)?;
         let words = &self.world.words;
         match node.form {
@@ -395,7 +395,7 @@ impl<'w, 'f> Speaker<'w, 'f> {
         }
     }
 
-    fn compared(self, left: usize, right: usize) -> Result<(usize, usize), LiftFault> {
+    fn compared(self, left: usize, right: usize) -> Result<(usize, usize), SourceFault> {
         let (left_kind, right_kind) = (self.trees.node(left)?.kind.number, self.trees.node(right)?.kind.number);
         let other = self.loose(right, right_kind)?;
         let other_kind = self.trees.node(other)?.kind.number;
@@ -411,21 +411,21 @@ impl<'w, 'f> Speaker<'w, 'f> {
     }
 
     /// Appends the name of a parameter or a local.
-    pub(crate) fn put_slot(self, page: &mut Page, place: usize) -> Result<(), LiftFault> {
+    pub(crate) fn put_slot(self, page: &mut Page, place: usize) -> Result<(), SourceFault> {
         let pair = slot_pair(self.function, place)?;
         put_slot_name(page, self.world, self.number, pair, place)
     }
 }
 
 /// References to the name and the type of a parameter or a local.
-pub(crate) fn slot_pair(function: &PexFunction, place: usize) -> Result<(u16, u16), LiftFault> {
+pub(crate) fn slot_pair(function: &PexFunction, place: usize) -> Result<(u16, u16), SourceFault> {
     let found = match place.checked_sub(function.parameters.len()) {
         None => function.parameters.get(place),
         Some(place) => function.locals.get(place),
     };
     match found {
         Some(pair) => Ok(*pair),
-        None => Err(NOT_LIFTED),
+        None => Err(NOT_FOUND),
     }
 }
 
@@ -436,7 +436,7 @@ pub(crate) fn put_slot_name(
     script: usize,
     pair: (u16, u16),
     place: usize,
-) -> Result<(), LiftFault> {
+) -> Result<(), SourceFault> {
     let script = world.script(script)?;
     let own = script.text(pair.0);
     if is_word(own) && !world.is_taken(script.number(pair.0)) {
@@ -445,13 +445,15 @@ pub(crate) fn put_slot_name(
     }
     let kind = script.number(pair.1);
     page.put(world.words.stem(kind, world.is_script(kind)))?;
-    put_underscores(page, world.underscores)?;
+    put_infix(page, world.infix)?;
     page.put_count(place)?;
     Ok(())
 }
 
-fn put_underscores(page: &mut Page, count: usize) -> Result<(), OutOfMemory> {
-    for _ in 0..count {
+fn put_infix(page: &mut Page, infix: Option<usize>) -> Result<(), OutOfMemory> {
+    if let Some(infix) = infix {
+        page.put(b"_")?;
+        page.put_count(infix)?;
         page.put(b"_")?;
     }
     Ok(())

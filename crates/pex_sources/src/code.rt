@@ -1,5 +1,5 @@
 // The code of a function, with its operands resolved.
-use crate::fault::{LiftFault, NOT_LIFTED};
+use crate::fault::{SourceFault, NOT_FOUND};
 use crate::opcodes::names_of;
 use crate::script::{Kind, Script};
 use crate::world::World;
@@ -48,7 +48,7 @@ impl Code {
         world: &World<'_>,
         script: &Script<'_>,
         function: &PexFunction,
-    ) -> Result<Code, LiftFault> {
+    ) -> Result<Code, SourceFault> {
         let alloc = world.alloc;
         let mut kinds = Vec::new(alloc);
         let mut slots = HashMap::new(alloc);
@@ -71,7 +71,7 @@ impl Code {
         Ok(code)
     }
 
-    fn add(&mut self, resolver: &Resolver<'_>, instruction: &Instruction) -> Result<(), LiftFault> {
+    fn add(&mut self, resolver: &Resolver<'_>, instruction: &Instruction) -> Result<(), SourceFault> {
         let first = self.operands.len();
         let names = names_of(instruction.opcode);
         for (place, datum) in instruction.fixed.iter().enumerate() {
@@ -96,31 +96,31 @@ impl Code {
     }
 
     /// The instruction at a place.
-    pub(crate) fn step(&self, at: usize) -> Result<Step, LiftFault> {
+    pub(crate) fn step(&self, at: usize) -> Result<Step, SourceFault> {
         match self.steps.get(at) {
             Some(step) => Ok(*step),
-            None => Err(NOT_LIFTED),
+            None => Err(NOT_FOUND),
         }
     }
 
     /// The operand at a place among those of the function.
-    pub(crate) fn operand(&self, at: usize) -> Result<Operand, LiftFault> {
+    pub(crate) fn operand(&self, at: usize) -> Result<Operand, SourceFault> {
         match self.operands.get(at) {
             Some(operand) => Ok(*operand),
-            None => Err(NOT_LIFTED),
+            None => Err(NOT_FOUND),
         }
     }
 
     /// The operand of an instruction by its own place.
-    pub(crate) fn operand_of(&self, step: Step, place: usize) -> Result<Operand, LiftFault> {
+    pub(crate) fn operand_of(&self, step: Step, place: usize) -> Result<Operand, SourceFault> {
         self.operand(step.first.saturating_add(place))
     }
 
     /// The type of a parameter or a local.
-    pub(crate) fn kind(&self, slot: usize) -> Result<Kind, LiftFault> {
+    pub(crate) fn kind(&self, slot: usize) -> Result<Kind, SourceFault> {
         match self.kinds.get(slot) {
             Some(kind) => Ok(*kind),
-            None => Err(NOT_LIFTED),
+            None => Err(NOT_FOUND),
         }
     }
 }
@@ -151,19 +151,19 @@ struct Resolver<'a> {
 }
 
 impl<'a> Resolver<'a> {
-    fn operand(&self, datum: Datum) -> Result<Operand, LiftFault> {
+    fn operand(&self, datum: Datum) -> Result<Operand, SourceFault> {
         match datum {
             Datum::NoneValue => Ok(Operand::NoneValue),
             Datum::Int(number) => Ok(Operand::Int(number)),
             Datum::Bool(byte) => Ok(Operand::Bool(byte != 0)),
             Datum::Quoted(text) => Ok(Operand::Text(text)),
             Datum::Word(name) => self.variable(self.script.number(name)),
-            Datum::Float(_) => Err(NOT_LIFTED),
+            Datum::Float(_) => Err(NOT_FOUND),
         }
     }
 
     // What the identifier of this number means.
-    fn variable(&self, name: usize) -> Result<Operand, LiftFault> {
+    fn variable(&self, name: usize) -> Result<Operand, SourceFault> {
         if let Some(slot) = self.slots.get(&name) {
             return Ok(Operand::Slot(*slot));
         }
@@ -176,14 +176,14 @@ impl<'a> Resolver<'a> {
         if name == self.world.words.state_variable {
             return Ok(Operand::StateText);
         }
-        Err(NOT_LIFTED)
+        Err(NOT_FOUND)
     }
 }
 
 // An operand that names a function, a property or a script.
-fn name(datum: Datum) -> Result<Operand, LiftFault> {
+fn name(datum: Datum) -> Result<Operand, SourceFault> {
     match datum {
         Datum::Word(name) => Ok(Operand::Name(name)),
-        _ => Err(NOT_LIFTED),
+        _ => Err(NOT_FOUND),
     }
 }

@@ -2,7 +2,7 @@
 use crate::code::Code;
 use crate::definitions::body_of;
 use crate::expressions::{Speaker, put_slot_name};
-use crate::fault::{LiftFault, NOT_LIFTED};
+use crate::fault::{SourceFault, NOT_FOUND};
 use crate::imports::put_imports;
 use crate::page::Page;
 use crate::reader::Source;
@@ -36,7 +36,7 @@ struct Author<'a> {
 }
 
 /// The text of the script of this number, without indentation where it would be too long with it.
-pub(crate) fn script_text(world: &World<'_>, number: usize) -> Result<Text, LiftFault> {
+pub(crate) fn script_text(world: &World<'_>, number: usize) -> Result<Text, SourceFault> {
     let script = world.script(number)?;
     let author = Author {
         world,
@@ -58,7 +58,7 @@ fn fits(bytes: &[u8]) -> bool {
 }
 
 impl<'a> Author<'a> {
-    fn bytes(self, is_indented: bool) -> Result<Vec<u8>, LiftFault> {
+    fn bytes(self, is_indented: bool) -> Result<Vec<u8>, SourceFault> {
         let mut page = Page::new(self.world.alloc, is_indented);
         self.put_heading(&mut page)?;
         put_imports(&mut page, self.world, self.script)?;
@@ -72,7 +72,7 @@ impl<'a> Author<'a> {
         Ok(page.bytes)
     }
 
-    fn put_heading(self, page: &mut Page) -> Result<(), LiftFault> {
+    fn put_heading(self, page: &mut Page) -> Result<(), SourceFault> {
         let object = self.script.object;
         page.begin()?;
         page.put(b"ScriptName ")?;
@@ -88,7 +88,7 @@ impl<'a> Author<'a> {
     }
 
     // Variables and properties: each variable before the first Auto property whose variable stands behind it.
-    fn put_fields(self, page: &mut Page) -> Result<(), LiftFault> {
+    fn put_fields(self, page: &mut Page) -> Result<(), SourceFault> {
         let mut written = 0usize;
         for property in &self.script.object.properties {
             if let Some(name) = property.variable {
@@ -101,15 +101,15 @@ impl<'a> Author<'a> {
         self.put_variables(page, written, self.script.object.variables.len())
     }
 
-    fn variable_place(self, name: u16) -> Result<usize, LiftFault> {
+    fn variable_place(self, name: u16) -> Result<usize, SourceFault> {
         match self.script.variable_place(self.script.number(name)) {
             Some(place) => Ok(place),
-            None => Err(NOT_LIFTED),
+            None => Err(NOT_FOUND),
         }
     }
 
     // The variables from one place up to another, but for those of Auto properties.
-    fn put_variables(self, page: &mut Page, from: usize, to: usize) -> Result<(), LiftFault> {
+    fn put_variables(self, page: &mut Page, from: usize, to: usize) -> Result<(), SourceFault> {
         for place in from..to {
             let variable = self.script.variable(place)?;
             if self.script.auto_property(variable).is_none() {
@@ -119,7 +119,7 @@ impl<'a> Author<'a> {
         Ok(())
     }
 
-    fn put_variable(self, page: &mut Page, variable: &PexVariable) -> Result<(), LiftFault> {
+    fn put_variable(self, page: &mut Page, variable: &PexVariable) -> Result<(), SourceFault> {
         page.begin()?;
         page.put(self.script.text(variable.kind))?;
         page.put(b" ")?;
@@ -131,7 +131,7 @@ impl<'a> Author<'a> {
     }
 
     // The value with which a variable begins, unless it is that of its type.
-    fn put_initial(self, page: &mut Page, variable: &PexVariable) -> Result<(), LiftFault> {
+    fn put_initial(self, page: &mut Page, variable: &PexVariable) -> Result<(), SourceFault> {
         let is_default = match variable.value {
             Datum::NoneValue | Datum::Int(0) | Datum::Bool(0) => true,
             Datum::Quoted(text) => self.script.text(text).is_empty(),
@@ -144,19 +144,19 @@ impl<'a> Author<'a> {
         self.put_literal(page, variable.value)
     }
 
-    fn put_literal(self, page: &mut Page, value: Datum) -> Result<(), LiftFault> {
+    fn put_literal(self, page: &mut Page, value: Datum) -> Result<(), SourceFault> {
         match value {
             Datum::NoneValue => page.put(b"None")?,
             Datum::Int(number) => page.put_int(number)?,
             Datum::Bool(0) => page.put(b"False")?,
             Datum::Bool(_) => page.put(b"True")?,
             Datum::Quoted(text) => page.put_text(self.script.text(text))?,
-            Datum::Word(_) | Datum::Float(_) => return Err(NOT_LIFTED),
+            Datum::Word(_) | Datum::Float(_) => return Err(NOT_FOUND),
         }
         Ok(())
     }
 
-    fn put_property(self, page: &mut Page, property: &'a PexProperty) -> Result<(), LiftFault> {
+    fn put_property(self, page: &mut Page, property: &'a PexProperty) -> Result<(), SourceFault> {
         page.begin()?;
         page.put(self.script.text(property.kind))?;
         page.put(b" Property ")?;
@@ -182,9 +182,9 @@ impl<'a> Author<'a> {
         Ok(())
     }
 
-    fn put_auto(self, page: &mut Page, property: &PexProperty) -> Result<(), LiftFault> {
+    fn put_auto(self, page: &mut Page, property: &PexProperty) -> Result<(), SourceFault> {
         let Some(name) = property.variable else {
-            return Err(NOT_LIFTED);
+            return Err(NOT_FOUND);
         };
         let variable = self.script.variable(self.variable_place(name)?)?;
         self.put_initial(page, variable)?;
@@ -220,17 +220,17 @@ impl<'a> Author<'a> {
         self.script.text(function.doc).is_empty() && function.flags == 0 && function.bits == 0
     }
 
-    fn put_accessor(self, page: &mut Page, name: &[u8], function: &'a Option<PexFunction>) -> Result<(), LiftFault> {
+    fn put_accessor(self, page: &mut Page, name: &[u8], function: &'a Option<PexFunction>) -> Result<(), SourceFault> {
         match function {
             Some(function) => self.put_function(page, name, function),
             None => Ok(()),
         }
     }
 
-    fn put_state(self, page: &mut Page, state: &'a PexState, is_first: bool) -> Result<(), LiftFault> {
+    fn put_state(self, page: &mut Page, state: &'a PexState, is_first: bool) -> Result<(), SourceFault> {
         let name = self.script.text(state.name);
         if name.is_empty() {
-            return if is_first { self.put_functions(page, &state.functions, true) } else { Err(NOT_LIFTED) };
+            return if is_first { self.put_functions(page, &state.functions, true) } else { Err(NOT_FOUND) };
         }
         page.blank()?;
         page.begin()?;
@@ -253,7 +253,7 @@ impl<'a> Author<'a> {
         page: &mut Page,
         functions: &'a [(u16, PexFunction)],
         is_empty_state: bool,
-    ) -> Result<(), LiftFault> {
+    ) -> Result<(), SourceFault> {
         let has_parent = !self.script.text(self.script.object.parent).is_empty();
         let mut count = functions.len();
         if is_empty_state && !has_parent {
@@ -283,7 +283,7 @@ impl<'a> Author<'a> {
         }
     }
 
-    fn put_function(self, page: &mut Page, name: &[u8], function: &'a PexFunction) -> Result<(), LiftFault> {
+    fn put_function(self, page: &mut Page, name: &[u8], function: &'a PexFunction) -> Result<(), SourceFault> {
         let is_event = self.is_event(name, function);
         page.blank()?;
         page.begin()?;
@@ -295,7 +295,7 @@ impl<'a> Author<'a> {
         page.put(name)?;
         self.put_parameters(page, function)?;
         if function.bits > 3 {
-            return Err(NOT_LIFTED);
+            return Err(NOT_FOUND);
         }
         if function.bits & GLOBAL != 0 {
             page.put(b" Global")?;
@@ -337,7 +337,7 @@ impl<'a> Author<'a> {
         page.put(b"Function ")
     }
 
-    fn put_parameters(self, page: &mut Page, function: &PexFunction) -> Result<(), LiftFault> {
+    fn put_parameters(self, page: &mut Page, function: &PexFunction) -> Result<(), SourceFault> {
         page.put(b"(")?;
         for (place, pair) in function.parameters.iter().enumerate() {
             if place > 0 {
@@ -351,7 +351,7 @@ impl<'a> Author<'a> {
         Ok(())
     }
 
-    fn put_body(self, page: &mut Page, function: &'a PexFunction) -> Result<(), LiftFault> {
+    fn put_body(self, page: &mut Page, function: &'a PexFunction) -> Result<(), SourceFault> {
         let world = self.world;
         let code = Code::of(world, self.script, function)?;
         let uses = Uses::of(world.alloc, &code)?;
@@ -385,9 +385,9 @@ fn returned(code: &[Instruction]) -> Option<Datum> {
     only.fixed.first().copied()
 }
 
-fn put_flags(page: &mut Page, flags: u32) -> Result<(), LiftFault> {
+fn put_flags(page: &mut Page, flags: u32) -> Result<(), SourceFault> {
     if flags > HIDDEN | CONDITIONAL {
-        return Err(NOT_LIFTED);
+        return Err(NOT_FOUND);
     }
     if flags & HIDDEN != 0 {
         page.put(b" Hidden")?;

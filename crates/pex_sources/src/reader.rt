@@ -1,6 +1,6 @@
 // The instructions of a function, read one after another into expressions and simple statements.
 use crate::code::{Code, Operand, Step};
-use crate::fault::{LiftFault, NOT_LIFTED};
+use crate::fault::{SourceFault, NOT_FOUND};
 use crate::lines::Line;
 use crate::opcodes::{
     ARRAY_CREATE, ARRAY_GETELEMENT, ARRAY_SETELEMENT, ASSIGN, CALL_METHOD, CALL_PARENT, CALL_STATIC, CAST, JMP, JMPF, JMPT,
@@ -99,7 +99,7 @@ impl<'w, 'f> Reader<'w, 'f> {
     }
 
     // The type of what an operand stands for.
-    fn kind_of(&self, operand: Operand) -> Result<Kind, LiftFault> {
+    fn kind_of(&self, operand: Operand) -> Result<Kind, SourceFault> {
         let words = &self.source.world.words;
         match operand {
             Operand::Slot(slot) => self.source.code.kind(slot),
@@ -112,40 +112,40 @@ impl<'w, 'f> Reader<'w, 'f> {
             Operand::Int(_) => Ok(words.kind(words.int_type)),
             Operand::Bool(_) => Ok(words.kind(words.bool_type)),
             Operand::NoneValue => Ok(words.kind(words.none_type)),
-            Operand::Name(_) => Err(NOT_LIFTED),
+            Operand::Name(_) => Err(NOT_FOUND),
         }
     }
 
     // The expression that an operand is, by its place among those of the function. Only where it may be read again may the
     // next instruction read it again.
-    fn read(&mut self, place: usize, again: bool) -> Result<usize, LiftFault> {
+    fn read(&mut self, place: usize, again: bool) -> Result<usize, SourceFault> {
         let operand = self.source.code.operand(place)?;
         if !self.is_temporary(operand) {
             let kind = self.kind_of(operand)?;
             return self.trees.add_leaf(Form::Leaf(operand), kind, None);
         }
         let Operand::Slot(slot) = operand else {
-            return Err(NOT_LIFTED);
+            return Err(NOT_FOUND);
         };
         if held_in(&self.held, slot).is_some() {
-            return Err(NOT_LIFTED);
+            return Err(NOT_FOUND);
         }
         let Some(node) = take_from(&mut self.pending, slot) else {
-            return Err(NOT_LIFTED);
+            return Err(NOT_FOUND);
         };
         if !self.source.uses.is_read_next(place) {
             self.waiting = self.waiting.saturating_sub(1);
             return Ok(node);
         }
         if !again {
-            return Err(NOT_LIFTED);
+            return Err(NOT_FOUND);
         }
         put_into(&mut self.held, slot, node);
         Ok(node)
     }
 
     // Takes back the temporary that an operand was, unless it is read again.
-    fn give_back(&mut self, place: usize) -> Result<(), LiftFault> {
+    fn give_back(&mut self, place: usize) -> Result<(), SourceFault> {
         if let Operand::Slot(slot) = self.source.code.operand(place)? {
             if held_in(&self.held, slot).is_none() {
                 self.temporaries.give_back(self.source.code, slot)?;
@@ -155,23 +155,23 @@ impl<'w, 'f> Reader<'w, 'f> {
     }
 
     // Notes that a temporary has this value from now on.
-    fn put(&mut self, slot: usize, node: usize) -> Result<(), LiftFault> {
+    fn put(&mut self, slot: usize, node: usize) -> Result<(), SourceFault> {
         if held_in(&self.held, slot).is_some() || held_in(&self.pending, slot).is_some() {
-            return Err(NOT_LIFTED);
+            return Err(NOT_FOUND);
         }
         put_into(&mut self.pending, slot, node);
         self.waiting = self.waiting.saturating_add(1);
         Ok(())
     }
 
-    fn clear(&self) -> Result<(), LiftFault> {
-        if self.waiting == 0 { Ok(()) } else { Err(NOT_LIFTED) }
+    fn clear(&self) -> Result<(), SourceFault> {
+        if self.waiting == 0 { Ok(()) } else { Err(NOT_FOUND) }
     }
 
     // The value of the instruction before, whose target is the operand at this place. It is a statement where nobody reads it.
-    fn store(&mut self, place: usize, node: usize) -> Result<Outcome, LiftFault> {
+    fn store(&mut self, place: usize, node: usize) -> Result<Outcome, SourceFault> {
         let Operand::Slot(slot) = self.source.code.operand(place)? else {
-            return Err(NOT_LIFTED);
+            return Err(NOT_FOUND);
         };
         let kind = self.source.code.kind(slot)?.number;
         let is_none = kind == self.source.world.words.none_type;
@@ -187,15 +187,15 @@ impl<'w, 'f> Reader<'w, 'f> {
     }
 
     /// Ends the innermost And or Or, whose right side ends before this place.
-    pub(crate) fn end_side(&mut self, at: usize) -> Result<Outcome, LiftFault> {
+    pub(crate) fn end_side(&mut self, at: usize) -> Result<Outcome, SourceFault> {
         let Some(side) = self.sides.pop() else {
-            return Err(NOT_LIFTED);
+            return Err(NOT_FOUND);
         };
         if self.fresh.take() != Some(side.slot) {
-            return Err(NOT_LIFTED);
+            return Err(NOT_FOUND);
         }
         let Some(right) = take_from(&mut self.pending, side.slot) else {
-            return Err(NOT_LIFTED);
+            return Err(NOT_FOUND);
         };
         self.waiting = self.waiting.saturating_sub(2);
         let words = &self.source.world.words;
@@ -208,7 +208,7 @@ impl<'w, 'f> Reader<'w, 'f> {
     }
 
     /// Reads the instruction at a place of a block that ends at `limit`.
-    pub(crate) fn step(&mut self, at: usize, limit: usize) -> Result<Outcome, LiftFault> {
+    pub(crate) fn step(&mut self, at: usize, limit: usize) -> Result<Outcome, SourceFault> {
         let before = self.fresh.take();
         let step = self.source.code.step(at)?;
         match step.opcode {
@@ -221,13 +221,13 @@ impl<'w, 'f> Reader<'w, 'f> {
             }
             PROPSET => self.set_property(step),
             ARRAY_SETELEMENT => self.set_element(step),
-            JMP | 0x00 => Err(NOT_LIFTED),
+            JMP | 0x00 => Err(NOT_FOUND),
             _ => self.value(at, step),
         }
     }
 
     // The only operand of an instruction that ends a statement.
-    fn read_last(&mut self, place: usize) -> Result<usize, LiftFault> {
+    fn read_last(&mut self, place: usize) -> Result<usize, SourceFault> {
         let node = self.read(place, false)?;
         self.check_kept(&[node])?;
         self.clear()?;
@@ -240,7 +240,7 @@ impl<'w, 'f> Reader<'w, 'f> {
         step: Step,
         limit: usize,
         before: Option<usize>,
-    ) -> Result<Outcome, LiftFault> {
+    ) -> Result<Outcome, SourceFault> {
         if let Operand::Slot(slot) = self.source.code.operand(step.first)? {
             if self.temporaries.has(slot) && before == Some(slot) {
                 self.begin_side(at, step, slot, limit)?;
@@ -248,7 +248,7 @@ impl<'w, 'f> Reader<'w, 'f> {
             }
         }
         if step.opcode != JMPF {
-            return Err(NOT_LIFTED);
+            return Err(NOT_FOUND);
         }
         let node = self.read_last(step.first)?;
         self.give_back(step.first)?;
@@ -256,17 +256,17 @@ impl<'w, 'f> Reader<'w, 'f> {
     }
 
     // The left side of And or Or ends with this jump.
-    fn begin_side(&mut self, at: usize, step: Step, slot: usize, limit: usize) -> Result<(), LiftFault> {
+    fn begin_side(&mut self, at: usize, step: Step, slot: usize, limit: usize) -> Result<(), SourceFault> {
         let end = self.source.uses.target(at)?;
         let outer = match self.sides.last() {
             Some(side) => side.end,
             None => limit,
         };
         if end <= at.saturating_add(1) || end > outer {
-            return Err(NOT_LIFTED);
+            return Err(NOT_FOUND);
         }
         let Some(left) = take_from(&mut self.pending, slot) else {
-            return Err(NOT_LIFTED);
+            return Err(NOT_FOUND);
         };
         let form = if step.opcode == JMPF { Form::And } else { Form::Or };
         self.sides.push(Side {
@@ -279,7 +279,7 @@ impl<'w, 'f> Reader<'w, 'f> {
         Ok(())
     }
 
-    fn assign(&mut self, at: usize, step: Step) -> Result<Outcome, LiftFault> {
+    fn assign(&mut self, at: usize, step: Step) -> Result<Outcome, SourceFault> {
         let source = step.first.saturating_add(1);
         let target = self.source.code.operand(step.first)?;
         let value = self.read(source, false)?;
@@ -290,7 +290,7 @@ impl<'w, 'f> Reader<'w, 'f> {
             return Ok(Outcome::Done(Line::Set(target, value)));
         }
         let Operand::Slot(slot) = target else {
-            return Err(NOT_LIFTED);
+            return Err(NOT_FOUND);
         };
         if self.ends_side(slot, at) {
             self.check_kept(&[value])?;
@@ -325,10 +325,10 @@ impl<'w, 'f> Reader<'w, 'f> {
     }
 
     // A variable whose value is kept while a later operand acts.
-    fn keep(&mut self, at: usize, step: Step, slot: usize, value: usize) -> Result<Outcome, LiftFault> {
+    fn keep(&mut self, at: usize, step: Step, slot: usize, value: usize) -> Result<Outcome, SourceFault> {
         let node = self.trees.node(value)?;
         if !node.varies() || node.at.is_some() || !self.source.uses.is_read_next(step.first) {
-            return Err(NOT_LIFTED);
+            return Err(NOT_FOUND);
         }
         self.temporaries.take(self.source.code, slot)?;
         let kept = self.trees.add_leaf(node.form, node.kind, Some(at))?;
@@ -338,17 +338,17 @@ impl<'w, 'f> Reader<'w, 'f> {
 
     // Operands in the order in which they are evaluated: the code of each stands before that of the next, and a variable is
     // kept exactly where a later one acts.
-    fn check_kept(&self, nodes: &[usize]) -> Result<(), LiftFault> {
+    fn check_kept(&self, nodes: &[usize]) -> Result<(), SourceFault> {
         let mut acts = false;
         let mut after = None;
         for number in nodes.iter().rev() {
             let node = self.trees.node(*number)?;
             if node.varies() && node.at.is_some() != acts {
-                return Err(NOT_LIFTED);
+                return Err(NOT_FOUND);
             }
             if let Some(at) = node.at {
                 if stands_behind(at, after) {
-                    return Err(NOT_LIFTED);
+                    return Err(NOT_FOUND);
                 }
                 after = node.start;
             }
@@ -358,16 +358,16 @@ impl<'w, 'f> Reader<'w, 'f> {
     }
 
     // An instruction that gives a value.
-    fn value(&mut self, at: usize, step: Step) -> Result<Outcome, LiftFault> {
+    fn value(&mut self, at: usize, step: Step) -> Result<Outcome, SourceFault> {
         let Some(result_place) = result_of(step.opcode) else {
-            return Err(NOT_LIFTED);
+            return Err(NOT_FOUND);
         };
         let target = step.first.saturating_add(result_place);
         let Operand::Slot(slot) = self.source.code.operand(target)? else {
-            return Err(NOT_LIFTED);
+            return Err(NOT_FOUND);
         };
         if !self.temporaries.has(slot) {
-            return Err(NOT_LIFTED);
+            return Err(NOT_FOUND);
         }
         let reads = self.read_operands(step, target)?;
         let mut nodes = Vec::new(self.source.alloc);
@@ -387,7 +387,7 @@ impl<'w, 'f> Reader<'w, 'f> {
     }
 
     // Whether one of the operands is to be read again.
-    fn holds_any(&self, reads: &[Read]) -> Result<bool, LiftFault> {
+    fn holds_any(&self, reads: &[Read]) -> Result<bool, SourceFault> {
         for read in reads {
             if let Operand::Slot(slot) = self.source.code.operand(read.operand)? {
                 if held_in(&self.held, slot).is_some() {
@@ -399,7 +399,7 @@ impl<'w, 'f> Reader<'w, 'f> {
     }
 
     // The operands that an instruction reads, in the order in which they are evaluated.
-    fn read_operands(&mut self, step: Step, target: usize) -> Result<Vec<Read>, LiftFault> {
+    fn read_operands(&mut self, step: Step, target: usize) -> Result<Vec<Read>, SourceFault> {
         let alloc = self.source.alloc;
         let again = step.opcode == PROPGET || step.opcode == ARRAY_GETELEMENT;
         let mut reads = Vec::new(alloc);
@@ -420,7 +420,7 @@ impl<'w, 'f> Reader<'w, 'f> {
 
     // Appends arguments in the order of writing: those with code in the order of their code, then the others, so that a
     // variable that was not kept stands behind all that acts. As the parameters stand, where that does.
-    fn put_in_order(&self, arguments: &[Read], reads: &mut Vec<Read>) -> Result<(), LiftFault> {
+    fn put_in_order(&self, arguments: &[Read], reads: &mut Vec<Read>) -> Result<(), SourceFault> {
         if self.is_in_order(arguments)? {
             reads.extend_from_slice(arguments)?;
             return Ok(());
@@ -443,7 +443,7 @@ impl<'w, 'f> Reader<'w, 'f> {
         Ok(())
     }
 
-    fn is_in_order(&self, arguments: &[Read]) -> Result<bool, LiftFault> {
+    fn is_in_order(&self, arguments: &[Read]) -> Result<bool, SourceFault> {
         let mut later_acts = false;
         let mut later = None;
         for argument in arguments.iter().rev() {
@@ -469,7 +469,7 @@ impl<'w, 'f> Reader<'w, 'f> {
         slot: usize,
         reads: &[Read],
         is_old: bool,
-    ) -> Result<usize, LiftFault> {
+    ) -> Result<usize, SourceFault> {
         let kind = self.source.code.kind(slot)?;
         if is_old {
             let form = self.old_form(step)?;
@@ -486,18 +486,18 @@ impl<'w, 'f> Reader<'w, 'f> {
         self.trees.add(form, kind, &parts, at, at)
     }
 
-    fn old_form(&self, step: Step) -> Result<Form, LiftFault> {
+    fn old_form(&self, step: Step) -> Result<Form, SourceFault> {
         let code = self.source.code;
         if step.opcode == PROPGET {
             let Operand::Name(name) = code.operand_of(step, 0)? else {
-                return Err(NOT_LIFTED);
+                return Err(NOT_FOUND);
             };
             return Ok(Form::OldProperty(name, code.operand_of(step, 1)?));
         }
         Ok(Form::OldElement(code.operand_of(step, 1)?, code.operand_of(step, 2)?))
     }
 
-    fn form(&self, step: Step) -> Result<Form, LiftFault> {
+    fn form(&self, step: Step) -> Result<Form, SourceFault> {
         let code = self.source.code;
         match step.opcode {
             CAST => Ok(Form::Cast),
@@ -507,25 +507,25 @@ impl<'w, 'f> Reader<'w, 'f> {
             PROPGET => Ok(Form::Property(self.name(step, 0)?)),
             ARRAY_CREATE => match code.operand_of(step, 1)? {
                 Operand::Int(count) => Ok(Form::NewArray(count)),
-                _ => Err(NOT_LIFTED),
+                _ => Err(NOT_FOUND),
             },
             opcode => Ok(Form::Apply(opcode)),
         }
     }
 
-    fn name(&self, step: Step, place: usize) -> Result<u16, LiftFault> {
+    fn name(&self, step: Step, place: usize) -> Result<u16, SourceFault> {
         match self.source.code.operand_of(step, place)? {
             Operand::Name(name) => Ok(name),
-            _ => Err(NOT_LIFTED),
+            _ => Err(NOT_FOUND),
         }
     }
 
     // The target of an assignment, which a compound one has read before.
-    fn read_target(&mut self, place: usize) -> Result<(usize, bool), LiftFault> {
+    fn read_target(&mut self, place: usize) -> Result<(usize, bool), SourceFault> {
         if let Operand::Slot(slot) = self.source.code.operand(place)? {
             if let Some(node) = take_from(&mut self.held, slot) {
                 if self.source.uses.is_read_next(place) {
-                    return Err(NOT_LIFTED);
+                    return Err(NOT_FOUND);
                 }
                 self.waiting = self.waiting.saturating_sub(1);
                 return Ok((node, true));
@@ -534,7 +534,7 @@ impl<'w, 'f> Reader<'w, 'f> {
         Ok((self.read(place, false)?, false))
     }
 
-    fn set_property(&mut self, step: Step) -> Result<Outcome, LiftFault> {
+    fn set_property(&mut self, step: Step) -> Result<Outcome, SourceFault> {
         let name = self.name(step, 0)?;
         let (target, source) = (step.first.saturating_add(1), step.first.saturating_add(2));
         let value = self.read(source, false)?;
@@ -550,7 +550,7 @@ impl<'w, 'f> Reader<'w, 'f> {
         Ok(Outcome::Done(Line::ChangeProperty(name, of, opcode, right)))
     }
 
-    fn set_element(&mut self, step: Step) -> Result<Outcome, LiftFault> {
+    fn set_element(&mut self, step: Step) -> Result<Outcome, SourceFault> {
         let (index, source) = (step.first.saturating_add(1), step.first.saturating_add(2));
         let value = self.read(source, false)?;
         let (array, array_again) = self.read_target(step.first)?;
@@ -570,10 +570,10 @@ impl<'w, 'f> Reader<'w, 'f> {
     }
 
     // The opcode and the right side of an assignment that computes with this old value.
-    fn changed(&self, value: usize, old_form: Form) -> Result<(u8, usize), LiftFault> {
+    fn changed(&self, value: usize, old_form: Form) -> Result<(u8, usize), SourceFault> {
         match self.trees.change(value)? {
             Some((opcode, old, right)) if self.trees.node(old)?.form == old_form => Ok((opcode, right)),
-            _ => Err(NOT_LIFTED),
+            _ => Err(NOT_FOUND),
         }
     }
 }

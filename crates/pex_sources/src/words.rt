@@ -97,37 +97,64 @@ pub(crate) fn is_word(bytes: &[u8]) -> bool {
     }
 }
 
-/// How many `_` a made up name has behind its stem, so that no string of the files is such a name.
-pub(crate) fn free_underscores(files: &[Pex]) -> usize {
-    let mut free = 0usize;
+/// What stands between the stem and the place in a made up name, so that no string of the files is such a name: nothing, or
+/// where one is a number.
+pub(crate) fn free_infix(alloc: Global, files: &[Pex]) -> Result<Option<usize>, OutOfMemory> {
+    let mut used = HashSet::new(alloc);
+    let mut is_free = true;
     for file in files {
         for string in &file.strings {
-            free = free.max(made_up_underscores(string.as_bytes()));
+            let rest = behind_stem(string.as_bytes());
+            is_free = is_free && !is_number(rest);
+            if let Some(infix) = infix_of(rest) {
+                used.insert(infix)?;
+            }
         }
     }
-    free
+    Ok(if is_free { None } else { Some(least_unused(&used)) })
 }
 
-// One more than the `_` of a string that could be a made up name, and 0 for every other string.
-fn made_up_underscores(string: &[u8]) -> usize {
-    let digits = string.iter().rev().take_while(|b| b.is_ascii_digit()).count();
-    let underscores = string.iter().rev().skip(digits).take_while(|b| **b == b'_').count();
-    let stem = string.len().saturating_sub(digits).saturating_sub(underscores);
-    let is_stem = match string.get(..stem) {
-        Some(stem) => is_stem(stem),
-        None => false,
-    };
-    if digits > 0 && is_stem {
-        underscores.saturating_add(1)
-    } else {
-        0
+// The least number that is none of these.
+fn least_unused(used: &HashSet<usize>) -> usize {
+    for infix in 0..used.len() {
+        if !used.contains(&infix) {
+            return infix;
+        }
     }
+    used.len()
 }
 
-fn is_stem(bytes: &[u8]) -> bool {
-    bytes.eq_ignore_ascii_case(b"number")
-        || bytes.eq_ignore_ascii_case(b"flag")
-        || bytes.eq_ignore_ascii_case(b"text")
-        || bytes.eq_ignore_ascii_case(b"object")
-        || bytes.eq_ignore_ascii_case(b"list")
+/// The beginnings of made up names.
+static STEMS: [&str; 5] = ["number", "flag", "text", "object", "list"];
+
+// What follows the stem in a string that begins with one, and nothing of every other string.
+fn behind_stem(string: &[u8]) -> &[u8] {
+    for stem in STEMS.iter() {
+        if let (Some(first), Some(rest)) = (string.get(..stem.len()), string.get(stem.len()..)) {
+            if first.eq_ignore_ascii_case(stem.as_bytes()) {
+                return rest;
+            }
+        }
+    }
+    b""
+}
+
+fn is_number(bytes: &[u8]) -> bool {
+    !bytes.is_empty() && bytes.iter().all(|byte| byte.is_ascii_digit())
+}
+
+// The number between two `_` with a number behind it.
+fn infix_of(rest: &[u8]) -> Option<usize> {
+    let rest = rest.strip_prefix(b"_")?;
+    let end = rest.iter().position(|byte| *byte == b'_')?;
+    let (infix, place) = (rest.get(..end)?, rest.get(end.saturating_add(1)..)?);
+    if !is_number(infix) || !is_number(place) {
+        return None;
+    }
+    let mut number = 0usize;
+    for digit in infix {
+        let digit = usize::from(digit.saturating_sub(b'0'));
+        number = number.saturating_mul(10).saturating_add(digit);
+    }
+    Some(number)
 }
