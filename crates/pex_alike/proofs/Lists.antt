@@ -25,9 +25,10 @@ each_to_map R p q xs ys h = (length-map xs p ∙ h.0 ∙ sym (length-map ys q), 
 pub each_from_map : {A B C D : Type 0} (R : C → D → Type 0) (p : A → C) (q : B → D) → (xs : List A) (ys : List B)
     → SameEach R (map p xs) (map q ys) → SameEach (λ x y. R (p x) (q y)) xs ys
 unfolding SameEach
-each_from_map R p q xs ys h =
-    (sym (length-map xs p) ∙ h.0 ∙ length-map ys q,
-     λ n x y lt. rw (← map-get_or p xs n x, ← map-get_or q ys n y) (h.1 n (p x) (q y) (subst (λ (m : ℕ). n < m) (sym (length-map xs p)) lt)))
+each_from_map R p q xs ys h = (
+  sym (length-map xs p) ∙ h.0 ∙ length-map ys q,
+  λ n x y lt. rw (← map-get_or p xs n x, ← map-get_or q ys n y) (h.1 n (p x) (q y) (subst (λ (m : ℕ). n < m) (sym (length-map xs p)) lt)),
+)
 
 any_to_map : {A C : Type 0} (P : C → Type 0) (p : A → C) (xs : List A) → Any (λ x. P (p x)) xs → Any P (map p xs)
 any_to_map P p xs a =
@@ -36,9 +37,13 @@ any_to_map P p xs a =
 any_from_map : {A C : Type 0} (P : C → Type 0) (p : A → C) (xs : List A) → Any P (map p xs) → Any (λ x. P (p x)) xs
 any_from_map P p [] a = absurd (let lt : a.0 < 0 = a.2 in omega arith)
 any_from_map P p (x ∷ xs) a =
-    let within : a.0 < length (x ∷ xs) = subst (λ (m : ℕ). a.0 < m) (length-map (x ∷ xs) p) a.2 in
-    (a.0, get_or (x ∷ xs) a.0 x, within, get_or_default (x ∷ xs) a.0 (get_or (x ∷ xs) a.0 x) x within,
-     subst P (sym a.3 ∙ get_or-map p (x ∷ xs) a.0 x a.1 within) a.4)
+    let within : a.0 < length (x ∷ xs) = subst (λ (m : ℕ). a.0 < m) (length-map (x ∷ xs) p) a.2 in (
+      a.0,
+      get_or (x ∷ xs) a.0 x,
+      within,
+      get_or_default (x ∷ xs) a.0 (get_or (x ∷ xs) a.0 x) x within,
+      subst P (sym a.3 ∙ get_or-map p (x ∷ xs) a.0 x a.1 within) a.4,
+    )
 
 all_from_map : {A C : Type 0} (P : C → Type 0) (p : A → C) (xs : List A) → All P (map p xs) → All (λ x. P (p x)) xs
 all_from_map P p xs h n x lt = rw (← map-get_or p xs n x) (h n (p x) (subst (λ (m : ℕ). n < m) (sym (length-map xs p)) lt))
@@ -49,26 +54,29 @@ all_along P Q xs f h n x lt = f (get_or xs n x) (h n x lt)
 pub members_to_map : {A C : Type 0} (R : C → C → Type 0) (p : A → C) → (xs ys : List A)
     → SameMembers (λ x y. R (p x) (p y)) xs ys → SameMembers R (map p xs) (map p ys)
 unfolding SameMembers
-members_to_map R p xs ys h =
-    (length-map xs p ∙ h.0 ∙ sym (length-map ys p),
-     All-map (λ c. Any (R c) (map p ys)) p xs (all_along _ _ xs (λ x. any_to_map (R (p x)) p ys) h.1),
-     All-map (λ c. Any (λ d. R d c) (map p xs)) p ys (all_along _ _ ys (λ y. any_to_map (λ d. R d (p y)) p xs) h.2))
+members_to_map R p xs ys h = (
+  length-map xs p ∙ h.0 ∙ sym (length-map ys p),
+  All-map (λ c. Any (R c) (map p ys)) p xs (all_along _ _ xs (λ x. any_to_map (R (p x)) p ys) h.1),
+  All-map (λ c. Any (λ d. R d c) (map p xs)) p ys (all_along _ _ ys (λ y. any_to_map (λ d. R d (p y)) p xs) h.2),
+)
 
 pub members_from_map : {A C : Type 0} (R : C → C → Type 0) (p : A → C) → (xs ys : List A)
     → SameMembers R (map p xs) (map p ys) → SameMembers (λ x y. R (p x) (p y)) xs ys
 unfolding SameMembers
-members_from_map R p xs ys h =
-    (sym (length-map xs p) ∙ h.0 ∙ length-map ys p,
-     all_along _ _ xs (λ x. any_from_map (R (p x)) p ys) (all_from_map (λ c. Any (R c) (map p ys)) p xs h.1),
-     all_along _ _ ys (λ y. any_from_map (λ d. R d (p y)) p xs) (all_from_map (λ c. Any (λ d. R d c) (map p xs)) p ys h.2))
+members_from_map R p xs ys h = (
+  sym (length-map xs p) ∙ h.0 ∙ length-map ys p,
+  all_along _ _ xs (λ x. any_from_map (R (p x)) p ys) (all_from_map (λ c. Any (R c) (map p ys)) p xs h.1),
+  all_along _ _ ys (λ y. any_from_map (λ d. R d (p y)) p xs) (all_from_map (λ c. Any (λ d. R d c) (map p xs)) p ys h.2),
+)
 
 -- ---- loops that look for one of which something doesn't hold
 
 pub all_no : {A : Type 0} (P : A → Type 0) (xs : List A) (n : ℕ) (x : A) (b : Bool) → n < length xs → x ≡ get_or xs n x
     → IsTrue b ↔ P x → b ≡ false → IsTrue false ↔ All P xs
-all_no P xs n x b lt is h f =
-    (λ t. absurd (cc),
-     λ all. absurd (let holds : P x = subst P (sym is) (all n x lt) in let yes : b ≡ true = h.1 holds in cc))
+all_no P xs n x b lt is h f = (
+  λ t. absurd (cc),
+  λ all. absurd (let holds : P x = subst P (sym is) (all n x lt) in let yes : b ≡ true = h.1 holds in cc),
+)
 
 pub all_more : {A : Type 0} (P : A → Type 0) (xs : List A) (n : ℕ) (x : A) → n < length xs → x ≡ get_or xs n x → P x
     → ((k : ℕ) (d : A) → k < n → P (get_or xs k d)) → (k : ℕ) (d : A) → k < n + 1 → P (get_or xs k d)

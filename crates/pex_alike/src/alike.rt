@@ -25,7 +25,11 @@ pub(crate) fn same_operand(these: Scope<'_>, those: Scope<'_>, a: Datum, b: Datu
 fn same_operands(these: Scope<'_>, those: Scope<'_>, xs: &[Datum], ys: &[Datum]) -> bool
     ensures { IsTrue result ↔ SameEach (SameOperand (naming these.entry) (naming those.entry)) xs.now ys.now }
 {
-    xs.len() == ys.len() && xs.iter().zip(ys).all(|(x, y)| same_operand(these, those, *x, *y))
+    xs.len() == ys.len()
+        && xs
+            .iter()
+            .zip(ys)
+            .all(|(x, y)| same_operand(these, those, *x, *y))
 }
 
 // How many of an instruction's first operands are names of functions, properties or scripts.
@@ -61,10 +65,19 @@ fn same_instruction(these: Scope<'_>, those: Scope<'_>, a: &Instruction, b: &Ins
 }
 
 #[tactic(auto, unfolding(crate::specs::SameCode::SameEach))]
-fn same_instructions(these: Scope<'_>, those: Scope<'_>, xs: &[Instruction], ys: &[Instruction]) -> bool
+fn same_instructions(
+    these: Scope<'_>,
+    those: Scope<'_>,
+    xs: &[Instruction],
+    ys: &[Instruction],
+) -> bool
     ensures { IsTrue result ↔ SameEach (λ x y. SameInstruction (naming these.entry) (naming those.entry) (plain_instruction x) (plain_instruction y)) xs.now ys.now }
 {
-    xs.len() == ys.len() && xs.iter().zip(ys).all(|(x, y)| same_instruction(these, those, x, y))
+    xs.len() == ys.len()
+        && xs
+            .iter()
+            .zip(ys)
+            .all(|(x, y)| same_instruction(these, those, x, y))
 }
 
 fn same_code_of(these: Scope<'_>, those: Scope<'_>, xs: &[Instruction], ys: &[Instruction]) -> bool
@@ -77,12 +90,21 @@ fn same_code_of(these: Scope<'_>, those: Scope<'_>, xs: &[Instruction], ys: &[In
 fn same_kinds(these: &[Text], those: &[Text], xs: &[(u16, u16)], ys: &[(u16, u16)]) -> bool
     ensures { IsTrue result ↔ SameKinds these.now those.now xs.now ys.now }
 {
-    xs.len() == ys.len() && xs.iter().zip(ys).all(|(x, y)| same_string(these, those, x.1, y.1))
+    xs.len() == ys.len()
+        && xs
+            .iter()
+            .zip(ys)
+            .all(|(x, y)| same_string(these, those, x.1, y.1))
 }
 
 /// Whether two functions, each with the strings of its file, have the same code.
 #[tactic(auto, unfolding(crate::specs::SameCode::SameFunction))]
-pub(crate) fn same_function(these: &[Text], those: &[Text], f: &PexFunction, g: &PexFunction) -> bool
+pub(crate) fn same_function(
+    these: &[Text],
+    those: &[Text],
+    f: &PexFunction,
+    g: &PexFunction,
+) -> bool
     ensures { IsTrue result ↔ SameFunction these.now those.now (plain_function f.now) (plain_function g.now) }
 {
     same_string(these, those, f.result, g.result)

@@ -26,7 +26,12 @@ impl Member for PexVariable {
         same_string(these, those, self.name, other.name)
             && same_string(these, those, self.kind, other.kind)
             && self.flags == other.flags
-            && same_operand(Scope::outside(these), Scope::outside(those), self.value, other.value)
+            && same_operand(
+                Scope::outside(these),
+                Scope::outside(those),
+                self.value,
+                other.value,
+            )
     }
 }
 
@@ -77,7 +82,12 @@ fn same_variable_name(these: &[Text], those: &[Text], a: Option<u16>, b: Option<
 }
 
 #[tactic(auto, unfolding(crate::specs::SameCode::SameOption))]
-fn same_accessor(these: &[Text], those: &[Text], f: &Option<PexFunction>, g: &Option<PexFunction>) -> bool
+fn same_accessor(
+    these: &[Text],
+    those: &[Text],
+    f: &Option<PexFunction>,
+    g: &Option<PexFunction>,
+) -> bool
     ensures { IsTrue result ↔ SameOption (SameFunction these.now those.now) (option_map plain_function f.now) (option_map plain_function g.now) }
 {
     match (f, g) {
@@ -94,17 +104,27 @@ fn has_like<T: Member>(member: &T, others: &[T], at: usize, these: &[Text], thos
     if at < others.len() && member.is_like(&others[at], these, those) {
         return true;
     }
-    others.iter().any(|other| member.is_like(other, these, those))
+    others
+        .iter()
+        .any(|other| member.is_like(other, these, those))
 }
 
 // Whether this one is like one of the members, of which the one at this place is looked at first.
-fn is_like_one<T: Member>(member: &T, others: &[T], at: usize, these: &[Text], those: &[Text]) -> bool
+fn is_like_one<T: Member>(
+    member: &T,
+    others: &[T],
+    at: usize,
+    these: &[Text],
+    those: &[Text],
+) -> bool
     ensures { IsTrue result ↔ Any (λ other. T.IsLike these.now those.now other member.now) others.now }
 {
     if at < others.len() && others[at].is_like(member, these, those) {
         return true;
     }
-    others.iter().any(|other| other.is_like(member, these, those))
+    others
+        .iter()
+        .any(|other| other.is_like(member, these, those))
 }
 
 fn each_has_like<T: Member>(xs: &[T], ys: &[T], these: &[Text], those: &[Text]) -> bool
@@ -133,10 +153,17 @@ fn each_is_like_one<T: Member>(xs: &[T], ys: &[T], these: &[Text], those: &[Text
 fn same_members<T: Member>(these: &[Text], those: &[Text], xs: &[T], ys: &[T]) -> bool
     ensures { IsTrue result ↔ SameMembers (T.IsLike these.now those.now) xs.now ys.now }
 {
-    xs.len() == ys.len() && each_has_like(xs, ys, these, those) && each_is_like_one(xs, ys, these, those)
+    xs.len() == ys.len()
+        && each_has_like(xs, ys, these, those)
+        && each_is_like_one(xs, ys, these, those)
 }
 
-fn same_functions(these: &[Text], those: &[Text], xs: &[(u16, PexFunction)], ys: &[(u16, PexFunction)]) -> bool
+fn same_functions(
+    these: &[Text],
+    those: &[Text],
+    xs: &[(u16, PexFunction)],
+    ys: &[(u16, PexFunction)],
+) -> bool
     ensures { IsTrue result ↔ SameMembers (SameNamed these.now those.now) (map plain_named xs.now) (map plain_named ys.now) }
 {
     same_members(these, those, xs, ys)
@@ -174,7 +201,10 @@ fn same_objects(v: &Pex, w: &Pex) -> bool
 {
     let (these, those) = (v.strings.as_slice(), w.strings.as_slice());
     v.objects.len() == w.objects.len()
-        && v.objects.iter().zip(&w.objects).all(|(x, y)| same_object(these, those, x, y))
+        && v.objects
+            .iter()
+            .zip(&w.objects)
+            .all(|(x, y)| same_object(these, those, x, y))
 }
 
 /// Whether two values have the same code: the same objects in order, whose variables, properties, states and functions agree,

@@ -40,5 +40,9 @@ pub fn lift(alloc: Global, files: &Vec<Pex>) -> Result<Vec<Text>, LiftFault>
 fn have_same_code(files: &[Pex], values: &[Pex]) -> bool
     ensures { IsTrue result ↔ SameEach (λ file value. SameCode (plain file) (plain value)) files.now values.now }
 {
-    files.len() == values.len() && files.iter().zip(values).all(|(file, value)| same_code(file, value))
+    files.len() == values.len()
+        && files
+            .iter()
+            .zip(values)
+            .all(|(file, value)| same_code(file, value))
 }

@@ -1,5 +1,5 @@
 // Jumps, read into If and While.
-use crate::fault::{SourceFault, NOT_FOUND};
+use crate::fault::{NOT_FOUND, SourceFault};
 use crate::lines::{Line, Numbered};
 use crate::opcodes::JMP;
 use crate::reader::{Outcome, Reader, Source};
@@ -69,7 +69,13 @@ impl<'w, 'f> Blocks<'w, 'f> {
     // Each turn goes behind an instruction, ends the right side of And or Or, or ends a block, of which an instruction opens
     // two at most.
     fn read(&mut self) -> Result<(), SourceFault> {
-        let turns = self.source.code.steps.len().saturating_mul(4).saturating_add(8);
+        let turns = self
+            .source
+            .code
+            .steps
+            .len()
+            .saturating_mul(4)
+            .saturating_add(8);
         let mut at = 0usize;
         for _ in 0..turns {
             match self.turn(at)? {
@@ -81,7 +87,14 @@ impl<'w, 'f> Blocks<'w, 'f> {
     }
 
     fn finish(self) -> Result<Body, SourceFault> {
-        let Blocks { source: _, reader, lines, open: _, begun: _, back: _ } = self;
+        let Blocks {
+            source: _,
+            reader,
+            lines,
+            open: _,
+            begun: _,
+            back: _,
+        } = self;
         if !reader.has_all_slots() {
             return Err(NOT_FOUND);
         }

@@ -1,5 +1,5 @@
 // The code of a function, with its operands resolved.
-use crate::fault::{SourceFault, NOT_FOUND};
+use crate::fault::{NOT_FOUND, SourceFault};
 use crate::opcodes::names_of;
 use crate::script::{Kind, Script};
 use crate::world::World;
@@ -71,7 +71,11 @@ impl Code {
         Ok(code)
     }
 
-    fn add(&mut self, resolver: &Resolver<'_>, instruction: &Instruction) -> Result<(), SourceFault> {
+    fn add(
+        &mut self,
+        resolver: &Resolver<'_>,
+        instruction: &Instruction,
+    ) -> Result<(), SourceFault> {
         let first = self.operands.len();
         let names = names_of(instruction.opcode);
         for (place, datum) in instruction.fixed.iter().enumerate() {

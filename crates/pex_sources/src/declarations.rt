@@ -2,7 +2,7 @@
 use crate::code::Code;
 use crate::definitions::body_of;
 use crate::expressions::{Speaker, put_slot_name};
-use crate::fault::{SourceFault, NOT_FOUND};
+use crate::fault::{NOT_FOUND, SourceFault};
 use crate::imports::put_imports;
 use crate::page::Page;
 use crate::reader::Source;
@@ -10,7 +10,9 @@ use crate::script::Script;
 use crate::uses::Uses;
 use crate::world::World;
 use papy_base::{OutOfMemory, Text};
-use pex_values::{Datum, Instruction, PexFunction, PexProperty, PexState, PexVariable, has_variable};
+use pex_values::{
+    Datum, Instruction, PexFunction, PexProperty, PexState, PexVariable, has_variable,
+};
 
 /// The bits of a function.
 const GLOBAL: u8 = 1;
@@ -197,7 +199,11 @@ impl<'a> Author<'a> {
     // What a property gives that is only read, where it is a constant of its type.
     fn constant(self, property: &PexProperty) -> Option<Datum> {
         let read = property.read.as_ref()?;
-        if property.write.is_some() || !self.is_bare(read) || !read.parameters.is_empty() || !read.locals.is_empty() {
+        if property.write.is_some()
+            || !self.is_bare(read)
+            || !read.parameters.is_empty()
+            || !read.locals.is_empty()
+        {
             return None;
         }
         let value = returned(&read.code)?;
@@ -220,17 +226,31 @@ impl<'a> Author<'a> {
         self.script.text(function.doc).is_empty() && function.flags == 0 && function.bits == 0
     }
 
-    fn put_accessor(self, page: &mut Page, name: &[u8], function: &'a Option<PexFunction>) -> Result<(), SourceFault> {
+    fn put_accessor(
+        self,
+        page: &mut Page,
+        name: &[u8],
+        function: &'a Option<PexFunction>,
+    ) -> Result<(), SourceFault> {
         match function {
             Some(function) => self.put_function(page, name, function),
             None => Ok(()),
         }
     }
 
-    fn put_state(self, page: &mut Page, state: &'a PexState, is_first: bool) -> Result<(), SourceFault> {
+    fn put_state(
+        self,
+        page: &mut Page,
+        state: &'a PexState,
+        is_first: bool,
+    ) -> Result<(), SourceFault> {
         let name = self.script.text(state.name);
         if name.is_empty() {
-            return if is_first { self.put_functions(page, &state.functions, true) } else { Err(NOT_FOUND) };
+            return if is_first {
+                self.put_functions(page, &state.functions, true)
+            } else {
+                Err(NOT_FOUND)
+            };
         }
         page.blank()?;
         page.begin()?;
@@ -283,43 +303,41 @@ impl<'a> Author<'a> {
         }
     }
 
-    fn put_function(self, page: &mut Page, name: &[u8], function: &'a PexFunction) -> Result<(), SourceFault> {
-        let is_event = self.is_event(name, function);
+    fn put_function(
+        self,
+        page: &mut Page,
+        name: &[u8],
+        function: &'a PexFunction,
+    ) -> Result<(), SourceFault> {
         page.blank()?;
         page.begin()?;
-        if is_event {
+        let end: &[u8] = if self.is_event(name, function) {
             page.put(b"Event ")?;
+            b"EndEvent"
         } else {
             self.put_result(page, function)?;
-        }
+            b"EndFunction"
+        };
         page.put(name)?;
         self.put_parameters(page, function)?;
-        if function.bits > 3 {
-            return Err(NOT_FOUND);
-        }
-        if function.bits & GLOBAL != 0 {
-            page.put(b" Global")?;
-        }
-        let is_native = function.bits & NATIVE != 0;
-        if is_native {
-            page.put(b" Native")?;
-        }
+        put_bits(page, function.bits)?;
         put_flags(page, function.flags)?;
         page.end_heading(self.script.text(function.doc))?;
-        if is_native {
+        if function.bits & NATIVE != 0 {
             return Ok(());
         }
         page.indent();
         self.put_body(page, function)?;
         page.outdent();
-        page.line(if is_event { b"EndEvent" } else { b"EndFunction" })?;
+        page.line(end)?;
         Ok(())
     }
 
     // Functions without result whose names begin with `On` are events.
     fn is_event(self, name: &[u8], function: &PexFunction) -> bool {
         let begins = match name {
-            [first, second, ..] => first.eq_ignore_ascii_case(&b'o') && second.eq_ignore_ascii_case(&b'n'),
+            [first, second, ..] => first.eq_ignore_ascii_case(&b'o')
+                && second.eq_ignore_ascii_case(&b'n'),
             _ => false,
         };
         begins && function.bits & GLOBAL == 0 && self.has_no_result(function)
@@ -383,6 +401,20 @@ fn returned(code: &[Instruction]) -> Option<Datum> {
         return None;
     }
     only.fixed.first().copied()
+}
+
+// What the bits of a function say.
+fn put_bits(page: &mut Page, bits: u8) -> Result<(), SourceFault> {
+    if bits > GLOBAL | NATIVE {
+        return Err(NOT_FOUND);
+    }
+    if bits & GLOBAL != 0 {
+        page.put(b" Global")?;
+    }
+    if bits & NATIVE != 0 {
+        page.put(b" Native")?;
+    }
+    Ok(())
 }
 
 fn put_flags(page: &mut Page, flags: u32) -> Result<(), SourceFault> {

@@ -1,7 +1,7 @@
 // Which slots were locals of the source, and where they are defined.
 use crate::blocks::{Body, read_body};
 use crate::code::{Code, Operand};
-use crate::fault::{SourceFault, NOT_FOUND};
+use crate::fault::{NOT_FOUND, SourceFault};
 use crate::lines::Line;
 use crate::reader::Source;
 use crate::trees::Form;
@@ -10,7 +10,9 @@ use std::alloc::Global;
 /// The body of a function. A file doesn't tell how many of its locals were locals of the source, so the numbers are tried in
 /// turn, the least first: it has the fewest lines.
 pub(crate) fn body_of(source: Source<'_, '_>) -> Result<Body, SourceFault> {
-    let most = source.uses.most_locals(source.code, source.world.words.none_type);
+    let most = source
+        .uses
+        .most_locals(source.code, source.world.words.none_type);
     for first in source.code.parameters..most.saturating_add(1) {
         match defined_body(source, first) {
             Ok(body) => return Ok(body),
@@ -61,7 +63,11 @@ fn define(alloc: Global, code: &Code, first: usize, body: &mut Body) -> Result<(
         set_line(body, place, line);
         from = numbered.nodes;
     }
-    if definitions.next == first { Ok(()) } else { Err(NOT_FOUND) }
+    if definitions.next == first {
+        Ok(())
+    } else {
+        Err(NOT_FOUND)
+    }
 }
 
 fn set_line(body: &mut Body, place: usize, line: Line) {

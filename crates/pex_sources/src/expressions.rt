@@ -1,8 +1,9 @@
 // The text of expressions.
 use crate::code::{Code, Operand};
-use crate::fault::{SourceFault, NOT_FOUND};
+use crate::fault::{NOT_FOUND, SourceFault};
 use crate::opcodes::{
-    ARRAY_FINDELEMENT, ARRAY_GETELEMENT, ARRAY_LENGTH, ARRAY_RFINDELEMENT, CMP_EQ, INEG, NOT, STRCAT, sign_of,
+    ARRAY_FINDELEMENT, ARRAY_GETELEMENT, ARRAY_LENGTH, ARRAY_RFINDELEMENT, CMP_EQ, INEG, NOT,
+    STRCAT, sign_of,
 };
 use crate::page::Page;
 use crate::script::Script;
@@ -57,7 +58,12 @@ impl<'w, 'f> Speaker<'w, 'f> {
     pub(crate) fn put(self, page: &mut Page, number: usize, level: u8) -> Result<(), SourceFault> {
         let mut items = Vec::new(page.alloc);
         items.push(Item::Node(number, level))?;
-        let turns = self.trees.count().saturating_add(self.trees.part_count()).saturating_mul(8).saturating_add(8);
+        let turns = self
+            .trees
+            .count()
+            .saturating_add(self.trees.part_count())
+            .saturating_mul(8)
+            .saturating_add(8);
         for _ in 0..turns {
             let Some(item) = items.pop() else {
                 return Ok(());
@@ -67,7 +73,12 @@ impl<'w, 'f> Speaker<'w, 'f> {
         Err(NOT_FOUND)
     }
 
-    fn put_item(self, page: &mut Page, item: Item<'w>, items: &mut Vec<Item<'w>>) -> Result<(), SourceFault> {
+    fn put_item(
+        self,
+        page: &mut Page,
+        item: Item<'w>,
+        items: &mut Vec<Item<'w>>,
+    ) -> Result<(), SourceFault> {
         match item {
             Item::Node(number, level) => {
                 let mut parts = Vec::new(page.alloc);
@@ -79,12 +90,19 @@ impl<'w, 'f> Speaker<'w, 'f> {
             Item::Bytes(bytes) => page.put(bytes)?,
             Item::Text(text) => page.put_text(text)?,
             Item::Int(int) => page.put_int(int)?,
-            Item::Slot(script, pair, place) => put_slot_name(page, self.world, script, pair, place)?,
+            Item::Slot(script, pair, place) => put_slot_name(
+                page, self.world, script, pair, place,
+            )?,
         }
         Ok(())
     }
 
-    fn expand(self, number: usize, level: u8, items: &mut Vec<Item<'w>>) -> Result<(), SourceFault> {
+    fn expand(
+        self,
+        number: usize,
+        level: u8,
+        items: &mut Vec<Item<'w>>,
+    ) -> Result<(), SourceFault> {
         let node = self.trees.node(number)?;
         if self.level(node)? >= level {
             return self.bare(node, items);
@@ -100,7 +118,11 @@ impl<'w, 'f> Speaker<'w, 'f> {
             Form::Or => Ok(OR),
             Form::And => Ok(AND),
             Form::Cast => Ok(CAST_LEVEL),
-            Form::Apply(NOT) => Ok(if self.negated_equal(node)?.is_some() { EQUAL } else { UNARY }),
+            Form::Apply(NOT) => Ok(if self.negated_equal(node)?.is_some() {
+                EQUAL
+            } else {
+                UNARY
+            }),
             Form::Apply(INEG) => Ok(UNARY),
             Form::Apply(opcode) => Ok(match sign_of(opcode) {
                 Some((_, level)) => level,
@@ -113,7 +135,11 @@ impl<'w, 'f> Speaker<'w, 'f> {
     // The comparison that a negation is of.
     fn negated_equal(self, node: Node) -> Result<Option<Node>, SourceFault> {
         let inner = self.trees.node(self.trees.part(node, 0)?)?;
-        Ok(if inner.form == Form::Apply(CMP_EQ) { Some(inner) } else { None })
+        Ok(if inner.form == Form::Apply(CMP_EQ) {
+            Some(inner)
+        } else {
+            None
+        })
     }
 
     fn bare(self, node: Node, items: &mut Vec<Item<'w>>) -> Result<(), SourceFault> {
@@ -191,7 +217,12 @@ impl<'w, 'f> Speaker<'w, 'f> {
         Ok(())
     }
 
-    fn operation(self, node: Node, opcode: u8, items: &mut Vec<Item<'w>>) -> Result<(), SourceFault> {
+    fn operation(
+        self,
+        node: Node,
+        opcode: u8,
+        items: &mut Vec<Item<'w>>,
+    ) -> Result<(), SourceFault> {
         match opcode {
             NOT => self.negation(node, items),
             INEG => {
@@ -226,7 +257,12 @@ impl<'w, 'f> Speaker<'w, 'f> {
         Ok(())
     }
 
-    fn element(self, array: usize, index: usize, items: &mut Vec<Item<'w>>) -> Result<(), SourceFault> {
+    fn element(
+        self,
+        array: usize,
+        index: usize,
+        items: &mut Vec<Item<'w>>,
+    ) -> Result<(), SourceFault> {
         items.push(Item::Node(array, CHAIN))?;
         items.push(Item::Bytes(b"["))?;
         items.push(Item::Node(index, 0))?;
@@ -245,7 +281,9 @@ impl<'w, 'f> Speaker<'w, 'f> {
         let [array, value, from] = self.trees.parts(node)? else {
             return Err(NOT_FOUND);
         };
-        let element = self.world.element(self.trees.node(array.node)?.kind.number)?;
+        let element = self
+            .world
+            .element(self.trees.node(array.node)?.kind.number)?;
         items.push(Item::Node(array.node, CHAIN))?;
         items.push(Item::Bytes(name))?;
         items.push(Item::Node(self.loose(value.node, element)?, 0))?;
@@ -257,7 +295,12 @@ impl<'w, 'f> Speaker<'w, 'f> {
         Ok(())
     }
 
-    fn new_array(self, node: Node, count: i32, items: &mut Vec<Item<'w>>) -> Result<(), SourceFault> {
+    fn new_array(
+        self,
+        node: Node,
+        count: i32,
+        items: &mut Vec<Item<'w>>,
+    ) -> Result<(), SourceFault> {
         let Some(element) = self.script.text(node.kind.reference).strip_suffix(b"[]") else {
             return Err(NOT_FOUND);
         };
@@ -282,7 +325,12 @@ impl<'w, 'f> Speaker<'w, 'f> {
         self.arguments(target.kind.number, name, arguments, items)
     }
 
-    fn parent_method(self, node: Node, name: u16, items: &mut Vec<Item<'w>>) -> Result<(), SourceFault> {
+    fn parent_method(
+        self,
+        node: Node,
+        name: u16,
+        items: &mut Vec<Item<'w>>,
+    ) -> Result<(), SourceFault> {
         items.push(Item::Bytes(b"Parent."))?;
         items.push(self.named(name))?;
         let above = self.script.number(self.script.object.parent);
@@ -314,7 +362,8 @@ impl<'w, 'f> Speaker<'w, 'f> {
         parts: &[Part],
         items: &mut Vec<Item<'w>>,
     ) -> Result<(), SourceFault> {
-        let Some((script, function)) = self.world.find_function(kind, self.script.number(name)) else {
+        let Some((script, function)) = self.world.find_function(kind, self.script.number(name))
+        else {
             return Err(NOT_FOUND);
         };
         if function.parameters.len() != parts.len() {
@@ -338,10 +387,12 @@ impl<'w, 'f> Speaker<'w, 'f> {
 
     // Whether it is the argument of Debug.Trace that stands there where none is written.
     fn is_default(self, script: usize, at: usize, part: Part) -> Result<bool, SourceFault> {
-        Ok(script == DEBUG
-            && at == 1
-            && part.place == 1
-            && self.trees.node(part.node)?.form == Form::Leaf(Operand::Int(0)))
+        Ok(
+            script == DEBUG
+                && at == 1
+                && part.place == 1
+                && self.trees.node(part.node)?.form == Form::Leaf(Operand::Int(0)),
+        )
     }
 
     fn argument(
@@ -382,7 +433,10 @@ impl<'w, 'f> Speaker<'w, 'f> {
         let (left, right) = self.trees.pair(node)?;
         let words = &self.world.words;
         match node.form {
-            Form::And | Form::Or => Ok((self.loose(left, words.bool_type)?, self.loose(right, words.bool_type)?)),
+            Form::And | Form::Or => Ok((
+                self.loose(left, words.bool_type)?,
+                self.loose(right, words.bool_type)?,
+            )),
             Form::Apply(STRCAT) => {
                 let other = self.loose(right, words.string_type)?;
                 if other != right {
@@ -396,7 +450,10 @@ impl<'w, 'f> Speaker<'w, 'f> {
     }
 
     fn compared(self, left: usize, right: usize) -> Result<(usize, usize), SourceFault> {
-        let (left_kind, right_kind) = (self.trees.node(left)?.kind.number, self.trees.node(right)?.kind.number);
+        let (left_kind, right_kind) = (
+            self.trees.node(left)?.kind.number,
+            self.trees.node(right)?.kind.number,
+        );
         let other = self.loose(right, right_kind)?;
         let other_kind = self.trees.node(other)?.kind.number;
         if other != right && self.world.common(left_kind, other_kind) == Some(right_kind) {

@@ -15,7 +15,11 @@ struct Importer<'a> {
 }
 
 /// Appends a line for each import.
-pub(crate) fn put_imports(page: &mut Page, world: &World<'_>, script: &Script<'_>) -> Result<(), OutOfMemory> {
+pub(crate) fn put_imports(
+    page: &mut Page,
+    world: &World<'_>,
+    script: &Script<'_>,
+) -> Result<(), OutOfMemory> {
     let importer = Importer { world, script };
     let mut written = HashSet::new(page.alloc);
     for property in &script.object.properties {
@@ -67,11 +71,19 @@ impl<'a> Importer<'a> {
         };
         let own = self.script.number(self.script.object.name);
         let is_asked = self.world.hides(self.script, self.script.number(*script))
-            && self.world.find_function(own, self.script.number(*name)).is_none();
+            && self
+                .world
+                .find_function(own, self.script.number(*name))
+                .is_none();
         if is_asked { Some(*script) } else { None }
     }
 
-    fn put(self, page: &mut Page, import: u16, written: &mut HashSet<usize>) -> Result<(), OutOfMemory> {
+    fn put(
+        self,
+        page: &mut Page,
+        import: u16,
+        written: &mut HashSet<usize>,
+    ) -> Result<(), OutOfMemory> {
         let number = self.script.number(import);
         if written.contains(&number) {
             return Ok(());

@@ -1,10 +1,10 @@
 // The instructions of a function, read one after another into expressions and simple statements.
 use crate::code::{Code, Operand, Step};
-use crate::fault::{SourceFault, NOT_FOUND};
+use crate::fault::{NOT_FOUND, SourceFault};
 use crate::lines::Line;
 use crate::opcodes::{
-    ARRAY_CREATE, ARRAY_GETELEMENT, ARRAY_SETELEMENT, ASSIGN, CALL_METHOD, CALL_PARENT, CALL_STATIC, CAST, JMP, JMPF, JMPT,
-    PROPGET, PROPSET, RETURN, names_of, result_of,
+    ARRAY_CREATE, ARRAY_GETELEMENT, ARRAY_SETELEMENT, ASSIGN, CALL_METHOD, CALL_PARENT,
+    CALL_STATIC, CAST, JMP, JMPF, JMPT, PROPGET, PROPSET, RETURN, names_of, result_of,
 };
 use crate::script::{Kind, Script};
 use crate::temporaries::Temporaries;
@@ -165,7 +165,11 @@ impl<'w, 'f> Reader<'w, 'f> {
     }
 
     fn clear(&self) -> Result<(), SourceFault> {
-        if self.waiting == 0 { Ok(()) } else { Err(NOT_FOUND) }
+        if self.waiting == 0 {
+            Ok(())
+        } else {
+            Err(NOT_FOUND)
+        }
     }
 
     // The value of the instruction before, whose target is the operand at this place. It is a statement where nobody reads it.
@@ -200,7 +204,16 @@ impl<'w, 'f> Reader<'w, 'f> {
         self.waiting = self.waiting.saturating_sub(2);
         let words = &self.source.world.words;
         let kind = words.kind(words.bool_type);
-        let parts = [Part { node: side.left, place: 0 }, Part { node: right, place: 1 }];
+        let parts = [
+            Part {
+                node: side.left,
+                place: 0,
+            },
+            Part {
+                node: right,
+                place: 1,
+            },
+        ];
         let last = at.saturating_sub(1);
         let node = self.trees.add(side.form, kind, &parts, side.start, last)?;
         let target = self.source.code.step(last)?.first;
@@ -256,7 +269,13 @@ impl<'w, 'f> Reader<'w, 'f> {
     }
 
     // The left side of And or Or ends with this jump.
-    fn begin_side(&mut self, at: usize, step: Step, slot: usize, limit: usize) -> Result<(), SourceFault> {
+    fn begin_side(
+        &mut self,
+        at: usize,
+        step: Step,
+        slot: usize,
+        limit: usize,
+    ) -> Result<(), SourceFault> {
         let end = self.source.uses.target(at)?;
         let outer = match self.sides.last() {
             Some(side) => side.end,
@@ -268,7 +287,11 @@ impl<'w, 'f> Reader<'w, 'f> {
         let Some(left) = take_from(&mut self.pending, slot) else {
             return Err(NOT_FOUND);
         };
-        let form = if step.opcode == JMPF { Form::And } else { Form::Or };
+        let form = if step.opcode == JMPF {
+            Form::And
+        } else {
+            Form::Or
+        };
         self.sides.push(Side {
             form,
             slot,
@@ -321,11 +344,18 @@ impl<'w, 'f> Reader<'w, 'f> {
         let Ok(next) = self.source.code.step(at.saturating_add(1)) else {
             return false;
         };
-        (next.opcode == JMPF || next.opcode == JMPT) && self.source.code.operand(next.first) == Ok(operand)
+        (next.opcode == JMPF || next.opcode == JMPT)
+            && self.source.code.operand(next.first) == Ok(operand)
     }
 
     // A variable whose value is kept while a later operand acts.
-    fn keep(&mut self, at: usize, step: Step, slot: usize, value: usize) -> Result<Outcome, SourceFault> {
+    fn keep(
+        &mut self,
+        at: usize,
+        step: Step,
+        slot: usize,
+        value: usize,
+    ) -> Result<Outcome, SourceFault> {
         let node = self.trees.node(value)?;
         if !node.varies() || node.at.is_some() || !self.source.uses.is_read_next(step.first) {
             return Err(NOT_FOUND);
@@ -406,13 +436,21 @@ impl<'w, 'f> Reader<'w, 'f> {
         for operand in step.first.saturating_add(names_of(step.opcode))..step.fixed_end {
             if operand != target {
                 let node = self.read(operand, again)?;
-                reads.push(Read { operand, node, place: reads.len() })?;
+                reads.push(Read {
+                    operand,
+                    node,
+                    place: reads.len(),
+                })?;
             }
         }
         let mut arguments = Vec::new(alloc);
         for (place, operand) in (step.fixed_end..step.end).enumerate() {
             let node = self.read(operand, false)?;
-            arguments.push(Read { operand, node, place })?;
+            arguments.push(Read {
+                operand,
+                node,
+                place,
+            })?;
         }
         self.put_in_order(&arguments, &mut reads)?;
         Ok(reads)
@@ -477,7 +515,10 @@ impl<'w, 'f> Reader<'w, 'f> {
         }
         let mut parts = Vec::new(self.source.alloc);
         for read in reads {
-            parts.push(Part { node: read.node, place: read.place })?;
+            parts.push(Part {
+                node: read.node,
+                place: read.place,
+            })?;
         }
         let form = self.form(step)?;
         if step.opcode == ARRAY_CREATE {
@@ -546,7 +587,10 @@ impl<'w, 'f> Reader<'w, 'f> {
         if !again {
             return Ok(Outcome::Done(Line::SetProperty(name, of, value)));
         }
-        let (opcode, right) = self.changed(value, Form::OldProperty(name, self.source.code.operand(target)?))?;
+        let (opcode, right) = self.changed(
+            value,
+            Form::OldProperty(name, self.source.code.operand(target)?),
+        )?;
         Ok(Outcome::Done(Line::ChangeProperty(name, of, opcode, right)))
     }
 
@@ -572,7 +616,9 @@ impl<'w, 'f> Reader<'w, 'f> {
     // The opcode and the right side of an assignment that computes with this old value.
     fn changed(&self, value: usize, old_form: Form) -> Result<(u8, usize), SourceFault> {
         match self.trees.change(value)? {
-            Some((opcode, old, right)) if self.trees.node(old)?.form == old_form => Ok((opcode, right)),
+            Some((opcode, old, right)) if self.trees.node(old)?.form == old_form => Ok((
+                opcode, right,
+            )),
             _ => Err(NOT_FOUND),
         }
     }

@@ -1,5 +1,5 @@
 // A script of the set, with the numbers of its names and its members by name.
-use crate::fault::{SourceFault, NOT_FOUND};
+use crate::fault::{NOT_FOUND, SourceFault};
 use papy_base::{OutOfMemory, Text};
 use pex_names::{FileNames, NameTable, text_at};
 use pex_values::{Pex, PexFunction, PexObject, PexProperty, PexVariable};

@@ -1,7 +1,7 @@
 // The text of a function's body.
 use crate::code::Operand;
 use crate::expressions::{CHAIN, Speaker};
-use crate::fault::{SourceFault, NOT_FOUND};
+use crate::fault::{NOT_FOUND, SourceFault};
 use crate::lines::{Line, Numbered};
 use crate::opcodes::{STRCAT, change_sign_of};
 use crate::page::Page;
@@ -46,7 +46,9 @@ impl<'w, 'f> Speaker<'w, 'f> {
             Line::Define(slot, value) => self.put_definition(page, slot, value),
             Line::Set(target, value) => self.put_set(page, target, value),
             Line::SetProperty(name, of, value) => self.put_set_property(page, name, of, value),
-            Line::SetElement(array, index, value) => self.put_set_element(page, array, index, value),
+            Line::SetElement(array, index, value) => self.put_set_element(
+                page, array, index, value,
+            ),
             Line::ChangeProperty(name, of, opcode, right) => {
                 self.put_property(page, name, of)?;
                 self.put_change(page, opcode, right)
@@ -136,7 +138,13 @@ impl<'w, 'f> Speaker<'w, 'f> {
         Ok(())
     }
 
-    fn put_set_property(self, page: &mut Page, name: u16, of: usize, value: usize) -> Result<(), SourceFault> {
+    fn put_set_property(
+        self,
+        page: &mut Page,
+        name: u16,
+        of: usize,
+        value: usize,
+    ) -> Result<(), SourceFault> {
         self.put_property(page, name, of)?;
         let of = self.trees.node(of)?;
         if let Some((opcode, old, right)) = self.trees.change(value)? {
@@ -145,7 +153,10 @@ impl<'w, 'f> Speaker<'w, 'f> {
                 return self.put_change(page, opcode, right);
             }
         }
-        let Some(kind) = self.world.find_property(of.kind.number, self.script.number(name)) else {
+        let Some(kind) = self
+            .world
+            .find_property(of.kind.number, self.script.number(name))
+        else {
             return Err(NOT_FOUND);
         };
         page.put(b" = ")?;
@@ -155,7 +166,12 @@ impl<'w, 'f> Speaker<'w, 'f> {
     // Whether the operand at this place is the same name or literal.
     fn is_part(self, node: Node, place: usize, leaf: Node) -> Result<bool, SourceFault> {
         let part = self.trees.node(self.trees.part(node, place)?)?;
-        Ok(part.form == leaf.form && part.at.is_none() && leaf.at.is_none() && matches!(leaf.form, Form::Leaf(_)))
+        Ok(
+            part.form == leaf.form
+                && part.at.is_none()
+                && leaf.at.is_none()
+                && matches!(leaf.form, Form::Leaf(_)),
+        )
     }
 
     fn put_element(self, page: &mut Page, array: usize, index: usize) -> Result<(), SourceFault> {
@@ -166,7 +182,13 @@ impl<'w, 'f> Speaker<'w, 'f> {
         Ok(())
     }
 
-    fn put_set_element(self, page: &mut Page, array: usize, index: usize, value: usize) -> Result<(), SourceFault> {
+    fn put_set_element(
+        self,
+        page: &mut Page,
+        array: usize,
+        index: usize,
+        value: usize,
+    ) -> Result<(), SourceFault> {
         self.put_element(page, array, index)?;
         let (array, index) = (self.trees.node(array)?, self.trees.node(index)?);
         if let Some((opcode, old, right)) = self.trees.change(value)? {
@@ -179,7 +201,11 @@ impl<'w, 'f> Speaker<'w, 'f> {
             }
         }
         page.put(b" = ")?;
-        self.put(page, self.loose(value, self.world.element(array.kind.number)?)?, 0)
+        self.put(
+            page,
+            self.loose(value, self.world.element(array.kind.number)?)?,
+            0,
+        )
     }
 }
 

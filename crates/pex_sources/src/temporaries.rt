@@ -2,7 +2,7 @@
 ghost use Rattle.std.specs.Prelude.{◌<◌, length, IfSome};
 
 use crate::code::Code;
-use crate::fault::{SourceFault, NOT_FOUND};
+use crate::fault::{NOT_FOUND, SourceFault};
 use std::alloc::Global;
 
 /// Temporaries that were read, in the order in which they may be used again, each with the number of its type, and the first
@@ -46,7 +46,11 @@ impl Temporaries {
         } else {
             self.take_spare(kind)
         };
-        if found == slot { Ok(()) } else { Err(NOT_FOUND) }
+        if found == slot {
+            Ok(())
+        } else {
+            Err(NOT_FOUND)
+        }
     }
 
     fn take_new(&mut self) -> usize {

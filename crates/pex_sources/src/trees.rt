@@ -1,6 +1,6 @@
 // Expressions, all of a function in two lists.
 use crate::code::Operand;
-use crate::fault::{SourceFault, NOT_FOUND};
+use crate::fault::{NOT_FOUND, SourceFault};
 use crate::opcodes::STRCAT;
 use crate::script::Kind;
 use std::alloc::Global;
@@ -46,7 +46,10 @@ pub(crate) struct Node {
 impl Node {
     /// Whether an act may change it: a variable of the script, or the name of the state.
     pub(crate) fn varies(self) -> bool {
-        matches!(self.form, Form::Leaf(Operand::Variable(_)) | Form::Leaf(Operand::StateText))
+        matches!(
+            self.form,
+            Form::Leaf(Operand::Variable(_)) | Form::Leaf(Operand::StateText)
+        )
     }
 
     /// Whether it is a name or a literal for which no code stands, and that no act changes.

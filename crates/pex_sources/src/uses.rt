@@ -1,6 +1,6 @@
 // Where the slots of a function are used, and where its jumps lead.
 use crate::code::{Code, Operand, Step};
-use crate::fault::{SourceFault, NOT_FOUND};
+use crate::fault::{NOT_FOUND, SourceFault};
 use crate::opcodes::{ASSIGN, JMP, JMPF, offset_of, result_of};
 use papy_base::OutOfMemory;
 use std::alloc::Global;

@@ -55,9 +55,40 @@ impl Words {
 
 /// The keywords, which name nothing.
 static KEYWORDS: [&str; 34] = [
-    "as", "auto", "autoreadonly", "bool", "else", "elseif", "endevent", "endfunction", "endif", "endproperty", "endstate",
-    "endwhile", "event", "extends", "false", "float", "function", "global", "if", "import", "int", "length", "native", "new",
-    "none", "parent", "property", "return", "scriptname", "self", "state", "string", "true", "while",
+    "as",
+    "auto",
+    "autoreadonly",
+    "bool",
+    "else",
+    "elseif",
+    "endevent",
+    "endfunction",
+    "endif",
+    "endproperty",
+    "endstate",
+    "endwhile",
+    "event",
+    "extends",
+    "false",
+    "float",
+    "function",
+    "global",
+    "if",
+    "import",
+    "int",
+    "length",
+    "native",
+    "new",
+    "none",
+    "parent",
+    "property",
+    "return",
+    "scriptname",
+    "self",
+    "state",
+    "string",
+    "true",
+    "while",
 ];
 
 /// The names that no parameter or local may have: keywords, and those of scripts, variables and properties.
@@ -91,7 +122,10 @@ fn add_names(script: &Script<'_>, taken: &mut HashSet<usize>) -> Result<(), OutO
 pub(crate) fn is_word(bytes: &[u8]) -> bool {
     match bytes.first() {
         Some(first) => {
-            !first.is_ascii_digit() && bytes.iter().all(|b| *b == b'_' || b.is_ascii_alphanumeric())
+            !first.is_ascii_digit()
+                && bytes
+                    .iter()
+                    .all(|b| *b == b'_' || b.is_ascii_alphanumeric())
         }
         None => false,
     }
@@ -111,7 +145,11 @@ pub(crate) fn free_infix(alloc: Global, files: &[Pex]) -> Result<Option<usize>, 
             }
         }
     }
-    Ok(if is_free { None } else { Some(least_unused(&used)) })
+    Ok(if is_free {
+        None
+    } else {
+        Some(least_unused(&used))
+    })
 }
 
 // The least number that is none of these.

@@ -1,5 +1,5 @@
 // The scripts of a set, the prelude's before those of the files, and what is found among them by name.
-use crate::fault::{SourceFault, NOT_FOUND};
+use crate::fault::{NOT_FOUND, SourceFault};
 use crate::script::Script;
 use crate::words::{Words, free_infix, taken_names};
 use papy_base::OutOfMemory;
@@ -71,11 +71,17 @@ impl<'a> World<'a> {
     // The number of the script that stands above the script of this number.
     fn above(&self, number: usize) -> Option<usize> {
         let script = self.scripts.get(number)?;
-        self.by_name.get(&script.number(script.object.parent)).copied()
+        self.by_name
+            .get(&script.number(script.object.parent))
+            .copied()
     }
 
     /// The nearest function of a name, from the script of this type upward, with the number of its script.
-    pub(crate) fn find_function(&self, kind: usize, name: usize) -> Option<(usize, &'a PexFunction)> {
+    pub(crate) fn find_function(
+        &self,
+        kind: usize,
+        name: usize,
+    ) -> Option<(usize, &'a PexFunction)> {
         let mut number = *self.by_name.get(&kind)?;
         for _ in 0..self.scripts.len() {
             let script = self.scripts.get(number)?;
@@ -117,7 +123,9 @@ impl<'a> World<'a> {
     /// Whether the name of a script means a variable or a property in this one.
     pub(crate) fn hides(&self, script: &Script<'_>, name: usize) -> bool {
         script.variable_place(name).is_some()
-            || self.find_property(script.number(script.object.name), name).is_some()
+            || self
+                .find_property(script.number(script.object.name), name)
+                .is_some()
     }
 
     // Whether the script of one type stands below that of another.
