@@ -1,5 +1,5 @@
 -- A held file tells what it spells.
-use Rattle.std.specs.Prelude.{Bool, true, false, nat_eq, Option, Some, None, Result, Err}
+use Rattle.std.specs.Prelude.{true, false, nat_eq, Some, None, Result, Err}
 use Rattle.std.proofs.Common.{◌≡◌, ℕ, suc, List, [], ◌∷◌, ◌++◌, length, refl, sym, ap, subst, ◌∙◌, append_assoc}
 use Rattle.std.proofs.lemmas.List.{append-nil, append_cancel_left}
 use Rattle.std.proofs.Math.Dec.{eqb-suc-zero}
