@@ -7,7 +7,9 @@ use Rattle.script_lexer.specs.declared.line.Lines.{Lines}
 use Rattle.script_lexer.specs.Lines.{IsUnbroken, LexBreak, Lexes, logical_lines, text_of}
 use Rattle.script_linker.specs.declared.fault.LinkFault.{LinkFault}
 use Rattle.script_linker.specs.declared.fault.LinkFault.TheVariants as link
-use Rattle.script_parser.specs.Faults.{IsLineOf}
+use Rattle.line_parser.specs.declared.fault.LineRule.{LineRule}
+use Rattle.script_parser.specs.Faults.{IsFaultOf}
+use Rattle.script_parser.specs.declared.fault.ParseFault.TheVariants as parse
 use Rattle.type_rules.specs.declared.fault.TypeFault.{TypeFault}
 use Rattle.type_rules.specs.declared.fault.TypeFault.TheVariants as typing
 use Rattle.command_files.specs.declared.ending.Ending.{Ending}
@@ -39,18 +41,19 @@ pub record BreaksForm (text : List ℕ) (place : Place) (rule : LexRule) : Type 
   pub place_is : place ≡ Line line
   pub broken : LexBreak text line rule
 
--- a line of a text that is cut into lines, or the one after the last
-pub record StandsOnLine (text : List ℕ) (place : Place) : Type 0 where
+-- the rule of lines and blocks that a text breaks which keeps its lexical form: on a line of it or the one after the last, and where the line is too deep it is so
+pub record BreaksLines (text : List ℕ) (place : Place) (rule : LineRule) : Type 0 where
   pub line : ℕ
   pub lines : Lines
   pub place_is : place ≡ Line line
+  pub form : KeepsForm text
   pub cut : Lexes text (logical_lines lines.lines.items) lines.last
-  pub line_of : IsLineOf lines line
+  pub fault : IsFaultOf lines (parse.Broken line rule)
 
 -- a script of this text is refused so
 abbrev pub RefusesScript : List ℕ → Place → Rule → Type 0
 RefusesScript text place (Lexical rule) = BreaksForm text place rule
-RefusesScript text place (Grammar rule) = StandsOnLine text place
+RefusesScript text place (Grammar rule) = BreaksLines text place rule
 RefusesScript text place (Link rule) = ⊥
 RefusesScript text place (Typing rule) = ⊥
 RefusesScript text place (Pex rule) = ⊥

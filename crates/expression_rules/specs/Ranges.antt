@@ -4,7 +4,8 @@ use Rattle.core_tree.specs.declared.expression.Core.{Core}
 use Rattle.core_tree.specs.declared.statement.CoreStatement.{CoreStatement}
 use Rattle.core_tree.specs.InRange.{Bounds, ResultInRange, TypeInRange, PlacesInRange, ExpressionInRange, StatementInRange}
 use Rattle.core_tree.specs.Tree.{expression_of, statement_of}
-use Rattle.type_scope.specs.Scope.{function_counts, KindInRange}
+use Rattle.type_scope.specs.Scope.{KindInRange}
+use Rattle.type_scope.specs.Types.{function_counts}
 use Rattle.expression_rules.specs.declared.arguments.Given.{Given}
 use Rattle.expression_rules.specs.declared.arguments.Arguments.{Arguments}
 use Rattle.expression_rules.specs.declared.assignment.Target.{Target}

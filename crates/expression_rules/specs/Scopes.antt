@@ -1,7 +1,7 @@
 -- What stays the same in a scope while its lines are judged, and what its trees may name.
 use Rattle.std.specs.Prelude.{◌≡◌, ◌<◌, length, All, vec_len}
 use Rattle.core_tree.specs.InRange.{Bounds, ResultInRange}
-use Rattle.type_scope.specs.Scope.{function_counts}
+use Rattle.type_scope.specs.Types.{function_counts}
 use Rattle.expression_rules.specs.declared.scope.Scope.{Scope}
 
 -- what expressions may name in a scope

@@ -1,7 +1,8 @@
 // What is seen where an expression stands.
-ghost use Rattle.std.specs.Prelude.{IfNone, IfOk, IfSome, IsSome, IsTrue};
+ghost use Rattle.std.specs.Prelude.{◌≡◌, IfNone, IfOk, IfSome, IsSome, IsTrue};
 ghost use Rattle.core_tree.specs.InRange.{ResultInRange};
-ghost use Rattle.type_scope.specs.Scope.{function_counts, KindInRange};
+ghost use Rattle.type_scope.specs.Scope.{KindInRange};
+ghost use Rattle.type_scope.specs.Types.{function_counts, type_named};
 ghost use Rattle.expression_rules.specs.Ranges.{OperandInRange, bounds_of};
 ghost use Rattle.expression_rules.specs.Rules.{IsFirst};
 
@@ -76,6 +77,7 @@ impl Context<'_> {
         notes: &mut Notes,
         name: &TypeName,
     ) -> Result<Option<CoreType>, OutOfMemory>
+        ensures found { IfOk result (λ found. found ≡ type_named self.now.catalog.now.set.now name.now) }
         ensures in_range { IfOk result (ResultInRange (function_counts self.now.catalog.now.set.now)) }
         ensures noted { IfOk result (λ found. IfNone found (IsSome notes.new.first)) }
     {

@@ -1,7 +1,8 @@
 // Properties, and the lengths, elements and sizes of arrays.
 ghost use Rattle.std.specs.Prelude.{◌≡◌, ◌<◌, ◌≤◌, pos, IfOk, IfSome, IfNone, List, ℕ};
 ghost use Rattle.core_tree.specs.InRange.{Bounds, TypeInRange, ResultInRange};
-ghost use Rattle.type_scope.specs.Scope.{KindInRange, function_counts};
+ghost use Rattle.type_scope.specs.Scope.{KindInRange};
+ghost use Rattle.type_scope.specs.Types.{function_counts};
 ghost use Rattle.expression_rules.specs.Ranges.{CoreInRange, OperandInRange, bounds_of};
 
 use crate::context::Context;

@@ -1,3 +1,4 @@
+pub mod Blocks
 pub mod Fault
 pub mod Levels
 pub mod Nesting

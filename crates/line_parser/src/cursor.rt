@@ -1,5 +1,6 @@
 // Reads the tokens of a line from left to right.
 ghost use Rattle.std.specs.Prelude.{◌≡◌, ◌+◌, ◌<◌, ◌≤◌, length, IsTrue, IsSome, IfSome, OnSome, OnOk};
+ghost use Rattle.line_parser.specs.Blocks.{first_keyword, keyword_of};
 ghost use Rattle.line_parser.specs.Levels.{looseness};
 
 use crate::fault::FormFault;
@@ -29,7 +30,8 @@ impl<'a> Cursor<'a> {
     }
 
     pub(crate) fn next_keyword(&self) -> Option<Keyword>
-        ensures { IsSome result → 0 < length self.now.rest.now }
+        ensures some { IsSome result → 0 < length self.now.rest.now }
+        ensures first { result ≡ first_keyword self.now.rest.now }
     {
         match self.rest.first() {
             Some(spanned) => keyword(&spanned.token),
@@ -273,7 +275,9 @@ fn sign(token: &Token) -> Option<Sign> {
     }
 }
 
-fn keyword(token: &Token) -> Option<Keyword> {
+fn keyword(token: &Token) -> Option<Keyword>
+    ensures { result ≡ keyword_of token.now }
+{
     match token {
         Token::Key(found) => Some(*found),
         _ => None,

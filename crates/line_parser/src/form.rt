@@ -1,5 +1,6 @@
 // The forms of lines, one function for each production.
-ghost use Rattle.std.specs.Prelude.{◌↔◌, ◌≢◌, IsErrOf};
+ghost use Rattle.std.specs.Prelude.{◌≡◌, ◌↔◌, ◌≢◌, false, IfOk, IfSome, IsErrOf, IsTrue};
+ghost use Rattle.line_parser.specs.Blocks.{begins_block, is_block_word, opens_block};
 ghost use Rattle.line_parser.specs.Nesting.{IsTooDeep};
 ghost use Rattle.line_parser.specs.declared.fault.LineFault.TheVariants.{Broken};
 ghost use Rattle.line_parser.specs.declared.fault.LineRule.TheVariants.{TooDeep, BadBlock};
@@ -48,6 +49,8 @@ pub fn parse_line_with(alloc: Global, types: &TypeWords, line: &Line) -> Result<
 pub fn parse_form_with(alloc: Global, types: &TypeWords, line: &Line) -> Result<LineForm, LineFault>
     ensures too_deep { IsErrOf result (Broken TooDeep) ↔ IsTooDeep line.now.tokens.items }
     ensures no_block { result ≢ Err (Broken BadBlock) }
+    // The form of `If` or `While` is that of a line that begins so.
+    ensures block { IfOk result (λ form. IsTrue (opens_block form) → IsTrue (begins_block line.now.tokens.items)) }
 {
     let tokens = judged(line)?;
     if let Some(form) = ending_form(tokens) {
@@ -60,6 +63,7 @@ pub fn parse_form_with(alloc: Global, types: &TypeWords, line: &Line) -> Result<
 fn judged(line: &Line) -> Result<&[Spanned], LineFault>
     ensures too_deep { IsErrOf result (Broken TooDeep) ↔ IsTooDeep line.now.tokens.items }
     ensures no_block { result ≢ Err (Broken BadBlock) }
+    ensures tokens { IfOk result (λ tokens. tokens.now ≡ line.now.tokens.items) }
 {
     let tokens = line.tokens.as_slice();
     if is_too_deep(tokens) {
@@ -71,7 +75,9 @@ fn judged(line: &Line) -> Result<&[Spanned], LineFault>
 }
 
 // The form of a line that is one keyword, as most ends of blocks are.
-fn ending_form(tokens: &[Spanned]) -> Option<LineForm> {
+fn ending_form(tokens: &[Spanned]) -> Option<LineForm>
+    ensures { IfSome result (λ form. opens_block form ≡ false) }
+{
     match tokens {
         [only] => match only.token {
             Token::Key(keyword) => word_form(keyword),
@@ -89,7 +95,9 @@ fn line_tree(alloc: Global, types: &TypeWords, tokens: &[Spanned]) -> Result<Lin
 }
 
 // The tokens before a documentation text where one is last, or else all.
-fn without_doc(tokens: &[Spanned]) -> &[Spanned] {
+fn without_doc(tokens: &[Spanned]) -> &[Spanned]
+    ensures { IsTrue (begins_block result.now) → IsTrue (begins_block tokens.now) }
+{
     match tokens.split_last() {
         Some((last, others)) if is_doc(&last.token) => others,
         _ => tokens,
@@ -115,7 +123,9 @@ fn doc_text(alloc: Global, token: &Token) -> Result<Option<Text>, FormFault> {
 }
 
 // The form that all of the tokens have.
-fn whole_form(alloc: Global, types: &TypeWords, tokens: &[Spanned]) -> Result<LineForm, FormFault> {
+fn whole_form(alloc: Global, types: &TypeWords, tokens: &[Spanned]) -> Result<LineForm, FormFault>
+    ensures { IfOk result (λ form. IsTrue (opens_block form) → IsTrue (begins_block tokens.now)) }
+{
     let mut cursor = Cursor {
         alloc,
         types,
@@ -130,7 +140,9 @@ fn whole_form(alloc: Global, types: &TypeWords, tokens: &[Spanned]) -> Result<Li
     }
 }
 
-fn form(cursor: &mut Cursor<'_>) -> Result<LineForm, FormFault> {
+fn form(cursor: &mut Cursor<'_>) -> Result<LineForm, FormFault>
+    ensures { IfOk result (λ form. IsTrue (opens_block form) → IsTrue (begins_block cursor.old.rest.now)) }
+{
     match cursor.next_keyword() {
         Some(keyword) if !begins_declaration(cursor.rest) => keyword_form(cursor, keyword),
         _ if cursor.is_at_end() => Ok(LineForm::DocOnly),
@@ -140,7 +152,9 @@ fn form(cursor: &mut Cursor<'_>) -> Result<LineForm, FormFault> {
 }
 
 // A line that begins with a keyword, and with no declared type.
-fn keyword_form(cursor: &mut Cursor<'_>, keyword: Keyword) -> Result<LineForm, FormFault> {
+fn keyword_form(cursor: &mut Cursor<'_>, keyword: Keyword) -> Result<LineForm, FormFault>
+    ensures { IfOk result (λ form. IsTrue (opens_block form) → IsTrue (is_block_word keyword)) }
+{
     match keyword {
         Keyword::ScriptName => script_name(cursor),
         Keyword::Import => import(cursor),
@@ -160,7 +174,9 @@ fn keyword_form(cursor: &mut Cursor<'_>, keyword: Keyword) -> Result<LineForm, F
 }
 
 // The form of a line that is one keyword.
-fn word_form(keyword: Keyword) -> Option<LineForm> {
+fn word_form(keyword: Keyword) -> Option<LineForm>
+    ensures { IfSome result (λ form. opens_block form ≡ false) }
+{
     match keyword {
         Keyword::EndProperty => Some(LineForm::EndProperty),
         Keyword::EndFunction => Some(LineForm::EndFunction),
@@ -173,7 +189,9 @@ fn word_form(keyword: Keyword) -> Option<LineForm> {
     }
 }
 
-fn script_name(cursor: &mut Cursor<'_>) -> Result<LineForm, FormFault> {
+fn script_name(cursor: &mut Cursor<'_>) -> Result<LineForm, FormFault>
+    ensures { IfOk result (λ form. opens_block form ≡ false) }
+{
     cursor.expect_keyword(Keyword::ScriptName)?;
     let name = cursor.expect_word()?;
     let parent = if cursor.take_keyword(Keyword::Extends) {
@@ -189,12 +207,16 @@ fn script_name(cursor: &mut Cursor<'_>) -> Result<LineForm, FormFault> {
     })
 }
 
-fn import(cursor: &mut Cursor<'_>) -> Result<LineForm, FormFault> {
+fn import(cursor: &mut Cursor<'_>) -> Result<LineForm, FormFault>
+    ensures { IfOk result (λ form. opens_block form ≡ false) }
+{
     cursor.expect_keyword(Keyword::Import)?;
     Ok(LineForm::Import(cursor.expect_word()?))
 }
 
-fn state(cursor: &mut Cursor<'_>) -> Result<LineForm, FormFault> {
+fn state(cursor: &mut Cursor<'_>) -> Result<LineForm, FormFault>
+    ensures { IfOk result (λ form. opens_block form ≡ false) }
+{
     let is_auto = cursor.take_keyword(Keyword::Auto);
     cursor.expect_keyword(Keyword::State)?;
     let name = cursor.expect_word()?;
@@ -202,17 +224,21 @@ fn state(cursor: &mut Cursor<'_>) -> Result<LineForm, FormFault> {
 }
 
 // `If`, `ElseIf` or `While`, and its test.
-fn test_line(cursor: &mut Cursor<'_>, keyword: Keyword) -> Result<LineForm, FormFault> {
+fn test_line(cursor: &mut Cursor<'_>, keyword: Keyword) -> Result<LineForm, FormFault>
+    ensures { IfOk result (λ form. IsTrue (opens_block form) → IsTrue (is_block_word keyword)) }
+{
     cursor.expect_keyword(keyword)?;
     let test = expression(cursor, BRACKET_LIMIT)?;
     Ok(match keyword {
         Keyword::If => LineForm::If(test),
-        Keyword::ElseIf => LineForm::ElseIf(test),
-        _ => LineForm::While(test),
+        Keyword::While => LineForm::While(test),
+        _ => LineForm::ElseIf(test),
     })
 }
 
-fn return_line(cursor: &mut Cursor<'_>) -> Result<LineForm, FormFault> {
+fn return_line(cursor: &mut Cursor<'_>) -> Result<LineForm, FormFault>
+    ensures { IfOk result (λ form. opens_block form ≡ false) }
+{
     cursor.expect_keyword(Keyword::Return)?;
     if cursor.is_at_end() {
         return Ok(LineForm::Return(None));
@@ -221,7 +247,9 @@ fn return_line(cursor: &mut Cursor<'_>) -> Result<LineForm, FormFault> {
 }
 
 // A type, and what it is the type of.
-fn declaration(cursor: &mut Cursor<'_>) -> Result<LineForm, FormFault> {
+fn declaration(cursor: &mut Cursor<'_>) -> Result<LineForm, FormFault>
+    ensures { IfOk result (λ form. opens_block form ≡ false) }
+{
     let kind = type_name(cursor)?;
     match cursor.next_keyword() {
         Some(Keyword::Property) => property(cursor, kind),
@@ -230,7 +258,9 @@ fn declaration(cursor: &mut Cursor<'_>) -> Result<LineForm, FormFault> {
     }
 }
 
-fn definition(cursor: &mut Cursor<'_>, kind: TypeName) -> Result<LineForm, FormFault> {
+fn definition(cursor: &mut Cursor<'_>, kind: TypeName) -> Result<LineForm, FormFault>
+    ensures { IfOk result (λ form. opens_block form ≡ false) }
+{
     let name = cursor.expect_word()?;
     let value = if cursor.take_sign(Sign::Assign) {
         Some(expression(cursor, BRACKET_LIMIT)?)
@@ -246,7 +276,9 @@ fn definition(cursor: &mut Cursor<'_>, kind: TypeName) -> Result<LineForm, FormF
     })
 }
 
-fn property(cursor: &mut Cursor<'_>, kind: TypeName) -> Result<LineForm, FormFault> {
+fn property(cursor: &mut Cursor<'_>, kind: TypeName) -> Result<LineForm, FormFault>
+    ensures { IfOk result (λ form. opens_block form ≡ false) }
+{
     cursor.expect_keyword(Keyword::Property)?;
     let name = cursor.expect_word()?;
     let value = initial_constant(cursor)?;
@@ -268,11 +300,15 @@ fn property(cursor: &mut Cursor<'_>, kind: TypeName) -> Result<LineForm, FormFau
     })
 }
 
-fn untyped_function(cursor: &mut Cursor<'_>) -> Result<LineForm, FormFault> {
+fn untyped_function(cursor: &mut Cursor<'_>) -> Result<LineForm, FormFault>
+    ensures { IfOk result (λ form. opens_block form ≡ false) }
+{
     function(cursor, None)
 }
 
-fn function(cursor: &mut Cursor<'_>, result_type: Option<TypeName>) -> Result<LineForm, FormFault> {
+fn function(cursor: &mut Cursor<'_>, result_type: Option<TypeName>) -> Result<LineForm, FormFault>
+    ensures { IfOk result (λ form. opens_block form ≡ false) }
+{
     cursor.expect_keyword(Keyword::Function)?;
     let name = cursor.expect_word()?;
     let parameters = parameters(cursor)?;
@@ -300,7 +336,9 @@ fn global_and_native(cursor: &mut Cursor<'_>) -> (bool, bool) {
     (is_global, is_native)
 }
 
-fn event(cursor: &mut Cursor<'_>) -> Result<LineForm, FormFault> {
+fn event(cursor: &mut Cursor<'_>) -> Result<LineForm, FormFault>
+    ensures { IfOk result (λ form. opens_block form ≡ false) }
+{
     cursor.expect_keyword(Keyword::Event)?;
     let name = cursor.expect_word()?;
     let parameters = parameters(cursor)?;
@@ -318,7 +356,9 @@ fn event(cursor: &mut Cursor<'_>) -> Result<LineForm, FormFault> {
 }
 
 // An assignment, or an expression alone.
-fn statement(cursor: &mut Cursor<'_>) -> Result<LineForm, FormFault> {
+fn statement(cursor: &mut Cursor<'_>) -> Result<LineForm, FormFault>
+    ensures { IfOk result (λ form. opens_block form ≡ false) }
+{
     let target = expression(cursor, BRACKET_LIMIT)?;
     match cursor.take_assignment() {
         Some(sign) => {

@@ -8,7 +8,7 @@ use Rattle.script_parser.specs.declared.script.Script.{Script}
 use Rattle.script_linker.specs.declared.earliest.Earliest.{Earliest}
 use Rattle.script_linker.specs.declared.earliest.Found.{Found}
 use Rattle.script_linker.specs.Found.{FindsAmong}
-use Rattle.script_linker.specs.Lines.{function_line, heading_lines, lines_with, property_line, property_lines, state_lines, variable_line}
+use Rattle.script_parser.specs.Lines.{function_line, heading_lines, lines_with, property_line, property_lines, state_lines, variable_line}
 
 -- the lines of the first list are among those of the second
 pub record AreAmong (few many : List ℕ) : Type 0 where

@@ -8,7 +8,7 @@ use Rattle.script_linker.specs.declared.earliest.Found.{Found}
 use Rattle.script_linker.specs.declared.fault.LinkRule.{LinkRule}
 use Rattle.script_linker.specs.declared.fault.LinkFault.{LinkFault}
 use Rattle.script_linker.specs.declared.fault.LinkFault.TheVariants.{Broken, OutOfMemory}
-use Rattle.script_linker.specs.Lines.{lines_of, lines_with, own_lines}
+use Rattle.script_parser.specs.Lines.{lines_of, lines_with, own_lines}
 use Rattle.script_linker.specs.Link.{IsCompleted, AreCompleted, AreFilesOf, IsFaultOf, IsFaultOn, declared_lines, function_count}
 use Rattle.script_linker.specs.Lookup.{HasNumbers, HasSmallScript, script_named}
 use Rattle.script_linker.specs.Rules.{IsNoParent, IsParent}

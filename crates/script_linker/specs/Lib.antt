@@ -1,7 +1,6 @@
 pub mod Found
 pub mod Generated
 pub mod Index
-pub mod Lines
 pub mod Link
 pub mod Lookup
 pub mod Refs

@@ -2,7 +2,7 @@
 use Rattle.std.specs.Prelude.{ℕ, ◌≡◌, ◌+◌, ◌-◌, ◌<◌, ◌≤◌, List, ◌++◌, All, drop, length, slice_index_or, Contains, IfSome, IsSome}
 use Rattle.script_parser.specs.declared.script.Function.{Function}
 use Rattle.script_parser.specs.declared.script.Script.{Script}
-use Rattle.script_linker.specs.Lines.{lines_of, own_lines}
+use Rattle.script_parser.specs.Lines.{lines_of, own_lines}
 use Rattle.script_linker.specs.Lookup.{script_named}
 use Rattle.script_linker.specs.Rules.{IsBelow, IsParent}
 use Rattle.script_linker.specs.declared.set.SourceFile.{SourceFile}

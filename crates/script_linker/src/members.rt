@@ -4,7 +4,7 @@ ghost use Rattle.papy_base.specs.Case.{folded, SameIgnoringCase};
 ghost use Rattle.script_linker.specs.Lookup.{HasFewMembers, HasSmallScript, Nearest, parents_of, own_function};
 ghost use Rattle.script_linker.specs.declared.set.SourceFile.{SourceFile};
 ghost use Rattle.script_linker.specs.Found.{FindsAmong};
-ghost use Rattle.script_linker.specs.Lines.{accessors, function_line, lines_with, own_lines, property_line, property_lines, state_lines, variable_line};
+ghost use Rattle.script_parser.specs.Lines.{accessors, function_line, lines_with, own_lines, property_line, property_lines, state_lines, variable_line};
 ghost use Rattle.script_linker.specs.Link.{declared_lines};
 ghost use Rattle.script_linker.specs.Rules.{IsBelow};
 ghost use Rattle.script_linker.specs.Table.{number_in};

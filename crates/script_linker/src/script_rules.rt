@@ -6,7 +6,7 @@ ghost use Rattle.script_linker.specs.Lookup.{parents_of, script_name};
 ghost use Rattle.script_linker.specs.Link.{IsResolved};
 ghost use Rattle.script_linker.specs.Rules.{IsBelow, IsNoParent};
 ghost use Rattle.script_linker.specs.declared.set.SourceFile.{SourceFile};
-ghost use Rattle.script_linker.specs.Lines.{heading_lines, import_line};
+ghost use Rattle.script_parser.specs.Lines.{heading_lines, import_line};
 ghost use Rattle.script_linker.specs.Found.{FindsAmong};
 
 use crate::earliest::{Earliest, Found};

@@ -1,4 +1,6 @@
 pub mod Faults
 pub mod Held
+pub mod Lines
 pub mod Reader
+pub mod Stands
 pub mod Words

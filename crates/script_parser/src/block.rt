@@ -1,6 +1,7 @@
 // The statements of a function, and the blocks inside them.
-ghost use Rattle.std.specs.Prelude.{◌≡◌, ◌+◌, ◌<◌, IfOk, OnOk};
-ghost use Rattle.script_parser.specs.Reader.{left};
+ghost use Rattle.std.specs.Prelude.{◌≡◌, ◌+◌, ◌<◌, ◌≤◌, List, IfErr, IfOk, OnOk};
+ghost use Rattle.script_lexer.specs.declared.line.Line.{Line};
+ghost use Rattle.script_parser.specs.Reader.{BlockAt, GoesOn, IsBlockFault, blocks_before, left};
 
 use crate::fault::BlockFault;
 use crate::reader::Reader;
@@ -33,7 +34,10 @@ pub(crate) enum EndKind {
 /// The statements up to the line that ends them. At most `depth` blocks may be open in them.
 #[cycle(statements)]
 pub(crate) fn statements(reader: &mut Reader<'_>, depth: u8) -> Result<Block, BlockFault>
+    requires { 64 ≤ blocks_before reader.old + depth }
     ensures nearer { OnOk result (left reader.new < left reader.old) }
+    ensures onward { OnOk result (GoesOn reader.old reader.new) }
+    ensures fault { IfErr result (IsBlockFault reader.old.lines.now) }
 {
     let mut found = Vec::new(reader.alloc);
     'lines: loop {
@@ -73,7 +77,9 @@ fn ended(
     form: LineForm,
     end_at: usize,
     end_line: u16,
-) -> Result<Block, BlockFault> {
+) -> Result<Block, BlockFault>
+    ensures { (lines : List Line) → IfErr result (IsBlockFault lines) }
+{
     match end_of(form) {
         Some(end) => Ok(Block {
             statements,
@@ -103,7 +109,8 @@ fn end_of(form: LineForm) -> Option<EndKind> {
 
 // How many blocks may be open in the one that begins at this place.
 fn inner_depth(at: usize, depth: u8) -> Result<u8, BlockFault>
-    ensures { IfOk result (λ inner. inner + 1 ≡ depth) }
+    ensures inner { IfOk result (λ inner. inner + 1 ≡ depth) }
+    ensures fault { (lines : List Line) → BlockAt lines at depth → IfErr result (IsBlockFault lines) }
 {
     match depth.checked_sub(1) {
         Some(inner) => Ok(inner),
@@ -122,7 +129,10 @@ fn if_block(
     test: Expr,
     depth: u8,
 ) -> Result<StatementForm, BlockFault>
+    requires { 64 ≤ blocks_before reader.old + depth }
     ensures nearer { OnOk result (left reader.new < left reader.old) }
+    ensures onward { OnOk result (GoesOn reader.old reader.new) }
+    ensures fault { IfErr result (IsBlockFault reader.old.lines.now) }
 {
     let mut tests = Vec::new(reader.alloc);
     let mut next = (line, test);
@@ -156,7 +166,10 @@ fn if_block(
 // The statements behind `Else`, up to `EndIf`.
 #[cycle(statements)]
 fn else_block(reader: &mut Reader<'_>, depth: u8) -> Result<Vec<Statement>, BlockFault>
+    requires { 64 ≤ blocks_before reader.old + depth }
     ensures nearer { OnOk result (left reader.new < left reader.old) }
+    ensures onward { OnOk result (GoesOn reader.old reader.new) }
+    ensures fault { IfErr result (IsBlockFault reader.old.lines.now) }
 {
     let Block {
         statements: body,
@@ -176,7 +189,10 @@ fn else_block(reader: &mut Reader<'_>, depth: u8) -> Result<Vec<Statement>, Bloc
 // The body of a `While` behind its first line, up to `EndWhile`.
 #[cycle(statements)]
 fn while_block(reader: &mut Reader<'_>, test: Expr, depth: u8) -> Result<StatementForm, BlockFault>
+    requires { 64 ≤ blocks_before reader.old + depth }
     ensures nearer { OnOk result (left reader.new < left reader.old) }
+    ensures onward { OnOk result (GoesOn reader.old reader.new) }
+    ensures fault { IfErr result (IsBlockFault reader.old.lines.now) }
 {
     let Block {
         statements: body,

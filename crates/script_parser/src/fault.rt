@@ -1,5 +1,5 @@
 // Why lines give no script.
-ghost use Rattle.std.specs.Prelude.{◌≡◌};
+ghost use Rattle.std.specs.Prelude.{◌≡◌, ℕ, List};
 
 use line_parser::{LineFault, LineRule};
 use papy_base::OutOfMemory;
@@ -26,8 +26,15 @@ pub(crate) enum BlockFault {
 }
 
 impl BlockFault {
+    ghost use Rattle.line_parser.specs.declared.fault.LineFault.TheVariants.{Broken as BrokenLine};
+    ghost use Rattle.line_parser.specs.declared.fault.LineRule.TheVariants.{TooDeep};
+    ghost use Rattle.script_lexer.specs.declared.line.Line.{Line};
+    ghost use Rattle.script_parser.specs.Reader.{BreaksAt, IsBlockFault};
+
     /// What is wrong with the line at this place.
-    pub(crate) fn of_line(at: usize, fault: LineFault) -> BlockFault {
+    pub(crate) fn of_line(at: usize, fault: LineFault) -> BlockFault
+        ensures { (lines : List Line) → (fault ≡ BrokenLine TooDeep → BreaksAt lines at TooDeep) → IsBlockFault lines result }
+    {
         match fault {
             LineFault::Broken { rule } => BlockFault::Broken { at, rule },
             LineFault::OutOfMemory => BlockFault::OutOfMemory,
@@ -35,7 +42,9 @@ impl BlockFault {
     }
 
     /// The line at this place isn't admitted, or is missing.
-    pub(crate) fn bad_block(at: usize) -> BlockFault {
+    pub(crate) fn bad_block(at: usize) -> BlockFault
+        ensures { (lines : List Line) → IsBlockFault lines result }
+    {
         BlockFault::Broken {
             at,
             rule: LineRule::BadBlock,

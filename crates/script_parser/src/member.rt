@@ -1,6 +1,8 @@
 // The members of a script, and of its states and properties.
-ghost use Rattle.std.specs.Prelude.{◌≤◌, OnOk};
-ghost use Rattle.script_parser.specs.Reader.{left};
+ghost use Rattle.std.specs.Prelude.{◌≡◌, ◌≤◌, List, IfErr, IfOk, OnOk};
+ghost use Rattle.script_lexer.specs.declared.line.Line.{Line};
+ghost use Rattle.script_parser.specs.Reader.{GoesOn, IsBlockFault, StandsAt, left};
+ghost use Rattle.script_parser.specs.Stands.{AccessorsStand, FunctionsStand, PropertyStands, ScriptStands};
 
 use crate::block::{Block, EndKind, OPEN_LIMIT, statements};
 use crate::fault::BlockFault;
@@ -16,41 +18,50 @@ pub(crate) fn member(
     script: &mut Script,
     first: LineAt<'_>,
 ) -> Result<(), BlockFault>
+    requires { StandsAt reader.old.lines.now first }
     ensures bound { OnOk result (left reader.new ≤ left reader.old) }
+    ensures onward { OnOk result (GoesOn reader.old reader.new) }
+    ensures fault { IfErr result (IsBlockFault reader.old.lines.now) }
+    ensures stands { ScriptStands reader.old.lines.now script.old → OnOk result (ScriptStands reader.old.lines.now script.new) }
 {
     let LineTree { form, doc } = reader.tree(&first)?;
     let at = first.at;
     let line = first.line.number;
     match form {
-        LineForm::Import(name) => script.imports.push((line, name))?,
+        LineForm::Import(name) => Ok(script.imports.push((line, name))?),
         LineForm::Definition {
             kind,
             name,
             value,
             flags,
-        } => script.variables.push(Variable {
-            kind,
-            name,
-            value: initial_value(at, value)?,
-            flags,
-            line,
-        })?,
-        LineForm::Function(heading) => {
+        } => Ok(
+            script.variables.push(Variable {
+                kind,
+                name,
+                value: initial_value(at, value)?,
+                flags,
+                line,
+            })?,
+        ),
+        LineForm::Function(heading) => Ok(
             script
                 .functions
-                .push(function(reader, line, heading, doc)?)?;
-        }
-        LineForm::State { name, is_auto } => script.states.push(State {
-            name,
-            is_auto,
-            functions: state_functions(reader)?,
-            line,
-        })?,
-        other => script
-            .properties
-            .push(property(reader, &first, other, doc)?)?,
+                .push(function(reader, line, heading, doc)?)?,
+        ),
+        LineForm::State { name, is_auto } => Ok(
+            script.states.push(State {
+                name,
+                is_auto,
+                functions: state_functions(reader)?,
+                line,
+            })?,
+        ),
+        other => Ok(
+            script
+                .properties
+                .push(property(reader, &first, other, doc)?)?,
+        ),
     }
-    Ok(())
 }
 
 // The property that begins with a line of this form, which has to be that of one.
@@ -60,7 +71,11 @@ fn property(
     form: LineForm,
     doc: Option<Text>,
 ) -> Result<Property, BlockFault>
+    requires { StandsAt reader.old.lines.now first.now }
     ensures bound { OnOk result (left reader.new ≤ left reader.old) }
+    ensures onward { OnOk result (GoesOn reader.old reader.new) }
+    ensures fault { IfErr result (IsBlockFault reader.old.lines.now) }
+    ensures stands { IfOk result (PropertyStands reader.old.lines.now) }
 {
     let line = first.line.number;
     match form {
@@ -94,7 +109,9 @@ fn property(
 }
 
 // The constant whose tree a variable's value is, which has to be one.
-fn initial_value(at: usize, value: Option<Expr>) -> Result<Option<Constant>, BlockFault> {
+fn initial_value(at: usize, value: Option<Expr>) -> Result<Option<Constant>, BlockFault>
+    ensures { (lines : List Line) → IfErr result (IsBlockFault lines) }
+{
     match value {
         Some(tree) => match constant_of(tree) {
             Some(constant) => Ok(Some(constant)),
@@ -135,7 +152,10 @@ fn auto_form(
     at: usize,
     value: Option<Constant>,
     read_only: bool,
-) -> Result<PropertyForm, BlockFault> {
+) -> Result<PropertyForm, BlockFault>
+    ensures fault { (lines : List Line) → IfErr result (IsBlockFault lines) }
+    ensures stands { (lines : List Line) → IfOk result (AccessorsStand lines) }
+{
     match value {
         Some(constant) if read_only => Ok(PropertyForm::ReadOnly(constant)),
         None if read_only => Err(BlockFault::bad_block(at)),
@@ -151,6 +171,9 @@ fn function(
     doc: Option<Text>,
 ) -> Result<Function, BlockFault>
     ensures bound { OnOk result (left reader.new ≤ left reader.old) }
+    ensures onward { OnOk result (GoesOn reader.old reader.new) }
+    ensures fault { IfErr result (IsBlockFault reader.old.lines.now) }
+    ensures line { IfOk result (λ function. function.line ≡ line) }
 {
     let doc = reader.own_doc(doc)?;
     if heading.is_native {
@@ -191,6 +214,9 @@ fn ends_function(kind: &EndKind, is_event: bool) -> bool {
 // The functions of a state up to its end.
 fn state_functions(reader: &mut Reader<'_>) -> Result<Vec<Function>, BlockFault>
     ensures bound { OnOk result (left reader.new ≤ left reader.old) }
+    ensures onward { OnOk result (GoesOn reader.old reader.new) }
+    ensures fault { IfErr result (IsBlockFault reader.old.lines.now) }
+    ensures stands { IfOk result (λ functions. FunctionsStand reader.old.lines.now functions.items) }
 {
     let mut functions = Vec::new(reader.alloc);
     'functions: loop {
@@ -211,6 +237,9 @@ fn state_functions(reader: &mut Reader<'_>) -> Result<Vec<Function>, BlockFault>
 // The functions of a property up to its end, at least one.
 fn property_functions(reader: &mut Reader<'_>) -> Result<Vec<Function>, BlockFault>
     ensures bound { OnOk result (left reader.new ≤ left reader.old) }
+    ensures onward { OnOk result (GoesOn reader.old reader.new) }
+    ensures fault { IfErr result (IsBlockFault reader.old.lines.now) }
+    ensures stands { IfOk result (λ functions. FunctionsStand reader.old.lines.now functions.items) }
 {
     let mut functions = Vec::new(reader.alloc);
     'functions: loop {

@@ -1,6 +1,10 @@
 // From a file's lines to its script.
-ghost use Rattle.std.specs.Prelude.{◌+◌, ◌^◌, ◌<◌, IfErr, IfOk};
-ghost use Rattle.script_parser.specs.Faults.{IsLineOf, IsFaultOf};
+ghost use Rattle.std.specs.Prelude.{◌≡◌, ◌+◌, ◌^◌, ◌<◌, All, IfErr, IfOk, OnOk, Some, slice_get};
+ghost use Rattle.script_lexer.specs.declared.line.Line.{Line};
+ghost use Rattle.script_parser.specs.Faults.{IsFaultOf, IsLineOf, IsNumberOf};
+ghost use Rattle.script_parser.specs.Lines.{lines_of};
+ghost use Rattle.script_parser.specs.Reader.{GoesOn, IsBlockFault};
+ghost use Rattle.script_parser.specs.Stands.{ScriptStands};
 ghost use Rattle.script_parser.specs.Words.{words_of, CountsDifferent};
 
 use crate::fault::{BlockFault, ParseFault};
@@ -25,6 +29,8 @@ pub fn parse_script(alloc: Global, lines: &Lines) -> Result<Script, ParseFault>
     requires { lines.now.last + 1 < 2 ^ 32 }
     ensures words { IfOk result
         (λ script. CountsDifferent (words_of lines.now.lines.items) script.words) }
+    // What the script declares stands on its lines.
+    ensures lines { IfOk result (λ script. All (IsNumberOf lines.now.lines.items) (lines_of script)) }
     ensures line { IfErr result (IsFaultOf lines.now) }
 {
     match script(alloc, lines.lines.as_slice()) {
@@ -40,7 +46,8 @@ pub fn parse_script(alloc: Global, lines: &Lines) -> Result<Script, ParseFault>
 // The physical line on which the logical line at this place begins, or the one after the last.
 fn line_at(lines: &Lines, at: usize) -> u32
     requires { lines.now.last + 1 < 2 ^ 32 }
-    ensures { IsLineOf lines.now result }
+    ensures line { IsLineOf lines.now result }
+    ensures number { (line : Line) → slice_get lines.now.lines.items at ≡ Some line → result ≡ line.number }
 {
     if at >= lines.lines.len() {
         return lines.last + 1;
@@ -50,6 +57,8 @@ fn line_at(lines: &Lines, at: usize) -> u32
 
 fn script(alloc: Global, lines: &[Line]) -> Result<Script, BlockFault>
     ensures words { IfOk result (λ script. CountsDifferent (words_of lines.now) script.words) }
+    ensures stands { IfOk result (ScriptStands lines.now) }
+    ensures fault { IfErr result (IsBlockFault lines.now) }
 {
     let mut reader = Reader::new(alloc, lines)?;
     let mut script = heading(&mut reader)?;
@@ -61,7 +70,11 @@ fn script(alloc: Global, lines: &[Line]) -> Result<Script, BlockFault>
 }
 
 // The script of the first line, without members yet and with no words counted.
-fn heading(reader: &mut Reader<'_>) -> Result<Script, BlockFault> {
+fn heading(reader: &mut Reader<'_>) -> Result<Script, BlockFault>
+    ensures onward { GoesOn reader.old reader.new }
+    ensures stands { IfOk result (ScriptStands reader.old.lines.now) }
+    ensures fault { IfErr result (IsBlockFault reader.old.lines.now) }
+{
     let alloc = reader.alloc;
     let Some(first) = reader.next() else {
         return Err(BlockFault::bad_block(0));

@@ -1,9 +1,10 @@
 // Reads the forms of a file's lines from first to last.
-ghost use Rattle.std.specs.Prelude.{◌<◌, ◌≤◌, OnOk, OnSome};
+ghost use Rattle.std.specs.Prelude.{◌≡◌, ◌<◌, ◌≤◌, IfErr, IfOk, IfSome, IsTrue, OnOk, OnSome};
+ghost use Rattle.line_parser.specs.Blocks.{begins_block, opens_block};
 
 use crate::fault::BlockFault;
 use line_parser::{LineForm, LineTree, TypeWords, parse_form_with, parse_line_with};
-use papy_base::Text;
+use papy_base::{OutOfMemory, Text};
 use script_lexer::{Line, Spanned, Token};
 use std::alloc::Global;
 
@@ -25,9 +26,12 @@ pub(crate) struct LineAt<'a> {
 }
 
 impl<'a> Reader<'a> {
-    ghost use Rattle.script_parser.specs.Reader.{left};
+    ghost use Rattle.script_parser.specs.Reader.{Found, GoesOn, IsBlockFault, StandsAt, left};
 
-    pub(crate) fn new(alloc: Global, lines: &'a [Line]) -> Result<Self, BlockFault> {
+    pub(crate) fn new(alloc: Global, lines: &'a [Line]) -> Result<Self, BlockFault>
+        ensures lines { IfOk result (λ reader. reader.lines.now ≡ lines.now) }
+        ensures fault { IfErr result (IsBlockFault lines.now) }
+    {
         let types = TypeWords::new(alloc)?;
         Ok(Reader {
             alloc,
@@ -38,7 +42,10 @@ impl<'a> Reader<'a> {
     }
 
     /// The form of a line, and the documentation text at its end.
-    pub(crate) fn tree(&self, found: &LineAt<'_>) -> Result<LineTree, BlockFault> {
+    pub(crate) fn tree(&self, found: &LineAt<'_>) -> Result<LineTree, BlockFault>
+        requires { StandsAt self.now.lines.now found.now }
+        ensures { IfErr result (IsBlockFault self.now.lines.now) }
+    {
         match parse_line_with(self.alloc, &self.types, found.line) {
             Ok(tree) => Ok(tree),
             Err(fault) => Err(BlockFault::of_line(found.at, fault)),
@@ -46,7 +53,11 @@ impl<'a> Reader<'a> {
     }
 
     /// The form of a line alone.
-    pub(crate) fn form(&self, found: &LineAt<'_>) -> Result<LineForm, BlockFault> {
+    pub(crate) fn form(&self, found: &LineAt<'_>) -> Result<LineForm, BlockFault>
+        requires { StandsAt self.now.lines.now found.now }
+        ensures block { IfOk result (λ form. IsTrue (opens_block form) → IsTrue (begins_block found.now.line.now.tokens.items)) }
+        ensures fault { IfErr result (IsBlockFault self.now.lines.now) }
+    {
         match parse_form_with(self.alloc, &self.types, found.line) {
             Ok(form) => Ok(form),
             Err(fault) => Err(BlockFault::of_line(found.at, fault)),
@@ -57,6 +68,8 @@ impl<'a> Reader<'a> {
     pub(crate) fn next(&mut self) -> Option<LineAt<'a>>
         ensures nearer { OnSome result (left self.new < left self.old) }
         ensures bound { left self.new ≤ left self.old }
+        ensures onward { GoesOn self.old self.new }
+        ensures found { IfSome result (Found self.old self.new) }
     {
         let at = self.at;
         let line = self.lines.get(at)?;
@@ -68,6 +81,8 @@ impl<'a> Reader<'a> {
     pub(crate) fn next_form(&mut self) -> Option<LineAt<'a>>
         ensures nearer { OnSome result (left self.new < left self.old) }
         ensures bound { left self.new ≤ left self.old }
+        ensures onward { GoesOn self.old self.new }
+        ensures found { IfSome result (Found self.old self.new) }
     {
         'docs: while let Some(found) = self.next() {
             if !is_doc_only(found.line.tokens.as_slice()) {
@@ -80,6 +95,9 @@ impl<'a> Reader<'a> {
     /// The next line of an open block, which the file has to have.
     pub(crate) fn next_in_block(&mut self) -> Result<LineAt<'a>, BlockFault>
         ensures nearer { OnOk result (left self.new < left self.old) }
+        ensures onward { GoesOn self.old self.new }
+        ensures found { IfOk result (Found self.old self.new) }
+        ensures fault { IfErr result (IsBlockFault self.old.lines.now) }
     {
         match self.next_form() {
             Some(found) => Ok(found),
@@ -91,6 +109,8 @@ impl<'a> Reader<'a> {
     /// where this is a documentation text alone.
     pub(crate) fn own_doc(&mut self, at_end: Option<Text>) -> Result<Option<Text>, BlockFault>
         ensures bound { left self.new ≤ left self.old }
+        ensures onward { GoesOn self.old self.new }
+        ensures fault { IfErr result (IsBlockFault self.old.lines.now) }
     {
         if at_end.is_some() {
             return Ok(at_end);
@@ -115,14 +135,14 @@ fn is_doc_only(tokens: &[Spanned]) -> bool {
 }
 
 // The documentation text that is the only token.
-fn lone_doc(alloc: Global, tokens: &[Spanned]) -> Result<Option<Text>, BlockFault> {
+fn lone_doc(alloc: Global, tokens: &[Spanned]) -> Result<Option<Text>, OutOfMemory> {
     match tokens {
         [only] => doc_text(alloc, &only.token),
         _ => Ok(None),
     }
 }
 
-fn doc_text(alloc: Global, token: &Token) -> Result<Option<Text>, BlockFault> {
+fn doc_text(alloc: Global, token: &Token) -> Result<Option<Text>, OutOfMemory> {
     match token {
         Token::Doc(text) => Ok(Some(text.try_clone(alloc)?)),
         _ => Ok(None),

@@ -5,8 +5,8 @@ ghost use Rattle.indexmap.specs.IndexSet.{insert_all};
 ghost use Rattle.script_parser.specs.Held.{held};
 ghost use Rattle.script_parser.specs.Words.{word_of, words_in, words_of, same_bytes, CountsDifferent};
 
-use crate::fault::BlockFault;
 use indexmap::IndexSet;
+use papy_base::OutOfMemory;
 use script_lexer::{Line, Spanned, Token};
 use std::alloc::Global;
 
@@ -22,7 +22,7 @@ struct Words<'a> {
 }
 
 /// The number of different byte lists among the lines' words, texts and documentation texts.
-pub(crate) fn count_words(alloc: Global, lines: &[Line]) -> Result<u32, BlockFault>
+pub(crate) fn count_words(alloc: Global, lines: &[Line]) -> Result<u32, OutOfMemory>
     ensures { IfOk result (λ count. CountsDifferent (words_of lines.now) count) }
 {
     let lately = vec![in alloc; 0; PLACES]?;
@@ -36,12 +36,12 @@ pub(crate) fn count_words(alloc: Global, lines: &[Line]) -> Result<u32, BlockFau
     let count = words.all.len();
     // A set of 2^32 words finds no memory first.
     if count > u32::MAX as usize {
-        return Err(BlockFault::OutOfMemory);
+        return Err(OutOfMemory);
     }
     Ok(count as u32)
 }
 
-fn add_words<'a>(words: &mut Words<'a>, tokens: &'a [Spanned]) -> Result<(), BlockFault>
+fn add_words<'a>(words: &mut Words<'a>, tokens: &'a [Spanned]) -> Result<(), OutOfMemory>
     ensures { OnOk result
         (held words.new.all ≡ insert_all same_bytes (held words.old.all) (words_in tokens.now)) }
 {
@@ -51,7 +51,7 @@ fn add_words<'a>(words: &mut Words<'a>, tokens: &'a [Spanned]) -> Result<(), Blo
     Ok(())
 }
 
-fn add_word<'a>(words: &mut Words<'a>, token: &'a Token) -> Result<(), BlockFault>
+fn add_word<'a>(words: &mut Words<'a>, token: &'a Token) -> Result<(), OutOfMemory>
     ensures { OnOk result
         (held words.new.all ≡ insert_all same_bytes (held words.old.all) (word_of token.now)) }
 {
@@ -63,7 +63,7 @@ fn add_word<'a>(words: &mut Words<'a>, token: &'a Token) -> Result<(), BlockFaul
     }
 }
 
-fn add_bytes<'a>(words: &mut Words<'a>, bytes: &'a [u8]) -> Result<(), BlockFault>
+fn add_bytes<'a>(words: &mut Words<'a>, bytes: &'a [u8]) -> Result<(), OutOfMemory>
     ensures { OnOk result
         (held words.new.all ≡ insert_all same_bytes (held words.old.all) (bytes.now ∷ [])) }
 {
@@ -94,7 +94,7 @@ fn are_same(left: &[u8], right: &[u8]) -> bool
     left.len() == right.len() && left.iter().zip(right).all(|(a, b)| a == b)
 }
 
-fn insert<'a>(words: &mut Words<'a>, place: usize, bytes: &'a [u8]) -> Result<(), BlockFault>
+fn insert<'a>(words: &mut Words<'a>, place: usize, bytes: &'a [u8]) -> Result<(), OutOfMemory>
     ensures { OnOk result
         (held words.new.all ≡ insert_all same_bytes (held words.old.all) (bytes.now ∷ [])) }
 {

@@ -10,7 +10,7 @@ use Rattle.core_tree.specs.InRange.{function_counts as core_counts}
 use Rattle.core_tree.specs.Set.{empty_functions, empty_functions_of, function_of, script_of, state_of}
 use Rattle.script_linker.specs.declared.set.SourceFile.{SourceFile}
 use Rattle.script_parser.specs.declared.script.State.{State}
-use Rattle.type_scope.specs.Scope.{function_count, function_counts}
+use Rattle.type_scope.specs.Types.{function_count, function_counts}
 use Rattle.type_rules.specs.Heads.{ScriptHead, StateHead, core_function_head, core_script_head, core_state_head, function_head, script_head, state_head}
 
 -- ---- one script more

@@ -7,7 +7,7 @@ use Rattle.core_tree.specs.declared.script.CoreProperty.{CoreProperty}
 use Rattle.core_tree.specs.declared.script.CoreState.{CoreState}
 use Rattle.core_tree.specs.InRange.{FunctionInRange, PropertyInRange, ResultInRange, StateInRange}
 use Rattle.core_tree.specs.Set.{function_of, property_of, state_of}
-use Rattle.type_scope.specs.Scope.{function_counts}
+use Rattle.type_scope.specs.Types.{function_counts}
 use Rattle.expression_rules.specs.declared.scope.Scope.{Scope}
 use Rattle.expression_rules.specs.Scopes.{ScopeInRange}
 use Rattle.type_rules.specs.declared.statements.Promise.{Promise}

@@ -6,7 +6,7 @@ ghost use Rattle.script_linker.specs.declared.set.SourceFile.{SourceFile};
 ghost use Rattle.type_rules.specs.Heads.{core_property_head, core_script_head, core_state_head, property_heads, script_head, state_heads};
 ghost use Rattle.type_rules.specs.Ranges.{WorkInRange, functions_of};
 ghost use Rattle.type_rules.specs.Members.{MembersInRange};
-ghost use Rattle.type_scope.specs.Scope.{function_counts};
+ghost use Rattle.type_scope.specs.Types.{function_counts};
 
 use crate::first_faults::ScriptFaults;
 use crate::functions::clone_text;

@@ -1,1 +1,3 @@
 pub mod Scope
+pub mod Sources
+pub mod Types

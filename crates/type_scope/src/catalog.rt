@@ -1,7 +1,9 @@
 // The scripts of a set by their names, and what names mean in them.
-ghost use Rattle.std.specs.Prelude.{◌≡◌, ◌<◌, ℕ, List, length, IfOk, IfSome, OnSome, slice_index_or};
+ghost use Rattle.std.specs.Prelude.{◌≡◌, ◌<◌, ◌≤◌, ℕ, List, length, IfNone, IfOk, IfSome, OnSome, option_and_then, option_map, slice_index_or};
 ghost use Rattle.core_tree.specs.InRange.{TypeInRange, ResultInRange, FunctionThere};
-ghost use Rattle.type_scope.specs.Scope.{function_counts};
+ghost use Rattle.script_linker.specs.Lookup.{parent_in, script_name, script_named};
+ghost use Rattle.script_linker.specs.Table.{IsPlaceTable};
+ghost use Rattle.type_scope.specs.Types.{array_of, element_named, function_counts, plain_type, script_type, type_named};
 
 use core_tree::{CoreType, FunctionPlace};
 use line_parser::{Heading, TypeName};
@@ -30,6 +32,7 @@ pub struct Catalog<'a> {
     pub alloc: Global,
     pub set: &'a ScriptSet,
     numbers: NameTable,
+    ghost numbered: { IsPlaceTable script_name set.now numbers },
 }
 
 impl<'a> Catalog<'a> {
@@ -52,7 +55,8 @@ impl<'a> Catalog<'a> {
 
     /// The number of the first script of this name.
     pub fn find_script(&self, name: &Name) -> Result<Option<u16>, OutOfMemory>
-        ensures { IfOk result (λ found. IfSome found (λ n. n < length self.now.set.now)) }
+        ensures found { IfOk result (λ found. found ≡ script_named self.now.set.now name.now) }
+        ensures within { IfOk result (λ found. IfSome found (λ n. n < length self.now.set.now)) }
     {
         let count = self.set.count();
         if usize::from(count) > COMPARED_LIMIT {
@@ -69,6 +73,7 @@ impl<'a> Catalog<'a> {
     /// The script of this number.
     pub fn script(&self, number: u16) -> Option<&'a Script>
         ensures within { OnSome result (number < length self.now.set.now) }
+        ensures none { IfNone result (length self.now.set.now ≤ number) }
         ensures script { (file : SourceFile) → IfSome result (λ script. script.now ≡ (slice_index_or self.now.set.now number file).script) }
     {
         if number < self.set.count() {
@@ -80,7 +85,8 @@ impl<'a> Catalog<'a> {
 
     /// The parent of a script, where it has one.
     pub fn parent_of(&self, script: u16) -> Result<Option<u16>, OutOfMemory>
-        ensures { IfOk result (λ found. IfSome found (λ n. n < length self.now.set.now)) }
+        ensures parent { (file : SourceFile) → script < length self.now.set.now → IfOk result (λ found. found ≡ parent_in self.now.set.now (slice_index_or self.now.set.now script file)) }
+        ensures within { IfOk result (λ found. IfSome found (λ n. n < length self.now.set.now)) }
     {
         match self.script(script) {
             Some(script) => self.named(&script.parent),
@@ -89,7 +95,8 @@ impl<'a> Catalog<'a> {
     }
 
     fn named(&self, name: &Option<Name>) -> Result<Option<u16>, OutOfMemory>
-        ensures { IfOk result (λ found. IfSome found (λ n. n < length self.now.set.now)) }
+        ensures found { IfOk result (λ found. found ≡ option_and_then (script_named self.now.set.now) name.now) }
+        ensures within { IfOk result (λ found. IfSome found (λ n. n < length self.now.set.now)) }
     {
         match name {
             Some(name) => self.find_script(name),
@@ -99,7 +106,8 @@ impl<'a> Catalog<'a> {
 
     /// The type that is written so, or none.
     pub fn type_of(&self, name: &TypeName) -> Result<Option<CoreType>, OutOfMemory>
-        ensures { IfOk result (ResultInRange (function_counts self.now.set.now)) }
+        ensures found { IfOk result (λ found. found ≡ type_named self.now.set.now name.now) }
+        ensures in_range { IfOk result (ResultInRange (function_counts self.now.set.now)) }
     {
         let element = self.element_type(&name.word)?;
         Ok(if name.is_array {
@@ -111,13 +119,12 @@ impl<'a> Catalog<'a> {
 
     /// The type of this name that is no array, or none.
     pub fn element_type(&self, word: &Name) -> Result<Option<CoreType>, OutOfMemory>
-        ensures { IfOk result (ResultInRange (function_counts self.now.set.now)) }
+        ensures found { IfOk result (λ found. found ≡ element_named self.now.set.now word.now) }
+        ensures in_range { IfOk result (ResultInRange (function_counts self.now.set.now)) }
     {
-        match word.as_bytes() {
-            b"Int" => Ok(Some(CoreType::Int)),
-            b"Bool" => Ok(Some(CoreType::Bool)),
-            b"String" => Ok(Some(CoreType::Text)),
-            _ => Ok(script_type(self.find_script(word)?)),
+        match plain_type(word.as_bytes()) {
+            Some(found) => Ok(Some(found)),
+            None => Ok(script_type(self.find_script(word)?)),
         }
     }
 
@@ -221,7 +228,8 @@ fn place_among(properties: &[Property], name: &Name) -> Option<u16> {
 }
 
 fn number_below(number: Option<usize>, count: u16) -> Option<u16>
-    ensures { IfSome result (λ n. n < count) }
+    ensures same { IfSome number (λ n. n < count) → result ≡ number }
+    ensures below { IfSome result (λ n. n < count) }
 {
     match number {
         Some(number) if number < usize::from(count) => Some(number as u16),
@@ -229,8 +237,25 @@ fn number_below(number: Option<usize>, count: u16) -> Option<u16>
     }
 }
 
+// `Int`, `Bool` and `String`.
+fn plain_type(word: &[u8]) -> Option<CoreType>
+    ensures found { result ≡ plain_type word.now }
+    ensures in_range { (functions : List ℕ) → ResultInRange functions result }
+{
+    if word == b"Int".as_slice() {
+        Some(CoreType::Int)
+    } else if word == b"Bool".as_slice() {
+        Some(CoreType::Bool)
+    } else if word == b"String".as_slice() {
+        Some(CoreType::Text)
+    } else {
+        None
+    }
+}
+
 fn script_type(script: Option<u16>) -> Option<CoreType>
-    ensures { (functions : List ℕ) → IfSome script (λ n. n < length functions) → ResultInRange functions result }
+    ensures found { result ≡ option_and_then script_type script }
+    ensures in_range { (functions : List ℕ) → IfSome script (λ n. n < length functions) → ResultInRange functions result }
 {
     match script {
         Some(script) if script >= LIBRARY_COUNT => Some(CoreType::Script(script)),
@@ -239,7 +264,8 @@ fn script_type(script: Option<u16>) -> Option<CoreType>
 }
 
 fn array_type(element: Option<CoreType>) -> Option<CoreType>
-    ensures { (functions : List ℕ) → ResultInRange functions element → ResultInRange functions result }
+    ensures found { result ≡ option_map array_of element }
+    ensures in_range { (functions : List ℕ) → ResultInRange functions element → ResultInRange functions result }
 {
     match element {
         Some(element) => Some(array_of(element)),
@@ -249,7 +275,8 @@ fn array_type(element: Option<CoreType>) -> Option<CoreType>
 
 /// The type of arrays of this element type. An array type stays as it is.
 pub fn array_of(element: CoreType) -> CoreType
-    ensures { (functions : List ℕ) → TypeInRange functions element → TypeInRange functions result }
+    ensures found { result ≡ array_of element }
+    ensures in_range { (functions : List ℕ) → TypeInRange functions element → TypeInRange functions result }
 {
     match element {
         CoreType::Int => CoreType::IntArray,

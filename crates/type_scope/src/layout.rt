@@ -1,5 +1,6 @@
 // The variables of a script, those of its Auto properties among them.
-ghost use Rattle.std.specs.Prelude.{◌<◌, IfSome, vec_len};
+ghost use Rattle.std.specs.Prelude.{◌≡◌, ◌<◌, ◌++◌, IfOk, IfSome, OnOk, map, vec_len};
+ghost use Rattle.type_scope.specs.Sources.{InOrderOfLine, auto_declarations, declaration, declarations, is_auto, of_variable, source_line};
 
 use line_parser::TypeName;
 use papy_base::{Name, OutOfMemory};
@@ -38,7 +39,9 @@ impl<'a> Source<'a> {
         }
     }
 
-    fn line(&self) -> u16 {
+    fn line(&self) -> u16
+        ensures { result ≡ source_line self.now }
+    {
         match *self {
             Source::Declared(variable) => variable.line,
             Source::Auto(property, _) => property.line,
@@ -59,7 +62,9 @@ pub struct Layout<'a> {
 
 impl<'a> Layout<'a> {
     /// The variables of this script.
-    pub fn new(alloc: Global, script: &'a Script) -> Result<Layout<'a>, OutOfMemory> {
+    pub fn new(alloc: Global, script: &'a Script) -> Result<Layout<'a>, OutOfMemory>
+        ensures { IfOk result (λ layout. InOrderOfLine (declarations script.now) (map declaration layout.sources.items)) }
+    {
         let sources = sources_of(alloc, script)?;
         let mut autos = vec![in alloc; None; script.properties.len()]?;
         let mut declared = NameTable::new(alloc);
@@ -121,14 +126,18 @@ fn number_among(sources: &[Source<'_>], name: &Name) -> Option<usize> {
     None
 }
 
-fn sources_of<'a>(alloc: Global, script: &'a Script) -> Result<Vec<Source<'a>>, OutOfMemory> {
+fn sources_of<'a>(alloc: Global, script: &'a Script) -> Result<Vec<Source<'a>>, OutOfMemory>
+    ensures { IfOk result (λ sources. InOrderOfLine (declarations script.now) (map declaration sources.items)) }
+{
     let mut sources = declared_sources(alloc, script.variables.as_slice())?;
     add_auto_sources(&mut sources, script.properties.as_slice())?;
     sources.sort_by_key(|source| source.line())?;
     Ok(sources)
 }
 
-fn declared_sources(alloc: Global, variables: &[Variable]) -> Result<Vec<Source<'_>>, OutOfMemory> {
+fn declared_sources(alloc: Global, variables: &[Variable]) -> Result<Vec<Source<'_>>, OutOfMemory>
+    ensures { IfOk result (λ sources. map declaration sources.items ≡ map of_variable variables.now) }
+{
     let mut sources = Vec::with_capacity(alloc, variables.len())?;
     for variable in variables {
         sources.push(Source::Declared(variable))?;
@@ -139,11 +148,23 @@ fn declared_sources(alloc: Global, variables: &[Variable]) -> Result<Vec<Source<
 fn add_auto_sources<'a>(
     sources: &mut Vec<Source<'a>>,
     properties: &'a [Property],
-) -> Result<(), OutOfMemory> {
+) -> Result<(), OutOfMemory>
+    ensures { OnOk result
+        (map declaration sources.new.items ≡ map declaration sources.old.items ++ auto_declarations properties.now) }
+{
     for (place, property) in properties.iter().enumerate() {
-        if matches!(property.form, PropertyForm::Auto(_)) {
+        if is_auto(&property.form) {
             sources.push(Source::Auto(property, place))?;
         }
     }
     Ok(())
+}
+
+fn is_auto(form: &PropertyForm) -> bool
+    ensures { result ≡ is_auto form.now }
+{
+    match form {
+        PropertyForm::Auto(_) => true,
+        PropertyForm::ReadOnly(_) | PropertyForm::Full(_) => false,
+    }
 }

@@ -3,5 +3,5 @@ use Rattle.command_files.proofs.scripts.script_of.Goals as goal
 
 pub returns-in-Err-Broken : goal.returns-in-Err-Broken
 returns-in-Err-Broken c =
-    let line_of = rw c.in-Err-Broken.field-0-is at c.in-Err-Broken.ensures.line in
-    record { line = c.in-Err-Broken.line; lines = c.in-Ok.lines; place_is = refl; cut = c.in-Ok.ensures.cut.1; line_of = line_of }
+    let fault = rw c.in-Err-Broken.field-0-is at c.in-Err-Broken.ensures.line in
+    record { line = c.in-Err-Broken.line; lines = c.in-Ok.lines; place_is = refl; form = c.in-Ok.ensures.cut.0; cut = c.in-Ok.ensures.cut.1; fault = fault }

@@ -1,4 +1,4 @@
-use Rattle.script_linker.specs.Lines.{heading_lines}
+use Rattle.script_parser.specs.Lines.{heading_lines}
 use Rattle.script_linker.proofs.LinkLemmas.{IsFaultOn-at}
 use Rattle.script_linker.proofs.linker.judge_scripts.Goals as goal
 

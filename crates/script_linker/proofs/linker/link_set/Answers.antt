@@ -1,7 +1,7 @@
 use Rattle.std.proofs.Common.{rules, IfErr, sym, subst, arith}
 use Rattle.std.proofs.lemmas.Result.{IfErr-weaker}
 use Rattle.script_linker.specs.Lookup.{RanksSome, IsRanked, IsWithin, HasPreludeParents, StartsWithPrelude}
-use Rattle.script_linker.specs.Lines.{heading_lines}
+use Rattle.script_parser.specs.Lines.{heading_lines}
 use Rattle.script_linker.specs.Link.{IsFaultOn, declared_lines}
 use Rattle.script_linker.proofs.FoundLemmas.{of_heading}
 use Rattle.script_linker.proofs.LinkLemmas.{HasNumbers-behind, IsFaultOn-more}

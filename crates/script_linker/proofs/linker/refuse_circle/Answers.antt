@@ -1,7 +1,7 @@
 use Rattle.std.proofs.Common.{◌≡◌, ◌<◌, ◌≤◌, length, get_or, Contains, subst, refl, ⊎_elim, arith}
 use Rattle.std.proofs.lemmas.Bool.{cases_lt}
 use Rattle.std.proofs.lemmas.List.{get_or_default}
-use Rattle.script_linker.specs.Lines.{heading_lines}
+use Rattle.script_parser.specs.Lines.{heading_lines}
 use Rattle.script_linker.proofs.LinkLemmas.{IsFaultOn-at}
 use Rattle.script_linker.proofs.linker.refuse_circle.Goals as goal
 

@@ -1,4 +1,4 @@
-use Rattle.script_linker.specs.Lines.{function_line}
+use Rattle.script_parser.specs.Lines.{function_line}
 use Rattle.script_linker.proofs.FoundLemmas.{AreAmong-item, FindsAmong-nothing, FindsAmong-then}
 use Rattle.script_linker.proofs.members.judge_accessors.Goals as goal
 

@@ -1,5 +1,5 @@
 use Rattle.std.proofs.Common.{map}
-use Rattle.script_linker.specs.Lines.{variable_line, property_line}
+use Rattle.script_parser.specs.Lines.{variable_line, property_line}
 use Rattle.script_linker.proofs.FoundLemmas.{AreAmong-all, AreAmong-left, AreAmong-right, FindsAmong-then, FindsAmong-nothing}
 use Rattle.script_linker.proofs.members.judge_fields.Goals as goal
 

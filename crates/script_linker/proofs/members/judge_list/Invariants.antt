@@ -1,6 +1,6 @@
 use Rattle.std.proofs.Common.{map}
 use Rattle.script_linker.specs.Found.{FindsAmong}
-use Rattle.script_linker.specs.Lines.{function_line}
+use Rattle.script_parser.specs.Lines.{function_line}
 use Rattle.script_linker.proofs.members.judge_list.Given as goal
 
 abbrev pub invariant-loop-function : goal.invariant-loop-function

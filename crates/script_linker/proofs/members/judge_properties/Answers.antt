@@ -1,4 +1,4 @@
-use Rattle.script_linker.specs.Lines.{property_lines}
+use Rattle.script_parser.specs.Lines.{property_lines}
 use Rattle.script_linker.proofs.FoundLemmas.{AreAmong-first, AreAmong-rest, AreAmong-items, AreAmong-trans, FindsAmong-nothing, FindsAmong-then}
 use Rattle.script_linker.proofs.members.judge_properties.Goals as goal
 

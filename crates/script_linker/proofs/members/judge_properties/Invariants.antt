@@ -1,6 +1,6 @@
 use Rattle.std.specs.List.{flat_map}
 use Rattle.script_linker.specs.Found.{FindsAmong}
-use Rattle.script_linker.specs.Lines.{property_lines}
+use Rattle.script_parser.specs.Lines.{property_lines}
 use Rattle.script_linker.proofs.members.judge_properties.Given as goal
 
 abbrev pub invariant-loop-property : goal.invariant-loop-property

@@ -1,5 +1,5 @@
 use Rattle.std.proofs.Common.{ap, ◌∙◌, subst, take, Contains, IfSome}
-use Rattle.script_linker.specs.Lines.{lines_with, own_lines}
+use Rattle.script_parser.specs.Lines.{lines_with, own_lines}
 use Rattle.script_linker.proofs.FoundLemmas.{limit_on}
 use Rattle.script_linker.proofs.LinkLemmas.{IfSome-at}
 use Rattle.script_linker.proofs.members.member_fault.Goals as goal

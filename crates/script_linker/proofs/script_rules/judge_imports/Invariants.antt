@@ -2,7 +2,7 @@
 use Rattle.std.proofs.Common.{ℕ, ◌≡◌, ◌<◌, List, IsSome, None, map, slice_index_or}
 use Rattle.papy_base.specs.Case.{folded}
 use Rattle.script_linker.specs.Found.{FindsAmong}
-use Rattle.script_linker.specs.Lines.{import_line}
+use Rattle.script_parser.specs.Lines.{import_line}
 use Rattle.script_linker.specs.Table.{number_in}
 use Rattle.script_linker.proofs.script_rules.judge_imports.Given as goal
 

@@ -1,7 +1,7 @@
 use Rattle.std.proofs.Common.{◌≡◌, ◌-◌, None, IsSome, map, get_or, subst, sym, ap, ◌∙◌}
 use Rattle.std.proofs.lemmas.List.{get_or_default, get_or-map}
 use Rattle.papy_base.specs.Case.{folded}
-use Rattle.script_linker.specs.Lines.{heading_lines, import_line}
+use Rattle.script_parser.specs.Lines.{heading_lines, import_line}
 use Rattle.script_linker.specs.Link.{IsResolved}
 use Rattle.script_linker.specs.Lookup.{parent_in}
 use Rattle.script_linker.specs.Rules.{IsBelow}

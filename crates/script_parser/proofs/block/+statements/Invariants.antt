@@ -1,6 +1,6 @@
 -- A call goes on to the statements of a block; each turn of a loop takes a line.
 use Rattle.std.proofs.Common.{◌+◌, ◌*◌, ◌≤◌}
-use Rattle.script_parser.specs.Reader.{left}
+use Rattle.script_parser.specs.Reader.{GoesOn, left}
 use Rattle.script_parser.proofs.block.+statements.Given as goal
 
 abbrev pub decreases-statements : goal.decreases-statements
@@ -16,13 +16,13 @@ abbrev pub decreases-while_block : goal.decreases-while_block
 decreases-while_block l = 3 * l.depth + 2
 
 abbrev pub invariant-statements-lines : goal.invariant-statements-lines
-invariant-statements-lines l = left l.reader ≤ left l.fn.reader
+invariant-statements-lines l = record { bound : left l.reader ≤ left l.fn.reader; onward : GoesOn l.fn.reader l.reader }
 
 abbrev pub decreases-statements-lines : goal.decreases-statements-lines
 decreases-statements-lines l = left l.reader
 
 abbrev pub invariant-if_block-tests : goal.invariant-if_block-tests
-invariant-if_block-tests l = left l.reader ≤ left l.fn.reader
+invariant-if_block-tests l = record { bound : left l.reader ≤ left l.fn.reader; onward : GoesOn l.fn.reader l.reader }
 
 abbrev pub decreases-if_block-tests : goal.decreases-if_block-tests
 decreases-if_block-tests l = left l.reader

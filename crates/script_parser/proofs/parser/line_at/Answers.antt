@@ -1,15 +1,15 @@
-use Rattle.std.proofs.Common.{◌≡◌, ℕ, ◌<◌, List, length, get_or, map, sym, ap, ◌∙◌, inl, arith}
-use Rattle.std.specs.List.{Contains}
-use Rattle.std.proofs.lemmas.List.{get_or-map, length-map}
+use Rattle.std.proofs.Common.{length, refl, ap, ◌∙◌, arith, inl}
+use Rattle.std.proofs.lemmas.Option.{get_or_from_slice_get, slice_get_read}
 use Rattle.script_lexer.specs.declared.line.Line.{Line}
+use Rattle.script_parser.proofs.Standing.{number-stands}
 use Rattle.script_parser.proofs.parser.line_at.Goals as goal
 
--- the number of a line is among the numbers
-Contains-number : (lines : List Line) (at : ℕ) (line : Line) → at < length lines → line ≡ get_or lines at line → Contains (map (λ l. l.number) lines) line.number
-Contains-number lines at line within is =
-    let number : Line → ℕ = λ l. l.number in
-    (at, omega (arith, length-map lines number), get_or-map number lines at line line.number within ∙ ap number (sym is))
+pub returns-clause-line : goal.returns-clause-line
+returns-clause-line c =
+    let lines = c.args.lines.now.lines.items in
+    let here = c.index.result.now in
+    inl (number-stands lines c.args.at here (slice_get_read lines (length lines) c.args.at here refl (omega (arith, c.args.lines.now.lines.ok.0)) c.index.ensures))
 
-pub returns : goal.returns
-returns c =
-    inl (Contains-number c.args.lines.now.lines.items c.args.at c.index.result.now (omega (arith, c.args.lines.now.lines.ok.0)) c.index.ensures)
+pub returns-clause-number : goal.returns-clause-number
+returns-clause-number c = λ line is.
+    ap (λ (l : Line). l.number) (c.index.ensures ∙ get_or_from_slice_get c.args.lines.now.lines.items c.args.at line c.index.result.now is)

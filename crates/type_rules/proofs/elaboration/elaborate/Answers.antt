@@ -1,6 +1,6 @@
 use Rattle.std.proofs.Common.{◌<◌, ◌≤◌, length, map, arith, ◌∙◌, ap}
 use Rattle.std.proofs.lemmas.List.{take_all}
-use Rattle.type_scope.specs.Scope.{function_counts}
+use Rattle.type_scope.specs.Types.{function_counts}
 use Rattle.type_rules.proofs.Heads.{heads-push, scripts-push, set-in_range}
 use Rattle.type_rules.specs.Heads.{script_head}
 use Rattle.type_rules.proofs.elaboration.elaborate.Goals as goal

@@ -3,7 +3,7 @@ use Rattle.std.proofs.Common.{◌≡◌, length, map, take}
 use Rattle.std.specs.List.{All}
 use Rattle.core_tree.specs.InRange.{ScriptInRange}
 use Rattle.core_tree.specs.Set.{script_of}
-use Rattle.type_scope.specs.Scope.{function_counts}
+use Rattle.type_scope.specs.Types.{function_counts}
 use Rattle.type_rules.specs.Faults.{HasFaultBelow}
 use Rattle.type_rules.specs.Heads.{core_script_head, script_head}
 use Rattle.type_rules.proofs.elaboration.elaborate.Given as goal

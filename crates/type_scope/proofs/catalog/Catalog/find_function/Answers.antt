@@ -1,7 +1,7 @@
 use Rattle.std.proofs.Common.{arith, ap, get_or, length, ◌<◌}
 use Rattle.std.proofs.lemmas.List.{length-map}
 use Rattle.script_linker.specs.declared.set.SourceFile.{SourceFile}
-use Rattle.type_scope.specs.Scope.{function_count}
+use Rattle.type_scope.specs.Types.{function_count}
 use Rattle.type_scope.proofs.ScopeLemmas.{below_count}
 use Rattle.type_scope.proofs.catalog.Catalog.find_function.Goals as goal
 

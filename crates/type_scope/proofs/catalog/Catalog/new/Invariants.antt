@@ -1,0 +1,8 @@
+-- The scripts so far are noted.
+use Rattle.std.proofs.Common.{take}
+use Rattle.script_linker.specs.Lookup.{script_name}
+use Rattle.script_linker.specs.Table.{IsPlaceTable}
+use Rattle.type_scope.proofs.catalog.Catalog.new.Given as goal
+
+abbrev pub invariant-loop-number : goal.invariant-loop-number
+invariant-loop-number l = IsPlaceTable script_name (take l.number l.set) l.numbers
