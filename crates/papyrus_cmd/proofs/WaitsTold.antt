@@ -77,6 +77,7 @@ too-large journal many =
     record { line = 0; broken = BadLine; place_is = refl; rule_is = refl; break = inl (many, refl, refl); refused = λ legal. omega (arith, legal.few, many) }
 
 pub journal_unread : (holds : Option Files) (name : List ℕ) (fault : FileFault) → ReadsText holds name 134217728 (Line 0) (Journal BadLine) (Err fault) → ReadsWaits holds name (Err fault)
+unfolding too-large
 journal_unread None name fault read = tt
 journal_unread (Some files) name ReadFault read = tt
 journal_unread (Some files) name OutOfMemory read = tt
