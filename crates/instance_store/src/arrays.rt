@@ -1,6 +1,6 @@
 //! The arrays of a world.
 
-ghost use Rattle.std.specs.Prelude.{◌≡◌, ◌↔◌, ◌⊎◌, ◌<◌, ◌≤◌, [], IfOk, IfErr, IsErrOf, IsTrue, OnErr, not, length};
+ghost use Rattle.std.specs.Prelude.{◌≡◌, ◌↔◌, ◌⊎◌, ◌<◌, ◌≤◌, [], ◌++◌, ◌∷◌, IfOk, IfErr, IsErrOf, IsTrue, OnErr, OnOk, not, length, vec_len};
 ghost use Rattle.std.specs.Option.{ForSome};
 ghost use Rattle.instance_store.specs.Values.{is_array_type};
 ghost use Rattle.instance_store.specs.Arrays.{array_at, length_of, read, write_answer, arrays_with, found, IsRefusal, IsCreated};
@@ -8,7 +8,7 @@ ghost use Rattle.instance_store.specs.Arrays.{array_at, length_of, read, write_a
 use crate::fault::StoreFault;
 use crate::value_array::ValueArray;
 use core_tree::{CoreType, Value};
-use papy_base::StackFault;
+use papy_base::{OutOfMemory, StackFault};
 use std::alloc::Global;
 use std::marker::Model;
 
@@ -84,6 +84,29 @@ impl Arrays {
         let array = ValueArray::filled(*self.arrays.allocator(), kind, count)?;
         self.arrays.push(array)?;
         Ok(number as u16)
+    }
+
+    /// Adds an array of these elements, at most 128 of a type that is no array type.
+    ///
+    /// # Errors
+    ///
+    /// `OutOfMemory` comes where there is no room. Then nothing has changed.
+    pub fn add(&mut self, kind: CoreType, items: Vec<Value>) -> Result<(), OutOfMemory>
+        requires room { length self.old < 4096 }
+        requires at_most { vec_len items ≤ 128 }
+        ensures ok { OnOk result (self.new ≡ self.old ++ record { kind = kind; items = items.items } ∷ []) }
+        ensures err { OnErr result (self.new ≡ self.old) }
+    {
+        self.arrays.push(ValueArray::of(kind, items))?;
+        Ok(())
+    }
+
+    /// The elements of an array.
+    pub fn items_of(&self, array: u16) -> &[Value]
+        requires { array < length self.now }
+        ensures { result.now ≡ (array_at self.now array).items }
+    {
+        self.arrays[usize::from(array)].items()
     }
 
     /// The number of an array's elements. `NoneArray` comes exactly where no array is given.

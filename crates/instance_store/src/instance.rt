@@ -48,6 +48,13 @@ impl Instance {
         self.state = state;
     }
 
+    /// The variables of each of its scripts, from its own upward.
+    pub fn scripts(&self) -> &[ScriptVariables]
+        ensures { result.now ≡ self.now.scripts }
+    {
+        self.scripts.as_slice()
+    }
+
     /// Whether the script declares such a variable.
     pub fn has(&self, script: u16, variable: u16) -> bool
         ensures { IsTrue result ↔ (variable < length (values_of self.now.scripts script)) }

@@ -5,6 +5,7 @@ ghost use Rattle.instance_store.specs.Values.{is_text};
 ghost use Rattle.instance_store.specs.Instances.{instance_at, values_of, variable_of, instance_with, started};
 
 use crate::instance::Instance;
+use crate::script_variables::ScriptVariables;
 use crate::start::start_all;
 use core_tree::{Outline, Scene, Value};
 use papy_base::{OutOfMemory, Text};
@@ -41,6 +42,21 @@ impl Instances {
     {
         let instances = start_all(alloc, &outline.scripts, &scene.instances)?;
         Ok(Instances { instances })
+    }
+
+    /// These instances, numbered in their order.
+    pub fn of(instances: Vec<Instance>) -> Instances
+        ensures { result ≡ instances.items }
+    {
+        Instances { instances }
+    }
+
+    /// The variables of an instance, script by script, from its own upward.
+    pub fn scripts_of(&self, instance: u16) -> &[ScriptVariables]
+        requires { instance < length self.now }
+        ensures { result.now ≡ (instance_at self.now instance).scripts }
+    {
+        self.instances[usize::from(instance)].scripts()
     }
 
     /// Whether there is such an instance, and its script or one above it, of this number, declares

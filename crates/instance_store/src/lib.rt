@@ -13,4 +13,6 @@ mod values;
 
 pub use arrays::Arrays;
 pub use fault::StoreFault;
+pub use instance::Instance;
 pub use instances::Instances;
+pub use script_variables::ScriptVariables;

@@ -48,6 +48,13 @@ impl ScriptVariables {
         self.values.len()
     }
 
+    /// Their values.
+    pub fn values(&self) -> &[Value]
+        ensures { result.now ≡ self.now.values }
+    {
+        self.values.as_slice()
+    }
+
     /// A copy of a value.
     pub fn get(&self, alloc: Global, variable: u16) -> Result<Value, OutOfMemory>
         requires { variable < length self.now.values }

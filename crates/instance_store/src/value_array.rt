@@ -1,6 +1,6 @@
 //! One array.
 
-ghost use Rattle.std.specs.Prelude.{◌≡◌, ◌≤◌, IfOk, IfErr, pos, length, replicate};
+ghost use Rattle.std.specs.Prelude.{◌≡◌, ◌≤◌, IfOk, IfErr, pos, length, replicate, vec_len};
 ghost use Rattle.instance_store.specs.Values.{default_value};
 ghost use Rattle.instance_store.specs.Arrays.{filled, item_of, write_answer_of, array_with, found_place, place_number, IsRefusal};
 
@@ -38,6 +38,21 @@ impl ValueArray {
     {
         let items = defaults(alloc, kind, usize::from(count))?;
         Ok(ValueArray { kind, items })
+    }
+
+    /// An array of these elements.
+    pub fn of(kind: CoreType, items: Vec<Value>) -> ValueArray
+        requires { vec_len items ≤ 128 }
+        ensures { result ≡ record { kind = kind; items = items.items } }
+    {
+        ValueArray { kind, items }
+    }
+
+    /// Its elements.
+    pub fn items(&self) -> &[Value]
+        ensures { result.now ≡ self.now.items }
+    {
+        self.items.as_slice()
     }
 
     /// The type of its elements.

@@ -9,11 +9,15 @@ use Rattle.papyrus_cmd.specs.declared.command.Command.{Command}
 use Rattle.papyrus_cmd.specs.declared.command.Command.TheVariants as command
 use Rattle.papyrus_cmd.specs.declared.command.FileCommand.{FileCommand}
 use Rattle.papyrus_cmd.specs.declared.command.FileCommand.TheVariants.{Compile, Check, Show, Asm, Upgrade, Waits}
+use Rattle.papyrus_cmd.specs.declared.command.PlayCommand.{PlayCommand}
+use Rattle.papyrus_cmd.specs.declared.command.PlayCommand.TheVariants.{Once, Run, Exec, Journal, Hold, Resume, Sample}
+use Rattle.run_commands.specs.Hold.{HoldLeaves, MayWriteHeld}
+use Rattle.run_commands.specs.Journal.{JournalLeaves, MayHoldNoted}
 use Rattle.command_files.specs.declared.ending.Ending.{Ending}
 use Rattle.command_files.specs.declared.ending.Ending.TheVariants.{Done, OutOfMemory, Usage, ReadFault, WriteFault, Refused, NotBuilt}
 use Rattle.command_files.specs.declared.refusal.Place.{Place}
 use Rattle.command_files.specs.declared.refusal.Rule.{Rule}
-use Rattle.command_files.specs.declared.refusal.Rule.TheVariants.{Pex, Listing, Lexical, Grammar, Link, Typing, Scene, Verification, Held, Journal}
+use Rattle.command_files.specs.declared.refusal.Rule.TheVariants as rules
 use Rattle.command_files.specs.Outputs.{Outputs}
 use Rattle.papyrus_cmd.specs.Answers.{Answers}
 use Rattle.papyrus_cmd.specs.Asm.{AsmLeaves, MayWrite}
@@ -23,7 +27,7 @@ use Rattle.papyrus_cmd.specs.Upgrade.{MayUpgrade, UpgradeLeaves}
 use Rattle.command_files.specs.Ending.{CountsBoth, CountsReads, word_at}
 use Rattle.papyrus_cmd.specs.Missed.{MissesWord}
 use Rattle.command_files.specs.Refusal.{rule_status}
-use Rattle.papyrus_cmd.specs.TopCall.{Answered, CommandCut, CommandLeaves, FileCommandCut, FileCommandLeaves, FilesCut, FilesLeft, IsAnswer, Listed, Noted, NotRead, Told, WasCut, WritesNone, file_command_writes, writes_files}
+use Rattle.papyrus_cmd.specs.TopCall.{Answered, CommandCut, CommandLeaves, FileCommandCut, FileCommandLeaves, FilesCut, FilesLeft, IsAnswer, Listed, Noted, NotRead, PlayCommandCut, PlayCommandLeaves, Told, WasCut, WritesNone, file_command_writes, play_command_writes, writes_files}
 use Rattle.papyrus_cmd.proofs.NotedLines.{appended_nothing}
 
 -- the line was written where its status tells neither want of memory nor a failed write
@@ -34,7 +38,7 @@ noted line wanted status before now f f' (Err io.Failed, is, writes, counts) mem
 noted line wanted status before now f f' (Err io.OutOfMemory, is, writes, counts) memory written = absurd (memory is)
 
 pub answered : (words : List (List ℕ)) (holds left : Option Files) (ending : Ending) (status : ℕ) (out out' notes notes' : Option (List ℕ)) (f f' : ℕ) →
-    Outputs (Answers words) holds ending out out' → Told words ending status notes notes' f f' → FilesLeft words ending holds left → IsAnswer status → Answered words holds left status out out' notes notes'
+    Outputs (Answers words) holds ending out out' → Told words ending status notes notes' f f' → FilesLeft words ending out out' holds left → IsAnswer status → Answered words holds left status out out' notes notes'
 answered words holds left Done status out out' notes notes' f f' (text, appended, ends) (is, silent, kept) leaves answer =
     record { ending = Done; text = text; status_is = is; out = appended; notes = appended_nothing notes notes' silent; answers = ends; files = leaves }
 answered words holds left OutOfMemory status out out' notes notes' f f' outputs (is, tried) leaves answer = absurd (answer.memory is)
@@ -58,16 +62,16 @@ answered words holds left (Refused word place rule) status out out' notes notes'
 
 -- the statuses of rules stand behind those of memory, words, reads and writes
 above-four : (rule : Rule) → 4 < rule_status rule
-above-four (Pex rule) = omega arith
-above-four (Listing rule) = omega arith
-above-four (Lexical rule) = omega arith
-above-four (Grammar rule) = omega arith
-above-four (Link rule) = omega arith
-above-four (Typing rule) = omega arith
-above-four (Scene rule) = omega arith
-above-four (Verification rule) = omega arith
-above-four (Held rule) = omega arith
-above-four (Journal rule) = omega arith
+above-four (rules.Pex rule) = omega arith
+above-four (rules.Listing rule) = omega arith
+above-four (rules.Lexical rule) = omega arith
+above-four (rules.Grammar rule) = omega arith
+above-four (rules.Link rule) = omega arith
+above-four (rules.Typing rule) = omega arith
+above-four (rules.Scene rule) = omega arith
+above-four (rules.Verification rule) = omega arith
+above-four (rules.Held rule) = omega arith
+above-four (rules.Journal rule) = omega arith
 
 not-three : (rule : Rule) → rule_status rule ≢ 3
 not-three rule = λ is. absurd (let above = above-four rule in omega arith)
@@ -165,18 +169,31 @@ unread-work Check names words ending status old new notes notes' f f' told three
 unread-work Show names words ending status old new notes notes' f f' told three leaves = leaves
 unread-work Waits names words ending status old new notes notes' f f' told three leaves = leaves
 
-unread-by : (found : Option Command) (names words : List (List ℕ)) (ending : Ending) (status : ℕ) (old new : Option Files) (notes notes' : Option (List ℕ)) (f f' : ℕ) → Told words ending status notes notes' f f' → status ≡ 3 →
-    CommandLeaves found names ending old new → new ≡ old
-unread-by (Some (command.Files work)) names words ending status old new notes notes' f f' told three leaves = unread-work work names words ending status old new notes notes' f f' told three leaves
-unread-by (Some (command.Play work)) names words ending status old new notes notes' f f' told three leaves = leaves
-unread-by (Some command.Help) names words ending status old new notes notes' f f' told three leaves = leaves
-unread-by (Some command.Version) names words ending status old new notes notes' f f' told three leaves = leaves
-unread-by None names words ending status old new notes notes' f f' told three leaves = leaves
+-- the same of a command that runs scripts
+unread-play : (work : PlayCommand) (names words : List (List ℕ)) (ending : Ending) (status : ℕ) (out out' : Option (List ℕ)) (old new : Option Files) (notes notes' : Option (List ℕ)) (f f' : ℕ) → Told words ending status notes notes' f f' → status ≡ 3 →
+    PlayCommandLeaves work names ending out out' old new → new ≡ old
+unread-play Journal names words ending status out out' old new notes notes' f f' told three leaves =
+    unread-left (λ e. JournalLeaves (word_at names 1) e out out' old new) (new ≡ old) (λ word same. same) (λ word place rule same. same) (λ none. absurd none) (λ none. absurd none) words ending status notes notes' f f' told three leaves
+unread-play (Hold turns) names words ending status out out' old new notes notes' f f' told three leaves =
+    unread-left (λ e. HoldLeaves turns names (word_at names 2) e old new) (new ≡ old) (λ word same. same) (λ word place rule same. same) (λ none. absurd none) (λ none. absurd none) words ending status notes notes' f f' told three leaves
+unread-play Once names words ending status out out' old new notes notes' f f' told three leaves = leaves
+unread-play Run names words ending status out out' old new notes notes' f f' told three leaves = leaves
+unread-play Exec names words ending status out out' old new notes notes' f f' told three leaves = leaves
+unread-play (Resume turns) names words ending status out out' old new notes notes' f f' told three leaves = leaves
+unread-play (Sample workers) names words ending status out out' old new notes notes' f f' told three leaves = leaves
+
+unread-by : (found : Option Command) (names words : List (List ℕ)) (ending : Ending) (status : ℕ) (out out' : Option (List ℕ)) (old new : Option Files) (notes notes' : Option (List ℕ)) (f f' : ℕ) → Told words ending status notes notes' f f' → status ≡ 3 →
+    CommandLeaves found names ending out out' old new → new ≡ old
+unread-by (Some (command.Files work)) names words ending status out out' old new notes notes' f f' told three leaves = unread-work work names words ending status old new notes notes' f f' told three leaves
+unread-by (Some (command.Play work)) names words ending status out out' old new notes notes' f f' told three leaves = unread-play work names words ending status out out' old new notes notes' f f' told three leaves
+unread-by (Some command.Help) names words ending status out out' old new notes notes' f f' told three leaves = leaves
+unread-by (Some command.Version) names words ending status out out' old new notes notes' f f' told three leaves = leaves
+unread-by None names words ending status out out' old new notes notes' f f' told three leaves = leaves
 
 -- a file that was not read leaves all files as they were
-pub unread_kept : (words : List (List ℕ)) (ending : Ending) (status : ℕ) (old new : Option Files) (notes notes' : Option (List ℕ)) (f f' : ℕ) → Told words ending status notes notes' f f' → status ≡ 3 →
-    FilesLeft words ending old new → new ≡ old
-unread_kept words ending status old new notes notes' f f' told three left = unread-by (command_of words) (drop 1 words) words ending status old new notes notes' f f' told three left
+pub unread_kept : (words : List (List ℕ)) (ending : Ending) (status : ℕ) (out out' : Option (List ℕ)) (old new : Option Files) (notes notes' : Option (List ℕ)) (f f' : ℕ) → Told words ending status notes notes' f f' → status ≡ 3 →
+    FilesLeft words ending out out' old new → new ≡ old
+unread_kept words ending status out out' old new notes notes' f f' told three left = unread-by (command_of words) (drop 1 words) words ending status out out' old new notes notes' f f' told three left
 
 -- the files of a command that writes none
 work-kept : (work : FileCommand) (names : List (List ℕ)) (ending : Ending) (old new : Option Files) → FileCommandLeaves work names ending old new → file_command_writes work ≡ false → new ≡ old
@@ -187,15 +204,24 @@ work-kept Asm names ending old new leaves none = absurd (cc)
 work-kept Upgrade names ending old new leaves none = absurd (cc)
 work-kept Compile names ending old new leaves none = absurd (cc)
 
-kept-by : (found : Option Command) (names : List (List ℕ)) (ending : Ending) (old new : Option Files) → CommandLeaves found names ending old new → writes_files found ≡ false → new ≡ old
-kept-by (Some (command.Files work)) names ending old new leaves none = work-kept work names ending old new leaves none
-kept-by (Some (command.Play work)) names ending old new leaves none = leaves
-kept-by (Some command.Help) names ending old new leaves none = leaves
-kept-by (Some command.Version) names ending old new leaves none = leaves
-kept-by None names ending old new leaves none = leaves
+play-kept : (work : PlayCommand) (names : List (List ℕ)) (ending : Ending) (out out' : Option (List ℕ)) (old new : Option Files) → PlayCommandLeaves work names ending out out' old new → play_command_writes work ≡ false → new ≡ old
+play-kept Once names ending out out' old new leaves none = leaves
+play-kept Run names ending out out' old new leaves none = leaves
+play-kept Exec names ending out out' old new leaves none = leaves
+play-kept Journal names ending out out' old new leaves none = absurd (cc)
+play-kept (Hold turns) names ending out out' old new leaves none = absurd (cc)
+play-kept (Resume turns) names ending out out' old new leaves none = leaves
+play-kept (Sample workers) names ending out out' old new leaves none = leaves
 
-pub files_kept : (words : List (List ℕ)) (ending : Ending) (old new : Option Files) → FilesLeft words ending old new → WritesNone words → new ≡ old
-files_kept words ending old new left none = kept-by (command_of words) (drop 1 words) ending old new left none
+kept-by : (found : Option Command) (names : List (List ℕ)) (ending : Ending) (out out' : Option (List ℕ)) (old new : Option Files) → CommandLeaves found names ending out out' old new → writes_files found ≡ false → new ≡ old
+kept-by (Some (command.Files work)) names ending out out' old new leaves none = work-kept work names ending old new leaves none
+kept-by (Some (command.Play work)) names ending out out' old new leaves none = play-kept work names ending out out' old new leaves none
+kept-by (Some command.Help) names ending out out' old new leaves none = leaves
+kept-by (Some command.Version) names ending out out' old new leaves none = leaves
+kept-by None names ending out out' old new leaves none = leaves
+
+pub files_kept : (words : List (List ℕ)) (ending : Ending) (out out' : Option (List ℕ)) (old new : Option Files) → FilesLeft words ending out out' old new → WritesNone words → new ≡ old
+files_kept words ending out out' old new left none = kept-by (command_of words) (drop 1 words) ending out out' old new left none
 
 -- what is left where a status tells that the command was cut short
 cut-left : (L : Ending → Type 0) (Cut : Type 0) → (L OutOfMemory → Cut) → (L WriteFault → Cut) → (L Usage → Cut) → (L NotBuilt → Cut) → ((word : ℕ) → L (ReadFault word) → Cut) → ((word : ℕ) (place : Place) (rule : Rule) → L (Refused word place rule) → Cut) →
@@ -221,18 +247,30 @@ cut-work Check names words ending status old new notes notes' f f' told cut leav
 cut-work Show names words ending status old new notes notes' f f' told cut leaves = leaves
 cut-work Waits names words ending status old new notes notes' f f' told cut leaves = leaves
 
-cut-by : (found : Option Command) (names words : List (List ℕ)) (ending : Ending) (status : ℕ) (old new : Option Files) (notes notes' : Option (List ℕ)) (f f' : ℕ) → Told words ending status notes notes' f f' → WasCut status →
-    CommandLeaves found names ending old new → CommandCut found names old new
-cut-by (Some (command.Files work)) names words ending status old new notes notes' f f' told cut leaves = cut-work work names words ending status old new notes notes' f f' told cut leaves
-cut-by (Some (command.Play work)) names words ending status old new notes notes' f f' told cut leaves = leaves
-cut-by (Some command.Help) names words ending status old new notes notes' f f' told cut leaves = leaves
-cut-by (Some command.Version) names words ending status old new notes notes' f f' told cut leaves = leaves
-cut-by None names words ending status old new notes notes' f f' told cut leaves = leaves
+cut-play : (work : PlayCommand) (names words : List (List ℕ)) (ending : Ending) (status : ℕ) (out out' : Option (List ℕ)) (old new : Option Files) (notes notes' : Option (List ℕ)) (f f' : ℕ) → Told words ending status notes notes' f f' → WasCut status →
+    PlayCommandLeaves work names ending out out' old new → PlayCommandCut work names old new
+cut-play Journal names words ending status out out' old new notes notes' f f' told cut leaves =
+    cut-left (λ e. JournalLeaves (word_at names 1) e out out' old new) (MayHoldNoted (word_at names 1) old new) (λ may. may) (λ may. may) (λ none. absurd none) (λ none. absurd none) (λ word same. inl same) (λ word place rule same. inl same) words ending status notes notes' f f' told cut leaves
+cut-play (Hold turns) names words ending status out out' old new notes notes' f f' told cut leaves =
+    cut-left (λ e. HoldLeaves turns names (word_at names 2) e old new) (MayWriteHeld turns names (word_at names 2) old new) (λ may. may) (λ may. may) (λ none. absurd none) (λ none. absurd none) (λ word same. inl same) (λ word place rule same. inl same) words ending status notes notes' f f' told cut leaves
+cut-play Once names words ending status out out' old new notes notes' f f' told cut leaves = leaves
+cut-play Run names words ending status out out' old new notes notes' f f' told cut leaves = leaves
+cut-play Exec names words ending status out out' old new notes notes' f f' told cut leaves = leaves
+cut-play (Resume turns) names words ending status out out' old new notes notes' f f' told cut leaves = leaves
+cut-play (Sample workers) names words ending status out out' old new notes notes' f f' told cut leaves = leaves
+
+cut-by : (found : Option Command) (names words : List (List ℕ)) (ending : Ending) (status : ℕ) (out out' : Option (List ℕ)) (old new : Option Files) (notes notes' : Option (List ℕ)) (f f' : ℕ) → Told words ending status notes notes' f f' → WasCut status →
+    CommandLeaves found names ending out out' old new → CommandCut found names old new
+cut-by (Some (command.Files work)) names words ending status out out' old new notes notes' f f' told cut leaves = cut-work work names words ending status old new notes notes' f f' told cut leaves
+cut-by (Some (command.Play work)) names words ending status out out' old new notes notes' f f' told cut leaves = cut-play work names words ending status out out' old new notes notes' f f' told cut leaves
+cut-by (Some command.Help) names words ending status out out' old new notes notes' f f' told cut leaves = leaves
+cut-by (Some command.Version) names words ending status out out' old new notes notes' f f' told cut leaves = leaves
+cut-by None names words ending status out out' old new notes notes' f f' told cut leaves = leaves
 
 -- a command that was cut short may have written the first part of a file
-pub cut_file : (words : List (List ℕ)) (ending : Ending) (status : ℕ) (old new : Option Files) (notes notes' : Option (List ℕ)) (f f' : ℕ) → Told words ending status notes notes' f f' → WasCut status →
-    FilesLeft words ending old new → FilesCut words old new
-cut_file words ending status old new notes notes' f f' told cut left = cut-by (command_of words) (drop 1 words) words ending status old new notes notes' f f' told cut left
+pub cut_file : (words : List (List ℕ)) (ending : Ending) (status : ℕ) (out out' : Option (List ℕ)) (old new : Option Files) (notes notes' : Option (List ℕ)) (f f' : ℕ) → Told words ending status notes notes' f f' → WasCut status →
+    FilesLeft words ending out out' old new → FilesCut words old new
+cut_file words ending status out out' old new notes notes' f f' told cut left = cut-by (command_of words) (drop 1 words) words ending status out out' old new notes notes' f f' told cut left
 
 -- ---- counts
 

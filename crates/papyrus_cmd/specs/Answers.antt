@@ -17,7 +17,7 @@ use Rattle.command_files.specs.Ending.{word_at}
 use Rattle.papyrus_cmd.specs.Help.{help_text, version_text}
 use Rattle.papyrus_cmd.specs.Upgrade.{RefusesText}
 use Rattle.papyrus_cmd.specs.Waits.{PassesWith, RefusesJournal}
-use Rattle.run_commands.specs.Answers.{ExecAnswers, OnceAnswers, RunAnswers, SampleAnswers}
+use Rattle.run_commands.specs.Answers.{ExecAnswers, HoldAnswers, JournalAnswers, OnceAnswers, ResumeAnswers, RunAnswers, SampleAnswers}
 use Rattle.command_files.specs.Outputs.{AnswersTo}
 use Rattle.command_files.specs.PexFile.{RefusesPex}
 use Rattle.command_files.specs.Scripts.{HoldScripts, RefusesScripts}
@@ -100,6 +100,9 @@ abbrev pub PlayCommandOn : PlayCommand → List (List ℕ) → Files → Ending 
 PlayCommandOn play.Once names held ending text = OnceAnswers names held ending text
 PlayCommandOn play.Run names held ending text = RunAnswers names held ending text
 PlayCommandOn play.Exec names held ending text = ExecAnswers names held ending text
+PlayCommandOn play.Journal names held ending text = JournalAnswers names held ending text
+PlayCommandOn (play.Hold turns) names held ending text = HoldAnswers names held ending text
+PlayCommandOn (play.Resume turns) names held ending text = AnswersTo (ResumeAnswers turns) (word_at names 1) held ending text
 PlayCommandOn (play.Sample workers) names held ending text = SampleAnswers workers ending text
 
 -- how a command ends on the words behind it

@@ -7,7 +7,7 @@ use Rattle.papyrus_cmd.specs.declared.command.Command.TheVariants.{Help, Version
 use Rattle.papyrus_cmd.specs.declared.command.FileCommand.{FileCommand}
 use Rattle.papyrus_cmd.specs.declared.command.FileCommand.TheVariants.{Compile, Check, Show, Asm, Upgrade, Waits}
 use Rattle.papyrus_cmd.specs.declared.command.PlayCommand.{PlayCommand}
-use Rattle.papyrus_cmd.specs.declared.command.PlayCommand.TheVariants.{Once, Run, Exec, Sample}
+use Rattle.papyrus_cmd.specs.declared.command.PlayCommand.TheVariants.{Once, Run, Exec, Journal, Hold, Resume, Sample}
 
 -- one byte or more, followed by `.psc`, and at most 4,096 bytes in all
 abbrev pub is_script_word : List ℕ → Bool
@@ -44,13 +44,17 @@ abbrev pub begins_above_zero : List ℕ → Bool
 begins_above_zero [] = false
 begins_above_zero (byte ∷ bytes) = nat_lt 48 byte
 
--- decimal digits without zeros in front, of a number of at most 200
-abbrev pub writes_count : List ℕ → Bool
-writes_count word = begins_above_zero word && (all_ascii_digits word && nat_le (read_on 0 word) 200)
+-- decimal digits without zeros in front, of a number of at most this one
+abbrev pub writes_count : ℕ → List ℕ → Bool
+writes_count most word = begins_above_zero word && (all_ascii_digits word && nat_le (read_on 0 word) most)
 
 -- the number that a word writes so
-abbrev pub worker_count : List ℕ → Option ℕ
-worker_count word = if writes_count word then Some (read_on 0 word) else None
+abbrev pub counted_number : ℕ → List ℕ → Option ℕ
+counted_number most word = if writes_count most word then Some (read_on 0 word) else None
+
+-- the same where the number may be 0
+abbrev pub turn_count : List ℕ → Option ℕ
+turn_count word = if bytes_eq word (codes "0") then Some 0 else counted_number 1000000 word
 
 abbrev pub sample_of : Option ℕ → Option PlayCommand
 sample_of None = None
@@ -59,8 +63,26 @@ sample_of (Some workers) = Some (Sample workers)
 -- the number of workers, and no word behind it
 abbrev pub sample_command : List (List ℕ) → Option PlayCommand
 sample_command [] = None
-sample_command (word ∷ []) = sample_of (worker_count word)
+sample_command (word ∷ []) = sample_of (counted_number 200 word)
 sample_command (word ∷ next ∷ words) = None
+
+abbrev pub hold_of : Option ℕ → Option PlayCommand
+hold_of None = None
+hold_of (Some turns) = Some (Hold turns)
+
+-- a number of turns, two files, and compiled files behind them
+abbrev pub hold_command : List (List ℕ) → Option PlayCommand
+hold_command [] = None
+hold_command (word ∷ words) = if stand_behind_file (stand_behind_file are_pex_words) words then hold_of (turn_count word) else None
+
+abbrev pub resume_of : Option ℕ → Option PlayCommand
+resume_of None = None
+resume_of (Some turns) = Some (Resume turns)
+
+-- a number of turns, and a file
+abbrev pub resume_command : List (List ℕ) → Option PlayCommand
+resume_command [] = None
+resume_command (word ∷ words) = if are_file_words 1 words then resume_of (turn_count word) else None
 
 -- a word with those behind it, as a command that runs scripts
 abbrev pub play_command : List ℕ → List (List ℕ) → Option PlayCommand
@@ -68,6 +90,9 @@ play_command name words =
     if bytes_eq name (codes "once") && are_script_words words then Some Once
     else if bytes_eq name (codes "run") && stand_behind_file are_script_words words then Some Run
     else if bytes_eq name (codes "exec") && stand_behind_file are_pex_words words then Some Exec
+    else if bytes_eq name (codes "journal") && stand_behind_file (stand_behind_file are_pex_words) words then Some Journal
+    else if bytes_eq name (codes "hold") then hold_command words
+    else if bytes_eq name (codes "resume") then resume_command words
     else if bytes_eq name (codes "sample") then sample_command words
     else None
 
@@ -99,11 +124,20 @@ command_of [] = None
 command_of (name ∷ []) = lone_command name
 command_of (name ∷ word ∷ words) = either_command (play_command name (word ∷ words)) (file_command name (word ∷ words))
 
+-- the words but for the second
+abbrev pub without_second : List (List ℕ) → List (List ℕ)
+without_second [] = []
+without_second (first ∷ []) = first ∷ []
+without_second (first ∷ second ∷ words) = first ∷ words
+
 -- of the words behind a command that runs scripts, those that name a file which it reads
 abbrev pub files_played : PlayCommand → List (List ℕ) → List (List ℕ)
 files_played Once names = names
 files_played Run names = names
 files_played Exec names = names
+files_played Journal names = without_second names
+files_played (Hold turns) names = without_second (drop 1 names)
+files_played (Resume turns) names = drop 1 names
 files_played (Sample workers) names = []
 
 -- the same of a command that works on files

@@ -13,6 +13,10 @@ use Rattle.papyrus_cmd.specs.declared.command.Command.{Command}
 use Rattle.papyrus_cmd.specs.declared.command.Command.TheVariants as command
 use Rattle.papyrus_cmd.specs.declared.command.FileCommand.{FileCommand}
 use Rattle.papyrus_cmd.specs.declared.command.FileCommand.TheVariants as files
+use Rattle.papyrus_cmd.specs.declared.command.PlayCommand.{PlayCommand}
+use Rattle.papyrus_cmd.specs.declared.command.PlayCommand.TheVariants as play
+use Rattle.run_commands.specs.Hold.{HoldLeaves, MayWriteHeld}
+use Rattle.run_commands.specs.Journal.{JournalLeaves, MayHoldNoted}
 use Rattle.papyrus_cmd.specs.Asm.{AsmLeaves, MayWrite}
 use Rattle.papyrus_cmd.specs.Command.{command_of, files_read}
 use Rattle.papyrus_cmd.specs.Compile.{CompileLeaves, MayCompile}
@@ -44,16 +48,26 @@ FileCommandLeaves files.Waits names ending holds left = left ≡ holds
 FileCommandLeaves files.Asm names ending holds left = AsmLeaves (word_at names 0) (word_at names 1) ending holds left
 FileCommandLeaves files.Upgrade names ending holds left = UpgradeLeaves (word_at names 1) ending holds left
 
--- what the files are by the way that a command on these words ended
-abbrev pub CommandLeaves : Option Command → List (List ℕ) → Ending → Option Files → Option Files → Type 0
-CommandLeaves (Some (command.Files work)) names ending holds left = FileCommandLeaves work names ending holds left
-CommandLeaves (Some (command.Play work)) names ending holds left = left ≡ holds
-CommandLeaves (Some command.Help) names ending holds left = left ≡ holds
-CommandLeaves (Some command.Version) names ending holds left = left ≡ holds
-CommandLeaves None names ending holds left = left ≡ holds
+-- what the files are by the way that a command that runs scripts ended, and what it has written
+abbrev pub PlayCommandLeaves : PlayCommand → List (List ℕ) → Ending → Option (List ℕ) → Option (List ℕ) → Option Files → Option Files → Type 0
+PlayCommandLeaves play.Once names ending before now holds left = left ≡ holds
+PlayCommandLeaves play.Run names ending before now holds left = left ≡ holds
+PlayCommandLeaves play.Exec names ending before now holds left = left ≡ holds
+PlayCommandLeaves play.Journal names ending before now holds left = JournalLeaves (word_at names 1) ending before now holds left
+PlayCommandLeaves (play.Hold turns) names ending before now holds left = HoldLeaves turns names (word_at names 2) ending holds left
+PlayCommandLeaves (play.Resume turns) names ending before now holds left = left ≡ holds
+PlayCommandLeaves (play.Sample workers) names ending before now holds left = left ≡ holds
 
-abbrev pub FilesLeft : List (List ℕ) → Ending → Option Files → Option Files → Type 0
-FilesLeft words ending holds left = CommandLeaves (command_of words) (drop 1 words) ending holds left
+-- what the files are by the way that a command on these words ended, and what it has written
+abbrev pub CommandLeaves : Option Command → List (List ℕ) → Ending → Option (List ℕ) → Option (List ℕ) → Option Files → Option Files → Type 0
+CommandLeaves (Some (command.Files work)) names ending before now holds left = FileCommandLeaves work names ending holds left
+CommandLeaves (Some (command.Play work)) names ending before now holds left = PlayCommandLeaves work names ending before now holds left
+CommandLeaves (Some command.Help) names ending before now holds left = left ≡ holds
+CommandLeaves (Some command.Version) names ending before now holds left = left ≡ holds
+CommandLeaves None names ending before now holds left = left ≡ holds
+
+abbrev pub FilesLeft : List (List ℕ) → Ending → Option (List ℕ) → Option (List ℕ) → Option Files → Option Files → Type 0
+FilesLeft words ending before now holds left = CommandLeaves (command_of words) (drop 1 words) ending before now holds left
 
 -- what a command on files of these names that ended so has listed
 abbrev pub FileCommandLists : FileCommand → List (List ℕ) → Ending → Option Files → Option (List ℕ) → Option (List ℕ) → Type 0
@@ -83,10 +97,20 @@ FileCommandCut files.Waits names holds left = left ≡ holds
 FileCommandCut files.Asm names holds left = MayWrite (word_at names 0) (word_at names 1) holds left
 FileCommandCut files.Upgrade names holds left = MayUpgrade (word_at names 1) holds left
 
+-- the same of a command that runs scripts
+abbrev pub PlayCommandCut : PlayCommand → List (List ℕ) → Option Files → Option Files → Type 0
+PlayCommandCut play.Once names holds left = left ≡ holds
+PlayCommandCut play.Run names holds left = left ≡ holds
+PlayCommandCut play.Exec names holds left = left ≡ holds
+PlayCommandCut play.Journal names holds left = MayHoldNoted (word_at names 1) holds left
+PlayCommandCut (play.Hold turns) names holds left = MayWriteHeld turns names (word_at names 2) holds left
+PlayCommandCut (play.Resume turns) names holds left = left ≡ holds
+PlayCommandCut (play.Sample workers) names holds left = left ≡ holds
+
 -- what the files may be where a command was cut short
 abbrev pub CommandCut : Option Command → List (List ℕ) → Option Files → Option Files → Type 0
 CommandCut (Some (command.Files work)) names holds left = FileCommandCut work names holds left
-CommandCut (Some (command.Play work)) names holds left = left ≡ holds
+CommandCut (Some (command.Play work)) names holds left = PlayCommandCut work names holds left
 CommandCut (Some command.Help) names holds left = left ≡ holds
 CommandCut (Some command.Version) names holds left = left ≡ holds
 CommandCut None names holds left = left ≡ holds
@@ -103,9 +127,18 @@ file_command_writes files.Asm = true
 file_command_writes files.Upgrade = true
 file_command_writes files.Waits = false
 
+abbrev pub play_command_writes : PlayCommand → Bool
+play_command_writes play.Once = false
+play_command_writes play.Run = false
+play_command_writes play.Exec = false
+play_command_writes play.Journal = true
+play_command_writes (play.Hold turns) = true
+play_command_writes (play.Resume turns) = false
+play_command_writes (play.Sample workers) = false
+
 abbrev pub writes_files : Option Command → Bool
 writes_files (Some (command.Files work)) = file_command_writes work
-writes_files (Some (command.Play work)) = false
+writes_files (Some (command.Play work)) = play_command_writes work
 writes_files (Some command.Help) = false
 writes_files (Some command.Version) = false
 writes_files None = false
@@ -132,7 +165,7 @@ pub record Answered (words : List (List ℕ)) (holds left : Option Files) (statu
   pub out : Appended text out_before out_now
   pub notes : Appended (note_of words ending) notes_before notes_now
   pub answers : IfSome holds (λ files. Answers words files ending text)
-  pub files : FilesLeft words ending holds left
+  pub files : FilesLeft words ending out_before out_now holds left
 
 -- the command was cut short: the first part of its text is on `out`, and the first part of some line on `notes`
 pub record CutShort (words : List (List ℕ)) (holds : Option Files) (out_before out_now notes_before notes_now : Option (List ℕ)) : Type 0 where

@@ -1,8 +1,8 @@
 //! Which command the words of a command line are.
-ghost use Rattle.std.specs.Prelude.{◌≡◌, map};
+ghost use Rattle.std.specs.Prelude.{◌≡◌, ◌≤◌, IfSome, map};
 ghost use Rattle.std.specs.List.{list_all};
 ghost use Rattle.std.specs.String.{string_bytes};
-ghost use Rattle.papyrus_cmd.specs.Command.{are_file_words, are_pex_words, are_script_words, begins_above_zero, command_of, file_command, is_file_word, is_script_word, lone_command, play_command, sample_command, stand_behind_file, worker_count};
+ghost use Rattle.papyrus_cmd.specs.Command.{are_file_words, are_pex_words, are_script_words, begins_above_zero, command_of, counted_number, file_command, hold_command, is_file_word, is_script_word, lone_command, play_command, resume_command, sample_command, stand_behind_file, turn_count};
 
 /// The most bytes that a word may have.
 const WORD_LIMIT: usize = 4096;
@@ -11,7 +11,10 @@ const WORD_LIMIT: usize = 4096;
 const FILE_COUNT_LIMIT: usize = 256;
 
 /// The most workers of a sample.
-const WORKER_LIMIT: u8 = 200;
+const WORKER_LIMIT: u32 = 200;
+
+/// The most turns that a command goes on for.
+const TURN_LIMIT: u32 = 1_000_000;
 
 /// What a script's name ends with.
 const SCRIPT_ENDING: &[u8] = b".psc";
@@ -59,6 +62,15 @@ pub enum PlayCommand {
     /// Runs compiled files on a scene. The word after the first names the scene, and each after that a
     /// compiled file.
     Exec,
+    /// Runs compiled files on a scene, and writes the journal of the run. The word after the first names the scene,
+    /// the next one the journal, and each after that a compiled file.
+    Journal,
+    /// Runs compiled files on a scene for at most so many turns, and holds the run in a file. The word after the first
+    /// is that number, the next one names the scene, the next one the held file, and each after that a compiled file.
+    Hold(u32),
+    /// Goes on with a held run for at most so many turns. The word after the first is that number, and the next one
+    /// names the held file.
+    Resume(u32),
     /// Runs a sample with so many workers, 1 to 200. The word after the first is their number.
     Sample(u8),
 }
@@ -105,6 +117,12 @@ fn play_command(word: &String, rest: &[String]) -> Option<PlayCommand>
         Some(PlayCommand::Run)
     } else if name == "exec" && are_scene_and_pex_files(rest) {
         Some(PlayCommand::Exec)
+    } else if name == "journal" && are_two_files_and_pex_files(rest) {
+        Some(PlayCommand::Journal)
+    } else if name == "hold" {
+        hold_command(rest)
+    } else if name == "resume" {
+        resume_command(rest)
     } else if name == "sample" {
         sample_command(rest)
     } else {
@@ -144,16 +162,57 @@ fn sample_command(words: &[String]) -> Option<PlayCommand>
     Some(PlayCommand::Sample(worker_count(first)?))
 }
 
-// The number from 1 to 200 that a word writes in decimal digits, without zeros in front.
+// A number of turns, two files, and compiled files behind them.
+fn hold_command(words: &[String]) -> Option<PlayCommand>
+    ensures { result ≡ hold_command (map string_bytes words.now) }
+{
+    let (first, rest) = words.split_first()?;
+    if !are_two_files_and_pex_files(rest) {
+        return None;
+    }
+    Some(PlayCommand::Hold(turn_count(first)?))
+}
+
+// A number of turns, and a file.
+fn resume_command(words: &[String]) -> Option<PlayCommand>
+    ensures { result ≡ resume_command (map string_bytes words.now) }
+{
+    let (first, rest) = words.split_first()?;
+    if !are_file_words(1, rest) {
+        return None;
+    }
+    Some(PlayCommand::Resume(turn_count(first)?))
+}
+
+// The number from 1 to 200 that a word writes.
 fn worker_count(word: &String) -> Option<u8>
-    ensures { result ≡ worker_count (string_bytes word.now) }
+    ensures { result ≡ counted_number 200 (string_bytes word.now) }
+{
+    let count = counted_number(WORKER_LIMIT, word)?;
+    Some(count as u8)
+}
+
+// The number from 0 to 1,000,000 that a word writes.
+fn turn_count(word: &String) -> Option<u32>
+    ensures { result ≡ turn_count (string_bytes word.now) }
+{
+    if word.as_str() == "0" {
+        return Some(0);
+    }
+    counted_number(TURN_LIMIT, word)
+}
+
+// The number from 1 to this one that a word writes in decimal digits, without zeros in front.
+fn counted_number(most: u32, word: &String) -> Option<u32>
+    ensures number { result ≡ counted_number most (string_bytes word.now) }
+    ensures within { IfSome result (λ count. count ≤ most) }
 {
     let text = word.as_str();
     if !begins_above_zero(text.as_bytes()) {
         return None;
     }
-    match text.parse::<u8>() {
-        Ok(count) if count <= WORKER_LIMIT => Some(count),
+    match text.parse::<u32>() {
+        Ok(count) if count <= most => Some(count),
         _ => None,
     }
 }
@@ -205,6 +264,16 @@ fn are_scene_and_pex_files(words: &[String]) -> bool
 {
     match words.split_first() {
         Some((scene, files)) => is_file_word(scene.as_bytes()) && are_pex_words(files),
+        None => false,
+    }
+}
+
+// Two files, and compiled files behind them.
+fn are_two_files_and_pex_files(words: &[String]) -> bool
+    ensures { result ≡ stand_behind_file (stand_behind_file are_pex_words) (map string_bytes words.now) }
+{
+    match words.split_first() {
+        Some((scene, rest)) => is_file_word(scene.as_bytes()) && are_scene_and_pex_files(rest),
         None => false,
     }
 }

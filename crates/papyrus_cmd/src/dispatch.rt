@@ -6,10 +6,10 @@ ghost use Rattle.papy_io.specs.Activity.{Idle};
 ghost use Rattle.command_files.specs.Ending.{CountsBoth, CountsReads, CountsWrites, IsWordBelow, IsWordOf, MissesScript};
 ghost use Rattle.command_files.specs.Outputs.{Outputs, WritesOnly};
 ghost use Rattle.papyrus_cmd.specs.Answers.{Answers, FileCommandOn, PlayCommandOn};
-ghost use Rattle.papyrus_cmd.specs.Command.{command_of, files_played, files_used};
+ghost use Rattle.papyrus_cmd.specs.Command.{command_of, files_used};
 ghost use Rattle.papyrus_cmd.specs.Dispatch.{SuitsFiles, SuitsPlay};
-ghost use Rattle.papyrus_cmd.specs.Missed.{MissesWord};
-ghost use Rattle.papyrus_cmd.specs.TopCall.{FileCommandLeaves, FileCommandLists, FilesLeft, Listed, RunsNone};
+ghost use Rattle.papyrus_cmd.specs.Missed.{MissesPlayed, MissesWord};
+ghost use Rattle.papyrus_cmd.specs.TopCall.{FileCommandLeaves, FileCommandLists, FilesLeft, Listed, PlayCommandLeaves, RunsNone};
 
 use crate::asm::asm;
 use crate::check::check;
@@ -22,7 +22,7 @@ use crate::waits::waits;
 use command_files::Ending;
 use latent_natives::Device;
 use papy_io::{Desk, Sink};
-use run_commands::{exec, once, run as run_scripts, sample};
+use run_commands::{exec, hold, journal, once, resume, run as run_scripts, sample};
 use std::alloc::Global;
 
 fn write_text<S: Sink>(out: &mut S, text: &[u8]) -> Ending
@@ -78,11 +78,10 @@ fn play<D: Desk, S: Sink>(
     requires suits { SuitsPlay command (length files.now) }
     requires few_devices { vec_len devices.old ≤ 65535 }
     ensures busy { D.busy desk.new ≡ Idle }
-    ensures holds { D.holds desk.new ≡ D.holds desk.old }
-    ensures write_faults { D.write_faults desk.new ≡ D.write_faults desk.old }
+    ensures leaves { PlayCommandLeaves command (map string_bytes files.now) result (S.written out.old) (S.written out.new) (D.holds desk.old) (D.holds desk.new) }
     ensures read_faults { CountsReads result (D.read_faults desk.old) (D.read_faults desk.new) }
-    ensures missed { MissesScript (files_played command (map string_bytes files.now)) result (D.missed desk.new) }
-    ensures faults { CountsWrites result (S.faults out.old) (S.faults out.new) }
+    ensures missed { MissesPlayed command (map string_bytes files.now) result (D.missed desk.new) }
+    ensures faults { CountsBoth result (S.faults out.old) (S.faults out.new) (D.write_faults desk.old) (D.write_faults desk.new) }
     ensures never_usage { result ≢ Ending.Usage }
     ensures word { IsWordBelow (length files.now + 1) result }
     ensures output { Outputs (PlayCommandOn command (map string_bytes files.now)) (D.holds desk.old) result (S.written out.old) (S.written out.new) }
@@ -92,6 +91,9 @@ fn play<D: Desk, S: Sink>(
         PlayCommand::Once => once(alloc, files, desk, out, devices),
         PlayCommand::Run => run_scripts(alloc, files, desk, out, devices),
         PlayCommand::Exec => exec(alloc, files, desk, out, devices),
+        PlayCommand::Journal => journal(alloc, files, desk, out, devices),
+        PlayCommand::Hold(turns) => hold(alloc, turns, files, desk, out, devices),
+        PlayCommand::Resume(turns) => resume(alloc, turns, files, desk, out, devices),
         PlayCommand::Sample(workers) => sample(alloc, workers, out, devices),
     }
 }
@@ -108,7 +110,7 @@ pub fn run<D: Desk, S: Sink>(
     requires idle { D.busy desk.old ≡ Idle }
     requires few_devices { vec_len devices.old ≤ 65535 }
     ensures busy { D.busy desk.new ≡ Idle }
-    ensures files { FilesLeft (map string_bytes words.now) result (D.holds desk.old) (D.holds desk.new) }
+    ensures files { FilesLeft (map string_bytes words.now) result (S.written out.old) (S.written out.new) (D.holds desk.old) (D.holds desk.new) }
     ensures read_faults { CountsReads result (D.read_faults desk.old) (D.read_faults desk.new) }
     ensures missed { MissesWord (map string_bytes words.now) result (D.missed desk.new) }
     ensures faults { CountsBoth result (S.faults out.old) (S.faults out.new) (D.write_faults desk.old) (D.write_faults desk.new) }

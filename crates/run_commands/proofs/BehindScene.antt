@@ -13,10 +13,10 @@ use Rattle.command_files.specs.declared.refusal.Place.{Place}
 use Rattle.command_files.specs.declared.refusal.Rule.{Rule}
 use Rattle.command_files.specs.Ending.{CountsReads, IsWordBelow, MissesScript, one_later}
 use Rattle.command_files.specs.FileFault.{CountsFile, MissesFile, ending_at}
-use Rattle.command_files.specs.Held.{AreHeld, IsHeld}
+use Rattle.command_files.specs.Held.{IsHeld}
 use Rattle.command_files.specs.SceneFile.{IsSceneRefusal, ReadsScene}
 use Rattle.command_files.specs.Scripts.{EndsOnScripts, HoldScripts}
-use Rattle.run_commands.specs.Answers.{ExecAnswers, OnceAnswers, RefusesBehind, RunAnswers}
+use Rattle.run_commands.specs.Answers.{OnceAnswers, RefusesBehind, RunAnswers}
 use Rattle.run_commands.specs.Play.{RefusesScene}
 use Rattle.run_commands.specs.Report.{default_turns, most_turns}
 use Rattle.run_commands.proofs.EarlyEnds.{EndsEarly, later_word, word_within}
@@ -80,13 +80,6 @@ scene_ends_run scene names holds file.OutOfMemory read = tt
 scene_ends_run scene names None (file.Refused place rule) read = tt
 scene_ends_run scene names (Some files) (file.Refused place rule) read = (read.0, inl (refused-scene place rule read.1), refl)
 
-pub scene_ends_exec : (scene : List ℕ) (names : List (List ℕ)) (holds : Option Files) (fault : FileFault) → ReadsScene {T = SceneTree} holds scene (Err fault) →
-    EndsEarly (ExecAnswers (scene ∷ names)) holds (ending_at 1 fault)
-scene_ends_exec scene names holds file.ReadFault read = tt
-scene_ends_exec scene names holds file.OutOfMemory read = tt
-scene_ends_exec scene names None (file.Refused place rule) read = tt
-scene_ends_exec scene names (Some files) (file.Refused place rule) read = (read.0, inl (refused-scene place rule read.1), refl)
-
 pub scene_is_held : (holds : Option Files) (scene : List ℕ) (tree : SceneTree) → ReadsScene holds scene (Ok tree) → IfSome holds (IsHeld scene)
 scene_is_held None scene tree read = tt
 scene_is_held (Some files) scene tree read = read
@@ -145,9 +138,3 @@ pub run_unbuilt : (scene : List ℕ) (names : List (List ℕ)) (holds : Option F
     IfSome holds (λ files. RunAnswers (scene ∷ names) files NotBuilt [])
 run_unbuilt scene names None held behind = tt
 run_unbuilt scene names (Some files) held behind = (held, behind, refl)
-
-pub exec_answers_run : (scene : List ℕ) (names : List (List ℕ)) (holds : Option Files) → IfSome holds (IsHeld scene) → IfSome holds (AreHeld names) →
-    IfSome holds (AnswersRun (ExecAnswers (scene ∷ names)) most_turns 1)
-exec_answers_run scene names None held behind = tt
-exec_answers_run scene names (Some files) held behind =
-    record { done = λ text report. (held, behind, report); refused = λ word place rule refuses. (held, inl refuses, refl) }

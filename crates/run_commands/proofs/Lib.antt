@@ -1,7 +1,12 @@
 pub mod BehindScene
 pub mod EarlyEnds
+pub mod HeldRun
+pub mod JournalEnds
+pub mod NotedRun
+pub mod ProgramEnds
+pub mod ProgramRead
+pub mod ResumedRun
 pub mod RunEnds
 pub mod SampleParts
 pub mod SampleText
 pub mod SceneParts
-pub mod ValuesRead

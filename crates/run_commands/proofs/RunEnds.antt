@@ -1,5 +1,5 @@
 -- How a command ends that ran a scene, and what it has written then.
-use Rattle.std.proofs.Common.{arith, ◌≡◌, ◌≢◌, ◌<◌, ◌≤◌, ℕ, List, [], ◌++◌, length, append-nil, sym, ap, ◌∙◌, refl, inl, inr}
+use Rattle.std.proofs.Common.{arith, ◌≡◌, ◌≢◌, ◌<◌, ◌≤◌, ℕ, List, [], ◌++◌, length, append-nil, sym, ap, ◌∙◌, refl, subst, inl, inr}
 use Rattle.std.proofs.Math.Seq.{take-append_seam}
 use Rattle.std.specs.Prelude.{Option, None, Some, IfSome}
 use Rattle.core_tree.specs.declared.scene.Scene.{Scene}
@@ -16,12 +16,12 @@ use Rattle.command_files.specs.Ending.{CountsReads, CountsWrites, IsWordBelow, M
 use Rattle.command_files.specs.Outputs.{IsPart, Outputs}
 use Rattle.scene_runner.proofs.Appending.{appends_nothing}
 use Rattle.scene_binder.specs.Kept.{IsOfTree}
-use Rattle.scene_runner.specs.Report.{IsClosing, Reports, turns_line}
-use Rattle.stack_machine.specs.Machine.{CountsFault, HasEnded, MachineState}
+use Rattle.scene_runner.specs.Report.{IsClosing, IsReport, Reports, turns_line}
+use Rattle.stack_machine.specs.Machine.{CountsFault, HasEnded, MachineView}
 use Rattle.papy_io.specs.Sink.{AppendsSome}
 use Rattle.stack_machine.specs.declared.status.TurnFault.{TurnFault}
 use Rattle.stack_machine.specs.declared.status.TurnFault.TheVariants as turn
-use Rattle.run_commands.specs.Play.{Plays, PlaysSet, RefusesScene, turns_ending}
+use Rattle.run_commands.specs.Play.{IsStarted, Plays, PlaysSet, RefusesScene, turns_ending}
 use Rattle.run_commands.specs.Report.{IsReportOf, IsReportWithin, WritesReport}
 
 -- ---- the turns of a run
@@ -34,21 +34,28 @@ pub turns_play : (tree : SceneTree) (named : ℕ) (fault : TurnFault) (before no
 turns_play tree named turn.WriteFault before now appends = appends
 turns_play tree named turn.OutOfMemory before now appends = appends
 
+-- the machine of a bound scene
+pub machine_starts : (tree : SceneTree) (count : ℕ) (scene : Scene) (machine : MachineView) → IsOfTree tree count scene → machine.scene ≡ scene → machine.turns ≡ 0 → machine.fault ≡ None → IsStarted tree machine
+machine_starts tree count scene machine kept same turns fault = record { count = count; kept = subst (IsOfTree tree count) (sym same) kept; no_turns = turns; no_fault = fault }
+
 -- in another order than the round one a run ends after all turns of its scene
-all-turns : (tree : SceneTree) (machine : MachineState) → machine.scene.turns ≡ tree.turns → machine.scene.order ≡ tree.order → HasEnded machine → machine.turns ≤ machine.scene.turns →
+all-turns : (tree : SceneTree) (machine : MachineView) → machine.scene.turns ≡ tree.turns → machine.scene.order ≡ tree.order → HasEnded machine → machine.turns ≤ machine.scene.turns →
     tree.order ≢ orders.Round → machine.turns ≡ tree.turns
 all-turns tree machine turns order (inl done) within other = omega arith
 all-turns tree machine turns order (inr nothing) within other = absurd (other (sym order ∙ nothing.order))
 
-pub run_writes : (tree : SceneTree) (count : ℕ) (scene : Scene) (machine : MachineState) (before now : Option (List ℕ)) → IsOfTree tree count scene → machine.scene ≡ scene → HasEnded machine →
-    machine.turns ≤ machine.scene.turns → Reports machine.turns before now → WritesReport tree before now
-run_writes tree count scene machine before now kept same ended within reports =
-    let turns : machine.scene.turns ≡ tree.turns = ap (λ (s : Scene). s.turns) same ∙ kept.turns in
-    let order : machine.scene.order ≡ tree.order = ap (λ (s : Scene). s.order) same ∙ kept.order in
+-- the machine of a scene after its run
+pub run_reports : (tree : SceneTree) (first machine : MachineView) (text : List ℕ) → IsStarted tree first → machine.scene ≡ first.scene → HasEnded machine → machine.turns ≤ machine.scene.turns → IsReport machine.turns text → IsReportOf tree text
+run_reports tree first machine text started same ended within report =
+    let turns : machine.scene.turns ≡ tree.turns = ap (λ (s : Scene). s.turns) same ∙ started.kept.turns in
+    let order : machine.scene.order ≡ tree.order = ap (λ (s : Scene). s.order) same ∙ started.kept.order in
     let few : machine.turns ≤ tree.turns = omega arith in
-    let report : IsReportOf tree reports.text =
-    record { turns = machine.turns; within = few; whole = all-turns tree machine turns order ended within; report = reports.report } in
-    record { text = reports.text; report = report; appended = reports.appended }
+    record { turns = machine.turns; within = few; whole = all-turns tree machine turns order ended within; report = report }
+
+pub run_writes : (tree : SceneTree) (first machine : MachineView) (before now : Option (List ℕ)) → IsStarted tree first → machine.scene ≡ first.scene → HasEnded machine →
+    machine.turns ≤ machine.scene.turns → Reports machine.turns before now → WritesReport tree before now
+run_writes tree first machine before now started same ended within reports =
+    record { text = reports.text; report = run_reports tree first machine reports.text started same ended within reports.report; appended = reports.appended }
 
 -- ---- a set of scripts
 

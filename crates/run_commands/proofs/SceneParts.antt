@@ -1,7 +1,7 @@
 -- How many instances and calls a scene has, and how a command ends that is refused one.
 use Rattle.std.proofs.Common.{arith, ◌≡◌, ◌<◌, ◌∙◌, ℕ, List, [], ◌∷◌, map, length, sym, ap, refl}
 use Rattle.std.proofs.lemmas.List.{length-map}
-use Rattle.std.specs.Prelude.{Option}
+use Rattle.std.specs.Prelude.{Option, Err}
 use Rattle.core_tree.specs.declared.scene.Scene.{Scene}
 use Rattle.core_tree.specs.declared.scene_tree.SceneTree.{SceneTree}
 use Rattle.scene_binder.specs.Bound.{instance_name, call_parts}
@@ -11,11 +11,13 @@ use Rattle.scene_reader.specs.Default.{IsDefaultScene, instance_plan, call_plan}
 use Rattle.scene_reader.specs.Limits.{KeepsLimits}
 use Rattle.scene_reader.specs.declared.fault.SceneFault.{SceneFault}
 use Rattle.scene_reader.specs.declared.fault.SceneFault.TheVariants.{Broken, OutOfMemory}
+use Rattle.command_files.specs.declared.ending.Ending.{Ending}
+use Rattle.command_files.specs.declared.ending.Ending.TheVariants as ending
 use Rattle.command_files.specs.Ending.{CountsWrites}
 use Rattle.command_files.specs.FileFault.{ending_at}
 use Rattle.command_files.specs.SceneFile.{scene_fault}
 use Rattle.scene_runner.proofs.Appending.{appends_nothing}
-use Rattle.run_commands.specs.Play.{HasFewParts, Plays}
+use Rattle.run_commands.specs.Play.{HasFewParts, Plays, Starts}
 
 same-length : {A B C : Type 0} (f : A → C) (g : B → C) (xs : List A) (ys : List B) → map f xs ≡ map g ys → length xs ≡ length ys
 same-length f g xs ys same = sym (length-map xs f) ∙ ap length same ∙ length-map ys g
@@ -45,11 +47,24 @@ default_has_few script tree default =
     record { few_instances = omega arith; few_calls = omega arith }
 
 -- a scene that can't be bound
-pub refused_plays : (tree : SceneTree) (named : ℕ) (fault : SceneFault) (written : Option (List ℕ)) → Plays tree named (ending_at named (scene_fault fault)) written written
-refused_plays tree named (Broken rule) written =
-    (record { word_is = refl; refusal = record { broken = rule; place_is = refl; rule_is = refl } }, refl)
-refused_plays tree named OutOfMemory written = appends_nothing written written refl
+pub refused_starts : (tree : SceneTree) (named : ℕ) (fault : SceneFault) → Starts tree named (Err (ending_at named (scene_fault fault)))
+refused_starts tree named (Broken rule) = record { word_is = refl; refusal = record { broken = rule; place_is = refl; rule_is = refl } }
+refused_starts tree named OutOfMemory = tt
 
-pub refused_writes : (named : ℕ) (fault : SceneFault) (count : ℕ) → CountsWrites (ending_at named (scene_fault fault)) count count
-refused_writes named (Broken rule) count = refl
-refused_writes named OutOfMemory count = refl
+pub unstarted_plays : (tree : SceneTree) (named : ℕ) (ending : Ending) (written : Option (List ℕ)) → Starts tree named (Err ending) → Plays tree named ending written written
+unstarted_plays tree named (ending.Refused word place rule) written starts = (starts, refl)
+unstarted_plays tree named ending.OutOfMemory written starts = appends_nothing written written refl
+unstarted_plays tree named ending.Done written starts = absurd starts
+unstarted_plays tree named ending.Usage written starts = absurd starts
+unstarted_plays tree named ending.WriteFault written starts = absurd starts
+unstarted_plays tree named ending.NotBuilt written starts = absurd starts
+unstarted_plays tree named (ending.ReadFault word) written starts = absurd starts
+
+pub unstarted_writes : (tree : SceneTree) (named : ℕ) (ending : Ending) (count : ℕ) → Starts tree named (Err ending) → CountsWrites ending count count
+unstarted_writes tree named (ending.Refused word place rule) count starts = refl
+unstarted_writes tree named ending.OutOfMemory count starts = refl
+unstarted_writes tree named ending.Done count starts = absurd starts
+unstarted_writes tree named ending.Usage count starts = absurd starts
+unstarted_writes tree named ending.WriteFault count starts = absurd starts
+unstarted_writes tree named ending.NotBuilt count starts = absurd starts
+unstarted_writes tree named (ending.ReadFault word) count starts = absurd starts

@@ -1,19 +1,17 @@
 -- What the commands that run scripts answer to the files that are held. Of a report they say that it comes where
 -- every file is held, and that it tells how many turns were done, not which instances and stacks it tells of.
-use Rattle.std.specs.Prelude.{◌≡◌, ◌⊎◌, ℕ, suc, ◌+◌, ◌<◌, List, [], ◌∷◌, length, Option, Some}
-use Rattle.papy_io.specs.Files.{Files, told_bytes}
-use Rattle.pex_verify.specs.declared.fault.VerifyRule.{VerifyRule}
+use Rattle.std.specs.Prelude.{◌≡◌, ◌⊎◌, ℕ, suc, List, [], ◌∷◌}
+use Rattle.papy_io.specs.Files.{Files}
 use Rattle.command_files.specs.declared.ending.Ending.{Ending}
 use Rattle.command_files.specs.declared.ending.Ending.TheVariants.{Done, OutOfMemory, Usage, ReadFault, WriteFault, Refused, NotBuilt}
 use Rattle.command_files.specs.declared.refusal.Place.{Place}
-use Rattle.command_files.specs.declared.refusal.Place.TheVariants.{Member}
 use Rattle.command_files.specs.declared.refusal.Rule.{Rule}
-use Rattle.command_files.specs.declared.refusal.Rule.TheVariants.{Verification}
-use Rattle.command_files.specs.Ending.{word_at}
 use Rattle.command_files.specs.Held.{AreHeld, IsHeld}
-use Rattle.command_files.specs.PexFile.{RefusesPex}
 use Rattle.command_files.specs.Scripts.{HoldScripts, RefusesScripts}
+use Rattle.run_commands.specs.Hold.{IsTooLarge}
 use Rattle.run_commands.specs.Play.{RefusesScene}
+use Rattle.run_commands.specs.Program.{RefusesProgram, files_from, scene_of}
+use Rattle.run_commands.specs.Resume.{IsRest, RefusesHeld}
 use Rattle.run_commands.specs.Report.{IsReportWithin, default_turns, most_turns, sample_text}
 
 -- how `once` ends on the scripts of these names; the default scene is refused at the command's own word
@@ -48,43 +46,46 @@ abbrev pub RunAnswers : List (List ℕ) → Files → Ending → List ℕ → Ty
 RunAnswers (scene ∷ scripts) files ending text = RunAnswersOn scene scripts files ending text
 RunAnswers [] files ending text = ⊥
 
--- a compiled file breaks a rule of such files; it stands behind the scene
-pub record RefusesFileBehind (names : List (List ℕ)) (files : Files) (word : ℕ) (place : Place) (rule : Rule) : Type 0 where
-  pub at : ℕ
-  pub bytes : List ℕ
-  pub within : at < length names
-  pub word_is : word ≡ at + 2
-  pub held : told_bytes (Some files) (word_at names at) ≡ Some bytes
-  pub refused : RefusesPex bytes place rule
+-- how a command ends that runs compiled files on a scene, whose words these numbers tell
+abbrev pub ProgramAnswers : ℕ → ℕ → List (List ℕ) → Files → Ending → List ℕ → Type 0
+ProgramAnswers named first words files (Refused word place rule) text = RefusesProgram named first words files word place rule × (text ≡ [])
+ProgramAnswers named first words files Done text = IsHeld (scene_of named words) files × AreHeld (files_from first words) files × IsReportWithin most_turns text
+ProgramAnswers named first words files NotBuilt text = ⊥
+ProgramAnswers named first words files OutOfMemory text = ⊥
+ProgramAnswers named first words files Usage text = ⊥
+ProgramAnswers named first words files (ReadFault word) text = ⊥
+ProgramAnswers named first words files WriteFault text = ⊥
 
--- compiled files that are held can't run together; the word is that of one of them, and the place is told by an
--- object's name, and perhaps by that of a part of it and by the number of an instruction
-pub record RefusesTogether (names : List (List ℕ)) (files : Files) (word : ℕ) (place : Place) (rule : Rule) : Type 0 where
-  pub at : ℕ
-  pub object : List ℕ
-  pub member : Option (List ℕ)
-  pub instruction : Option ℕ
-  pub broken : VerifyRule
-  pub within : at < length names
-  pub word_is : word ≡ at + 2
-  pub place_is : place ≡ Member object member instruction
-  pub rule_is : rule ≡ Verification broken
-  pub held : AreHeld names files
-
--- how `exec` ends on a scene and compiled files of these names
-abbrev pub ExecAnswersOn : List ℕ → List (List ℕ) → Files → Ending → List ℕ → Type 0
-ExecAnswersOn scene names files (Refused word place rule) text =
-    IsHeld scene files × (RefusesScene 1 word place rule ⊎ RefusesFileBehind names files word place rule ⊎ RefusesTogether names files word place rule) × (text ≡ [])
-ExecAnswersOn scene names files Done text = IsHeld scene files × AreHeld names files × IsReportWithin most_turns text
-ExecAnswersOn scene names files NotBuilt text = ⊥
-ExecAnswersOn scene names files OutOfMemory text = ⊥
-ExecAnswersOn scene names files Usage text = ⊥
-ExecAnswersOn scene names files (ReadFault word) text = ⊥
-ExecAnswersOn scene names files WriteFault text = ⊥
-
+-- how `exec` ends on the words behind it: a scene, and compiled files
 abbrev pub ExecAnswers : List (List ℕ) → Files → Ending → List ℕ → Type 0
-ExecAnswers (scene ∷ names) files ending text = ExecAnswersOn scene names files ending text
-ExecAnswers [] files ending text = ⊥
+ExecAnswers words files ending text = ProgramAnswers 1 2 words files ending text
+
+-- how `journal` ends on the words behind it: a scene, the file that it writes, and compiled files
+abbrev pub JournalAnswers : List (List ℕ) → Files → Ending → List ℕ → Type 0
+JournalAnswers words files ending text = ProgramAnswers 1 3 words files ending text
+
+-- how `hold` ends on the words behind it: a number, a scene, the file that it writes, and compiled files. Nothing is said yet of what it writes
+-- to `out`.
+abbrev pub HoldAnswers : List (List ℕ) → Files → Ending → List ℕ → Type 0
+HoldAnswers words files (Refused word place rule) text =
+    (RefusesProgram 2 4 words files word place rule × (text ≡ []))
+    ⊎ (IsTooLarge 3 word place rule × IsHeld (scene_of 2 words) files × AreHeld (files_from 4 words) files)
+HoldAnswers words files Done text = IsHeld (scene_of 2 words) files × AreHeld (files_from 4 words) files
+HoldAnswers words files NotBuilt text = ⊥
+HoldAnswers words files OutOfMemory text = ⊥
+HoldAnswers words files Usage text = ⊥
+HoldAnswers words files (ReadFault word) text = ⊥
+HoldAnswers words files WriteFault text = ⊥
+
+-- how `resume` ends on a file of these bytes, with at most so many turns
+abbrev pub ResumeAnswers : ℕ → List ℕ → Ending → List ℕ → Type 0
+ResumeAnswers most bytes Done text = IsRest most bytes text
+ResumeAnswers most bytes (Refused word place rule) text = (word ≡ 2) × RefusesHeld bytes place rule × (text ≡ [])
+ResumeAnswers most bytes NotBuilt text = ⊥
+ResumeAnswers most bytes OutOfMemory text = ⊥
+ResumeAnswers most bytes Usage text = ⊥
+ResumeAnswers most bytes (ReadFault word) text = ⊥
+ResumeAnswers most bytes WriteFault text = ⊥
 
 -- how `sample` ends with so many workers; its scene is refused at the command's own word
 abbrev pub SampleAnswers : ℕ → Ending → List ℕ → Type 0

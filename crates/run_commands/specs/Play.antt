@@ -1,7 +1,9 @@
 -- How a command ends that runs a scene.
-use Rattle.std.specs.Prelude.{◌≡◌, ℕ, ◌≤◌, List, length, Option}
+use Rattle.std.specs.Prelude.{◌≡◌, ℕ, ◌≤◌, List, length, Option, None, Result, Ok, Err}
 use Rattle.core_tree.specs.declared.scene_tree.SceneTree.{SceneTree}
 use Rattle.papy_io.specs.Sink.{AppendsSome}
+use Rattle.scene_binder.specs.Kept.{IsOfTree}
+use Rattle.stack_machine.specs.Machine.{MachineView}
 use Rattle.stack_machine.specs.declared.status.TurnFault.{TurnFault}
 use Rattle.stack_machine.specs.declared.status.TurnFault.TheVariants as turn
 use Rattle.command_files.specs.declared.ending.Ending.{Ending}
@@ -25,6 +27,24 @@ turns_ending turn.OutOfMemory = OutOfMemory
 pub record RefusesScene (named word : ℕ) (place : Place) (rule : Rule) : Type 0 where
   pub word_is : word ≡ named
   pub refusal : IsSceneRefusal place rule
+
+-- the machine of a scene before its first turn
+pub record IsStarted (tree : SceneTree) (machine : MachineView) : Type 0 where
+  pub count : ℕ
+  pub kept : IsOfTree tree count machine.scene
+  pub no_turns : machine.turns ≡ 0
+  pub no_fault : machine.fault ≡ None
+
+-- the scene that the word of this number names was bound and has its machine, or nothing was written as it is refused
+abbrev pub Starts : SceneTree → ℕ → Result MachineView Ending → Type 0
+Starts tree named (Ok machine) = IsStarted tree machine
+Starts tree named (Err (Refused word place rule)) = RefusesScene named word place rule
+Starts tree named (Err OutOfMemory) = Unit {0}
+Starts tree named (Err WriteFault) = ⊥
+Starts tree named (Err NotBuilt) = ⊥
+Starts tree named (Err Usage) = ⊥
+Starts tree named (Err Done) = ⊥
+Starts tree named (Err (ReadFault word)) = ⊥
 
 -- the scene that the word of this number names was run and its report was written, or the run was cut short, or nothing
 -- was written as it is refused

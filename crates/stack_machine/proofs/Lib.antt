@@ -1,6 +1,11 @@
 pub mod AsMany
+pub mod Ascent
+pub mod Begun
+pub mod Noting
+pub mod Planning
 pub mod Scripts
 pub mod Seats
 pub mod Sinks
 pub mod Starts
 pub mod Texts
+pub mod Waking

@@ -6,8 +6,11 @@ pub mod Faults
 pub mod Instructions
 pub mod Lines
 pub mod Machine
+pub mod Moves
 pub mod Natives
 pub mod Operands
+pub mod Plans
+pub mod Restoring
 pub mod Settings
 pub mod Stores
 pub mod Threads

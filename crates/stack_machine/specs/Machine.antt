@@ -9,7 +9,7 @@ use Rattle.stack_machine.specs.declared.status.TurnEnd.TheVariants.{Ran, Idle, E
 use Rattle.stack_machine.specs.declared.status.TurnFault.{TurnFault}
 use Rattle.stack_machine.specs.declared.status.TurnFault.TheVariants.{WriteFault, OutOfMemory}
 
-pub record MachineState : Type 0 where
+pub record MachineView : Type 0 where
   -- what no turn changes
   pub outline : List OutlineScript
   pub scene : Scene
@@ -21,13 +21,13 @@ pub record MachineState : Type 0 where
   pub fault : Option TurnFault
 
 -- in round order, where every stack that has started is done and no scene call is left
-pub record HasNothingLeft (machine : MachineState) : Type 0 where
+pub record HasNothingLeft (machine : MachineView) : Type 0 where
   pub order : machine.scene.order ≡ orders.Round
   pub stacks : machine.done ≡ machine.started
   pub calls : vec_len machine.scene.calls ≤ machine.started
 
 -- a run ends after the scene's turns, or earlier where nothing is left
-abbrev pub HasEnded : MachineState → Type 0
+abbrev pub HasEnded : MachineView → Type 0
 HasEnded machine = (machine.scene.turns ≤ machine.turns) ⊎ HasNothingLeft machine
 
 -- how many turns are done after this answer

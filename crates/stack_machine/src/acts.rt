@@ -2,7 +2,7 @@
 
 ghost use Rattle.stack_machine.specs.Threads.{IsSameSize};
 
-use crate::frame::{Call, Frame, Way};
+use crate::frame::{Call, Frame, CallWay};
 use crate::run::Ending;
 use crate::threads::Threads;
 use core_tree::Value;
@@ -46,9 +46,9 @@ impl Threads {
         ensures { IsSameSize self.old self.new }
     {
         match call.way {
-            Way::Global(_) => self.call_global(stack, call),
-            Way::Parent { .. } => self.push(stack, Frame::Pending(call)),
-            Way::Method(_) | Way::Get(_) | Way::Set(_) => self.call_instance(stack, call),
+            CallWay::Global(_) => self.call_global(stack, call),
+            CallWay::Parent { .. } => self.push(stack, Frame::Pending(call)),
+            CallWay::Method(_) | CallWay::Get(_) | CallWay::Set(_) => self.call_instance(stack, call),
         }
     }
 

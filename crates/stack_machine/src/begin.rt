@@ -1,38 +1,61 @@
 //! The start of a turn, and the choice of the stack that gets it.
 
-ghost use Rattle.std.specs.Prelude.{◌≡◌, ◌<◌, ◌≤◌, ◌+◌, IfOk, IfSome, map, length};
+ghost use Rattle.std.specs.Prelude.{◌≡◌, ◌<◌, ◌≤◌, ◌+◌, IfOk, IfSome, MatchResult, OnOk, map, length, vec_len};
 ghost use Rattle.std.specs.Option.{ForSome};
+ghost use Rattle.stack_machine.specs.Moves.{AddsSome, AreOfBeginning, AreStarts, Begins, Noted};
+ghost use Rattle.stack_machine.specs.Plans.{HasBegun, calls_before};
 ghost use Rattle.stack_machine.specs.Threads.{HasGrown};
 ghost use Rattle.stack_machine.specs.Choices.{chosen};
 
-use crate::frame::{Call, Frame, Way};
+use crate::frame::{Call, CallWay, Frame};
+use crate::notes::Notes;
 use crate::plan::PlannedCall;
 use crate::setting::Setting;
 use crate::threads::Threads;
 use core_tree::{Scene, TurnOrder, Value};
 use papy_base::OutOfMemory;
+use run_replay::LockMove;
 use std::alloc::Global;
 
 /// Starts the stacks of the scene calls of this turn, then wakes the sleepers that are due.
-pub fn begin(
+pub fn begin<N: Notes>(
     alloc: Global,
     setting: &Setting,
     threads: &mut Threads,
     turn: u32,
+    notes: &mut N,
 ) -> Result<(), OutOfMemory>
-    ensures { HasGrown threads.old threads.new }
+    requires { HasBegun setting.now.plan.calls.items setting.now.scene.calls.items threads.old turn }
+    ensures grown { HasGrown threads.old threads.new }
+    ensures started { OnOk result (threads.new.started ≡ calls_before (turn + 1) setting.now.scene.calls.items) }
+    ensures noted { MatchResult result (λ _. Noted (AreOfBeginning threads.old.started threads.new.started) (N.noted notes.old) (N.noted notes.new)) (λ _. AddsSome (N.noted notes.old) (N.noted notes.new)) }
 {
-    let calls = &setting.plan.calls;
-    for _ in 0..calls.len() {
-        let Some(planned) = calls.get(usize::from(threads.count())) else {
-            break;
-        };
+    start_stacks(alloc, setting, threads, turn, notes)?;
+    threads.wake(turn, notes)
+}
+
+// Starts the stacks of the scene calls of this turn.
+fn start_stacks<N: Notes>(
+    alloc: Global,
+    setting: &Setting,
+    threads: &mut Threads,
+    turn: u32,
+    notes: &mut N,
+) -> Result<(), OutOfMemory>
+    requires { HasBegun setting.now.plan.calls.items setting.now.scene.calls.items threads.old turn }
+    ensures grown { HasGrown threads.old threads.new }
+    ensures started { OnOk result (threads.new.started ≡ calls_before (turn + 1) setting.now.scene.calls.items) }
+    ensures noted { MatchResult result (λ _. Noted (AreStarts threads.old.started threads.new.started) (N.noted notes.old) (N.noted notes.new)) (λ _. AddsSome (N.noted notes.old) (N.noted notes.new)) }
+{
+    let calls = setting.plan.calls.as_slice();
+    let first = usize::from(threads.count());
+    for planned in &calls[first..] {
         if planned.turn > turn {
             break;
         }
-        start(alloc, setting, threads, planned)?;
+        let moved = start(alloc, setting, threads, *planned)?;
+        notes.note(moved)?;
     }
-    threads.wake(turn);
     Ok(())
 }
 
@@ -41,23 +64,26 @@ fn start(
     alloc: Global,
     setting: &Setting,
     threads: &mut Threads,
-    planned: &PlannedCall,
-) -> Result<(), OutOfMemory>
-    ensures { HasGrown threads.old threads.new }
+    planned: PlannedCall,
+) -> Result<LockMove, OutOfMemory>
+    requires room { threads.old.started < threads.old.room }
+    requires call { planned.number < vec_len setting.now.scene.calls }
+    ensures grown { HasGrown threads.old threads.new }
+    ensures by_one { OnOk result (threads.new.started ≡ threads.old.started + 1) }
+    ensures moved { IfOk result (Begins threads.old.started) }
 {
-    let Some(call) = setting.scene.calls.get(planned.number) else {
-        return Ok(());
-    };
+    let call = &setting.scene.calls[planned.number];
     let arguments = copies(alloc, &call.arguments)?;
     let first = Frame::Pending(Call {
         instance: Some(call.instance),
-        way: Way::Method(planned.name.unwrap_or(0)),
+        way: CallWay::Method(planned.name.unwrap_or(0)),
         arguments,
     });
     threads.start(alloc, first)
 }
 
-fn copies(alloc: Global, values: &[Value]) -> Result<Vec<Value>, OutOfMemory>
+/// Copies of the values.
+pub fn copies(alloc: Global, values: &[Value]) -> Result<Vec<Value>, OutOfMemory>
     ensures { IfOk result (λ copies. copies.items ≡ values.now) }
 {
     let mut copies = Vec::with_capacity(alloc, values.len())?;

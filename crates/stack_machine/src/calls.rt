@@ -5,7 +5,7 @@ ghost use Rattle.std.specs.Option.{option_and_then};
 ghost use Rattle.pex_verify.specs.Uses.{action_of as action_by};
 ghost use Rattle.stack_machine.specs.Calls.{reply_place};
 
-use crate::frame::{Call, Way};
+use crate::frame::{Call, CallWay};
 use crate::instruction::Event;
 use crate::operands::Work;
 use core_tree::Value;
@@ -26,7 +26,7 @@ impl Work<'_> {
             instruction,
             Call {
                 instance: Some(target),
-                way: Way::Method(name),
+                way: CallWay::Method(name),
                 arguments,
             },
         )
@@ -43,7 +43,7 @@ impl Work<'_> {
             instruction,
             Call {
                 instance: self.instance,
-                way: Way::Parent { script, name },
+                way: CallWay::Parent { script, name },
                 arguments,
             },
         )
@@ -61,7 +61,7 @@ impl Work<'_> {
                 instruction,
                 Call {
                     instance: None,
-                    way: Way::Global(at),
+                    way: CallWay::Global(at),
                     arguments,
                 },
             ),
@@ -81,7 +81,7 @@ impl Work<'_> {
             instruction,
             Call {
                 instance: Some(target),
-                way: Way::Get(name),
+                way: CallWay::Get(name),
                 arguments,
             },
         )
@@ -101,7 +101,7 @@ impl Work<'_> {
             instruction,
             Call {
                 instance: Some(target),
-                way: Way::Set(name),
+                way: CallWay::Set(name),
                 arguments,
             },
         )
@@ -137,8 +137,8 @@ impl Work<'_> {
     }
 }
 
-// Which fixed operand of a call takes its reply.
-fn result_place(instruction: &LoadedInstruction) -> Option<usize>
+/// Which fixed operand of a call takes its reply.
+pub fn result_place(instruction: &LoadedInstruction) -> Option<usize>
     ensures { result ≡ option_and_then reply_place (action_by instruction.now.opcode) }
 {
     match action_of(instruction.opcode)? {

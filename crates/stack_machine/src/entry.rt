@@ -1,6 +1,6 @@
 //! What a pending call means when it is entered.
 
-use crate::frame::{Body, Call, Running, Way};
+use crate::frame::{Body, Call, Running, CallWay};
 use crate::setting::Setting;
 use crate::store::{Store, default_of};
 use core_tree::Value;
@@ -20,12 +20,12 @@ pub enum Found {
 /// What a call means now, none where nothing has its name.
 pub fn look_up(setting: &Setting, store: &Store, call: &Call) -> Option<Found> {
     match call.way {
-        Way::Global(at) => Some(Found::Body(Body::Method(at))),
-        Way::Method(name) => {
+        CallWay::Global(at) => Some(Found::Body(Body::Method(at))),
+        CallWay::Method(name) => {
             let instance = call.instance?;
             find_method(setting, store, instance, setting.script_of(instance)?, name)
         }
-        Way::Parent { script, name } => {
+        CallWay::Parent { script, name } => {
             find_method(
                 setting,
                 store,
@@ -34,13 +34,13 @@ pub fn look_up(setting: &Setting, store: &Store, call: &Call) -> Option<Found> {
                 name,
             )
         }
-        Way::Get(name) => {
+        CallWay::Get(name) => {
             let at = setting
                 .loaded
                 .find_property(setting.script_of(call.instance?)?, name)?;
             Some(accessor(setting, at, Body::Reader(at)))
         }
-        Way::Set(name) => {
+        CallWay::Set(name) => {
             let at = setting
                 .loaded
                 .find_property(setting.script_of(call.instance?)?, name)?;

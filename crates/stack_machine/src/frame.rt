@@ -1,11 +1,13 @@
 //! The frames of stacks.
 
+ghost use Rattle.std.specs.Prelude.{◌≤◌};
+
 use core_tree::Value;
 use pex_verify::{MethodPlace, PropertyPlace};
 
 /// How a call names its function. Names stand as their numbers.
 #[derive(Clone, Copy, PartialEq, Eq)]
-pub enum Way {
+pub enum CallWay {
     /// A method, from the instance's script upward.
     Method(usize),
     /// A method, from the parent of the script in which the call stands.
@@ -23,7 +25,7 @@ pub enum Way {
 pub struct Call {
     /// None for a global function.
     pub instance: Option<u16>,
-    pub way: Way,
+    pub way: CallWay,
     /// By parameter.
     pub arguments: Vec<Value>,
 }
@@ -45,6 +47,19 @@ impl Body {
         match self {
             Body::Method(method) => method.script,
             Body::Reader(property) | Body::Writer(property) => property.script,
+        }
+    }
+}
+
+impl Body {
+    /// 0 for a function of a state, 1 for one that reads a property, 2 for one that writes it.
+    pub fn kind(self) -> u8
+        ensures { result ≤ 2 }
+    {
+        match self {
+            Body::Method(_) => 0,
+            Body::Reader(_) => 1,
+            Body::Writer(_) => 2,
         }
     }
 }

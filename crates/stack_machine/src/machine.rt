@@ -1,13 +1,16 @@
 //! The machine.
 #![tactic(auto, using(crate::proofs::AsMany::as_many))]
 
-ghost use Rattle.std.specs.Prelude.{◌≡◌, ◌↔◌, ℕ, ◌+◌, ◌<◌, ◌≤◌, ◌^◌, false, Ok, Err, None, IfOk, IfSome, IsTrue, MatchOption, map, vec_len};
+ghost use Rattle.std.specs.Prelude.{◌≡◌, ◌↔◌, ◌+◌, ◌<◌, ◌≤◌, ◌^◌, false, Ok, Err, None, IfOk, IfSome, IsTrue, MatchResult, OnOk, map, take, vec_len};
 ghost use Rattle.latent_natives.specs.Devices.{SameKinds};
 ghost use Rattle.stack_machine.specs.Casts.{IsTextOf};
 ghost use Rattle.stack_machine.specs.Machine.{turns_after, fault_after, CountsTurn, HasEnded, HasNothingLeft, HasStarted};
+ghost use Rattle.stack_machine.specs.Moves.{AppendsTurn, NotesEnd};
+ghost use Rattle.stack_machine.specs.Plans.{ArePlanned, HasBegun, calls_before};
 ghost use Rattle.papy_io.specs.Sink.{AppendsSome};
 
 use crate::casts::text_of;
+use crate::notes::{NoNotes, Notes};
 use crate::plan::Plan;
 use crate::setting::Setting;
 use crate::status::{Status, TurnEnd, TurnFault};
@@ -20,32 +23,34 @@ use latent_natives::{Device, load_device};
 use papy_base::{OutOfMemory, Text};
 use papy_io::Sink;
 use pex_verify::Loaded;
+use run_replay::LockMove;
 use std::alloc::Global;
 use std::marker::Model;
 
 /// A world of loaded scripts that a scene set up, which runs in turns.
 #[derive(Drop)]
 pub struct Machine {
-    setting: Setting,
-    world: World,
+    pub(crate) setting: Setting,
+    pub(crate) world: World,
     // The turns that were done.
-    turns: u32,
+    pub(crate) turns: u32,
     // The fault that was answered.
-    fault: Option<TurnFault>,
+    pub(crate) fault: Option<TurnFault>,
     // The state of an instance that isn't there.
-    no_state: Text,
+    pub(crate) no_state: Text,
 }
 
 impl Model for Machine {
-    ghost use Rattle.std.specs.Prelude.{◌<◌, ◌≤◌, vec_len};
+    ghost use Rattle.std.specs.Prelude.{◌≡◌, ◌<◌, ◌≤◌, None, vec_len};
     ghost use Rattle.stack_machine.specs.Casts.{IsTextOf};
-    ghost use Rattle.stack_machine.specs.Machine.{MachineState};
+    ghost use Rattle.stack_machine.specs.Machine.{MachineView};
+    ghost use Rattle.stack_machine.specs.Plans.{ArePlanned, HasBegun};
 
-    ghost Value = { MachineState };
+    ghost Value = { MachineView };
 
     ghost view = { λ m. record { outline = m.setting.loaded.outline; scene = m.setting.scene; turns = m.turns; started = m.world.threads.started; done = m.world.threads.done; fault = m.fault } };
 
-    ghost invariant = { λ m. (vec_len m.setting.scene.instances < 65536) × (vec_len m.setting.scene.calls < 65536) × (m.turns ≤ m.setting.scene.turns) };
+    ghost invariant = { λ m. (vec_len m.setting.scene.instances < 65536) × (vec_len m.setting.scene.calls < 65536) × (m.turns ≤ m.setting.scene.turns) × (m.fault ≡ None → HasBegun m.setting.plan.calls.items m.setting.scene.calls.items m.world.threads m.turns) };
 }
 
 impl Machine {
@@ -108,6 +113,75 @@ impl Machine {
         ensures appended { AppendsSome (S.written sink.old) (S.written sink.new) }
         ensures kinds { SameKinds (map (λ d. device_state d) devices.old.items) (map (λ d. device_state d) devices.new.items) }
         ensures ran { HasStarted result self.new.started }
+        ensures started { OnOk result (self.new.started ≡ calls_before self.new.turns self.new.scene.calls.items) }
+
+        // After a fault.
+        ensures same_fault { IfSome self.old.fault (λ fault. result ≡ Err fault) }
+        ensures nothing_written { IfSome self.old.fault (λ fault. (S.written sink.new ≡ S.written sink.old) × (S.faults sink.new ≡ S.faults sink.old)) }
+        ensures devices_kept { IfSome self.old.fault (λ fault. map (λ d. device_state d) devices.new.items ≡ map (λ d. device_state d) devices.old.items) }
+    {
+        self.turn_with(sink, devices, &mut NoNotes)
+    }
+
+    /// Does one turn as `turn` does, and appends its moves: those of the stacks that start and of the sleepers that
+    /// wake, each in order of stack number; whose turn it is; and what that stack does, where its act leaves it at
+    /// another place.
+    ///
+    /// After `Ended` the moves are as before.
+    ///
+    /// # Errors
+    ///
+    /// They are those of `turn`, and `OutOfMemory` comes also where there is no room for a move. Then the moves are as
+    /// before.
+    pub fn turn_noted<S: Sink>(
+        &mut self,
+        sink: &mut S,
+        devices: &mut Vec<Box<dyn Device>>,
+        moves: &mut Vec<LockMove>,
+    ) -> Result<TurnEnd, TurnFault>
+        ensures fixed { (self.new.outline ≡ self.old.outline) × (self.new.scene ≡ self.old.scene) }
+        ensures turns { self.new.turns ≡ turns_after result self.old.turns }
+        ensures within { self.new.turns ≤ self.new.scene.turns }
+        ensures fault { self.new.fault ≡ fault_after result self.old.fault }
+        ensures ended { result ≡ Ok TurnEnd.Ended → self.new ≡ self.old }
+        ensures ends { self.old.fault ≡ None → (result ≡ Ok TurnEnd.Ended ↔ HasEnded self.old) }
+        ensures count { self.old.fault ≡ None → CountsTurn result (S.faults sink.old) (S.faults sink.new) }
+        ensures appended { AppendsSome (S.written sink.old) (S.written sink.new) }
+        ensures kinds { SameKinds (map (λ d. device_state d) devices.old.items) (map (λ d. device_state d) devices.new.items) }
+        ensures ran { HasStarted result self.new.started }
+        ensures started { OnOk result (self.new.started ≡ calls_before self.new.turns self.new.scene.calls.items) }
+        ensures moves { AppendsTurn result self.old.started self.new.started moves.old.items moves.new.items }
+
+        // After a fault.
+        ensures same_fault { IfSome self.old.fault (λ fault. result ≡ Err fault) }
+        ensures nothing_written { IfSome self.old.fault (λ fault. (S.written sink.new ≡ S.written sink.old) × (S.faults sink.new ≡ S.faults sink.old)) }
+        ensures devices_kept { IfSome self.old.fault (λ fault. map (λ d. device_state d) devices.new.items ≡ map (λ d. device_state d) devices.old.items) }
+    {
+        let before = moves.len();
+        let result = self.turn_with(sink, devices, moves);
+        cut_after_fault(result, before, moves);
+        result
+    }
+
+    // One turn, whose moves are noted.
+    fn turn_with<S: Sink, N: Notes>(
+        &mut self,
+        sink: &mut S,
+        devices: &mut Vec<Box<dyn Device>>,
+        notes: &mut N,
+    ) -> Result<TurnEnd, TurnFault>
+        ensures fixed { (self.new.outline ≡ self.old.outline) × (self.new.scene ≡ self.old.scene) }
+        ensures turns { self.new.turns ≡ turns_after result self.old.turns }
+        ensures within { self.new.turns ≤ self.new.scene.turns }
+        ensures fault { self.new.fault ≡ fault_after result self.old.fault }
+        ensures ended { result ≡ Ok TurnEnd.Ended → self.new ≡ self.old }
+        ensures ends { self.old.fault ≡ None → (result ≡ Ok TurnEnd.Ended ↔ HasEnded self.old) }
+        ensures count { self.old.fault ≡ None → CountsTurn result (S.faults sink.old) (S.faults sink.new) }
+        ensures appended { AppendsSome (S.written sink.old) (S.written sink.new) }
+        ensures kinds { SameKinds (map (λ d. device_state d) devices.old.items) (map (λ d. device_state d) devices.new.items) }
+        ensures ran { HasStarted result self.new.started }
+        ensures started { OnOk result (self.new.started ≡ calls_before self.new.turns self.new.scene.calls.items) }
+        ensures noted { NotesEnd result self.old.started self.new.started (N.noted notes.old) (N.noted notes.new) }
 
         // After a fault.
         ensures same_fault { IfSome self.old.fault (λ fault. result ≡ Err fault) }
@@ -120,10 +194,13 @@ impl Machine {
         if self.has_ended() {
             return Ok(TurnEnd::Ended);
         }
-        match self.world.do_turn(&self.setting, self.turns, sink, devices) {
-            Ok(ran) => {
+        match self
+            .world
+            .do_turn(&self.setting, self.turns, sink, devices, notes)
+        {
+            Ok(end) => {
                 self.turns += 1;
-                Ok(end_of(ran))
+                Ok(end)
             }
             Err(fault) => {
                 self.fault = Some(fault);
@@ -270,6 +347,8 @@ fn initial(
     requires instances { vec_len scene.now.instances < 65536 }
     requires calls { vec_len scene.now.calls < 65536 }
     ensures fresh { IfOk result (λ first. (first.world.threads.started ≡ 0) × (first.world.threads.done ≡ 0)) }
+    ensures room { IfOk result (λ first. first.world.threads.room ≡ vec_len scene.now.calls) }
+    ensures planned { IfOk result (λ first. ArePlanned first.plan.calls.items scene.now.calls.items) }
     ensures kinds { SameKinds (map (λ d. device_state d) devices.old.items) (map (λ d. device_state d) devices.new.items) }
 {
     load_devices(&scene.tapes, devices)?;
@@ -287,6 +366,7 @@ fn initial_world(alloc: Global, loaded: &Loaded, scene: &Scene) -> Result<World,
     requires instances { vec_len scene.now.instances < 65536 }
     requires calls { vec_len scene.now.calls < 65536 }
     ensures fresh { IfOk result (λ world. (world.threads.started ≡ 0) × (world.threads.done ≡ 0)) }
+    ensures room { IfOk result (λ world. world.threads.room ≡ vec_len scene.now.calls) }
 {
     let (instances, stacks) = (scene.instances.len() as u16, scene.calls.len() as u16);
     let store = Store::create(alloc, loaded, loaded.outline(), scene)?;
@@ -296,19 +376,16 @@ fn initial_world(alloc: Global, loaded: &Loaded, scene: &Scene) -> Result<World,
         store,
         threads,
         last: None,
+        kept: Vec::new(alloc),
     })
 }
 
-// The end of a turn in which this stack ran, or none.
-fn end_of(ran: Option<u16>) -> TurnEnd
-    ensures end { MatchOption ran (result ≡ TurnEnd.Idle) (λ stack. result ≡ TurnEnd.Ran stack) }
-    ensures counts { (turns : ℕ) → turns_after (Ok result) turns ≡ turns + 1 }
-    ensures goes_on { ¬ (result ≡ TurnEnd.Ended) }
-    ensures ran { (started : ℕ) → IfSome ran (λ stack. stack < started) → HasStarted (Ok result) started }
+// After a fault no more than so many moves are left.
+fn cut_after_fault(end: Result<TurnEnd, TurnFault>, before: usize, moves: &mut Vec<LockMove>)
+    ensures { MatchResult end (λ _. moves.new.items ≡ moves.old.items) (λ _. moves.new.items ≡ take before moves.old.items) }
 {
-    match ran {
-        Some(stack) => TurnEnd::Ran(stack),
-        None => TurnEnd::Idle,
+    if end.is_err() {
+        moves.truncate(before);
     }
 }
 

@@ -1,7 +1,9 @@
 //! What is resolved when the machine starts, so that no turn looks it up.
 
-ghost use Rattle.std.specs.Prelude.{◌≡◌};
+ghost use Rattle.std.specs.Prelude.{◌≡◌, ◌<◌, IfOk, length, map};
+ghost use Rattle.std.specs.List.{All};
 ghost use Rattle.stack_machine.specs.Natives.{binding_in};
+ghost use Rattle.stack_machine.specs.Plans.{ArePlanned};
 
 use core_tree::{Binding, BoundCall, BoundNative, Outline, OutlineProperty, Scene};
 use papy_base::OutOfMemory;
@@ -30,9 +32,10 @@ pub struct Plan {
 
 impl Plan {
     /// The plan of a scene that is bound to the loaded scripts.
-    pub fn of(alloc: Global, loaded: &Loaded, scene: &Scene) -> Result<Plan, OutOfMemory> {
-        let mut calls = planned_calls(alloc, loaded, &scene.calls)?;
-        calls.sort_by_key(|call| call.turn)?;
+    pub fn of(alloc: Global, loaded: &Loaded, scene: &Scene) -> Result<Plan, OutOfMemory>
+        ensures { IfOk result (λ plan. ArePlanned plan.calls.items scene.now.calls.items) }
+    {
+        let calls = calls_in_order(alloc, loaded, &scene.calls)?;
         let mut natives = no_bindings(alloc, loaded.outline())?;
         bind_natives(&mut natives, &scene.natives);
         let above = counts_above(alloc, loaded.outline())?;
@@ -59,11 +62,26 @@ impl Plan {
     }
 }
 
+fn calls_in_order(
+    alloc: Global,
+    loaded: &Loaded,
+    calls: &[BoundCall],
+) -> Result<Vec<PlannedCall>, OutOfMemory>
+    ensures { IfOk result (λ planned. ArePlanned planned.items calls.now) }
+{
+    let mut planned = planned_calls(alloc, loaded, calls)?;
+    planned.sort_by_key(|call| call.turn)?;
+    Ok(planned)
+}
+
 fn planned_calls(
     alloc: Global,
     loaded: &Loaded,
     calls: &[BoundCall],
-) -> Result<Vec<PlannedCall>, OutOfMemory> {
+) -> Result<Vec<PlannedCall>, OutOfMemory>
+    ensures turns { IfOk result (λ planned. map (λ call. call.turn) planned.items ≡ map (λ call. call.turn) calls.now) }
+    ensures numbers { IfOk result (λ planned. All (λ call. call.number < length calls.now) planned.items) }
+{
     let mut planned = Vec::with_capacity(alloc, calls.len())?;
     for (number, call) in calls.iter().enumerate() {
         planned.push(PlannedCall {

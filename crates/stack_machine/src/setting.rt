@@ -41,6 +41,20 @@ impl Setting {
         functions.get(at.place)
     }
 
+    /// The name of the state that declares a body. A property stands in none.
+    pub fn state_name(&self, body: Body) -> &[u8] {
+        let Body::Method(at) = body else {
+            return &[];
+        };
+        if usize::from(at.script) >= self.loaded.outline().scripts.len() {
+            return &[];
+        }
+        match self.loaded.script(at.script).states.get(at.state) {
+            Some((name, _)) => name.as_bytes(),
+            None => &[],
+        }
+    }
+
     /// The property at a place.
     pub fn property(&self, at: PropertyPlace) -> Option<&LoadedProperty>
         ensures { option_copied result ≡ property_at self.now.loaded.scripts at }

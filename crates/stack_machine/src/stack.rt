@@ -27,6 +27,20 @@ impl Stack {
         Ok(Stack { frames })
     }
 
+    /// A stack of these frames, the innermost last.
+    pub fn of(frames: Vec<Frame>) -> Stack
+        ensures { result.frames ≡ frames }
+    {
+        Stack { frames }
+    }
+
+    /// The frames, the innermost last.
+    pub fn frames(&self) -> &[Frame]
+        ensures { result.now ≡ self.now.frames.items }
+    {
+        self.frames.as_slice()
+    }
+
     /// Whether the first call has returned.
     pub fn is_done(&self) -> bool
         ensures { IsTrue result ↔ (vec_len self.now.frames ≡ 0) }

@@ -42,6 +42,26 @@ impl Store {
         })
     }
 
+    /// The values of these instances and arrays.
+    pub fn of(
+        alloc: Global,
+        loaded: &Loaded,
+        instances: Instances,
+        arrays: Arrays,
+        count: usize,
+    ) -> Result<Store, OutOfMemory>
+        requires all { count ≡ length instances }
+        requires few { count < 65536 }
+        ensures { IfOk result (λ store. length store.instances ≡ count) }
+    {
+        let states = first_states(alloc, loaded, &instances, count)?;
+        Ok(Store {
+            instances,
+            states,
+            arrays,
+        })
+    }
+
     /// The number of the name of an instance's state.
     pub fn state_number(&self, instance: u16) -> Option<usize> {
         *self.states.get(usize::from(instance))?

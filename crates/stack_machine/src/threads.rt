@@ -1,19 +1,23 @@
 //! Stacks, and where each of them is: it holds an instance, waits for one, runs free, sleeps or is done.
 #![tactic(auto, using(crate::proofs::Seats::seats))]
 
-ghost use Rattle.std.specs.Prelude.{◌≡◌, ◌↔◌, ◌+◌, ◌<◌, ◌≤◌, [], None, IfOk, IfSome, IsTrue, replicate, slice_index_or};
+ghost use Rattle.std.specs.Prelude.{◌≡◌, ◌↔◌, ◌+◌, ◌<◌, ◌≤◌, [], None, IfOk, IfSome, IsSome, IsTrue, MatchResult, OnOk, replicate, slice_index_or};
 ghost use Rattle.std.specs.Option.{ForSome};
 ghost use Rattle.lock_queue.specs.declared.seat.Seat.TheVariants.{Resting};
 ghost use Rattle.lock_queue.specs.LockTable.{seat_of, waits_for, is_ready, ready_after, start_after};
-ghost use Rattle.stack_machine.specs.Threads.{GoesToWait, HasGrown, IsSameSize, due_after, let_go, put_to_sleep, taken};
+ghost use Rattle.stack_machine.specs.Moves.{AddsSome, AreWakes, Begins, Noted, Takes};
+ghost use Rattle.stack_machine.specs.Threads.{GoesToWait, HasGrown, IsOn, IsSameSize, due_after, let_go, put_to_sleep, taken};
 
 use crate::frame::Frame;
+use crate::notes::{Notes, note_any};
+use crate::place::Place;
 use crate::stack::Stack;
 use crate::status::Status;
 use core_tree::Value;
 use latent_natives::Sleepers;
 use lock_queue::Locks;
 use papy_base::OutOfMemory;
+use run_replay::LockMove;
 use std::alloc::Global;
 use std::marker::Model;
 
@@ -80,19 +84,16 @@ impl Threads {
         self.done == self.count()
     }
 
-    /// Starts a stack, which waits for the instance of its first call. Where there is no room for one more it
-    /// starts none.
-    pub fn start(&mut self, alloc: Global, first: Frame) -> Result<(), OutOfMemory>
+    /// Starts a stack, which waits for the instance of its first call.
+    pub fn start(&mut self, alloc: Global, first: Frame) -> Result<LockMove, OutOfMemory>
+        requires { self.old.started < self.old.room }
         ensures grown { HasGrown self.old self.new }
-        ensures by_one { self.new.started ≤ self.old.started + 1 }
+        ensures by_one { OnOk result (self.new.started ≡ self.old.started + 1) }
+        ensures moved { IfOk result (Begins self.old.started) }
     {
         let stack = self.count();
-        if stack >= self.room {
-            return Ok(());
-        }
         self.stacks.push(Stack::starting(alloc, first)?)?;
-        self.go_to_wait(stack);
-        Ok(())
+        Ok(self.go_on(stack))
     }
 
     /// The instance of a stack's innermost frame.
@@ -211,6 +212,23 @@ impl Threads {
         self.locks.owner_of(instance)
     }
 
+    /// Where a stack is that has started.
+    pub fn place_of(&self, stack: u16) -> Place {
+        if stack >= self.room || self.is_done(stack) {
+            return Place::Done;
+        }
+        if let Some(until) = self.sleepers.until(stack) {
+            return Place::Asleep(until);
+        }
+        if let Some(instance) = self.locks.held_by(stack) {
+            return Place::Holds(instance);
+        }
+        match self.locks.waits_for(stack) {
+            Some(instance) => Place::Waits(instance),
+            None => Place::Free,
+        }
+    }
+
     /// What a stack that has started is doing.
     pub fn status_of(&self, stack: u16) -> Status {
         match self.stacks.get(usize::from(stack)) {
@@ -229,20 +247,23 @@ impl Threads {
         }
     }
 
-    /// Gives a stack that waits and may take its instance that instance.
-    pub fn take(&mut self, stack: u16)
+    /// Gives a stack that waits and may take its instance that instance. It gives the stack's move, none where it
+    /// takes none.
+    pub fn take(&mut self, stack: u16) -> Option<LockMove>
         ensures size { IsSameSize self.old self.new }
         ensures locks { self.new.locks ≡ taken self.old.locks self.old.instances stack (seat_of self.old.locks stack) }
         ensures sleepers { self.new.sleepers ≡ self.old.sleepers }
+        ensures moved { IfSome result (Takes stack) }
     {
         if stack >= self.room {
-            return;
+            return None;
         }
-        if let Some(instance) = self.locks.waits_for(stack) {
-            if instance < self.instances && self.locks.may_take(stack, instance) {
-                self.locks.take(stack, instance);
-            }
+        let instance = self.locks.waits_for(stack)?;
+        if instance >= self.instances || !self.locks.may_take(stack, instance) {
+            return None;
         }
+        self.locks.take(stack, instance);
+        Some(LockMove::Take(stack, instance))
     }
 
     /// Releases what a stack holds, or lets a free one rest.
@@ -261,19 +282,40 @@ impl Threads {
         }
     }
 
-    /// Lets a resting stack that has started wait for the instance of its innermost frame, or run free.
-    pub fn go_to_wait(&mut self, stack: u16)
+    /// Lets a resting stack that has started wait for the instance of its innermost frame, or run free. It gives the
+    /// stack's move, none where the stack stays.
+    pub fn go_to_wait(&mut self, stack: u16) -> Option<LockMove>
         ensures size { IsSameSize self.old self.new }
         ensures locks { stack < self.old.started → GoesToWait self.old.locks self.new.locks stack (seat_of self.old.locks stack) }
         ensures others { self.old.started ≤ stack → self.new.locks ≡ self.old.locks }
         ensures sleepers { self.new.sleepers ≡ self.old.sleepers }
+        ensures moved { IfSome result (Begins stack) }
+        ensures started { IsSome result → stack < self.old.started }
     {
         if stack >= self.count() || !self.is_resting(stack) {
-            return;
+            return None;
         }
+        Some(self.go_on(stack))
+    }
+
+    // A resting stack waits for the instance of its innermost frame, or runs free.
+    fn go_on(&mut self, stack: u16) -> LockMove
+        requires started { stack < self.old.started }
+        requires rests { seat_of self.old.locks stack ≡ Resting }
+        ensures size { IsSameSize self.old self.new }
+        ensures locks { IsOn self.old.locks self.new.locks stack }
+        ensures sleepers { self.new.sleepers ≡ self.old.sleepers }
+        ensures moved { Begins stack result }
+    {
         match self.instance_of(stack) {
-            Some(instance) if instance < self.instances => self.locks.join(stack, instance),
-            _ => self.locks.run_free(stack),
+            Some(instance) if instance < self.instances => {
+                self.locks.join(stack, instance);
+                LockMove::Join(stack, instance)
+            }
+            _ => {
+                self.locks.run_free(stack);
+                LockMove::Free(stack)
+            }
         }
     }
 
@@ -298,23 +340,22 @@ impl Threads {
             self.go_to_wait(stack);
             return;
         }
-        if stack >= self.room || self.sleepers.until(stack).is_some() {
-            return;
-        }
         let until = turn.saturating_add(1).saturating_add(latency);
-        self.sleepers.rest(stack, until);
+        self.sleep(stack, until);
     }
 
     /// Lets the sleepers that are due at a turn wait, in order of stack number.
-    pub fn wake(&mut self, turn: u32)
-        ensures { IsSameSize self.old self.new }
+    pub fn wake<N: Notes>(&mut self, turn: u32, notes: &mut N) -> Result<(), OutOfMemory>
+        ensures size { IsSameSize self.old self.new }
+        ensures noted { MatchResult result (λ _. Noted (AreWakes 0 self.old.started) (N.noted notes.old) (N.noted notes.new)) (λ _. AddsSome (N.noted notes.old) (N.noted notes.new)) }
     {
         for _ in 0..self.room {
             let Some(stack) = self.sleepers.due(turn) else {
                 break;
             };
-            self.go_to_wait(stack);
+            note_any(self.go_to_wait(stack), notes)?;
         }
+        Ok(())
     }
 
     /// Whether a stack's first call has returned.
@@ -344,6 +385,53 @@ impl Threads {
         ensures* writes_back { sem 𝓛 (LendsIf the_row stack_row self.entry result (λ w. self.old) self.old) }
     {
         self.stacks.get_mut(usize::from(stack))
+    }
+}
+
+// What a state of a run tells of stacks, and takes from them.
+impl Threads {
+    /// A stack that has started.
+    pub fn stack(&self, stack: u16) -> Option<&Stack> {
+        self.stacks.get(usize::from(stack))
+    }
+
+    /// The stack that follows a waiting one in order of joining, or the first of all.
+    pub fn next_waiter(&self, after: Option<u16>) -> Option<u16> {
+        match after {
+            None => self.locks.next_waiter(None),
+            Some(stack) => {
+                self.waits_for(stack)?;
+                self.locks.next_waiter(Some(stack))
+            }
+        }
+    }
+
+    /// Adds a stack of these frames, which rests. It is done where it has no frame.
+    pub fn add(&mut self, frames: Vec<Frame>) -> Result<(), OutOfMemory>
+        requires { self.old.started < self.old.room }
+        ensures size { (self.new.instances ≡ self.old.instances) × (self.new.room ≡ self.old.room) }
+        ensures started { OnOk result (self.new.started ≡ self.old.started + 1) }
+    {
+        let (extra, is_done) = (frames.len().saturating_sub(1), frames.is_empty());
+        self.stacks.push(Stack::of(frames))?;
+        let extra = u16::try_from(extra).unwrap_or(u16::MAX);
+        self.extra = self.extra.saturating_add(extra);
+        if is_done {
+            self.done = self.done.saturating_add(1);
+        }
+        Ok(())
+    }
+
+    /// Lets a stack that doesn't sleep sleep until a turn.
+    pub fn sleep(&mut self, stack: u16, until: u32)
+        ensures size { IsSameSize self.old self.new }
+        ensures asleep { self.new.sleepers ≡ put_to_sleep self.old.sleepers stack until }
+        ensures locks { self.new.locks ≡ self.old.locks }
+    {
+        if stack >= self.room || self.sleepers.until(stack).is_some() {
+            return;
+        }
+        self.sleepers.rest(stack, until);
     }
 }
 

@@ -1,27 +1,34 @@
 //! What turns change, and what a turn does.
 #![tactic(auto, using(crate::proofs::Sinks::sinks))]
 
-ghost use Rattle.std.specs.Prelude.{◌≡◌, ◌<◌, IfOk, IfSome, map};
+ghost use Rattle.std.specs.Prelude.{◌≡◌, ◌+◌, MatchResult, Ok, OnOk, map};
 ghost use Rattle.latent_natives.specs.Devices.{SameKinds};
-ghost use Rattle.stack_machine.specs.Machine.{CountsTurn};
+ghost use Rattle.stack_machine.specs.Machine.{CountsTurn, HasStarted};
+ghost use Rattle.stack_machine.specs.Moves.{AddsSome, AreOfEnd, AreOfTurn, IsAct, Noted};
+ghost use Rattle.stack_machine.specs.Plans.{HasBegun, calls_before};
+ghost use Rattle.stack_machine.specs.Threads.{IsSameSize};
 ghost use Rattle.papy_io.specs.Sink.{AppendsSome};
 
 use crate::begin::{begin, choose};
 use crate::entry::{Found, look_up, open};
-use crate::frame::{Body, Call, Frame, Way};
+use crate::frame::{Body, Call, Frame, CallWay};
 use crate::natives::{Performed, perform};
+use crate::notes::{Notes, note_any};
 use crate::operands::Turn;
+use crate::place::{Place, moves_between};
 use crate::run::{Ending, run_frame};
 use crate::setting::Setting;
 use crate::stack::Stack;
-use crate::status::TurnFault;
+use crate::status::{TurnEnd, TurnFault};
 use crate::store::Store;
 use crate::threads::Threads;
 use core_tree::Value;
 use latent_natives::Device;
+use machine_state::Way;
 use papy_base::OutOfMemory;
 use papy_io::Sink;
 use pex_verify::MethodPlace;
+use run_replay::LockMove;
 use std::alloc::Global;
 
 /// What turns change.
@@ -32,27 +39,37 @@ pub struct World {
     pub threads: Threads,
     /// The stack that was chosen last.
     pub last: Option<u16>,
+    /// Of each stack, how a call names its function that a restored machine began with and that is still pending. A
+    /// call that a machine made itself is spelled in the code or in the scene.
+    pub kept: Vec<Option<Way>>,
 }
 
 impl World {
     /// Does the turn of this number: starts the stacks and wakes the sleepers of the turn, chooses a stack, and
-    /// runs it to the act that ends its turn. It gives the stack that ran, none where the turn is idle.
-    pub fn do_turn<S: Sink>(
+    /// runs it to the act that ends its turn. The moves of the turn are noted.
+    pub fn do_turn<S: Sink, N: Notes>(
         &mut self,
         setting: &Setting,
         number: u32,
         sink: &mut S,
         devices: &mut Vec<Box<dyn Device>>,
-    ) -> Result<Option<u16>, TurnFault>
+        notes: &mut N,
+    ) -> Result<TurnEnd, TurnFault>
+        requires { HasBegun setting.now.plan.calls.items setting.now.scene.calls.items self.old.threads number }
         ensures appended { AppendsSome (S.written sink.old) (S.written sink.new) }
         ensures count { CountsTurn result (S.faults sink.old) (S.faults sink.new) }
         ensures kinds { SameKinds (map (λ d. device_state d) devices.old.items) (map (λ d. device_state d) devices.new.items) }
-        ensures ran { IfOk result (λ ran. IfSome ran (λ stack. stack < self.new.threads.started)) }
+        ensures ran { HasStarted result self.new.threads.started }
+        ensures goes_on { ¬ (result ≡ Ok TurnEnd.Ended) }
+        ensures room { self.new.threads.room ≡ self.old.threads.room }
+        ensures started { OnOk result (self.new.threads.started ≡ calls_before (number + 1) setting.now.scene.calls.items) }
+        ensures noted { MatchResult result (λ end. Noted (AreOfTurn end self.old.threads.started self.new.threads.started) (N.noted notes.old) (N.noted notes.new)) (λ _. AddsSome (N.noted notes.old) (N.noted notes.new)) }
     {
-        begin(self.alloc, setting, &mut self.threads, number)?;
+        begin(self.alloc, setting, &mut self.threads, number, notes)?;
         let chosen = choose(&setting.scene, &self.threads, number, self.last);
         let Some(stack) = chosen else {
-            return Ok(None);
+            notes.note(LockMove::Idle)?;
+            return Ok(TurnEnd::Idle);
         };
         let turn = Turn {
             alloc: self.alloc,
@@ -60,12 +77,62 @@ impl World {
             number,
             stack,
         };
-        self.run_stack(&turn, sink, devices)?;
+        self.take_turn(&turn, sink, devices, notes)?;
         self.last = chosen;
-        Ok(chosen)
+        Ok(TurnEnd::Ran(stack))
     }
 
-    // Takes the stack's instance where it waits, enters its call where one is pending, and runs its body.
+    // The turn of the chosen stack: takes its instance where it waits, and runs it.
+    fn take_turn<S: Sink, N: Notes>(
+        &mut self,
+        turn: &Turn<'_>,
+        sink: &mut S,
+        devices: &mut Vec<Box<dyn Device>>,
+        notes: &mut N,
+    ) -> Result<(), TurnFault>
+        ensures appended { AppendsSome (S.written sink.old) (S.written sink.new) }
+        ensures count { CountsTurn result (S.faults sink.old) (S.faults sink.new) }
+        ensures kinds { SameKinds (map (λ d. device_state d) devices.old.items) (map (λ d. device_state d) devices.new.items) }
+        ensures size { IsSameSize self.old.threads self.new.threads }
+        ensures noted { MatchResult result (λ _. Noted (AreOfEnd (TurnEnd.Ran turn.now.stack)) (N.noted notes.old) (N.noted notes.new)) (λ _. AddsSome (N.noted notes.old) (N.noted notes.new)) }
+    {
+        notes.note(LockMove::Run(turn.stack))?;
+        note_any(self.threads.take(turn.stack), notes)?;
+        let from = self.place_before(turn.stack, notes);
+        self.run_stack(turn, sink, devices)?;
+        self.note_act(turn.stack, from, notes)?;
+        Ok(())
+    }
+
+    // Where a stack is before its act, as far as that is to be noted.
+    fn place_before<N: Notes>(&self, stack: u16, notes: &N) -> Option<Place> {
+        if notes.are_kept() {
+            return Some(self.threads.place_of(stack));
+        }
+        None
+    }
+
+    // Notes the moves of a stack's act, which began at a place.
+    fn note_act<N: Notes>(
+        &self,
+        stack: u16,
+        from: Option<Place>,
+        notes: &mut N,
+    ) -> Result<(), OutOfMemory>
+        ensures { MatchResult result (λ _. Noted (IsAct stack) (N.noted notes.old) (N.noted notes.new)) (λ _. AddsSome (N.noted notes.old) (N.noted notes.new)) }
+    {
+        let Some(from) = from else {
+            return Ok(());
+        };
+        let to = self.threads.place_of(stack);
+        let Some((departure, arrival)) = moves_between(stack, from, to) else {
+            return Ok(());
+        };
+        notes.note(departure)?;
+        notes.note(arrival)
+    }
+
+    // Enters the stack's call where one is pending, and runs its body.
     fn run_stack<S: Sink>(
         &mut self,
         turn: &Turn<'_>,
@@ -75,9 +142,8 @@ impl World {
         ensures appended { AppendsSome (S.written sink.old) (S.written sink.new) }
         ensures count { CountsTurn result (S.faults sink.old) (S.faults sink.new) }
         ensures kinds { SameKinds (map (λ d. device_state d) devices.old.items) (map (λ d. device_state d) devices.new.items) }
-        ensures started { self.new.threads.started ≡ self.old.threads.started }
+        ensures size { IsSameSize self.old.threads self.new.threads }
     {
-        self.threads.take(turn.stack);
         if self.threads.is_pending(turn.stack) {
             return self.enter_and_run(turn, sink, devices);
         }
@@ -94,7 +160,7 @@ impl World {
         ensures appended { AppendsSome (S.written sink.old) (S.written sink.new) }
         ensures count { CountsTurn result (S.faults sink.old) (S.faults sink.new) }
         ensures kinds { SameKinds (map (λ d. device_state d) devices.old.items) (map (λ d. device_state d) devices.new.items) }
-        ensures started { self.new.threads.started ≡ self.old.threads.started }
+        ensures size { IsSameSize self.old.threads self.new.threads }
     {
         if self.enter(turn, sink, devices)? {
             return self.run_and_act(turn, sink, devices);
@@ -112,7 +178,7 @@ impl World {
         ensures appended { AppendsSome (S.written sink.old) (S.written sink.new) }
         ensures count { CountsTurn result (S.faults sink.old) (S.faults sink.new) }
         ensures kinds { SameKinds (map (λ d. device_state d) devices.old.items) (map (λ d. device_state d) devices.new.items) }
-        ensures started { self.new.threads.started ≡ self.old.threads.started }
+        ensures size { IsSameSize self.old.threads self.new.threads }
     {
         let ending = self.run_innermost(turn, sink, devices)?;
         self.threads.act(turn.stack, turn.number, ending)?;
@@ -129,14 +195,24 @@ impl World {
         ensures appended { AppendsSome (S.written sink.old) (S.written sink.new) }
         ensures count { CountsTurn result (S.faults sink.old) (S.faults sink.new) }
         ensures kinds { SameKinds (map (λ d. device_state d) devices.old.items) (map (λ d. device_state d) devices.new.items) }
-        ensures started { self.new.threads.started ≡ self.old.threads.started }
+        ensures size { IsSameSize self.old.threads self.new.threads }
     {
+        self.forget_way(turn.stack);
         match self.threads.pop(turn.stack) {
             Some(Frame::Pending(call)) => self.enter_call(turn, call, sink, devices),
             other => {
                 drop(other);
                 Ok(false)
             }
+        }
+    }
+
+    // The stack's pending call is entered.
+    fn forget_way(&mut self, stack: u16)
+        ensures { self.new.threads ≡ self.old.threads }
+    {
+        if let Some(kept) = self.kept.get_mut(usize::from(stack)) {
+            *kept = None;
         }
     }
 
@@ -151,7 +227,7 @@ impl World {
         ensures appended { AppendsSome (S.written sink.old) (S.written sink.new) }
         ensures count { CountsTurn result (S.faults sink.old) (S.faults sink.new) }
         ensures kinds { SameKinds (map (λ d. device_state d) devices.old.items) (map (λ d. device_state d) devices.new.items) }
-        ensures started { self.new.threads.started ≡ self.old.threads.started }
+        ensures size { IsSameSize self.old.threads self.new.threads }
     {
         match look_up(turn.setting, &self.store, &call) {
             Some(Found::Body(body)) => Ok(self.enter_body(turn, call, body)?),
@@ -175,7 +251,7 @@ impl World {
 
     // The body's frame takes the place of the call's.
     fn enter_body(&mut self, turn: &Turn<'_>, call: Call, body: Body) -> Result<bool, OutOfMemory>
-        ensures started { self.new.threads.started ≡ self.old.threads.started }
+        ensures size { IsSameSize self.old.threads self.new.threads }
     {
         let running = open(turn.alloc, turn.setting, call, body)?;
         self.threads.push(turn.stack, Frame::Running(running))?;
@@ -194,7 +270,7 @@ impl World {
         ensures appended { AppendsSome (S.written sink.old) (S.written sink.new) }
         ensures count { CountsTurn result (S.faults sink.old) (S.faults sink.new) }
         ensures kinds { SameKinds (map (λ d. device_state d) devices.old.items) (map (λ d. device_state d) devices.new.items) }
-        ensures started { self.new.threads.started ≡ self.old.threads.started }
+        ensures size { IsSameSize self.old.threads self.new.threads }
     {
         let performed = perform(turn, native, call.arguments.as_slice(), sink, devices)?;
         self.leave_native(turn, call.instance, performed);
@@ -203,7 +279,7 @@ impl World {
 
     // A native method was performed, and its frame, which was popped, has ended.
     fn leave_native(&mut self, turn: &Turn<'_>, instance: Option<u16>, performed: Performed)
-        ensures started { self.new.threads.started ≡ self.old.threads.started }
+        ensures size { IsSameSize self.old.threads self.new.threads }
     {
         let reply = performed.reply;
         match performed.rest {
@@ -223,7 +299,7 @@ impl World {
         script: u16,
         variable: u16,
     ) -> Result<bool, OutOfMemory>
-        ensures started { self.new.threads.started ≡ self.old.threads.started }
+        ensures size { IsSameSize self.old.threads self.new.threads }
     {
         let (instance, way) = (call.instance, call.way);
         let last = call.arguments.pop();
@@ -233,7 +309,7 @@ impl World {
             return Ok(false);
         };
         let value = match way {
-            Way::Set(_) => self.set_or_get(instance, script, variable, last)?,
+            CallWay::Set(_) => self.set_or_get(instance, script, variable, last)?,
             _ => {
                 drop(last);
                 self.store.variable(instance, script, variable)?
@@ -251,7 +327,7 @@ impl World {
         variable: u16,
         written: Option<Value>,
     ) -> Result<Value, OutOfMemory>
-        ensures started { self.new.threads.started ≡ self.old.threads.started }
+        ensures size { IsSameSize self.old.threads self.new.threads }
     {
         match written {
             Some(value) => {
@@ -272,7 +348,7 @@ impl World {
         ensures appended { AppendsSome (S.written sink.old) (S.written sink.new) }
         ensures count { CountsTurn result (S.faults sink.old) (S.faults sink.new) }
         ensures kinds { SameKinds (map (λ d. device_state d) devices.old.items) (map (λ d. device_state d) devices.new.items) }
-        ensures started { self.new.threads.started ≡ self.old.threads.started }
+        ensures size { IsSameSize self.old.threads self.new.threads }
     {
         let has_room = self.threads.has_room(turn.stack);
         let Some(stack) = self.threads.stack_mut(turn.stack) else {

@@ -11,10 +11,10 @@ pub returns-clause-cut_short : goal.returns-clause-cut_short
 returns-clause-cut_short g c = cut_short _ _ c.run-ending.result c.tell.result _ _ _ _ _ _ c.run-ending.ensures.output c.tell.ensures
 
 pub returns-clause-cut_file : goal.returns-clause-cut_file
-returns-clause-cut_file g c = λ cut. cut_file _ c.run-ending.result c.tell.result _ _ _ _ _ _ c.tell.ensures cut c.run-ending.ensures.files
+returns-clause-cut_file g c = λ cut. cut_file _ c.run-ending.result c.tell.result _ _ _ _ _ _ _ _ c.tell.ensures cut c.run-ending.ensures.files
 
 pub returns-clause-kept : goal.returns-clause-kept
-returns-clause-kept g c = λ none. files_kept (map string_bytes c.args.words.now) c.run-ending.result (g.D.Desk.holds c.args.desk.now) (g.D.Desk.holds c.run-ending.new.desk) c.run-ending.ensures.files none
+returns-clause-kept g c = λ none. files_kept (map string_bytes c.args.words.now) c.run-ending.result _ _ (g.D.Desk.holds c.args.desk.now) (g.D.Desk.holds c.run-ending.new.desk) c.run-ending.ensures.files none
 
 pub returns-clause-quiet : goal.returns-clause-quiet
 returns-clause-quiet g c = λ whole. quiet _ c.run-ending.result c.tell.result _ _ _ _ _ _ _ _ c.run-ending.ensures.faults c.tell.ensures whole
@@ -30,7 +30,7 @@ pub returns-clause-listed : goal.returns-clause-listed
 returns-clause-listed g c = λ well. listed _ _ c.run-ending.result c.tell.result _ _ _ _ _ _ c.run-ending.ensures.listed c.tell.ensures well
 
 pub returns-clause-unread_kept : goal.returns-clause-unread_kept
-returns-clause-unread_kept g c = λ three. unread_kept _ c.run-ending.result c.tell.result _ _ _ _ _ _ c.tell.ensures three c.run-ending.ensures.files
+returns-clause-unread_kept g c = λ three. unread_kept _ c.run-ending.result c.tell.result _ _ _ _ _ _ _ _ c.tell.ensures three c.run-ending.ensures.files
 
 pub returns-clause-not_written : goal.returns-clause-not_written
 returns-clause-not_written g c = λ four. not_written _ c.run-ending.result c.tell.result _ _ _ _ _ _ _ _ c.run-ending.ensures.faults c.tell.ensures four

@@ -1,0 +1,5 @@
+ScriptName E
+Event OnInit()
+Scene.Sleep(2)
+Debug.Trace("up")
+EndEvent

@@ -1,0 +1,27 @@
+-- The order in which the stacks of a scene's calls start.
+use Rattle.std.specs.Prelude.{ℕ, ◌≡◌, ◌<◌, List, length, count_by, nat_lt}
+use Rattle.std.specs.List.{All}
+use Rattle.std.specs.List.Sorted.{IsNonDecreasingBy}
+use Rattle.core_tree.specs.declared.scene.BoundCall.{BoundCall}
+use Rattle.stack_machine.specs.declared.plan.PlannedCall.{PlannedCall}
+use Rattle.stack_machine.specs.Threads.{ThreadTable}
+
+-- how many calls have a turn before this one
+abbrev pub calls_before : ℕ → List BoundCall → ℕ
+calls_before turn calls = count_by (λ call. nat_lt call.turn turn) calls
+
+abbrev pub planned_before : ℕ → List PlannedCall → ℕ
+planned_before turn planned = count_by (λ call. nat_lt call.turn turn) planned
+
+-- all calls, in order of their turns
+pub record ArePlanned (planned : List PlannedCall) (calls : List BoundCall) : Type 0 where
+  pub in_order : IsNonDecreasingBy (λ call. call.turn) planned
+  pub numbers : All (λ call. call.number < length calls) planned
+  pub turns : (turn : ℕ) → planned_before turn planned ≡ calls_before turn calls
+  pub many : length planned ≡ length calls
+
+-- there is room for the stacks of all calls, and those have started whose turn is before this one
+pub record HasBegun (planned : List PlannedCall) (calls : List BoundCall) (threads : ThreadTable) (turn : ℕ) : Type 0 where
+  pub calls_planned : ArePlanned planned calls
+  pub room : threads.room ≡ length calls
+  pub started : threads.started ≡ calls_before turn calls

@@ -1,0 +1,67 @@
+//! Which values fit which types in a state that is judged.
+
+use crate::sound::Judged;
+use core_tree::{CoreType, Value};
+
+impl Judged<'_> {
+    /// Whether a value fits a place of this type. A place without a type has None alone.
+    pub fn fits(&self, value: &Value, kind: Option<CoreType>) -> bool {
+        match (value, kind) {
+            (Value::NoneValue, kind) => takes_none(kind),
+            (Value::Int(_), Some(CoreType::Int)) => true,
+            (Value::Bool(_), Some(CoreType::Bool)) => true,
+            (Value::Text(_), Some(CoreType::Text)) => true,
+            (Value::Instance(instance), Some(CoreType::Script(script))) => {
+                self.is_of(*instance, script)
+            }
+            (Value::Array(array), Some(kind)) => self.is_array_of(*array, kind),
+            _ => false,
+        }
+    }
+
+    /// Whether what a function gives fits a place of this type. A function that gives nothing gives None.
+    pub fn result_fits(&self, given: Option<CoreType>, kind: CoreType) -> bool {
+        match (given, kind) {
+            (None, kind) => takes_none(Some(kind)),
+            (Some(CoreType::Script(script)), CoreType::Script(above)) => {
+                self.is_child(script, above)
+            }
+            (Some(given), kind) => given == kind,
+        }
+    }
+
+    /// Whether an instance is of this script or one below it.
+    pub fn is_of(&self, instance: u16, script: u16) -> bool {
+        match self.setting.script_of(instance) {
+            Some(own) => self.is_child(own, script),
+            None => false,
+        }
+    }
+
+    // Whether the second script is the first one or stands above it.
+    fn is_child(&self, child: u16, parent: u16) -> bool {
+        self.descent
+            .is_below(usize::from(child), usize::from(parent))
+    }
+
+    fn is_array_of(&self, array: u16, kind: CoreType) -> bool {
+        match (self.state.arrays.get(usize::from(array)), element_of(kind)) {
+            (Some(found), Some(element)) => found.0 == element,
+            _ => false,
+        }
+    }
+}
+
+fn takes_none(kind: Option<CoreType>) -> bool {
+    !matches!(kind, Some(CoreType::Int | CoreType::Bool | CoreType::Text))
+}
+
+fn element_of(kind: CoreType) -> Option<CoreType> {
+    match kind {
+        CoreType::IntArray => Some(CoreType::Int),
+        CoreType::BoolArray => Some(CoreType::Bool),
+        CoreType::TextArray => Some(CoreType::Text),
+        CoreType::ScriptArray(script) => Some(CoreType::Script(script)),
+        _ => None,
+    }
+}

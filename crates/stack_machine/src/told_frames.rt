@@ -1,0 +1,209 @@
+//! What a state tells of frames.
+
+ghost use Rattle.std.specs.Prelude.{◌≡◌, ◌+◌, OnOk, vec_len};
+
+use crate::begin::copies;
+use crate::frame::{Body, Call, CallWay, Frame, Running};
+use crate::setting::Setting;
+use crate::world::World;
+use core_tree::Value;
+use machine_state::{BodyPlace, FrameState, Way};
+use papy_base::{OutOfMemory, Text};
+use pex_verify::{LoadedInstruction, MethodPlace, Operand};
+use std::alloc::Global;
+
+/// What tells frames of the stacks of a world.
+#[derive(Drop)]
+pub struct FrameTeller<'a> {
+    pub alloc: Global,
+    pub setting: &'a Setting,
+    pub world: &'a World,
+}
+
+impl FrameTeller<'_> {
+    /// Tells the frames of each stack that has started, outermost first.
+    pub fn tell_stacks(&self, told: &mut Vec<Vec<FrameState>>) -> Result<(), OutOfMemory>
+        ensures { OnOk result (vec_len told.new ≡ vec_len told.old + self.now.world.now.threads.started) }
+    {
+        for stack in 0..self.world.threads.count() {
+            told.push(self.told_stack(stack)?)?;
+        }
+        Ok(())
+    }
+
+    fn told_stack(&self, stack: u16) -> Result<Vec<FrameState>, OutOfMemory> {
+        let mut told = Vec::new(self.alloc);
+        if let Some(found) = self.world.threads.stack(stack) {
+            self.tell_frames(stack, found.frames(), &mut told)?;
+        }
+        Ok(told)
+    }
+
+    fn tell_frames(
+        &self,
+        stack: u16,
+        frames: &[Frame],
+        told: &mut Vec<FrameState>,
+    ) -> Result<(), OutOfMemory> {
+        let mut below = None;
+        for frame in frames {
+            told.push(self.told_frame(stack, below, frame)?)?;
+            below = Some(frame);
+        }
+        Ok(())
+    }
+
+    fn told_frame(
+        &self,
+        stack: u16,
+        below: Option<&Frame>,
+        frame: &Frame,
+    ) -> Result<FrameState, OutOfMemory> {
+        match frame {
+            Frame::Pending(call) => self.told_call(stack, below, call),
+            Frame::Running(running) => self.told_body(running),
+        }
+    }
+
+    fn told_call(
+        &self,
+        stack: u16,
+        below: Option<&Frame>,
+        call: &Call,
+    ) -> Result<FrameState, OutOfMemory> {
+        let arguments = copies(self.alloc, call.arguments.as_slice())?;
+        let way = self.told_way(stack, below, call.way)?;
+        Ok(FrameState::ToEnter {
+            instance: call.instance,
+            way,
+            arguments,
+        })
+    }
+
+    // How a pending call of a stack names its function.
+    fn told_way(
+        &self,
+        stack: u16,
+        below: Option<&Frame>,
+        way: CallWay,
+    ) -> Result<Way, OutOfMemory> {
+        if let Some(Some(kept)) = self.world.kept.get(usize::from(stack)) {
+            return copy_of(self.alloc, kept);
+        }
+        match below {
+            Some(frame) => self.way_of_instruction(frame, way),
+            None => self.way_of_scene(stack),
+        }
+    }
+
+    // The first call of a stack is one of the scene's.
+    fn way_of_scene(&self, stack: u16) -> Result<Way, OutOfMemory> {
+        let Some(planned) = self.setting.plan.calls.get(usize::from(stack)) else {
+            return Err(OutOfMemory);
+        };
+        let Some(call) = self.setting.scene.calls.get(planned.number) else {
+            return Err(OutOfMemory);
+        };
+        Ok(Way::Method(call.function.try_clone(self.alloc)?))
+    }
+
+    // Another call is that of the instruction at which the frame below it halts.
+    fn way_of_instruction(&self, below: &Frame, way: CallWay) -> Result<Way, OutOfMemory> {
+        let Some(instruction) = self.calling(below) else {
+            return Err(OutOfMemory);
+        };
+        let place = usize::from(matches!(way, CallWay::Global(_)));
+        let Some(Operand::Word(word)) = instruction.fixed.get(place) else {
+            return Err(OutOfMemory);
+        };
+        let name = word.try_clone(self.alloc)?;
+        Ok(match way {
+            CallWay::Method(_) => Way::Method(name),
+            CallWay::Parent { script, .. } => Way::Parent { script, name },
+            CallWay::Global(at) => Way::Global {
+                script: self.named_script(instruction, at),
+                name,
+            },
+            CallWay::Get(_) => Way::Get(name),
+            CallWay::Set(_) => Way::Set(name),
+        })
+    }
+
+    // The instruction at which a frame halts.
+    fn calling(&self, frame: &Frame) -> Option<&LoadedInstruction> {
+        let Frame::Running(running) = frame else {
+            return None;
+        };
+        self.setting
+            .function(running.body)?
+            .code
+            .get(running.place)
+    }
+
+    // The script that a callstatic names. The function may stand above it.
+    fn named_script(&self, instruction: &LoadedInstruction, at: MethodPlace) -> u16 {
+        let Some(Operand::Word(name)) = instruction.fixed.first() else {
+            return at.script;
+        };
+        let scripts = &self.setting.loaded.outline().scripts;
+        let found = scripts.iter().position(|script| script.name.same(name));
+        match found {
+            Some(number) => u16::try_from(number).unwrap_or(at.script),
+            None => at.script,
+        }
+    }
+
+    fn told_body(&self, running: &Running) -> Result<FrameState, OutOfMemory> {
+        let Ok(instruction) = u16::try_from(running.place) else {
+            return Err(OutOfMemory);
+        };
+        let reply = copy_if(self.alloc, running.reply.as_ref())?;
+        let slots = copies(self.alloc, running.slots.as_slice())?;
+        let at = self.told_place(running.body)?;
+        Ok(FrameState::Running {
+            instance: running.instance,
+            at,
+            instruction,
+            slots,
+            reply,
+        })
+    }
+
+    // Where a body stands, spelled as it is declared.
+    fn told_place(&self, body: Body) -> Result<BodyPlace, OutOfMemory> {
+        let Some(function) = self.setting.function(body) else {
+            return Err(OutOfMemory);
+        };
+        let state = Text::try_from_bytes(self.alloc, self.setting.state_name(body))?;
+        Ok(BodyPlace {
+            script: body.script(),
+            state,
+            function: Text::try_from_bytes(self.alloc, function.name.as_bytes())?,
+            kind: body.kind(),
+        })
+    }
+}
+
+fn copy_if(alloc: Global, value: Option<&Value>) -> Result<Option<Value>, OutOfMemory> {
+    match value {
+        Some(value) => Ok(Some(value.try_clone(alloc)?)),
+        None => Ok(None),
+    }
+}
+
+/// An equal way.
+pub fn copy_of(alloc: Global, way: &Way) -> Result<Way, OutOfMemory> {
+    Ok(match way {
+        Way::Method(name) => Way::Method(name.try_clone(alloc)?),
+        Way::Parent { script, name } => Way::Parent {
+            script: *script,
+            name: name.try_clone(alloc)?,
+        },
+        Way::Global { script, name } => Way::Global {
+            script: *script,
+            name: name.try_clone(alloc)?,
+        },
+        Way::Get(name) => Way::Get(name.try_clone(alloc)?),
+        Way::Set(name) => Way::Set(name.try_clone(alloc)?),
+    })
+}

@@ -1,0 +1,70 @@
+-- The test of whether numbers ascend.
+use Rattle.std.specs.Prelude.{Bool, true, false, nat_le, ◌&&◌, ◌^◌, ⊤}
+use Rattle.std.proofs.Common.{◌≡◌, ℕ, zero, suc, ◌+◌, ◌<◌, ◌≤◌, List, [], ◌∷◌, length, get_or, drop, map, refl, sym, ap, subst, ◌∙◌, add-one, arith}
+use Rattle.std.specs.List.Sorted.{IsStrictlyIncreasing}
+use Rattle.std.proofs.Math.Seq.{drop-cons}
+use Rattle.std.proofs.lemmas.Bool.{le-leb, leb-true}
+use Rattle.stack_save.specs.Parts.{AreAscending, AreParts, HasTaken}
+use Rattle.stack_save.specs.Reading.{Found, ascending, ascending_above, found_where}
+
+pub ascending-next : {X : Type 0} (number : X → ℕ) (xs : List X) (i low : ℕ) (x : X) → i < length xs → x ≡ get_or xs i x
+    → ascending_above low (map number (drop i xs)) ≡ (nat_le low (number x) && ascending_above (suc (number x)) (map number (drop (i + 1) xs)))
+ascending-next number xs i low x below is =
+    let split : drop i xs ≡ x ∷ drop (i + 1) xs = drop-cons xs i x below ∙ (ap (λ z. z ∷ drop (suc i) xs) (sym is) ∙ ap (λ (n : ℕ). x ∷ drop n xs) (sym (add-one i))) in
+    ap (λ zs. ascending_above low (map number zs)) split
+
+-- ---- what the test says
+
+tail_increases : (x : ℕ) (xs : List ℕ) → IsStrictlyIncreasing (x ∷ xs) → IsStrictlyIncreasing xs
+tail_increases x xs ascend = λ k h.
+    let place : suc k + 1 ≡ suc (k + 1) = omega arith in
+    let step = ascend (suc k) (omega arith) in
+    subst (λ (n : ℕ). get_or xs k 0 < get_or (x ∷ xs) n 0) place step
+
+head_below : (x : ℕ) (xs : List ℕ) → IsStrictlyIncreasing (x ∷ xs) → 0 < length xs → suc x ≤ get_or xs 0 0
+head_below x xs ascend some = omega (arith, ascend 0 (omega arith))
+
+passes : (low : ℕ) (xs : List ℕ) → IsStrictlyIncreasing xs → (0 < length xs → low ≤ get_or xs 0 0) → ascending_above low xs ≡ true
+passes low [] ascend least = refl
+passes low (x ∷ xs) ascend least =
+    let here : nat_le low x ≡ true = le-leb low x (least (omega arith)) in
+    let behind : ascending_above (suc x) xs ≡ true = passes (suc x) xs (tail_increases x xs ascend) (head_below x xs ascend) in
+    rw (here, behind) refl
+
+pub ascending-complete : (xs : List ℕ) → IsStrictlyIncreasing xs → ascending xs ≡ true
+ascending-complete xs ascend = passes 0 xs ascend (λ some. omega arith)
+
+both_true : (a b : Bool) → (a && b) ≡ true → (a ≡ true) × (b ≡ true)
+both_true true true e = (refl, refl)
+both_true true false e = absurd cc
+both_true false b e = absurd cc
+
+-- a number behind another is over it
+first_above : (low : ℕ) (xs : List ℕ) → ascending_above low xs ≡ true → 0 < length xs → low ≤ get_or xs 0 0
+first_above low [] passed some = absurd (omega arith)
+first_above low (x ∷ xs) passed some = leb-true low x (both_true (nat_le low x) (ascending_above (suc x) xs) passed).0
+
+step_increases : (x : ℕ) (xs : List ℕ) → (0 < length xs → suc x ≤ get_or xs 0 0) → IsStrictlyIncreasing xs → (k : ℕ) → k + 1 < length (x ∷ xs) → get_or (x ∷ xs) k 0 < get_or (x ∷ xs) (k + 1) 0
+step_increases x xs above ascend zero h = above (omega arith)
+step_increases x xs above ascend (suc k) h =
+    let place : suc (k + 1) ≡ suc k + 1 = omega arith in
+    subst (λ (n : ℕ). get_or xs k 0 < get_or (x ∷ xs) n 0) place (ascend k (omega arith))
+
+increasing-from : (low : ℕ) (xs : List ℕ) → ascending_above low xs ≡ true → IsStrictlyIncreasing xs
+increasing-from low [] passed = λ k h. absurd (omega arith)
+increasing-from low (x ∷ xs) passed =
+    let behind = (both_true (nat_le low x) (ascending_above (suc x) xs) passed).1 in
+    step_increases x xs (first_above (suc x) xs behind) (increasing-from (suc x) xs behind)
+
+pub ascending-increases : (xs : List ℕ) → ascending xs ≡ true → IsStrictlyIncreasing xs
+ascending-increases xs passed = increasing-from 0 xs passed
+
+-- a list whose numbers ascend is taken as the list is
+pub ascending_taken : {A : Type 0} (numbers : List A → List ℕ) (InRange : A → Type 0) (spell : List A → List ℕ) (there : Found (List A)) (xs : List A) (old new : List ℕ)
+    → HasTaken (AreParts (2 ^ 16) (λ (x : A). ⊤) InRange) spell there xs old new → ascending (numbers xs) ≡ true
+    → HasTaken (AreAscending numbers InRange) spell (found_where (λ ys. ascending (numbers ys)) there) xs old new
+ascending_taken {A} numbers InRange spell there xs old new t passed = record {
+  may = record { fit = t.may; ascend = ascending-increases (numbers xs) passed };
+  found = ap (λ (f : Found (List A)). found_where (λ ys. ascending (numbers ys)) f) t.found ∙ rw passed refl;
+  bytes = t.bytes;
+}

@@ -1,0 +1,5 @@
+use Rattle.stack_save.proofs.Lists.{PutFirst}
+use Rattle.stack_save.proofs.part.put_items.Given as goal
+
+abbrev pub invariant-loop-item : goal.invariant-loop-item
+invariant-loop-item g l = PutFirst g.T.Part.in_range g.T.Part.spelling g.T.Part.plain l.initial.out.items l.items l.item-index l.out.items

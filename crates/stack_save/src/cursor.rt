@@ -1,0 +1,145 @@
+//! Takes numbers and bytes from the front of a file.
+
+ghost use Rattle.std.specs.Prelude.{◌≡◌, ◌<◌, ◌≤◌, ◌^◌, length, ⊤};
+ghost use Rattle.byteorder.specs.Endian.{big_from};
+ghost use Rattle.machine_state.specs.Ranges.{IsI32, IsU16, IsU32};
+ghost use Rattle.machine_state.specs.Savable.{FitsTwoBytes, FitsFourBytes, IsNumbered};
+ghost use Rattle.pex_values.specs.Spelling as pex;
+ghost use Rattle.stack_save.specs.Parts.{Takes};
+ghost use Rattle.stack_save.specs.Reading as reading;
+ghost use Rattle.stack_save.specs.Spelling as spell;
+
+use crate::fault::LayoutFault;
+use byteorder::{BigEndian, ByteOrder};
+
+/// The number that says none.
+pub(crate) const NONE: u16 = 0xFFFF;
+
+/// The bytes that weren't taken yet.
+#[derive(Drop)]
+pub(crate) struct Cursor<'a> {
+    pub(crate) rest: &'a [u8],
+}
+
+/// The number in two bytes.
+fn number_of_two(bytes: &[u8]) -> u16
+    requires { length bytes.now ≡ 2 }
+    ensures spelled { bytes.now ≡ pex.two_bytes result }
+    ensures value { result ≡ big_from 0 2 bytes.now }
+{
+    BigEndian::read_u16(bytes)
+}
+
+/// The number in four bytes.
+fn number_of_four(bytes: &[u8]) -> u32
+    requires { length bytes.now ≡ 4 }
+    ensures spelled { bytes.now ≡ pex.four_bytes result }
+    ensures value { result ≡ big_from 0 4 bytes.now }
+{
+    BigEndian::read_u32(bytes)
+}
+
+/// The number in eight bytes.
+fn number_of_eight(bytes: &[u8]) -> u64
+    requires { length bytes.now ≡ 8 }
+    ensures spelled { bytes.now ≡ pex.eight_bytes result }
+    ensures value { result ≡ big_from 0 8 bytes.now }
+{
+    BigEndian::read_u64(bytes)
+}
+
+impl<'a> Cursor<'a> {
+    /// So many bytes.
+    #[tactic(auto, unfolding(crate::specs::Reading::bytes_at))]
+    pub(crate) fn take(&mut self, count: usize) -> Result<&'a [u8], LayoutFault>
+        ensures { Takes (λ b. b.now) (λ b. length b ≡ count) (λ b. b) (reading.bytes_at count) result self.old.rest.now self.new.rest.now }
+    {
+        if self.rest.len() < count {
+            return Err(LayoutFault::Missing);
+        }
+        let (taken, rest) = self.rest.split_at(count);
+        self.rest = rest;
+        Ok(taken)
+    }
+
+    pub(crate) fn take_byte(&mut self) -> Result<u8, LayoutFault>
+        ensures { Takes (λ n. n) (λ n. n < 2 ^ 8) pex.one_byte reading.byte_at result self.old.rest.now self.new.rest.now }
+    {
+        let Some((byte, rest)) = self.rest.split_first() else {
+            return Err(LayoutFault::Missing);
+        };
+        self.rest = rest;
+        Ok(*byte)
+    }
+
+    /// A byte that is at most `most`.
+    pub(crate) fn take_tag(&mut self, most: u8) -> Result<u8, LayoutFault>
+        ensures { Takes (λ n. n) (λ n. n ≤ most) pex.one_byte (reading.tag_at most) result self.old.rest.now self.new.rest.now }
+    {
+        let tag = self.take_byte()?;
+        if tag > most {
+            return Err(LayoutFault::Missing);
+        }
+        Ok(tag)
+    }
+
+    #[tactic(auto, unfolding(crate::specs::Reading::number_at))]
+    pub(crate) fn take_u16(&mut self) -> Result<u16, LayoutFault>
+        ensures { Takes (λ n. n) IsU16 pex.two_bytes (reading.number_at 2) result self.old.rest.now self.new.rest.now }
+    {
+        let bytes = self.take(2)?;
+        Ok(number_of_two(bytes))
+    }
+
+    #[tactic(auto, unfolding(crate::specs::Reading::number_at))]
+    pub(crate) fn take_u32(&mut self) -> Result<u32, LayoutFault>
+        ensures { Takes (λ n. n) IsU32 pex.four_bytes (reading.number_at 4) result self.old.rest.now self.new.rest.now }
+    {
+        let bytes = self.take(4)?;
+        Ok(number_of_four(bytes))
+    }
+
+    #[tactic(auto, unfolding(crate::specs::Reading::number_at))]
+    pub(crate) fn take_u64(&mut self) -> Result<u64, LayoutFault>
+        ensures { Takes (λ n. n) (λ n. n < 2 ^ 64) pex.eight_bytes (reading.number_at 8) result self.old.rest.now self.new.rest.now }
+    {
+        let bytes = self.take(8)?;
+        Ok(number_of_eight(bytes))
+    }
+
+    pub(crate) fn take_i32(&mut self) -> Result<i32, LayoutFault>
+        ensures { Takes (λ n. n) IsI32 spell.integer reading.integer_at result self.old.rest.now self.new.rest.now }
+    {
+        let number = self.take_u32()?;
+        Ok(number.cast_signed())
+    }
+
+    /// A number, or none where it is 65,535.
+    pub(crate) fn take_number_or_none(&mut self) -> Result<Option<u16>, LayoutFault>
+        ensures { Takes (λ n. n) IsNumbered spell.number_or_none reading.number_or_none_at result self.old.rest.now self.new.rest.now }
+    {
+        let number = self.take_u16()?;
+        if number == NONE {
+            return Ok(None);
+        }
+        Ok(Some(number))
+    }
+
+    /// The number of bytes, and the bytes.
+    #[tactic(auto, unfolding(crate::specs::Reading::string_at))]
+    pub(crate) fn take_string(&mut self) -> Result<&'a [u8], LayoutFault>
+        ensures { Takes (λ b. b.now) FitsTwoBytes pex.string reading.string_at result self.old.rest.now self.new.rest.now }
+    {
+        let length = self.take_u16()?;
+        self.take(length as usize)
+    }
+
+    /// The number of bytes in four bytes, and the bytes.
+    #[tactic(auto, unfolding(crate::specs::Reading::long_string_at))]
+    pub(crate) fn take_long_string(&mut self) -> Result<&'a [u8], LayoutFault>
+        ensures { Takes (λ b. b.now) FitsFourBytes spell.long_string reading.long_string_at result self.old.rest.now self.new.rest.now }
+    {
+        let length = self.take_u32()?;
+        self.take(length as usize)
+    }
+}

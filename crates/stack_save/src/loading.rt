@@ -1,0 +1,189 @@
+//! The bytes of a held file to its files, its scene and its state.
+
+ghost use Rattle.std.specs.Prelude.{◌≡◌, ◌↔◌, ◌^◌, ◌++◌, ⊤, length, map, IsTrue, MatchOption};
+ghost use Rattle.std.specs.List.{flat_map};
+ghost use Rattle.machine_state.specs.Savable.{FitsFourBytes};
+ghost use Rattle.pex_codec.specs.Decoding.{IsNew};
+ghost use Rattle.pex_values.specs.Spelling as pex;
+ghost use Rattle.stack_save.specs.Held.{LoadGives, HasHeading};
+ghost use Rattle.stack_save.specs.Loading.{FeedsWhole, IsLayout, ReadsLayout, DecodesFile, DecodesFiles, held_fields, plain_layout, lent};
+ghost use Rattle.stack_save.specs.Parts.{AreItems, AreParts, Takes};
+ghost use Rattle.stack_save.specs.Reading as reading;
+ghost use Rattle.stack_save.specs.Spelling as spell;
+
+use crate::cursor::Cursor;
+use crate::fault::{HeldFault, HeldRule, LayoutFault};
+use crate::state::take_state;
+use crate::{HEADING, HELD_LIMIT};
+use machine_state::MachineState;
+use pex_codec::{Decoder, Fed};
+use pex_values::Pex;
+use std::alloc::Global;
+
+/// What a held file holds.
+#[derive(Drop)]
+pub struct Held {
+    /// The PEX files.
+    pub files: Vec<Pex>,
+    /// The bytes of the scene file.
+    pub scene: Vec<u8>,
+    pub state: MachineState,
+}
+
+/// A held file with its PEX files and its scene as they stand in its bytes.
+#[derive(Drop)]
+pub(crate) struct Layout<'a> {
+    pub(crate) files: Vec<&'a [u8]>,
+    pub(crate) scene: &'a [u8],
+    pub(crate) state: MachineState,
+}
+
+/// So many files.
+fn take_each_file<'a>(
+    alloc: Global,
+    cursor: &mut Cursor<'a>,
+    count: usize,
+) -> Result<Vec<&'a [u8]>, LayoutFault>
+    ensures { Takes (λ files. map lent files.items) (AreItems count FitsFourBytes (λ file. ⊤)) (flat_map spell.long_string) (reading.items_at reading.long_string_at count) result cursor.old.rest.now cursor.new.rest.now }
+{
+    let mut files = Vec::new(alloc);
+    'files: for _ in 0..count {
+        let file = cursor.take_long_string()?;
+        files.push(file)?;
+    }
+    Ok(files)
+}
+
+#[tactic(auto, unfolding(crate::specs::Reading::list_at))]
+fn take_files<'a>(alloc: Global, cursor: &mut Cursor<'a>) -> Result<Vec<&'a [u8]>, LayoutFault>
+    ensures { Takes (λ files. map lent files.items) (AreParts (2 ^ 16) FitsFourBytes (λ file. ⊤)) (pex.list spell.long_string) (reading.list_at reading.long_string_at) result cursor.old.rest.now cursor.new.rest.now }
+{
+    let count = cursor.take_u16()?;
+    take_each_file(alloc, cursor, count as usize)
+}
+
+/// What stands behind the heading.
+#[tactic(auto, unfolding(crate::specs::Reading::held_at))]
+fn take_layout<'a>(alloc: Global, cursor: &mut Cursor<'a>) -> Result<Layout<'a>, LayoutFault>
+    ensures { Takes plain_layout IsLayout held_fields reading.held_at result cursor.old.rest.now cursor.new.rest.now }
+{
+    let files = take_files(alloc, cursor)?;
+    let scene = cursor.take_long_string()?;
+    let state = take_state(alloc, cursor)?;
+    Ok(Layout {
+        files,
+        scene,
+        state,
+    })
+}
+
+/// The layout of a file with these bytes behind its heading.
+fn read_layout<'a>(alloc: Global, bytes: &'a [u8]) -> Result<Layout<'a>, LayoutFault>
+    ensures { ReadsLayout bytes.now result }
+{
+    let mut cursor = Cursor { rest: bytes };
+    let layout = take_layout(alloc, &mut cursor)?;
+    if !cursor.rest.is_empty() {
+        drop(layout);
+        return Err(LayoutFault::Missing);
+    }
+    Ok(layout)
+}
+
+/// Feeds the whole file. It is refused where it is no value, or where bytes follow one.
+#[tactic(auto, using(crate::proofs::Faults::breaks_files))]
+fn feed_whole(decoder: &mut Decoder, bytes: &[u8]) -> Result<(), HeldFault>
+    requires { IsNew decoder.old }
+    ensures { FeedsWhole (length bytes.now) decoder.new result }
+{
+    let fed = decoder.feed(bytes)?;
+    if !is_whole(fed, bytes.len()) {
+        return Err(HeldFault::Broken {
+            rule: HeldRule::BadFiles,
+        });
+    }
+    Ok(())
+}
+
+/// The value of a PEX file.
+#[tactic(auto, using(crate::proofs::Faults::breaks_files))]
+fn decode(alloc: Global, bytes: &[u8]) -> Result<Pex, HeldFault>
+    ensures { DecodesFile bytes.now result }
+{
+    let mut decoder = Decoder::new(alloc)?;
+    if let Err(fault) = feed_whole(&mut decoder, bytes) {
+        drop(decoder);
+        return Err(fault);
+    }
+    Ok(decoder.end()?)
+}
+
+/// Whether so many bytes were a value.
+fn is_whole(fed: Fed, length: usize) -> bool
+    ensures { IsTrue result ↔ (fed ≡ Fed.Done length) }
+{
+    match fed {
+        Fed::Done { taken } => taken == length,
+        Fed::More => false,
+    }
+}
+
+fn decode_files(alloc: Global, files: &[&[u8]]) -> Result<Vec<Pex>, HeldFault>
+    ensures { DecodesFiles (map lent files.now) result }
+{
+    let mut values = Vec::new(alloc);
+    for file in files {
+        let value = decode(alloc, file)?;
+        values.push(value)?;
+    }
+    Ok(values)
+}
+
+/// The bytes behind the heading.
+fn behind_heading(bytes: &[u8]) -> Option<&[u8]>
+    ensures { MatchOption result (¬ HasHeading bytes.now) (λ rest. bytes.now ≡ spell.heading ++ rest.now) }
+{
+    match bytes {
+        [0x50, 0x48, 0x4C, 0x44, 1, rest @ ..] => Some(rest),
+        _ => None,
+    }
+}
+
+/// The files, the scene and the state of a held file. The rules H7, H1, H2 and H3 are judged in this order: H3 is broken
+/// here where a PEX file in it can't be decoded.
+pub fn load(alloc: Global, bytes: &[u8]) -> Result<Held, HeldFault>
+    ensures { LoadGives bytes.now result }
+{
+    if bytes.len() > HELD_LIMIT as usize {
+        return Err(HeldFault::Broken {
+            rule: HeldRule::TooLarge,
+        });
+    }
+    let Some(rest) = behind_heading(bytes) else {
+        return Err(HeldFault::Broken {
+            rule: HeldRule::BadMagic,
+        });
+    };
+    let layout = read_layout(alloc, rest)?;
+    let files = decode_files(alloc, &layout.files)?;
+    let scene = layout.scene.to_vec(alloc)?;
+    Ok(held_of(files, scene, layout))
+}
+
+/// The files and the scene with the layout's state.
+fn held_of(files: Vec<Pex>, scene: Vec<u8>, layout: Layout<'_>) -> Held
+    ensures state { result.state ≡ layout.entry.state }
+    ensures files { result.files ≡ files }
+    ensures scene { result.scene ≡ scene }
+{
+    let Layout {
+        files: _,
+        scene: _,
+        state,
+    } = layout;
+    Held {
+        files,
+        scene,
+        state,
+    }
+}

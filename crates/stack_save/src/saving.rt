@@ -1,0 +1,79 @@
+//! A state to the bytes of a held file.
+
+ghost use Rattle.std.specs.Prelude.{◌≡◌, ◌<◌, ◌≤◌, ◌^◌, ◌++◌, map, length, OnOk};
+ghost use Rattle.std.specs.List.{AllByRecursion, flat_map};
+ghost use Rattle.machine_state.specs.Plain.{plain};
+ghost use Rattle.machine_state.specs.Ranges.{IsInRange};
+ghost use Rattle.machine_state.specs.Savable.{FitsTwoBytes, FitsFourBytes, IsSavable};
+ghost use Rattle.pex_values.specs.Spelling as pex;
+ghost use Rattle.stack_save.specs.Held.{SaveGives, bytes_of};
+ghost use Rattle.stack_save.specs.Parts.{HasPut};
+ghost use Rattle.stack_save.specs.Spelling as spell;
+
+use crate::fault::SaveFault;
+use crate::put::{put_long_string, put_u16};
+use crate::state::put_state;
+use crate::{HEADING, HELD_LIMIT};
+use machine_state::MachineState;
+use std::alloc::{AllocError, Global};
+
+/// The files in a row, each behind its length.
+fn put_each_file(out: &mut Vec<u8>, files: &[Vec<u8>]) -> Result<(), AllocError>
+    requires { AllByRecursion FitsFourBytes (map bytes_of files.now) }
+    ensures { OnOk result (out.new.items ≡ out.old.items ++ flat_map spell.long_string (map bytes_of files.now)) }
+{
+    for file in files {
+        put_long_string(out, file)?;
+    }
+    Ok(())
+}
+
+fn put_files(out: &mut Vec<u8>, files: &[Vec<u8>]) -> Result<(), AllocError>
+    requires count { length files.now < 2 ^ 16 }
+    requires each { AllByRecursion FitsFourBytes (map bytes_of files.now) }
+    ensures { OnOk result (out.new.items ≡ out.old.items ++ pex.list spell.long_string (map bytes_of files.now)) }
+{
+    put_u16(out, files.len() as u16)?;
+    put_each_file(out, files)
+}
+
+#[tactic(auto, unfolding(crate::specs::Spelling::spelling))]
+fn put_held(
+    out: &mut Vec<u8>,
+    files: &[Vec<u8>],
+    scene: &[u8],
+    state: &MachineState,
+) -> Result<(), AllocError>
+    requires count { length files.now < 2 ^ 16 }
+    requires each { AllByRecursion FitsFourBytes (map bytes_of files.now) }
+    requires scene { FitsFourBytes scene.now }
+    requires state { IsSavable (plain state.now) }
+    ensures { OnOk result (HasPut (IsInRange (plain state.now)) (spell.spelling (map bytes_of files.now) scene.now (plain state.now)) out.old.items out.new.items) }
+{
+    out.extend_from_slice(&HEADING)?;
+    put_files(out, files)?;
+    put_long_string(out, scene)?;
+    put_state(out, state)
+}
+
+/// The bytes of the held file with these PEX files, each as its bytes, this scene file and this state. `TooLarge` comes
+/// exactly where it would have more than 67,108,864 bytes.
+pub fn save(
+    alloc: Global,
+    files: &Vec<Vec<u8>>,
+    scene: &[u8],
+    state: &MachineState,
+) -> Result<Vec<u8>, SaveFault>
+    requires files { FitsTwoBytes files.now.items }
+    requires each_file { AllByRecursion FitsFourBytes (map bytes_of files.now.items) }
+    requires scene { length scene.now ≤ 16777216 }
+    requires state { IsSavable (plain state.now) }
+    ensures { SaveGives (map bytes_of files.now.items) scene.now (plain state.now) result }
+{
+    let mut out = Vec::new(alloc);
+    put_held(&mut out, files, scene, state)?;
+    if out.len() > HELD_LIMIT as usize {
+        return Err(SaveFault::TooLarge);
+    }
+    Ok(out)
+}
