@@ -14,7 +14,7 @@ next_ascends numbers least next ascends above =
 
 firsts_more : {X : Type 0} (first : X → ℕ) (xs : List X) (i : ℕ) (d : X) (next : ℕ) → i < length xs → next ≡ first (get_or xs i d)
     → map first (take (i + 1) xs) ≡ map first (take i xs) ++ next ∷ []
-firsts_more first xs i d next below is =
+firsts_more {X = X} first xs i d next below is =
     ap (λ (ys : List X). map first ys) (take_more xs i d below)
     ∙ (map-append first (take i xs) (get_or xs i d ∷ []) ∙ ap (λ (n : ℕ). map first (take i xs) ++ n ∷ []) (sym is))
 
@@ -25,7 +25,7 @@ ascends_more first xs i d least next below is ascends above =
     subst P (sym (firsts_more first xs i d next below is)) (next_ascends (map first (take i xs)) least next ascends above)
 
 pub ascends_all : {X : Type 0} (first : X → ℕ) (xs : List X) (i least : ℕ) → length xs ≤ i → AscendsTo (map first (take i xs)) least → IsStrictlyIncreasing (map first xs)
-ascends_all first xs i least past ascends =
+ascends_all {X = X} first xs i least past ascends =
     let P : List X → Type 0 = λ ys. IsStrictlyIncreasing (map first ys) in
     subst P (take_all i xs past) (ascends_ended (map first (take i xs)) least ascends)
 
