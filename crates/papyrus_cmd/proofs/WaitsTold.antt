@@ -1,13 +1,12 @@
 -- What `waits` tells of a journal that it read.
-use Rattle.std.proofs.Common.{arith, ◌≡◌, ◌+◌, ◌<◌, ◌≤◌, ◌∙◌, ℕ, suc, List, [], ◌∷◌, ◌++◌, length, map, take, get_or, refl, sym, ap, append_assoc, inl, inr}
+use Rattle.std.proofs.Common.{arith, ◌≡◌, ◌+◌, ◌<◌, ◌≤◌, ◌∙◌, ℕ, suc, List, [], ◌∷◌, ◌++◌, length, map, take, get_or, refl, sym, ap, append_assoc, inl}
 use Rattle.std.specs.Prelude.{Option, None, Some, Result, Ok, Err, IfSome}
 use Rattle.std.specs.declared.alloc.Global.{Global}
 use Rattle.std.specs.declared.vec.Vec.{Vec}
 use Rattle.std.specs.List.{flat_map}
 use Rattle.std.proofs.lemmas.List.{append-nil, length-map, take_more, take_all}
 use Rattle.std.proofs.lemmas.List.Concat.{flat_map-append}
-use Rattle.papy_io.specs.Files.{Files, told_bytes}
-use Rattle.run_replay.specs.Book.{IsLegal}
+use Rattle.papy_io.specs.Files.{Files}
 use Rattle.run_replay.specs.Lines.{JournalLine}
 use Rattle.run_replay.specs.Outline.{AreLines, turns_in, names_in}
 use Rattle.run_replay.specs.Waiting.{waited}
