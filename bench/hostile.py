@@ -41,7 +41,8 @@ ROOT = pathlib.Path(__file__).resolve().parent.parent
 SECONDS = 10
 PARTS = 200
 NOT_FILES = {"args", "status", "out", "notes", "after", "listed", "made", "judge", "closed", "room", "memory", "generate", "earlier", "README.md", "report"}
-COMMANDS = ("once", "run", "compile", "exec", "check", "show", "asm", "upgrade", "sample")
+COMMANDS = ("once", "run", "compile", "exec", "journal", "waits", "hold", "resume", "check", "show", "asm", "upgrade", "sample")
+TURNS = ("0", "1", "2", "7", "1000000", "1000001", "01", "-1", "", "x")
 NUMBERS = (0, 1, 2, 3, 9, 127, 128, 129, 255, 256, 1000, 1001, 65535, 65536, 1000000, 1000001, 2**31 - 1, 2**31, 2**32, 2**63, 2**64, -1, -(2**31), -(2**63), -(2**64))
 NOTES = {
     1: rb"papyrus: out of memory\n",
@@ -54,6 +55,8 @@ NOTES = {
     8: rb"[^\n]+:\d+: G\d [A-Za-z]+\n",
     9: rb"(?s).+: .* V\d+ [A-Za-z]+\n",
     10: rb"papyrus: not built\n",
+    11: rb"[^\n]+: H\d [A-Za-z]+\n",
+    12: rb"[^\n]+:\d+: J\d [A-Za-z]+\n",
 }
 
 
@@ -131,6 +134,16 @@ def add_compiled(program, corpus, room, files):
     if scenes:
         corpus.good.append((["exec", scenes[0], *made], {**made, scenes[0]: files[scenes[0]]}))
         corpus.good.append((["run", scenes[0], *scripts], files))
+        add_runs(program, corpus, room, scenes[0], list(made))
+
+
+def add_runs(program, corpus, room, scene, values):
+    """Adds the journal of a run, and the run held after some turns."""
+    if not subprocess.run([str(program), "journal", scene, "made.journal", *values], cwd=room, capture_output=True).returncode:
+        corpus.kinds["journal"].append((room / "made.journal").read_bytes())
+    for turns in ("0", "3"):
+        if not subprocess.run([str(program), "hold", turns, scene, "made.held", *values], cwd=room, capture_output=True).returncode:
+            corpus.kinds["held"].append((room / "made.held").read_bytes())
 
 
 # ---- spoiling
@@ -236,7 +249,7 @@ def spoiled(chance, name, content, corpus):
         way = chance.random()
         if kind == "json" and way < 0.7:
             data = changed_scene(chance, data, others)
-        elif kind in ("txt", "psc") and way < 0.6:
+        elif kind in ("txt", "psc", "journal") and way < 0.6:
             data = changed_lines(chance, data, others)
         else:
             data = changed_bytes(chance, data, others)
@@ -255,7 +268,7 @@ class Round:
         words, files = chance.choice(corpus.good if chance.random() < 0.6 else corpus.sets)
         self.files = dict(files)
         self.spoil(chance.choice((0, 1, 1, 1, 2, 3)))
-        getattr(self, chance.choice(("same", "same", "ordered", "ordered", "other", "other", "relisted", "loose", "loose", "any_words")))(words)
+        getattr(self, chance.choice(("same", "same", "ordered", "ordered", "other", "other", "relisted", "held", "loose", "loose", "any_words")))(words)
         self.memory = corpus.least_memory + chance.randrange(chance.choice((1 << 16, 1 << 18, 1 << 20))) if chance.random() < 0.1 else None
         self.full = chance.random() < 0.01
 
@@ -291,7 +304,9 @@ class Round:
         if "scene.json" not in self.files and not self.named(".json"):
             self.files["scene.json"] = spoiled(self.chance, "scene.json", self.chance.choice(self.corpus.kinds["json"]), self.corpus)
         scene = self.chance.choice(self.named(".json"))
-        files = {"once": self.named(".psc"), "compile": self.named(".psc"), "run": [scene, *self.named(".psc")], "exec": [scene, *self.named(".pex")],
+        turns, values = self.chance.choice(TURNS), self.named(".pex")
+        files = {"once": self.named(".psc"), "compile": self.named(".psc"), "run": [scene, *self.named(".psc")], "exec": [scene, *values],
+                 "journal": [scene, "New.journal", *values], "waits": self.named(".txt")[:1], "hold": [turns, scene, "New.held", *values], "resume": [turns, *values[:1]],
                  "check": self.named(".pex")[:1], "show": self.named(".pex")[:1], "asm": [*self.named(".txt")[:1], "New.pex"], "upgrade": [scene, "New.json"],
                  "sample": [self.chance.choice(("0", "1", "2", "3", "200", "201", "01", "-1", "", "x", "1 ", "9" * 20))]}
         self.steps = [[command, *files[command]]]
@@ -303,9 +318,17 @@ class Round:
         self.files.setdefault("scene.json", self.chance.choice(self.corpus.kinds["json"]))
         self.steps = [["asm", "New.txt", "New.pex"], ["check", "New.pex"], ["exec", "scene.json", "New.pex"]]
 
+    def held(self, words):
+        """A spoiled run, which is held and goes on, beside its journal."""
+        if not self.named(".pex"):
+            self.files["A.pex"] = self.chance.choice(self.corpus.kinds["pex"] or [b""])
+        self.files.setdefault("scene.json", self.chance.choice(self.corpus.kinds["json"]))
+        scene, names = self.chance.choice(self.named(".json")), self.named(".pex")
+        self.steps = [["journal", scene, "New.journal", *names], ["waits", "New.journal"], ["hold", self.chance.choice(TURNS[:5]), scene, "New.held", *names], ["resume", self.chance.choice(TURNS[:5]), "New.held"]]
+
     def loose(self, words):
         """A spoiled file of one kind alone."""
-        kind, command = self.chance.choice((("pex", "check"), ("pex", "show"), ("txt", "asm"), ("json", "upgrade"), ("psc", "once"), ("psc", "compile"), ("pex", "exec")))
+        kind, command = self.chance.choice((("pex", "check"), ("pex", "show"), ("txt", "asm"), ("json", "upgrade"), ("psc", "once"), ("psc", "compile"), ("pex", "exec"), ("journal", "waits"), ("held", "resume")))
         name = f"A.{kind}"
         content = self.chance.choice(self.corpus.kinds[kind] or [b""])
         self.files = {name: spoiled(self.chance, name, content, self.corpus)}
@@ -313,6 +336,8 @@ class Round:
         if command == "exec":
             self.files["scene.json"] = self.chance.choice(self.corpus.kinds["json"])
             self.steps = [[command, "scene.json", name]]
+        elif command == "resume":
+            self.steps = [[command, self.chance.choice(TURNS[:5]), name]]
         else:
             self.steps = [[command, name, *behind]]
 
@@ -322,9 +347,11 @@ class Round:
 
 
 def is_long(words, room):
-    """Whether the scene of a run asks for so much that it may take long."""
+    """Whether the scene of a run, or its number of turns, asks for so much that it may take long."""
+    if words[0] == "resume":
+        return words[1] == TURNS[4]
     try:
-        scene = json.loads((pathlib.Path(room) / words[1]).read_bytes())
+        scene = json.loads((pathlib.Path(room) / words[2 if words[0] == "hold" else 1]).read_bytes())
         return scene["turns"] * scene.get("quantum", 1) > 1_000_000
     except (OSError, ValueError, KeyError, IndexError, TypeError):
         return False
@@ -332,13 +359,14 @@ def is_long(words, room):
 
 def judged(status, out, notes):
     """What is wrong with the answer of a run, or nothing."""
-    if status not in range(len(NOTES) + 1):
+    if status not in (0, *NOTES):
         return f"status {status}"
     if status == 0:
         return f"status 0 with notes {notes[:200]!r}" if notes else None
     if not re.fullmatch(NOTES[status], notes):
         return f"status {status} with notes {notes[:200]!r}"
-    return f"status {status} with output {out[:200]!r}" if out and status not in (1, 4) else None
+    late = notes.endswith(b": H7 TooLarge\n")
+    return f"status {status} with output {out[:200]!r}" if out and status not in (1, 4) and not late else None
 
 
 def asked(program, words, room, memory=None, full=False):

@@ -4,10 +4,13 @@
 No legal journal is that long, since it has at most 1,000,000 turns. So each has so many, and then more up to 128 MiB: what stands behind the last turn that
 may be is read, and the first line of it is refused. The legal part alone is measured too, without a bound.
 
+The memory that counts is that under the C library's own settings. Under those of the launcher freed blocks are kept, and the other figure has them too.
+
   journals.py              every journal
   journals.py --runs N     so many turns, in place of fifteen
 """
 import argparse
+import os
 import pathlib
 import tempfile
 
@@ -67,6 +70,18 @@ def written(path, turn_of, instances, stacks, most):
     return path.stat().st_size
 
 
+def own_memory(words, folder):
+    """The peak memory in KiB of one run under the C library's own settings."""
+    settings = os.environ.get("GLIBC_TUNABLES")
+    os.environ["GLIBC_TUNABLES"] = ""
+    memory = measure.peak_memory(words, folder)
+    if settings is None:
+        del os.environ["GLIBC_TUNABLES"]
+    else:
+        os.environ["GLIBC_TUNABLES"] = settings
+    return memory
+
+
 def measured_one(folder, name, size, accepted, runs):
     """Prints two rows for a journal; gives how many times as long as sha256sum it took, and the memory beside the file."""
     program, sums = measure.program(), measure.tool("sha256sum")
@@ -74,7 +89,7 @@ def measured_one(folder, name, size, accepted, runs):
     base = [sums, "made.journal"] if sums else ["true"]
     (seconds, _), (other, _), ratio = measure.beside(words, base, folder, accepted, runs)
     memory = measure.peak_memory(words, folder)
-    beside = memory / 1024 - size / MIB
+    beside = own_memory(words, folder) / 1024 - size / MIB
     measure.row(f"{name}, {size / MIB:.1f} MiB: sha256sum", other, 0)
     measure.row(f"{name}: waits, {beside:.1f} MiB beside the file", seconds, memory, other, ratio)
     return (ratio if sums else 0), beside

@@ -1,26 +1,18 @@
 -- What `asm` answers, by what reading its listing gave.
-use Rattle.std.proofs.Common.{arith, ◌≡◌, inl, inr, ℕ, List, [], refl}
-use Rattle.std.specs.Prelude.{Option, None, Some, Result, Ok, Err, IfOk, IfSome}
+use Rattle.std.proofs.Common.{arith, ℕ, List}
+use Rattle.std.specs.Prelude.{Option, None, Some, Result, Ok, Err, IfOk}
 use Rattle.std.specs.declared.alloc.Global.{Global}
 use Rattle.std.specs.declared.vec.Vec.{Vec}
-use Rattle.papy_io.specs.declared.fault.IoFault.{IoFault}
-use Rattle.papy_io.specs.declared.fault.IoFault.TheVariants as io
 use Rattle.papy_io.specs.Files.{Files}
-use Rattle.papy_io.specs.WriteFile.{WritesFile}
 use Rattle.pex_listing.specs.declared.faults.ListingRule.TheVariants.{BadLine}
 use Rattle.pex_listing.specs.Lines.{head_lines}
 use Rattle.pex_listing.specs.Opened.{BeginsWith}
 use Rattle.pex_values.specs.Plain.{PlainPex}
-use Rattle.command_files.specs.declared.ending.Ending.TheVariants.{Done}
 use Rattle.command_files.specs.declared.file_fault.FileFault.{FileFault}
 use Rattle.command_files.specs.declared.file_fault.FileFault.TheVariants as file
 use Rattle.command_files.specs.declared.refusal.Place.TheVariants.{Line}
 use Rattle.command_files.specs.declared.refusal.Rule.TheVariants.{Listing}
-use Rattle.command_files.specs.Outputs.{AnswersTo, EndsUnprinted}
-use Rattle.papyrus_cmd.specs.Answers.{AsmAnswers}
 use Rattle.papyrus_cmd.specs.Asm.{Assembles, IsAssembled, ReadsListing, SpellsValue}
-use Rattle.command_files.specs.Ending.{write_ending}
-use Rattle.command_files.specs.FileFault.{ending_at}
 use Rattle.command_files.specs.TextFile.{ReadsText}
 
 abbrev pub ReadsListed : Option Files → List ℕ → Result (Vec ℕ Global) FileFault → Type 0

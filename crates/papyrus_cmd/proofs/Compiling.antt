@@ -1,22 +1,15 @@
 -- How `compile` ends.
-use Rattle.std.proofs.Common.{◌≡◌, ◌∙◌, inl, inr, ℕ, List, ap, sym, map, length, String, Global}
+use Rattle.std.proofs.Common.{◌≡◌, ◌∙◌, inr, ℕ, List, ap, sym, map, length, String, Global}
 use Rattle.std.specs.Prelude.{Option, Err}
 use Rattle.std.specs.String.{string_bytes}
 use Rattle.std.proofs.lemmas.List.{length-map}
 use Rattle.papy_io.specs.declared.fault.IoFault.{IoFault}
 use Rattle.papy_io.specs.declared.fault.IoFault.TheVariants as io
 use Rattle.papy_io.specs.Files.{Files}
-use Rattle.command_files.specs.declared.compile_fault.CompileFault.{CompileFault}
-use Rattle.command_files.specs.declared.compile_fault.CompileFault.TheVariants as compile
 use Rattle.command_files.specs.declared.compiled.CompiledFiles.{CompiledFiles}
-use Rattle.command_files.specs.declared.ending.Ending.{Ending}
-use Rattle.command_files.specs.declared.ending.Ending.TheVariants.{Done, OutOfMemory, Usage, ReadFault, WriteFault, Refused, NotBuilt}
-use Rattle.command_files.specs.Outputs.{EndsUnprinted}
-use Rattle.papyrus_cmd.specs.Answers.{CompileAnswersTo}
 use Rattle.papyrus_cmd.specs.Compile.{CompileLeaves, HaveFiles}
 use Rattle.command_files.specs.Compiled.{HasValues, bytes_of, spelled}
-use Rattle.command_files.specs.Ending.{CountsWrites, compile_ending, write_ending}
-use Rattle.command_files.specs.Scripts.{EndsOnScripts}
+use Rattle.command_files.specs.Ending.{write_ending}
 use Rattle.papyrus_cmd.specs.Written.{WritesEach}
 
 -- a file for each script

@@ -7,11 +7,9 @@ use Rattle.papy_io.specs.Files.{Files}
 use Rattle.papyrus_cmd.specs.declared.command.Command.{Command}
 use Rattle.command_files.specs.declared.ending.Ending.{Ending}
 use Rattle.command_files.specs.declared.ending.Ending.TheVariants.{Done, OutOfMemory, Usage, ReadFault, WriteFault, Refused, NotBuilt}
-use Rattle.command_files.specs.Outputs.{IsPart, Outputs, EndsUnprinted}
+use Rattle.command_files.specs.Outputs.{IsPart, Outputs}
 use Rattle.papyrus_cmd.specs.Answers.{CommandOn, CommandAnswers, Answers}
 use Rattle.papyrus_cmd.specs.Command.{command_of}
-use Rattle.papyrus_cmd.specs.TopCall.{CommandLeaves, FilesLeft}
-use Rattle.papyrus_cmd.proofs.NotedLines.{appended_nothing}
 
 -- one way to end implies another
 abbrev Implies : (Files → Ending → List ℕ → Type 0) → (Files → Ending → List ℕ → Type 0) → Type 0

@@ -1,13 +1,12 @@
 -- What `waits` tells of a journal that it read.
-use Rattle.std.proofs.Common.{arith, ◌≡◌, ◌+◌, ◌<◌, ◌≤◌, ◌∙◌, ℕ, suc, List, [], ◌∷◌, ◌++◌, length, map, take, get_or, refl, sym, ap, append_assoc, inl, inr}
+use Rattle.std.proofs.Common.{arith, ◌≡◌, ◌+◌, ◌<◌, ◌≤◌, ◌∙◌, ℕ, suc, List, [], ◌∷◌, ◌++◌, length, map, take, get_or, refl, sym, ap, append_assoc, inl}
 use Rattle.std.specs.Prelude.{Option, None, Some, Result, Ok, Err, IfSome}
 use Rattle.std.specs.declared.alloc.Global.{Global}
 use Rattle.std.specs.declared.vec.Vec.{Vec}
 use Rattle.std.specs.List.{flat_map}
 use Rattle.std.proofs.lemmas.List.{append-nil, length-map, take_more, take_all}
 use Rattle.std.proofs.lemmas.List.Concat.{flat_map-append}
-use Rattle.papy_io.specs.Files.{Files, told_bytes}
-use Rattle.run_replay.specs.Book.{IsLegal}
+use Rattle.papy_io.specs.Files.{Files}
 use Rattle.run_replay.specs.Lines.{JournalLine}
 use Rattle.run_replay.specs.Outline.{AreLines, turns_in, names_in}
 use Rattle.run_replay.specs.Waiting.{waited}
@@ -77,6 +76,7 @@ too-large journal many =
     record { line = 0; broken = BadLine; place_is = refl; rule_is = refl; break = inl (many, refl, refl); refused = λ legal. omega (arith, legal.few, many) }
 
 pub journal_unread : (holds : Option Files) (name : List ℕ) (fault : FileFault) → ReadsText holds name 134217728 (Line 0) (Journal BadLine) (Err fault) → ReadsWaits holds name (Err fault)
+unfolding too-large
 journal_unread None name fault read = tt
 journal_unread (Some files) name ReadFault read = tt
 journal_unread (Some files) name OutOfMemory read = tt

@@ -23,7 +23,7 @@ use Rattle.command_files.specs.declared.ending.Ending.TheVariants.{Done, OutOfMe
 use Rattle.command_files.specs.Ending.{CountsBoth, CountsReads, CountsWrites, IsWordBelow, write_ending}
 use Rattle.run_commands.specs.Journal.{CountsNoted, HoldsNoted, IsJournalOf, IsShort, JournalLeaves, MayHoldNoted, NotesRun, NotesTurns, PlaysNoted, turn_lines}
 use Rattle.run_commands.specs.Play.{IsStarted, Plays, Starts}
-use Rattle.run_commands.proofs.RunEnds.{run_writes}
+use Rattle.run_commands.proofs.RunEnds.{run_turns, run_writes}
 
 -- ---- lines
 
@@ -56,7 +56,7 @@ noted_more from between to first second third a b =
       moves = a.moves ++ b.moves;
       count = omega (arith, a.count, b.count, many);
       now_is = b.now_is ∙ ap (λ (t : List ℕ). t ++ journal_text (turn_lines between b.moves)) a.now_is
-        ∙ append_assoc first (journal_text (turn_lines from a.moves)) (journal_text (turn_lines between b.moves)) ∙ ap (λ (t : List ℕ). first ++ t) (sym lines);
+          ∙ append_assoc first (journal_text (turn_lines from a.moves)) (journal_text (turn_lines between b.moves)) ∙ ap (λ (t : List ℕ). first ++ t) (sym lines);
     }
 
 -- the names so far and one more
@@ -79,7 +79,7 @@ journal_is names turns head noted last journal heads turned ends is =
       moves = turned.moves;
       count = omega (arith, turned.count);
       text_is = is ∙ ap (λ (t : List ℕ). t ++ last) turned.now_is ∙ append_assoc head body last
-        ∙ ap (λ (t : List ℕ). head ++ (body ++ t)) ends ∙ ap (λ (t : List ℕ). t ++ (body ++ journal_text (End turns ∷ []))) heads;
+          ∙ ap (λ (t : List ℕ). head ++ (body ++ t)) ends ∙ ap (λ (t : List ℕ). t ++ (body ++ journal_text (End turns ∷ []))) heads;
     }
 
 -- ---- a run
@@ -89,4 +89,6 @@ pub run_noted : (tree : SceneTree) (first machine : MachineView) (journal : List
 run_noted tree first machine journal before now started same ended within reports is =
     let names : map instance_name machine.scene.instances.items ≡ map tree_name tree.instances.items =
     ap (λ (s : Scene). map instance_name s.instances.items) same ∙ started.kept.names in
-    record { writes = run_writes tree first machine before now started same ended within reports; journal_is = subst (λ ns. IsJournalOf ns machine.turns journal) names is }
+    let named : IsJournalOf (map tree_name tree.instances.items) machine.turns journal = subst (λ ns. IsJournalOf ns machine.turns journal) names is in
+    let turns = run_turns tree first machine before now started same ended within reports in
+    record { writes = run_writes tree first machine before now started same ended within reports; journal_is = subst (λ (n : ℕ). IsJournalOf (map tree_name tree.instances.items) n journal) (sym turns) named }

@@ -2,7 +2,7 @@
 use Rattle.std.proofs.Common.{arith, ◌≡◌, ◌<◌, ◌≤◌, ◌+◌, ◌-◌, ◌^◌, ◌∙◌, ℕ, suc, Bool, true, false, List, [], ◌∷◌, ◌++◌, map, take, drop, length, refl, sym, ap, subst, inl, inr, slice_index_or, String, Global}
 use Rattle.std.proofs.lemmas.Grind.{common_steps}
 use Rattle.std.proofs.lemmas.List.{get_or-map, length-map, drop-map, map-append}
-use Rattle.std.specs.Prelude.{Option, None, Some, Result, Ok, Err, IfErr, IfOk, IfSome}
+use Rattle.std.specs.Prelude.{Option, None, Some, Result, Ok, Err, IfErr, IfOk, IfSome, vec_len}
 use Rattle.std.specs.List.{AllByRecursion}
 use Rattle.std.specs.String.{string_bytes}
 use Rattle.std.specs.declared.vec.Vec.{Vec}
@@ -26,7 +26,7 @@ use Rattle.command_files.specs.Held.{AreHeld, Hold, IsHeld}
 use Rattle.command_files.specs.PexFile.{ReadsKept, ReadsPex}
 use Rattle.command_files.specs.SceneFile.{ReadsKeptScene}
 use Rattle.command_files.specs.Scripts.{CountsScripts}
-use Rattle.command_files.proofs.HeldScripts.{hold-more, held-more}
+use Rattle.command_files.proofs.HeldScripts.{held-more}
 use Rattle.run_commands.specs.Play.{RefusesScene}
 use Rattle.run_commands.specs.Program.{AreKept, AreSmall, BreaksTogether, EndsOn, EndsOnProgram, EndsOnValues, EndsRead, EndsTogether, IsHeldProgram, IsKept, MissesRead, MissesValue, ReadsValue, RefusesProgram, RefusesValue, Verifies, files_from, scene_of}
 use Rattle.run_commands.specs.declared.program.Program.{Program}
@@ -36,8 +36,8 @@ use Rattle.run_commands.specs.declared.program.Program.{Program}
 pub is_file : (size : ℕ) (value : Pex) → IsDecoded size value → IsFile value
 is_file size value decoded = record { shaped = decoded.shaped; fits = decoded.fits }
 
-pub kept_is_file : (result : Result KeptPex FileFault) → IfOk result (λ found. IsDecoded (length found.bytes.items) found.value) → IfOk result (λ found. IsFile found.value)
-kept_is_file (Ok found) decoded = is_file (length found.bytes.items) found.value decoded
+pub kept_is_file : (result : Result KeptPex FileFault) → IfOk result (λ found. IsDecoded (vec_len found.bytes) found.value) → IfOk result (λ found. IsFile found.value)
+kept_is_file (Ok found) decoded = is_file (vec_len found.bytes) found.value decoded
 kept_is_file (Err fault) decoded = tt
 
 pub kept_reads : (holds : Option Files) (name : List ℕ) (result : Result KeptPex FileFault) → ReadsKept holds name result → ReadsValue true holds name result
@@ -103,6 +103,12 @@ small_more kept bytes small few =
     let each : map bytes_of (kept ++ bytes ∷ []) ≡ map bytes_of kept ++ bytes.items ∷ [] = map-append bytes_of kept (bytes ∷ []) in
     let fits : length bytes.items < 2 ^ 32 = omega arith in
     subst (AllByRecursion (λ (b : List ℕ). length b < 2 ^ 32)) (sym each) (each-more (λ (b : List ℕ). length b < 2 ^ 32) (map bytes_of kept) bytes.items small fits)
+
+hold-more : (files : Files) (names contents : List (List ℕ)) (name bytes : List ℕ) → Hold files names contents → told_bytes (Some files) name ≡ Some bytes → Hold files (names ++ name ∷ []) (contents ++ bytes ∷ [])
+hold-more files [] [] name bytes hold held = (held, tt)
+hold-more files [] (c ∷ contents) name bytes hold held = absurd hold
+hold-more files (n ∷ names) [] name bytes hold held = absurd hold
+hold-more files (n ∷ names) (c ∷ contents) name bytes hold held = (hold.0, hold-more files names contents name bytes hold.1 held)
 
 -- the files so far and one more
 pub kept_more : (keep : Bool) (holds : Option Files) (names : List (List ℕ)) (kept : List (Vec ℕ Global)) (name : List ℕ) (found : KeptPex) → IfSome holds (AreKept keep names kept) → ReadsValue keep holds name (Ok found) →
@@ -250,3 +256,8 @@ program_held keep words number first (Some held) scene kept (Ok program) text fi
     let same_text : scene.text.items ≡ program.text.items = ap (λ (v : Vec ℕ Global). v.items) (sym text) in
     let same_files : kept.items ≡ program.kept.items = ap (λ (v : Vec (Vec ℕ Global) Global). v.items) (sym files) in
     record { scene = read ∙ ap Some same_text; values = subst (λ items. AreKept keep (files_from first words) items held) same_files are }
+
+-- what holds of a part that was passed on
+pub carried : {A B : Type 0} (part : A → B) (P : B → Type 0) (x : B) (result : Result A Ending) → IfOk result (λ a. part a ≡ x) → P x → IfOk result (λ a. P (part a))
+carried part P x (Ok a) is holds = subst P (sym is) holds
+carried part P x (Err ending) is holds = tt

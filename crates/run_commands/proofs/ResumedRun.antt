@@ -114,7 +114,7 @@ resume_is_no_usage from most Usage written written' resumes = λ is. resumes
 resume_is_no_usage from most NotBuilt written written' resumes = λ is. cc
 
 pub resume_word : (from most count : ℕ) (ending : Ending) (written written' : Option (List ℕ)) → 2 < count → Resumes from most ending written written' → IsWordBelow count ending
-resume_word from most count (Refused word place broken) written written' within (same, (by, word_is, more)) = omega (arith, word_is)
+resume_word from most count (Refused word place broken) written written' within (same, (by, word_is, place_is, rule_is, late)) = omega (arith, word_is)
 resume_word from most count (ReadFault word) written written' within resumes = absurd resumes
 resume_word from most count OutOfMemory written written' within resumes = tt
 resume_word from most count WriteFault written written' within resumes = tt
@@ -207,7 +207,6 @@ resume_outputs most holds name found (Refused word place broken) before now read
 resume_outputs most holds name found NotBuilt before now read resumes = absurd resumes
 resume_outputs most holds name found Usage before now read resumes = absurd resumes
 resume_outputs most holds name found (ReadFault word) before now read resumes = absurd resumes
-
 
 -- ---- what a held file has
 

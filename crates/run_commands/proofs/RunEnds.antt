@@ -57,6 +57,10 @@ pub run_writes : (tree : SceneTree) (first machine : MachineView) (before now : 
 run_writes tree first machine before now started same ended within reports =
     record { text = reports.text; report = run_reports tree first machine reports.text started same ended within reports.report; appended = reports.appended }
 
+pub run_turns : (tree : SceneTree) (first machine : MachineView) (before now : Option (List ℕ)) (started : IsStarted tree first) (same : machine.scene ≡ first.scene) (ended : HasEnded machine)
+    (within : machine.turns ≤ machine.scene.turns) (reports : Reports machine.turns before now) → (run_writes tree first machine before now started same ended within reports).report.turns ≡ machine.turns
+run_turns tree first machine before now started same ended within reports = refl
+
 -- ---- a set of scripts
 
 pub set_plays : (tree : SceneTree) (named : ℕ) (ending : Ending) (before now : Option (List ℕ)) → Plays tree named ending before now → PlaysSet tree named ending before now

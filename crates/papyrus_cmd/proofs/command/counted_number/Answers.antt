@@ -73,4 +73,4 @@ returns-in_default-2-clause-number c =
     let word = string_bytes c.args.word.now in
     let parses = rw c.as_str-text.ensures.value at c.parse.ensures.value.0 in
     let above : begins_above_zero word ≡ true = cc in
-    unread _ c.args.most word c.parse.result _ c.ranges.most parses above c.in_default.is
+    unread _ c.args.most word c.parse.result _ c.ranges.most.fits parses above c.in_default.is

@@ -17,8 +17,8 @@ returns-in-Ok-write_counted-clause-output g c =
     let ends = waits_pass (g.D.Desk.holds c.args.desk.now) (string_bytes file) c.in-Ok.found read in
     rw named (_, c.in-Ok-write_counted.ensures.written, ends)
 
-pub returns-in-Err-write_counted-clause-output : goal.returns-in-Err-write_counted-clause-output
-returns-in-Err-write_counted-clause-output g c =
+pub returns-clause-output : goal.returns-clause-output
+returns-clause-output g c =
     let file = c.index-files-0.result in
     let named : word_at (map string_bytes c.args.files.now) 0 ≡ string_bytes file =
     get_or-map string_bytes c.args.files.now 0 file [] c.requires.some ∙ ap string_bytes (sym c.index-files-0.is) in

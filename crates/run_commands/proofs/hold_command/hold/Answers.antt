@@ -6,7 +6,7 @@ use Rattle.command_files.specs.Ending.{word_at}
 use Rattle.run_commands.specs.Answers.{HoldAnswers}
 use Rattle.run_commands.proofs.EarlyEnds.{early_is_no_usage, early_outputs, early_writes}
 use Rattle.run_commands.proofs.HeldRun.{are_there, cut_held, done_outputs, early_held, held_is_no_usage, held_misses, held_outputs, held_reads, held_word, hold_ends, short_held, whole_held}
-use Rattle.run_commands.proofs.JournalEnds.{file_counts, file_is_no_usage, file_misses, file_reads, file_word, output_counts}
+use Rattle.run_commands.proofs.JournalEnds.{output_counts}
 use Rattle.run_commands.proofs.ProgramEnds.{unwritten_outputs}
 use Rattle.run_commands.proofs.SceneParts.{read_has_few}
 use Rattle.run_commands.proofs.hold_command.hold.Goals as goal
@@ -42,25 +42,25 @@ returns-in-Err-play_held-clause-leaves g c =
     rw c.in-Ok.ensures.holds (short_held c.args.most (map string_bytes c.args.files.now) (map bytes_of c.in-Ok.program.kept.items) c.in-Ok.program.text.items _ c.in-Err-play_held.ending _ _ (g.D.Desk.holds c.args.desk.now) c.in-Err-play_held.ensures.plays)
 
 pub returns-in-Err-play_held-clause-read_faults : goal.returns-in-Err-play_held-clause-read_faults
-returns-in-Err-play_held-clause-read_faults g c = held_reads c.args.most _ _ c.in-Err-play_held.ending _ _ _ _ c.in-Err-play_held.ensures.plays c.in-Ok.ensures.read_faults
+returns-in-Err-play_held-clause-read_faults g c = held_reads c.args.most (map bytes_of c.in-Ok.program.kept.items) c.in-Ok.program.text.items c.in-Err-play_held.ending _ _ _ _ c.in-Err-play_held.ensures.plays c.in-Ok.ensures.read_faults
 
 pub returns-in-Err-play_held-clause-missed : goal.returns-in-Err-play_held-clause-missed
-returns-in-Err-play_held-clause-missed g c = held_misses c.args.most _ _ _ c.in-Err-play_held.ending _ _ _ c.in-Err-play_held.ensures.plays
+returns-in-Err-play_held-clause-missed g c = held_misses c.args.most _ (map bytes_of c.in-Ok.program.kept.items) c.in-Ok.program.text.items c.in-Err-play_held.ending _ _ _ c.in-Err-play_held.ensures.plays
 
 pub returns-in-Err-play_held-clause-faults : goal.returns-in-Err-play_held-clause-faults
 returns-in-Err-play_held-clause-faults g c = rw c.in-Ok.ensures.write_faults (output_counts c.in-Err-play_held.ending _ _ _ c.in-Err-play_held.ensures.faults)
 
 pub returns-in-Err-play_held-clause-never_usage : goal.returns-in-Err-play_held-clause-never_usage
-returns-in-Err-play_held-clause-never_usage g c = held_is_no_usage c.args.most _ _ c.in-Err-play_held.ending _ _ c.in-Err-play_held.ensures.plays
+returns-in-Err-play_held-clause-never_usage g c = held_is_no_usage c.args.most (map bytes_of c.in-Ok.program.kept.items) c.in-Ok.program.text.items c.in-Err-play_held.ending _ _ c.in-Err-play_held.ensures.plays
 
 pub returns-in-Err-play_held-clause-word : goal.returns-in-Err-play_held-clause-word
-returns-in-Err-play_held-clause-word g c = held_word c.args.most (length c.args.files.now + 1) _ _ c.in-Err-play_held.ending _ _ (omega (arith, c.requires.some)) c.in-Err-play_held.ensures.plays
+returns-in-Err-play_held-clause-word g c = held_word c.args.most (length c.args.files.now + 1) (map bytes_of c.in-Ok.program.kept.items) c.in-Ok.program.text.items c.in-Err-play_held.ending _ _ (omega (arith, c.requires.some)) c.in-Err-play_held.ensures.plays
 
 pub returns-in-Err-play_held-clause-output : goal.returns-in-Err-play_held-clause-output
 returns-in-Err-play_held-clause-output g c =
     let holds = g.D.Desk.holds c.args.desk.now in
     let words = map string_bytes c.args.files.now in
-    held_outputs c.args.most words _ _ holds c.in-Err-play_held.ending _ _ (are_there words c.in-Ok.program holds c.in-Ok.ensures.held) c.in-Err-play_held.ensures.plays
+    held_outputs c.args.most words (map bytes_of c.in-Ok.program.kept.items) c.in-Ok.program.text.items holds c.in-Err-play_held.ending _ _ (are_there words c.in-Ok.program holds c.in-Ok.ensures.held) c.in-Err-play_held.ensures.plays
 
 -- ---- the held file
 
@@ -69,7 +69,7 @@ returns-in-Ok-write_file-clause-leaves g c =
     let file = c.index-files-2.result in
     let named : word_at (map string_bytes c.args.files.now) 2 ≡ string_bytes file =
     get_or-map string_bytes c.args.files.now 2 file [] (omega (arith, c.requires.some)) ∙ ap string_bytes (sym c.index-files-2.is) in
-    let wrote = rw (c.as_bytes.ensures.value, c.deref.ensures.value, c.in-Ok.ensures.holds) at c.write_file.ensures.holds in
+    let wrote = rw (c.as_bytes.ensures.value, c.deref.ensures.value, c.in-Ok.ensures.holds) at c.in-Ok-write_file.ensures.holds in
     let plays = c.in-Ok-play_held.ensures.plays in
     rw named (whole_held c.args.most (map string_bytes c.args.files.now) c.in-Ok.program (string_bytes file) c.in-Ok-play_held.bytes.items (g.D.Desk.holds c.args.desk.now) _ c.in-Ok.ensures.held plays.0 wrote)
 
@@ -80,8 +80,8 @@ returns-in-Ok-write_file-clause-output g c =
     let plays = c.in-Ok-play_held.ensures.plays in
     done_outputs words holds _ _ (are_there words c.in-Ok.program holds c.in-Ok.ensures.held) plays.1
 
-pub returns-in-Err-write_file-clause-leaves : goal.returns-in-Err-write_file-clause-leaves
-returns-in-Err-write_file-clause-leaves g c =
+pub returns-clause-leaves : goal.returns-clause-leaves
+returns-clause-leaves g c =
     let file = c.index-files-2.result in
     let named : word_at (map string_bytes c.args.files.now) 2 ≡ string_bytes file =
     get_or-map string_bytes c.args.files.now 2 file [] (omega (arith, c.requires.some)) ∙ ap string_bytes (sym c.index-files-2.is) in
@@ -89,25 +89,8 @@ returns-in-Err-write_file-clause-leaves g c =
     let plays = c.in-Ok-play_held.ensures.plays in
     rw (named, c.from.ensures) (cut_held c.args.most (map string_bytes c.args.files.now) c.in-Ok.program (string_bytes file) c.in-Ok-play_held.bytes.items c.in-Err-write_file.fault (g.D.Desk.holds c.args.desk.now) _ c.in-Ok.ensures.held plays.0 wrote)
 
-pub returns-in-Err-write_file-clause-read_faults : goal.returns-in-Err-write_file-clause-read_faults
-returns-in-Err-write_file-clause-read_faults g c = rw c.from.ensures (file_reads c.in-Err-write_file.fault _ _ (c.write_file.ensures.read_faults ∙ c.in-Ok.ensures.read_faults))
-
-pub returns-in-Err-write_file-clause-missed : goal.returns-in-Err-write_file-clause-missed
-returns-in-Err-write_file-clause-missed g c = rw c.from.ensures (file_misses 2 4 _ c.in-Err-write_file.fault _)
-
-pub returns-in-Err-write_file-clause-faults : goal.returns-in-Err-write_file-clause-faults
-returns-in-Err-write_file-clause-faults g c =
-    let counts = rw c.in-Ok.ensures.write_faults at c.in-Err-write_file.ensures.write_faults in
-    rw c.from.ensures (file_counts c.in-Err-write_file.fault _ _ _ _ c.in-Ok-play_held.ensures.faults counts)
-
-pub returns-in-Err-write_file-clause-never_usage : goal.returns-in-Err-write_file-clause-never_usage
-returns-in-Err-write_file-clause-never_usage g c = rw c.from.ensures (file_is_no_usage c.in-Err-write_file.fault)
-
-pub returns-in-Err-write_file-clause-word : goal.returns-in-Err-write_file-clause-word
-returns-in-Err-write_file-clause-word g c = rw c.from.ensures (file_word c.in-Err-write_file.fault _)
-
-pub returns-in-Err-write_file-clause-output : goal.returns-in-Err-write_file-clause-output
-returns-in-Err-write_file-clause-output g c =
+pub returns-clause-output : goal.returns-clause-output
+returns-clause-output g c =
     let holds = g.D.Desk.holds c.args.desk.now in
     let words = map string_bytes c.args.files.now in
     let plays = c.in-Ok-play_held.ensures.plays in

@@ -6,7 +6,7 @@ use Rattle.command_files.specs.Ending.{word_at}
 use Rattle.run_commands.specs.Answers.{JournalAnswers}
 use Rattle.run_commands.specs.Report.{most_turns}
 use Rattle.run_commands.proofs.EarlyEnds.{early_is_no_usage, early_outputs, early_writes}
-use Rattle.run_commands.proofs.JournalEnds.{cut_journal, early_journal, file_counts, file_is_no_usage, file_misses, file_reads, file_word, noted_plays, output_counts, short_journal, whole_journal}
+use Rattle.run_commands.proofs.JournalEnds.{cut_journal, early_journal, noted_plays, output_counts, short_journal, whole_journal}
 use Rattle.run_commands.proofs.ProgramEnds.{program_ends, program_runs, run_misses_none, unwritten_outputs}
 use Rattle.run_commands.proofs.RunEnds.{play_outputs, run_is_no_usage, run_reads, run_word, set_plays}
 use Rattle.run_commands.proofs.SceneParts.{read_has_few}
@@ -77,7 +77,7 @@ returns-in-Ok-write_file-clause-leaves g c =
     let file = c.index-files-1.result in
     let named : word_at (map string_bytes c.args.files.now) 1 ≡ string_bytes file =
     get_or-map string_bytes c.args.files.now 1 file [] (omega (arith, c.requires.some)) ∙ ap string_bytes (sym c.index-files-1.is) in
-    let wrote = rw (c.as_bytes.ensures.value, c.deref.ensures.value, c.in-Ok.ensures.holds) at c.write_file.ensures.holds in
+    let wrote = rw (c.as_bytes.ensures.value, c.deref.ensures.value, c.in-Ok.ensures.holds) at c.in-Ok-write_file.ensures.holds in
     rw named (whole_journal c.in-Ok.program.tree (string_bytes file) c.in-Ok-play_noted.journal.items _ _ _ _ c.in-Ok-play_noted.ensures.plays wrote)
 
 pub returns-in-Ok-write_file-clause-output : goal.returns-in-Ok-write_file-clause-output
@@ -87,33 +87,16 @@ returns-in-Ok-write_file-clause-output g c =
     let plays = noted_plays c.in-Ok.program.tree 1 c.in-Ok-play_noted.journal.items _ _ c.in-Ok-play_noted.ensures.plays in
     play_outputs (JournalAnswers words) c.in-Ok.program.tree most_turns 1 holds Done _ _ c.in-Ok.ensures.limits.turns (program_runs _ 1 3 words c.in-Ok.program holds c.in-Ok.ensures.held) plays
 
-pub returns-in-Err-write_file-clause-leaves : goal.returns-in-Err-write_file-clause-leaves
-returns-in-Err-write_file-clause-leaves g c =
+pub returns-clause-leaves : goal.returns-clause-leaves
+returns-clause-leaves g c =
     let file = c.index-files-1.result in
     let named : word_at (map string_bytes c.args.files.now) 1 ≡ string_bytes file =
     get_or-map string_bytes c.args.files.now 1 file [] (omega (arith, c.requires.some)) ∙ ap string_bytes (sym c.index-files-1.is) in
     let wrote = rw (c.as_bytes.ensures.value, c.deref.ensures.value, c.in-Ok.ensures.holds) at c.in-Err-write_file.ensures.holds in
     rw (named, c.from.ensures) (cut_journal c.in-Ok.program.tree (string_bytes file) c.in-Ok-play_noted.journal.items c.in-Err-write_file.fault _ _ _ _ c.in-Ok-play_noted.ensures.plays wrote)
 
-pub returns-in-Err-write_file-clause-read_faults : goal.returns-in-Err-write_file-clause-read_faults
-returns-in-Err-write_file-clause-read_faults g c = rw c.from.ensures (file_reads c.in-Err-write_file.fault _ _ (c.write_file.ensures.read_faults ∙ c.in-Ok.ensures.read_faults))
-
-pub returns-in-Err-write_file-clause-missed : goal.returns-in-Err-write_file-clause-missed
-returns-in-Err-write_file-clause-missed g c = rw c.from.ensures (file_misses 1 3 _ c.in-Err-write_file.fault _)
-
-pub returns-in-Err-write_file-clause-faults : goal.returns-in-Err-write_file-clause-faults
-returns-in-Err-write_file-clause-faults g c =
-    let counts = rw c.in-Ok.ensures.write_faults at c.in-Err-write_file.ensures.write_faults in
-    rw c.from.ensures (file_counts c.in-Err-write_file.fault _ _ _ _ c.in-Ok-play_noted.ensures.faults counts)
-
-pub returns-in-Err-write_file-clause-never_usage : goal.returns-in-Err-write_file-clause-never_usage
-returns-in-Err-write_file-clause-never_usage g c = rw c.from.ensures (file_is_no_usage c.in-Err-write_file.fault)
-
-pub returns-in-Err-write_file-clause-word : goal.returns-in-Err-write_file-clause-word
-returns-in-Err-write_file-clause-word g c = rw c.from.ensures (file_word c.in-Err-write_file.fault _)
-
-pub returns-in-Err-write_file-clause-output : goal.returns-in-Err-write_file-clause-output
-returns-in-Err-write_file-clause-output g c =
+pub returns-clause-output : goal.returns-clause-output
+returns-clause-output g c =
     let holds = g.D.Desk.holds c.args.desk.now in
     let words = map string_bytes c.args.files.now in
     let plays = noted_plays c.in-Ok.program.tree 1 c.in-Ok-play_noted.journal.items _ _ c.in-Ok-play_noted.ensures.plays in

@@ -26,7 +26,8 @@ loop-place-preserved g c =
     }
 
 pub returns-in-Err-clause-read_faults : goal.returns-in-Err-clause-read_faults
-returns-in-Err-clause-read_faults g c = rw (c.at_word.ensures, c.loop-place.invariant.read_faults) (value_counts _ c.in-Err.fault _ _ c.in-Err.ensures.read_faults)
+returns-in-Err-clause-read_faults g c =
+    let counts = rw c.loop-place.invariant.read_faults at c.in-Err.ensures.read_faults in rw c.at_word.ensures (value_counts _ c.in-Err.fault _ _ counts)
 
 pub returns-in-Err-clause-ends : goal.returns-in-Err-clause-ends
 returns-in-Err-clause-ends g c =
