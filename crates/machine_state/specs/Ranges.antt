@@ -1,6 +1,6 @@
 -- That the numbers in a state are those of their types. It holds of every state that a program has: what reads the
 -- numbers knows it, and a definition that speaks of states alone has to say it.
-use Rattle.std.specs.Prelude.{ℕ, ◌<◌, ◌^◌, ℤ, List, Option, IfSome, FitsSigned}
+use Rattle.std.specs.Prelude.{ℕ, ◌<◌, ◌^◌, ℤ, List, IfSome, FitsSigned}
 use Rattle.std.specs.List.{AllByRecursion}
 use Rattle.std.specs.Int.{w32}
 use Rattle.core_tree.specs.Device.{DeviceState}

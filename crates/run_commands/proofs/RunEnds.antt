@@ -59,6 +59,7 @@ run_writes tree first machine before now started same ended within reports =
 
 pub run_turns : (tree : SceneTree) (first machine : MachineView) (before now : Option (List ℕ)) (started : IsStarted tree first) (same : machine.scene ≡ first.scene) (ended : HasEnded machine)
     (within : machine.turns ≤ machine.scene.turns) (reports : Reports machine.turns before now) → (run_writes tree first machine before now started same ended within reports).report.turns ≡ machine.turns
+unfolding run_writes run_reports
 run_turns tree first machine before now started same ended within reports = refl
 
 -- ---- a set of scripts

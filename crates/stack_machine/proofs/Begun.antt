@@ -1,5 +1,5 @@
 -- Which stacks have started in a world that goes on from a state.
-use Rattle.std.proofs.Common.{◌≡◌, ℕ, List, length, vec_len, ◌∙◌, arith}
+use Rattle.std.proofs.Common.{◌≡◌, ℕ, List, vec_len, ◌∙◌, arith}
 use Rattle.std.specs.declared.alloc.Global.{Global}
 use Rattle.std.specs.declared.vec.Vec.{Vec}
 use Rattle.core_tree.specs.declared.scene.BoundCall.{BoundCall}

@@ -2,7 +2,7 @@
 
 ghost use Rattle.stack_machine.specs.Threads.{IsSameSize};
 
-use crate::frame::{Call, Frame, CallWay};
+use crate::frame::{Call, CallWay, Frame};
 use crate::run::Ending;
 use crate::threads::Threads;
 use core_tree::Value;
@@ -48,7 +48,9 @@ impl Threads {
         match call.way {
             CallWay::Global(_) => self.call_global(stack, call),
             CallWay::Parent { .. } => self.push(stack, Frame::Pending(call)),
-            CallWay::Method(_) | CallWay::Get(_) | CallWay::Set(_) => self.call_instance(stack, call),
+            CallWay::Method(_) | CallWay::Get(_) | CallWay::Set(_) => self.call_instance(
+                stack, call,
+            ),
         }
     }
 

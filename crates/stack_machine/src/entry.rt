@@ -1,6 +1,6 @@
 //! What a pending call means when it is entered.
 
-use crate::frame::{Body, Call, Running, CallWay};
+use crate::frame::{Body, Call, CallWay, Running};
 use crate::setting::Setting;
 use crate::store::{Store, default_of};
 use core_tree::Value;

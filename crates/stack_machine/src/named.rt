@@ -1,9 +1,12 @@
 //! What the names in a state mean among the loaded scripts.
 
+ghost use Rattle.std.specs.Prelude.{◌≡◌};
+ghost use Rattle.machine_state.specs.Savable.{name_of};
+
 use crate::frame::{Body, CallWay};
 use crate::setting::Setting;
 use machine_state::{BodyPlace, Way};
-use papy_base::OutOfMemory;
+use papy_base::{Name, OutOfMemory};
 use std::alloc::Global;
 
 impl Setting {
@@ -45,10 +48,7 @@ impl Setting {
 
     /// The number of the name by which a call looks its function up, none where no file has the name.
     pub fn number_named(&self, alloc: Global, way: &Way) -> Result<Option<usize>, OutOfMemory> {
-        let name = match way {
-            Way::Method(name) | Way::Get(name) | Way::Set(name) => name,
-            Way::Parent { name, .. } | Way::Global { name, .. } => name,
-        };
+        let name = name_of(way);
         self.loaded.name_number(alloc, name.as_bytes())
     }
 
@@ -72,5 +72,18 @@ impl Setting {
     fn global_named(&self, script: u16, name: usize) -> Option<CallWay> {
         let found = self.loaded.find_method(script, None, name)?;
         Some(CallWay::Global(found))
+    }
+}
+
+/// The name by which a call looks its function up.
+pub fn name_of(way: &Way) -> &Name
+    ensures { result.now ≡ name_of way.now }
+{
+    match way {
+        Way::Method(name) => name,
+        Way::Parent { name, .. } => name,
+        Way::Global { name, .. } => name,
+        Way::Get(name) => name,
+        Way::Set(name) => name,
     }
 }

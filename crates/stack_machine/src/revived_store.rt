@@ -13,6 +13,7 @@ use std::mem;
 
 /// The most arrays, and the most elements of one.
 const ARRAY_LIMIT: u16 = 4096;
+
 const ELEMENT_LIMIT: usize = 128;
 
 /// The values of the state, which are taken out of it.

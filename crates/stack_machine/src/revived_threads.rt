@@ -5,8 +5,8 @@ ghost use Rattle.stack_machine.specs.Threads.{IsSameSize};
 
 use crate::frame::{Call, Frame, Running};
 use crate::setting::Setting;
-use crate::told_frames::copy_of;
 use crate::threads::Threads;
+use crate::told_frames::copy_of;
 use machine_state::{FrameState, MachineState, Way};
 use papy_base::OutOfMemory;
 use std::alloc::Global;
@@ -24,10 +24,7 @@ pub fn kept_ways(
     Ok(kept)
 }
 
-fn kept_way(
-    alloc: Global,
-    innermost: Option<&FrameState>,
-) -> Result<Option<Way>, OutOfMemory> {
+fn kept_way(alloc: Global, innermost: Option<&FrameState>) -> Result<Option<Way>, OutOfMemory> {
     match innermost {
         Some(FrameState::ToEnter { way, .. }) => Ok(Some(copy_of(alloc, way)?)),
         _ => Ok(None),

@@ -8,13 +8,16 @@ ghost use Rattle.machine_state.specs.Plain.{plain, plain_array, plain_device, pl
 ghost use Rattle.machine_state.specs.Savable.{AreSavableValues, FitsTwoBytes, IsElementType, IsNumbered, IsSavable, IsSavableArray, IsSavableDevice, IsSavableFrame, IsSavableInstance, IsSavablePlace, IsSavableStack, IsSavableValue, firsts, name_of};
 
 use crate::ascending::{pairs_ascend, sleepers_ascend, stacks_ascend};
+use crate::named::name_of;
 use core_tree::{CoreType, DeviceKind, Value};
 use machine_state::{BodyPlace, FrameState, MachineState, Way};
 use papy_base::Text;
 
 /// So many fit a count of one, two or four bytes.
 const BYTE: usize = 256;
+
 const TWO_BYTES: usize = 65_536;
+
 const FOUR_BYTES: usize = 4_294_967_296;
 
 /// Whether a held file has the fields for the state. Each state of a run is such a one.
@@ -121,10 +124,8 @@ pub fn is_element_type(kind: CoreType) -> bool
 {
     match kind {
         CoreType::Int | CoreType::Bool | CoreType::Text | CoreType::Script(_) => true,
-        CoreType::IntArray
-        | CoreType::BoolArray
-        | CoreType::TextArray
-        | CoreType::ScriptArray(_) => false,
+        CoreType::IntArray | CoreType::BoolArray | CoreType::TextArray | CoreType::ScriptArray(_) =>
+            false,
     }
 }
 
@@ -196,14 +197,7 @@ fn is_savable_frame(frame: &FrameState) -> bool
 fn has_savable_name(way: &Way) -> bool
     ensures { result ≡ true → FitsTwoBytes (name_of way.now) }
 {
-    let name = match way {
-        Way::Method(name) => name,
-        Way::Parent { name, .. } => name,
-        Way::Global { name, .. } => name,
-        Way::Get(name) => name,
-        Way::Set(name) => name,
-    };
-    name.as_bytes().len() < TWO_BYTES
+    name_of(way).as_bytes().len() < TWO_BYTES
 }
 
 fn is_savable_place(at: &BodyPlace) -> bool

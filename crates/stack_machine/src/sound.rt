@@ -36,11 +36,7 @@ pub struct Standing<'a> {
 }
 
 /// Whether the state is sound for the scene of the loaded scripts.
-pub fn is_sound(
-    alloc: Global,
-    setting: &Setting,
-    state: &MachineState,
-) -> Result<bool, OutOfMemory>
+pub fn is_sound(alloc: Global, setting: &Setting, state: &MachineState) -> Result<bool, OutOfMemory>
     ensures turn { IfOk result (λ sound. sound ≡ true → state.now.turn ≤ setting.now.scene.turns) }
     ensures stacks { IfOk result (λ sound. sound ≡ true → vec_len state.now.stacks ≡ calls_before state.now.turn setting.now.scene.calls.items) }
     ensures within { IfOk result (λ sound. sound ≡ true → vec_len state.now.stacks ≤ vec_len setting.now.scene.calls) }
@@ -98,9 +94,11 @@ impl Judged<'_> {
     }
 
     fn is_sound_frame(&self, standing: Standing<'_>) -> Result<bool, OutOfMemory> {
-        Ok(has_fitting_slots(self, standing.frame)?
-            && has_sound_body(self, standing)?
-            && has_fitting_reply(self, standing)?
-            && has_sound_call(self, standing)?)
+        Ok(
+            has_fitting_slots(self, standing.frame)?
+                && has_sound_body(self, standing)?
+                && has_fitting_reply(self, standing)?
+                && has_sound_call(self, standing)?,
+        )
     }
 }

@@ -24,16 +24,15 @@ pub fn has_sound_body(judged: &Judged<'_>, standing: Standing<'_>) -> Result<boo
         return Ok(false);
     };
     let waits = standing.above.is_some() || reply.is_some();
-    Ok(judged.is_on_script(*instance, at.script, function)
-        && usize::from(*instruction) <= function.code.len()
-        && (!waits || calls_at(function, *instruction)))
+    Ok(
+        judged.is_on_script(*instance, at.script, function)
+            && usize::from(*instruction) <= function.code.len()
+            && (!waits || calls_at(function, *instruction)),
+    )
 }
 
 /// Whether the reply of a running frame, and what the frame above it gives, fit the operand that takes the result.
-pub fn has_fitting_reply(
-    judged: &Judged<'_>,
-    standing: Standing<'_>,
-) -> Result<bool, OutOfMemory> {
+pub fn has_fitting_reply(judged: &Judged<'_>, standing: Standing<'_>) -> Result<bool, OutOfMemory> {
     let FrameState::Running {
         at,
         instruction,
@@ -100,11 +99,7 @@ impl Judged<'_> {
     }
 
     // Whether what a frame will give is of the type, if there is a frame.
-    fn frame_fits(
-        &self,
-        above: Option<&FrameState>,
-        kind: CoreType,
-    ) -> Result<bool, OutOfMemory> {
+    fn frame_fits(&self, above: Option<&FrameState>, kind: CoreType) -> Result<bool, OutOfMemory> {
         match above {
             Some(FrameState::Running { at, .. }) => Ok(match self.function_of(at)? {
                 Some(function) => self.result_fits(function.result, kind),

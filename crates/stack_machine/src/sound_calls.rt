@@ -30,6 +30,7 @@ impl Callee<'_> {
 
 // The bits of a property that may be read, and of one that may be written.
 const READ: u8 = 1;
+
 const WRITE: u8 = 2;
 
 /// Whether a frame to be entered finds a function that it may enter: a Global one with a body exactly for the way `Global`,
@@ -140,12 +141,7 @@ impl Judged<'_> {
         }
     }
 
-    fn found_method(
-        &self,
-        script: u16,
-        state: Option<usize>,
-        name: usize,
-    ) -> Option<Callee<'_>> {
+    fn found_method(&self, script: u16, state: Option<usize>, name: usize) -> Option<Callee<'_>> {
         let at = self.setting.loaded.find_method(script, state, name)?;
         Some(Callee::Function(self.setting.method(at)?))
     }

@@ -8,16 +8,21 @@ use std::alloc::Global;
 /// Whether each stack stands exactly once among owners, waiters, free stacks, sleepers and those that are done, the
 /// innermost frame of each is one that may stand there, and the lists ascend that are in order of numbers.
 pub fn has_sound_locks(alloc: Global, state: &MachineState) -> Result<bool, OutOfMemory> {
-    if !pairs_ascend(&state.owners) || !stacks_ascend(&state.free) || !sleepers_ascend(&state.asleep) {
+    if !pairs_ascend(&state.owners)
+        || !stacks_ascend(&state.free)
+        || !sleepers_ascend(&state.asleep)
+    {
         return Ok(false);
     }
     if !are_listed_once(alloc, state)? {
         return Ok(false);
     }
-    Ok(are_on_their_instances(state, &state.owners)
-        && are_on_their_instances(state, &state.waiters)
-        && state.free.iter().all(|stack| is_on(state, *stack, None))
-        && state.asleep.iter().all(|sleeper| has_reply(state, sleeper.0)))
+    Ok(
+        are_on_their_instances(state, &state.owners)
+            && are_on_their_instances(state, &state.waiters)
+            && are_on_none(state, &state.free)
+            && have_replies(state, &state.asleep),
+    )
 }
 
 // No stack is listed twice, and one has frames exactly where it is listed.
@@ -80,9 +85,30 @@ fn have_frames(listed: &[bool], stacks: &[Vec<FrameState>]) -> bool {
 
 // The innermost frame of each stack has the instance that the stack stands with.
 fn are_on_their_instances(state: &MachineState, pairs: &[(u16, u16)]) -> bool {
-    pairs
-        .iter()
-        .all(|pair| is_on(state, pair.1, Some(pair.0)))
+    for pair in pairs {
+        if !is_on(state, pair.1, Some(pair.0)) {
+            return false;
+        }
+    }
+    true
+}
+
+fn are_on_none(state: &MachineState, stacks: &[u16]) -> bool {
+    for stack in stacks {
+        if !is_on(state, *stack, None) {
+            return false;
+        }
+    }
+    true
+}
+
+fn have_replies(state: &MachineState, sleepers: &[(u16, u32)]) -> bool {
+    for sleeper in sleepers {
+        if !has_reply(state, sleeper.0) {
+            return false;
+        }
+    }
+    true
 }
 
 fn is_on(state: &MachineState, stack: u16, instance: Option<u16>) -> bool {

@@ -6,7 +6,7 @@ ghost use Rattle.stack_machine.specs.Plans.{calls_before};
 use crate::sound::Judged;
 use core_tree::{BoundCall, CoreType, Scene, Value};
 use machine_state::{FrameState, MachineState, Way};
-use papy_base::TEXT_LIMIT;
+use papy_base::{TEXT_LIMIT, Text};
 
 /// Whether the turn is at most the scene's, as many stacks have started as there are calls before it, the last stack
 /// is one of them, and the instances are the scene's in number.
@@ -36,7 +36,8 @@ fn is_none_or_below(number: Option<u16>, count: usize) -> bool {
     }
 }
 
-/// Whether every number that the state names is in range, and every text of a value has at most 1,024 bytes.
+/// Whether every instance, script and array that frames, values and types name is there, and every text of a value has at
+/// most 1,024 bytes. The stacks and instances of locks are judged with the places of stacks.
 pub fn has_numbers_in_range(judged: &Judged<'_>) -> bool {
     let state = judged.state;
     let counts = Counts {
@@ -44,14 +45,9 @@ pub fn has_numbers_in_range(judged: &Judged<'_>) -> bool {
         scripts: judged.setting.loaded.outline().scripts.len(),
         arrays: state.arrays.len(),
     };
-    let stacks = state.stacks.len();
-    counts.have_pairs(&state.owners, stacks)
-        && counts.have_pairs(&state.waiters, stacks)
-        && state.free.iter().all(|stack| usize::from(*stack) < stacks)
-        && state.asleep.iter().all(|sleeper| usize::from(sleeper.0) < stacks)
-        && state.instances.iter().all(|instance| counts.have_values(&instance.1))
-        && state.arrays.iter().all(|array| counts.have_type(array.0) && counts.have_values(&array.1))
-        && state.stacks.iter().all(|frames| counts.have_frames(frames))
+    counts.have_instances(&state.instances)
+        && counts.have_arrays(&state.arrays)
+        && counts.have_stacks(&state.stacks)
 }
 
 // How many things of each sort there are.
@@ -63,10 +59,31 @@ struct Counts {
 }
 
 impl Counts {
-    fn have_pairs(self, pairs: &[(u16, u16)], stacks: usize) -> bool {
-        pairs
-            .iter()
-            .all(|pair| usize::from(pair.0) < self.instances && usize::from(pair.1) < stacks)
+    fn have_instances(self, instances: &[(Text, Vec<Value>)]) -> bool {
+        for instance in instances {
+            if !self.have_values(&instance.1) {
+                return false;
+            }
+        }
+        true
+    }
+
+    fn have_arrays(self, arrays: &[(CoreType, Vec<Value>)]) -> bool {
+        for array in arrays {
+            if !self.have_type(array.0) || !self.have_values(&array.1) {
+                return false;
+            }
+        }
+        true
+    }
+
+    fn have_stacks(self, stacks: &[Vec<FrameState>]) -> bool {
+        for frames in stacks {
+            if !self.have_frames(frames) {
+                return false;
+            }
+        }
+        true
     }
 
     fn have_type(self, kind: CoreType) -> bool {
@@ -79,7 +96,12 @@ impl Counts {
     }
 
     fn have_frames(self, frames: &[FrameState]) -> bool {
-        frames.iter().all(|frame| self.have_frame(frame))
+        for frame in frames {
+            if !self.have_frame(frame) {
+                return false;
+            }
+        }
+        true
     }
 
     fn have_frame(self, frame: &FrameState) -> bool {
@@ -125,7 +147,12 @@ impl Counts {
     }
 
     fn have_values(self, values: &[Value]) -> bool {
-        values.iter().all(|value| self.have_value(value))
+        for value in values {
+            if !self.have_value(value) {
+                return false;
+            }
+        }
+        true
     }
 
     fn have_value(self, value: &Value) -> bool {

@@ -4,6 +4,7 @@ use machine_state::{FrameState, MachineState};
 
 /// The most frames of a stack, and of all stacks beyond the first of each.
 const STACK_FRAMES: usize = 128;
+
 const ALL_FRAMES: usize = 512;
 
 /// Whether no stack has more than 128 frames, at most 512 stand beyond first frames, each first frame has an instance, and
@@ -31,10 +32,15 @@ fn has_instance(frames: &[FrameState]) -> bool {
 
 // All frames but the innermost one are running ones without a reply.
 fn are_waiting(frames: &[FrameState]) -> bool {
-    match frames.split_last() {
-        Some((_, below)) => below.iter().all(|frame| is_waiting(frame)),
-        None => true,
+    let Some((_, below)) = frames.split_last() else {
+        return true;
+    };
+    for frame in below {
+        if !is_waiting(frame) {
+            return false;
+        }
     }
+    true
 }
 
 fn is_waiting(frame: &FrameState) -> bool {

@@ -10,7 +10,9 @@ use pex_verify::LoadedFunction;
 
 /// The most arrays of a run, the most elements of one, and the most cells of a device.
 const ARRAY_LIMIT: usize = 4096;
+
 const ELEMENT_LIMIT: usize = 128;
+
 const CELL_LIMIT: usize = 100_000;
 
 /// Whether instances have as many values as their scripts have variables, of their types, arrays have 1 to 128 elements
@@ -18,9 +20,8 @@ const CELL_LIMIT: usize = 100_000;
 pub fn has_sound_values(judged: &Judged<'_>) -> bool {
     let state = judged.state;
     judged.have_sound_variables(&state.instances)
-        && state.arrays.len() <= ARRAY_LIMIT
-        && state.arrays.iter().all(|array| judged.is_sound_array(array.0, &array.1))
-        && state.devices.iter().all(|device| is_sound_device(device.0, &device.1, device.2))
+        && judged.are_sound_arrays(&state.arrays)
+        && are_sound_devices(&state.devices)
 }
 
 /// Whether a running frame has as many slots as its function has parameters and locals, of their types.
@@ -43,7 +44,9 @@ pub fn has_fitting_slots(judged: &Judged<'_>, frame: &FrameState) -> Result<bool
 impl Judged<'_> {
     fn have_sound_variables(&self, instances: &[(Text, Vec<Value>)]) -> bool {
         for (instance, bound) in instances.iter().zip(&self.setting.scene.instances) {
-            if instance.0.as_bytes().len() > TEXT_LIMIT || !self.fit_scripts(&instance.1, bound.script) {
+            if instance.0.as_bytes().len() > TEXT_LIMIT
+                || !self.fit_scripts(&instance.1, bound.script)
+            {
                 return false;
             }
         }
@@ -75,10 +78,12 @@ impl Judged<'_> {
     }
 
     fn fit_variables(&self, values: &[Value], variables: &[OutlineVariable]) -> bool {
-        values
-            .iter()
-            .zip(variables)
-            .all(|(value, variable)| self.fits(value, Some(variable.kind)))
+        for (value, variable) in values.iter().zip(variables) {
+            if !self.fits(value, Some(variable.kind)) {
+                return false;
+            }
+        }
+        true
     }
 
     /// Whether each slot is of the type of the parameter or local at its place.
@@ -91,12 +96,35 @@ impl Judged<'_> {
         true
     }
 
-    fn is_sound_array(&self, element: CoreType, items: &[Value]) -> bool {
-        is_element_type(element)
-            && !items.is_empty()
-            && items.len() <= ELEMENT_LIMIT
-            && items.iter().all(|item| self.fits(item, Some(element)))
+    fn are_sound_arrays(&self, arrays: &[(CoreType, Vec<Value>)]) -> bool {
+        for array in arrays {
+            if !is_element_type(array.0)
+                || array.1.is_empty()
+                || !self.fit_items(&array.1, array.0)
+            {
+                return false;
+            }
+        }
+        arrays.len() <= ARRAY_LIMIT
     }
+
+    fn fit_items(&self, items: &[Value], element: CoreType) -> bool {
+        for item in items {
+            if !self.fits(item, Some(element)) {
+                return false;
+            }
+        }
+        items.len() <= ELEMENT_LIMIT
+    }
+}
+
+fn are_sound_devices(devices: &[(DeviceKind, Vec<i32>, u64)]) -> bool {
+    for device in devices {
+        if !is_sound_device(device.0, &device.1, device.2) {
+            return false;
+        }
+    }
+    true
 }
 
 // A tape and dice have their place within their cells or at their end. A sum and a latch have one cell, and the place 0.

@@ -4,6 +4,7 @@ ghost use Rattle.std.specs.Prelude.{◌≡◌, ◌+◌, OnOk, vec_len};
 
 use crate::begin::copies;
 use crate::frame::{Body, Call, CallWay, Frame, Running};
+use crate::named::name_of;
 use crate::setting::Setting;
 use crate::world::World;
 use core_tree::Value;
@@ -134,10 +135,7 @@ impl FrameTeller<'_> {
         let Frame::Running(running) = frame else {
             return None;
         };
-        self.setting
-            .function(running.body)?
-            .code
-            .get(running.place)
+        self.setting.function(running.body)?.code.get(running.place)
     }
 
     // The script that a callstatic names. The function may stand above it.
@@ -146,11 +144,12 @@ impl FrameTeller<'_> {
             return at.script;
         };
         let scripts = &self.setting.loaded.outline().scripts;
-        let found = scripts.iter().position(|script| script.name.same(name));
-        match found {
-            Some(number) => u16::try_from(number).unwrap_or(at.script),
-            None => at.script,
+        for (number, script) in scripts.iter().enumerate() {
+            if script.name.same(name) {
+                return u16::try_from(number).unwrap_or(at.script);
+            }
         }
+        at.script
     }
 
     fn told_body(&self, running: &Running) -> Result<FrameState, OutOfMemory> {
@@ -193,17 +192,18 @@ fn copy_if(alloc: Global, value: Option<&Value>) -> Result<Option<Value>, OutOfM
 
 /// An equal way.
 pub fn copy_of(alloc: Global, way: &Way) -> Result<Way, OutOfMemory> {
+    let name = name_of(way).try_clone(alloc)?;
     Ok(match way {
-        Way::Method(name) => Way::Method(name.try_clone(alloc)?),
-        Way::Parent { script, name } => Way::Parent {
+        Way::Method(_) => Way::Method(name),
+        Way::Parent { script, .. } => Way::Parent {
             script: *script,
-            name: name.try_clone(alloc)?,
+            name,
         },
-        Way::Global { script, name } => Way::Global {
+        Way::Global { script, .. } => Way::Global {
             script: *script,
-            name: name.try_clone(alloc)?,
+            name,
         },
-        Way::Get(name) => Way::Get(name.try_clone(alloc)?),
-        Way::Set(name) => Way::Set(name.try_clone(alloc)?),
+        Way::Get(_) => Way::Get(name),
+        Way::Set(_) => Way::Set(name),
     })
 }

@@ -19,10 +19,7 @@ pub fn tell_owners(
 }
 
 /// Tells the stacks that wait, in order of joining.
-pub fn tell_waiters(
-    threads: &Threads,
-    waiters: &mut Vec<(u16, u16)>,
-) -> Result<(), OutOfMemory> {
+pub fn tell_waiters(threads: &Threads, waiters: &mut Vec<(u16, u16)>) -> Result<(), OutOfMemory> {
     let mut after = None;
     for _ in 0..threads.count() {
         let Some(stack) = threads.next_waiter(after) else {
@@ -47,10 +44,7 @@ pub fn tell_free(threads: &Threads, free: &mut Vec<u16>) -> Result<(), OutOfMemo
 }
 
 /// Tells the stacks that sleep, with the turns at which they are due.
-pub fn tell_asleep(
-    threads: &Threads,
-    asleep: &mut Vec<(u16, u32)>,
-) -> Result<(), OutOfMemory> {
+pub fn tell_asleep(threads: &Threads, asleep: &mut Vec<(u16, u32)>) -> Result<(), OutOfMemory> {
     for stack in 0..threads.count() {
         if let Place::Asleep(until) = threads.place_of(stack) {
             asleep.push((stack, until))?;

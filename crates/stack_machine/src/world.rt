@@ -11,7 +11,7 @@ ghost use Rattle.papy_io.specs.Sink.{AppendsSome};
 
 use crate::begin::{begin, choose};
 use crate::entry::{Found, look_up, open};
-use crate::frame::{Body, Call, Frame, CallWay};
+use crate::frame::{Body, Call, CallWay, Frame};
 use crate::natives::{Performed, perform};
 use crate::notes::{Notes, note_any};
 use crate::operands::Turn;

@@ -1,17 +1,10 @@
 -- The test of whether numbers ascend.
 use Rattle.std.specs.Prelude.{Bool, true, false, nat_le, ◌&&◌, ◌^◌, ⊤}
-use Rattle.std.proofs.Common.{◌≡◌, ℕ, zero, suc, ◌+◌, ◌<◌, ◌≤◌, List, [], ◌∷◌, length, get_or, drop, map, refl, sym, ap, subst, ◌∙◌, add-one, arith}
+use Rattle.std.proofs.Common.{◌≡◌, ℕ, zero, suc, ◌+◌, ◌<◌, ◌≤◌, List, [], ◌∷◌, length, get_or, refl, ap, subst, ◌∙◌, arith}
 use Rattle.std.specs.List.Sorted.{IsStrictlyIncreasing}
-use Rattle.std.proofs.Math.Seq.{drop-cons}
 use Rattle.std.proofs.lemmas.Bool.{le-leb, leb-true}
 use Rattle.stack_save.specs.Parts.{AreAscending, AreParts, HasTaken}
 use Rattle.stack_save.specs.Reading.{Found, ascending, ascending_above, found_where}
-
-pub ascending-next : {X : Type 0} (number : X → ℕ) (xs : List X) (i low : ℕ) (x : X) → i < length xs → x ≡ get_or xs i x
-    → ascending_above low (map number (drop i xs)) ≡ (nat_le low (number x) && ascending_above (suc (number x)) (map number (drop (i + 1) xs)))
-ascending-next number xs i low x below is =
-    let split : drop i xs ≡ x ∷ drop (i + 1) xs = drop-cons xs i x below ∙ (ap (λ z. z ∷ drop (suc i) xs) (sym is) ∙ ap (λ (n : ℕ). x ∷ drop n xs) (sym (add-one i))) in
-    ap (λ zs. ascending_above low (map number zs)) split
 
 -- ---- what the test says
 

@@ -1,6 +1,6 @@
 -- What was spelled is found: reading the spelling of a part, whatever is behind it, finds the part and what is behind.
-use Rattle.std.specs.Prelude.{Bool, true, false, nat_eq, nat_le, FitsSigned, Option, Some, None, IfSome, ⊤}
-use Rattle.std.proofs.Common.{◌≡◌, ℕ, zero, suc, ◌+◌, ◌<◌, ◌≤◌, ◌^◌, ℤ, pos, negsuc, List, [], ◌∷◌, ◌++◌, length, take, drop, map, refl, sym, ap, subst, ◌∙◌, append_assoc, arith}
+use Rattle.std.specs.Prelude.{true, false, nat_eq, nat_le, Option, Some, None, IfSome, ⊤}
+use Rattle.std.proofs.Common.{◌≡◌, ℕ, ◌<◌, ◌^◌, ℤ, pos, negsuc, List, [], ◌∷◌, ◌++◌, length, refl, sym, ap, subst, ◌∙◌, append_assoc, arith}
 use Rattle.std.specs.Int.{w32, bytes_high_first, cast_signed, cast_unsigned}
 use Rattle.std.specs.List.{AllByRecursion, flat_map}
 use Rattle.std.proofs.lemmas.Bool.{le-leb}
@@ -10,26 +10,23 @@ use Rattle.std.proofs.lemmas.List.{append-nil, length-append}
 use Rattle.std.proofs.Math.Seq.{take-append_seam, drop-append_seam}
 use Rattle.byteorder.specs.Endian.{big_from}
 use Rattle.byteorder.specs.Numbers.{big_number-reads_back, length-bytes_high_first}
-use Rattle.core_tree.specs.Device.{DeviceState}
 use Rattle.core_tree.specs.declared.DeviceKind.{DeviceKind}
 use Rattle.core_tree.specs.declared.DeviceKind.TheVariants.{Tape, Sum, Latch, Dice}
-use Rattle.core_tree.specs.declared.core_type.CoreType.{CoreType}
 use Rattle.core_tree.specs.declared.core_type.CoreType.TheVariants as kinds
 use Rattle.core_tree.specs.declared.value.Value.{Value}
 use Rattle.core_tree.specs.declared.value.Value.TheVariants as values
 use Rattle.machine_state.specs.declared.frame.BodyPlace.{BodyPlace}
-use Rattle.machine_state.specs.declared.frame.Way.{Way}
 use Rattle.machine_state.specs.declared.frame.Way.TheVariants as ways
-use Rattle.machine_state.specs.Plain.{PlainCall, PlainBody, PlainFrame, ToEnter, Running, PlainInstance, PlainArray, PlainState}
+use Rattle.machine_state.specs.Plain.{ToEnter, Running, PlainState}
 use Rattle.machine_state.specs.Ranges.{IsU16, IsU32, IsI32, IsValueInRange, IsWayInRange, IsCallInRange, IsBodyInRange, IsFrameInRange, IsStackInRange, IsInstanceInRange, IsTypeInRange, IsArrayInRange, IsDeviceInRange, IsPairInRange, IsSleeperInRange, IsInRange}
-use Rattle.machine_state.specs.Savable.{FitsByte, FitsTwoBytes, FitsFourBytes, IsNumbered, IsSavableValue, name_of, IsSavablePlace, IsSavableCall, IsSavableBody, IsSavableFrame, IsSavableStack, IsSavableInstance, IsElementType, IsSavableArray, IsSavableDevice, firsts, IsSavable}
+use Rattle.machine_state.specs.Savable.{FitsTwoBytes, FitsFourBytes, IsNumbered, IsSavableValue, name_of, IsSavablePlace, IsSavableCall, IsSavableBody, IsSavableFrame, IsSavableStack, IsSavableInstance, IsElementType, IsSavableArray, IsSavableDevice, firsts, IsSavable}
 use Rattle.pex_values.specs.Spelling.{one_byte, two_bytes, four_bytes, eight_bytes, string, list, pair}
 use Rattle.stack_save.proofs.Ascends.{ascending-complete}
 use Rattle.stack_save.proofs.Lists.{each_trivial, flat2, flat3, flat4, flat5}
 use Rattle.stack_save.specs.Loading.{IsLayout, held_fields}
 use Rattle.stack_save.specs.Parts.{IsPart, AreParts, AreAscending, AreLocks, AreThings}
-use Rattle.stack_save.specs.Reading.{Found, found_then, found_as, bytes_at, number_at, integer_at, number_if, number_or_none_at, string_at, long_string_at, items_at, list_at, long_list_at, short_list_at, pair_at, sleeper_at, value_at, instance_at, element_type_at, array_at, device_kind_at, device_at, way_at, call_at, place_at, reply_at, body_at, frame_at, stack_at, owners_at, free_at, asleep_at, locks_at, things_at, state_at, PlainHeld, held_at}
-use Rattle.stack_save.specs.Spelling.{integer, short_list, long_list, long_string, number_or_none, value, instance, element_type, array, device_kind, device, way, call, place, reply, body, frame, stack, sleeper, PlainLocks, PlainThings, locks, things, locks_of, things_of, state}
+use Rattle.stack_save.specs.Reading.{Found, found_as, bytes_at, number_at, integer_at, number_if, number_or_none_at, string_at, long_string_at, items_at, list_at, long_list_at, short_list_at, pair_at, sleeper_at, value_at, instance_at, element_type_at, array_at, device_kind_at, device_at, way_at, call_at, place_at, reply_at, body_at, frame_at, stack_at, owners_at, free_at, asleep_at, locks_at, things_at, state_at, held_at}
+use Rattle.stack_save.specs.Spelling.{integer, short_list, long_list, long_string, number_or_none, value, instance, element_type, array, device_kind, device, way, call, place, reply, body, frame, stack, sleeper, locks, things, locks_of, things_of, state}
 
 abbrev pub IsComplete : {A : Type 0} → (A → Type 0) → (A → List ℕ) → (List ℕ → Found A) → Type 0
 IsComplete {A} P f at = (x : A) (s : List ℕ) → P x → at (f x ++ s) ≡ Some (x, s)

@@ -1,5 +1,5 @@
 -- What faults of parts are to a held file.
-use Rattle.std.proofs.Common.{◌≡◌, subst, sym}
+use Rattle.std.proofs.Common.{subst, sym}
 use Rattle.pex_codec.specs.declared.faults.PexFault.{PexFault}
 use Rattle.pex_codec.specs.declared.faults.PexFault.TheVariants as pex
 use Rattle.stack_save.specs.Faults.{IsFileFault}

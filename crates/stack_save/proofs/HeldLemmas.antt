@@ -1,7 +1,8 @@
 -- A held file tells what it spells.
-use Rattle.std.specs.Prelude.{Bool, true, nat_eq, Option, Some, None, Result, Err}
-use Rattle.std.proofs.Common.{◌≡◌, ℕ, List, [], ◌∷◌, ◌++◌, length, refl, sym, ap, subst, ◌∙◌, append_assoc}
+use Rattle.std.specs.Prelude.{true, false, nat_eq, Some, None, Result, Err}
+use Rattle.std.proofs.Common.{◌≡◌, ℕ, suc, List, [], ◌∷◌, ◌++◌, length, refl, sym, ap, subst, ◌∙◌, append_assoc}
 use Rattle.std.proofs.lemmas.List.{append-nil, append_cancel_left}
+use Rattle.std.proofs.Math.Dec.{eqb-suc-zero}
 use Rattle.machine_state.specs.Plain.{PlainState}
 use Rattle.stack_save.proofs.Complete.{held_complete}
 use Rattle.stack_save.specs.Held.{Spells, HasLayout}
@@ -33,7 +34,7 @@ found files scene state bytes rest behind s is =
     ap held_at (sym same) ∙ held_complete h rest (may files scene state bytes s)
 
 one_found : {A : Type 0} (there : Found A) (x y : A) (s t : List ℕ) → there ≡ Some (x, s) → there ≡ Some (y, t) → (x ≡ y) × (s ≡ t)
-one_found there x y s t a b =
+one_found {A} there x y s t a b =
     let same : Some (x, s) ≡ Some (y, t) = sym a ∙ b in
     let pair : (x, s) ≡ (y, t) = cc in
     (ap (λ (p : A × List ℕ). p.0) pair, ap (λ (p : A × List ℕ). p.1) pair)
@@ -74,7 +75,9 @@ spells_layout behind h p is = record {
 
 pub empty_from : (bytes : List ℕ) → nat_eq (length bytes) 0 ≡ true → bytes ≡ []
 empty_from [] none = refl
-empty_from (x ∷ xs) none = absurd cc
+empty_from (x ∷ xs) none =
+    let some : nat_eq (suc (length xs)) 0 ≡ false = eqb-suc-zero (length xs) in
+    cc
 
 -- the fault of a layout that isn't there
 pub reads_fault : (fault y : LayoutFault) (r : Result Layout LayoutFault) (behind new : List ℕ)

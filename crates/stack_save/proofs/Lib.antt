@@ -5,3 +5,4 @@ pub mod NumberLemmas
 pub mod Complete
 pub mod HeldLemmas
 pub mod StateLemmas
+pub mod FileLemmas

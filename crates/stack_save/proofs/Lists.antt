@@ -1,11 +1,11 @@
 -- Lists that are put or taken one item at a time.
-use Rattle.std.specs.Prelude.{⊤, zero, suc, ◌-◌, Option, Some, None, Result, Err}
-use Rattle.std.proofs.Common.{◌≡◌, ℕ, ◌+◌, ◌<◌, ◌≤◌, List, [], ◌∷◌, ◌++◌, length, get_or, take, map, refl, sym, ap, subst, ◌∙◌, append_assoc, add-one, arith}
+use Rattle.std.specs.Prelude.{⊤, zero, suc, ◌-◌, Some, None, Result, Err}
+use Rattle.std.proofs.Common.{◌≡◌, ℕ, ◌+◌, ◌<◌, List, [], ◌∷◌, ◌++◌, length, get_or, take, map, refl, sym, ap, subst, ◌∙◌, append_assoc, arith}
 use Rattle.std.specs.List.{AllByRecursion, AllZip, flat_map}
 use Rattle.std.proofs.lemmas.Grind.{take_at_read, flat_map-append}
-use Rattle.std.proofs.lemmas.List.{append-nil, map-append, length-append, length-map}
-use Rattle.machine_state.proofs.Growing.{each_more, each_more_viewed}
-use Rattle.stack_save.specs.Parts.{HasTaken, Takes, IsPart, AreItems}
+use Rattle.std.proofs.lemmas.List.{append-nil, map-append, length-append}
+use Rattle.machine_state.proofs.Growing.{each_more_viewed}
+use Rattle.stack_save.specs.Parts.{HasTaken, Takes, IsPart}
 use Rattle.stack_save.specs.declared.fault.LayoutFault.{LayoutFault}
 use Rattle.stack_save.specs.declared.fault.LayoutFault.TheVariants.{Missing, OutOfMemory}
 use Rattle.stack_save.specs.Reading.{Found, found_then, found_as, items_at}
@@ -21,9 +21,6 @@ each_at P view [] i x each below is = absurd (omega arith)
 each_at P view (y ∷ ys) zero x each below is = subst (λ z. P (view z)) (sym is) each.0
 each_at P view (y ∷ ys) (suc i) x each below is = each_at P view ys i x each.1 (omega arith) is
 
-one_more : {X : Type 0} (xs : List X) (i : ℕ) (x : X) → i < length xs → x ≡ get_or xs i x → take (i + 1) xs ≡ take i xs ++ x ∷ []
-one_more xs i x below is = (take_at_read xs i x below).1 ∙ ap (λ z. take i xs ++ z ∷ []) (sym is)
-
 -- the bytes of one more item
 bytes_more : {X Y : Type 0} (spell : Y → List ℕ) (view : X → Y) (xs : List X) (x : X)
     → flat_map spell (map view (xs ++ x ∷ [])) ≡ flat_map spell (map view xs) ++ spell (view x)
@@ -36,18 +33,6 @@ bytes_more spell view xs x =
 pub record PutFirst {X Y : Type 0} (P : Y → Type 0) (spell : Y → List ℕ) (view : X → Y) (old : List ℕ) (xs : List X) (i : ℕ) (new : List ℕ) : Type 0 where
   pub each : AllByRecursion P (map view (take i xs))
   pub bytes : new ≡ old ++ flat_map spell (map view (take i xs))
-
-pub PutFirst-more : {X Y : Type 0} (P : Y → Type 0) (spell : Y → List ℕ) (view : X → Y) (old : List ℕ) (xs : List X) (i : ℕ) (new : List ℕ) (x : X) (newer : List ℕ)
-    → PutFirst P spell view old xs i new → i < length xs → x ≡ get_or xs i x → P (view x) → newer ≡ new ++ spell (view x)
-    → PutFirst P spell view old xs (i + 1) newer
-PutFirst-more P spell view old xs i new x newer first below is here added =
-    let grown = one_more xs i x below is in
-    let before = take i xs in
-    record {
-      each = subst (λ ys. AllByRecursion P (map view ys)) (sym grown) (each_more_viewed P view before x first.each here);
-      bytes = added ∙ (ap (λ b. b ++ spell (view x)) first.bytes ∙ (append_assoc old (flat_map spell (map view before)) (spell (view x))
-          ∙ ap (λ b. old ++ b) (sym (bytes_more spell view before x) ∙ ap (λ ys. flat_map spell (map view ys)) (sym grown))));
-    }
 
 -- ---- taking
 
@@ -63,22 +48,6 @@ pub record TookFirst {X Y : Type 0} (Savable InRange : Y → Type 0) (spell : Y 
   pub in_range : AllByRecursion InRange (map view items)
   pub bytes : old ≡ flat_map spell (map view items) ++ rest
   pub found : items_at at number old ≡ in_front (map view items) (items_at at (number - i) rest)
-
-pub in_front-none : {A : Type 0} (found : Found (List A)) → in_front [] found ≡ found
-in_front-none None = refl
-in_front-none (Some found) = refl
-
-pub TookFirst-none : {X Y : Type 0} (Savable InRange : Y → Type 0) (spell : Y → List ℕ) (at : List ℕ → Found Y) (view : X → Y) (old : List ℕ) (number : ℕ)
-    → TookFirst Savable InRange spell at view old number 0 [] old
-TookFirst-none Savable InRange spell at view old number =
-    let all : number ≡ number - 0 = omega arith in
-    record {
-      count = refl;
-      savable = tt;
-      in_range = tt;
-      bytes = refl;
-      found = sym (in_front-none (items_at at number old)) ∙ ap (λ (n : ℕ). in_front [] (items_at at n old)) all;
-    }
 
 -- one more item in front
 in_front-as : {A : Type 0} (xs : List A) (x : A) (found : Found (List A)) → in_front xs (found_as (λ others. x ∷ others) found) ≡ in_front (xs ++ x ∷ []) found
@@ -119,17 +88,6 @@ TookFirst-missing Savable InRange spell at view old number i items rest first be
     ∙ ap (λ f. in_front (map view items) f) (items_at-next at number i rest below
     ∙ ap (λ f. found_then f (λ one behind. found_as (λ others. one ∷ others) (items_at at (number - (i + 1)) behind))) missing)
 
-pub TookFirst-all : {X Y : Type 0} (Savable InRange : Y → Type 0) (spell : Y → List ℕ) (at : List ℕ → Found Y) (view : X → Y) (old : List ℕ) (number i : ℕ) (items : List X) (rest : List ℕ)
-    → TookFirst Savable InRange spell at view old number i items rest → i ≡ number
-    → HasTaken (AreItems number Savable InRange) (flat_map spell) (items_at at number old) (map view items) old rest
-TookFirst-all Savable InRange spell at view old number i items rest first all =
-    let none : number - i ≡ zero = omega arith in
-    record {
-      may = record { count = length-map items view ∙ (first.count ∙ all); savable = first.savable; in_range = first.in_range };
-      found = first.found ∙ (ap (λ (n : ℕ). in_front (map view items) (items_at at n rest)) none ∙ ap (λ ys. Some (ys, rest)) (append-nil (map view items)));
-      bytes = first.bytes;
-    }
-
 -- the fault of an item is the fault of the list
 pub err_taken : {T U A B : Type 0} (fault y : LayoutFault) (r : Result U LayoutFault) (plain : T → A) (Is : A → Type 0) (spell : A → List ℕ) (at : List ℕ → Found A)
     (plain' : U → B) (Is' : B → Type 0) (spell' : B → List ℕ) (at' : List ℕ → Found B) (old new old' new' : List ℕ)
@@ -161,9 +119,9 @@ zip_more R [] (b ∷ ys) x y zip here = absurd zip
 zip_more R (a ∷ xs) [] x y zip here = absurd zip
 zip_more R (a ∷ xs) (b ∷ ys) x y zip here = (zip.0, zip_more R xs ys x y zip.1 here)
 
-pub zip_next : {X A B : Type 0} (R : A → B → Type 0) (view : X → A) (xs : List X) (i : ℕ) (x : X) (ys : List B) (y : B)
-    → AllZip R (map view (take i xs)) ys → i < length xs → x ≡ get_or xs i x → R (view x) y → AllZip R (map view (take (i + 1) xs)) (ys ++ y ∷ [])
-zip_next R view xs i x ys y zip below is here =
-    let grown = one_more xs i x below is in
-    let listed : map view (take (i + 1) xs) ≡ map view (take i xs) ++ view x ∷ [] = ap (λ zs. map view zs) grown ∙ map-append view (take i xs) (x ∷ []) in
+pub zip_next : {X A B : Type 0} (R : A → B → Type 0) (view : X → A) (xs : List X) (i : ℕ) (d : X) (ys : List B) (y : B)
+    → AllZip R (map view (take i xs)) ys → i < length xs → R (view (get_or xs i d)) y → AllZip R (map view (take (i + 1) xs)) (ys ++ y ∷ [])
+zip_next R view xs i d ys y zip below here =
+    let x = get_or xs i d in
+    let listed : map view (take (i + 1) xs) ≡ map view (take i xs) ++ view x ∷ [] = ap (λ zs. map view zs) (take_at_read xs i d below).1 ∙ map-append view (take i xs) (x ∷ []) in
     subst (λ zs. AllZip R zs (ys ++ y ∷ [])) (sym listed) (zip_more R (map view (take i xs)) ys (view x) y zip here)

@@ -1,12 +1,11 @@
 -- Numbers at the front of bytes.
-use Rattle.std.specs.Prelude.{Bool, true, false, nat_eq, nat_le, Option, Some, None, FitsSigned}
-use Rattle.std.proofs.Common.{◌≡◌, ℕ, zero, suc, ◌<◌, ◌≤◌, ◌^◌, ℤ, List, [], ◌∷◌, ◌++◌, length, get_or, take, drop, refl, sym, ap, subst, ◌∙◌, arith}
-use Rattle.std.specs.Int.{w16, w32, w64, bytes_high_first, cast_signed, cast_unsigned}
+use Rattle.std.specs.Prelude.{Some}
+use Rattle.std.proofs.Common.{◌≡◌, ℕ, ◌<◌, ◌^◌, List, ◌++◌, length, get_or, sym, ap, ◌∙◌, arith}
+use Rattle.std.specs.Int.{bytes_high_first}
 use Rattle.std.proofs.lemmas.Nat.{be_bytes_2, be_bytes_4, be_bytes_8}
 use Rattle.byteorder.specs.Endian.{big_from}
 use Rattle.stack_save.specs.Parts.{HasTaken}
 use Rattle.stack_save.specs.Reading.{Found, found_as, bytes_at, number_at}
-use Rattle.stack_save.specs.Spelling.{truth}
 
 pub number_2 : (bytes : List ℕ) (n : ℕ) → length bytes ≡ 2 → ((k : ℕ) → get_or bytes k 0 < 256) → n ≡ big_from 0 2 bytes → bytes ≡ bytes_high_first 2 n
 number_2 bytes n len small is = sym (be_bytes_2 bytes n len small (omega (arith, is)))
@@ -26,8 +25,3 @@ number_taken k taken old new n t spelled is small = record {
   found = ap (λ (f : Found (List ℕ)). found_as (λ b. big_from 0 k b) f) t.found ∙ ap (λ (m : ℕ). Some (m, new)) (sym is);
   bytes = t.bytes ∙ ap (λ (b : List ℕ). b ++ new) spelled;
 }
-
-pub truth_of_tag : (tag : ℕ) → tag ≤ 1 → truth (nat_eq tag 1) ≡ tag ∷ []
-truth_of_tag zero most = refl
-truth_of_tag (suc zero) most = refl
-truth_of_tag (suc (suc n)) most = absurd (omega arith)

@@ -1,6 +1,6 @@
 -- The parts of a state in a row.
 use Rattle.std.specs.Prelude.{Option, Some, None, IfSome, ◌^◌}
-use Rattle.std.proofs.Common.{◌≡◌, ℕ, ◌<◌, List, ◌++◌, refl, sym, ap, subst, ◌∙◌, arith}
+use Rattle.std.proofs.Common.{◌≡◌, ℕ, List, ◌++◌, refl, sym, ap, subst, ◌∙◌, arith}
 use Rattle.machine_state.specs.Plain.{PlainInstance, PlainState}
 use Rattle.machine_state.specs.Ranges.{IsU16, IsU32, IsInstanceInRange, IsInRange}
 use Rattle.machine_state.specs.Savable.{IsNumbered, IsSavableInstance, IsSavable}

@@ -1,5 +1,5 @@
 -- What stands at the front of bytes, and the bytes behind it: the inverse of the spelling, part by part.
-use Rattle.std.specs.Prelude.{ℕ, zero, suc, ◌==◌, ℤ, Bool, true, false, List, [], ◌∷◌, map, length, take, drop, Option, Some, None, nat_le, if◌then◌else◌, ◌&&◌}
+use Rattle.std.specs.Prelude.{ℕ, zero, suc, ◌==◌, ℤ, Bool, true, List, [], ◌∷◌, length, take, drop, Option, Some, None, nat_le, if◌then◌else◌, ◌&&◌}
 use Rattle.std.specs.Int.{w32, cast_signed}
 use Rattle.byteorder.specs.Endian.{big_from}
 use Rattle.core_tree.specs.Device.{DeviceState}

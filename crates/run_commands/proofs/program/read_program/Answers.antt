@@ -72,7 +72,7 @@ returns-clause-ends g c =
     let read = rw (c.as_bytes.ensures.value, sym named) at c.in-Ok.ensures.read in
     let kept = rw (names_from c.args.words.now c.args.first, c.in-Ok.ensures.holds) at c.in-Ok-read_values.ensures.kept in
     let names = names_from c.args.words.now c.args.first in
-    let count : length c.in-Ok-read_values.files.values.items ≡ length (files_from c.args.first words) = c.in-Ok-read_values.ensures.count ∙ sym (length-map _ string_bytes) ∙ ap length names in
+    let count : vec_len c.in-Ok-read_values.files.values ≡ length (files_from c.args.first words) = c.in-Ok-read_values.ensures.count ∙ sym (length-map _ string_bytes) ∙ ap length names in
     together_ends words c.args.named c.args.first _ holds c.in-Ok.scene c.loaded_program.result count read (kept_are_held c.args.keep holds _ c.in-Ok-read_values.files.kept.items kept) c.loaded_program.ensures.ends
 
 pub returns-clause-word : goal.returns-clause-word

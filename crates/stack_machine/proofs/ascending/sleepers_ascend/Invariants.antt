@@ -1,4 +1,4 @@
-use Rattle.std.proofs.Common.{ℕ, take}
+use Rattle.std.proofs.Common.{take}
 use Rattle.machine_state.specs.Savable.{firsts}
 use Rattle.stack_machine.proofs.Ascent.{AscendsTo}
 use Rattle.stack_machine.proofs.ascending.sleepers_ascend.Given as goal

@@ -4,5 +4,5 @@ use Rattle.stack_machine.proofs.revived_threads.revive_stacks.Given as goal
 abbrev pub invariant-loop-place : goal.invariant-loop-place
 invariant-loop-place l = record {
   started : l.threads.started ≡ l.fn.threads.started + l.place;
-  room : l.threads.room ≡ l.fn.threads.room
+  room : l.threads.room ≡ l.fn.threads.room;
 }

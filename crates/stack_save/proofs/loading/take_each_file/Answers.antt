@@ -9,7 +9,7 @@ use Rattle.machine_state.specs.Savable.{FitsFourBytes}
 use Rattle.stack_save.proofs.Lists.{TookFirst, TookFirst-missing, TookFirst-more, err_taken}
 use Rattle.stack_save.proofs.loading.take_each_file.Goals as goal
 use Rattle.stack_save.specs.Loading.{lent}
-use Rattle.stack_save.specs.Parts.{AreItems, IsPart}
+use Rattle.stack_save.specs.Parts.{AreItems}
 use Rattle.stack_save.specs.Reading.{items_at, long_string_at}
 use Rattle.stack_save.specs.Spelling.{long_string}
 

@@ -1,4 +1,4 @@
-use Rattle.std.proofs.Common.{◌≡◌, ℕ, List, sym, ap, ◌∙◌}
+use Rattle.std.proofs.Common.{ℕ, List, sym, ap, ◌∙◌}
 use Rattle.machine_state.specs.Ranges.{IsSleeperInRange}
 use Rattle.machine_state.specs.Savable.{firsts}
 use Rattle.pex_values.specs.Spelling.{list}

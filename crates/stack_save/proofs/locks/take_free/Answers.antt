@@ -1,4 +1,4 @@
-use Rattle.std.proofs.Common.{◌≡◌, ℕ, List, sym, ap, ◌∙◌}
+use Rattle.std.proofs.Common.{ℕ, List, sym, ap, ◌∙◌}
 use Rattle.machine_state.specs.Ranges.{IsU16}
 use Rattle.pex_values.specs.Spelling.{list, two_bytes}
 use Rattle.stack_save.proofs.Ascends.{ascending_taken}
