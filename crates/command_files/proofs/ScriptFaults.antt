@@ -1,5 +1,5 @@
 -- Which rule a script breaks, and where, by what the layers answered.
-use Rattle.std.proofs.Common.{arith, ◌≡◌, ◌∙◌, inl, inr, ℕ, suc, ◌+◌, ◌<◌, ◌≤◌, ◌^◌, ◌==◌, Bool, true, false, List, [], ◌∷◌, length, take, map, refl, sym, ap, subst, slice_index_or, String, Global, length-drop}
+use Rattle.std.proofs.Common.{arith, ◌≡◌, ◌∙◌, inl, ℕ, suc, ◌+◌, ◌<◌, ◌≤◌, ◌^◌, ◌==◌, Bool, true, false, List, [], ◌∷◌, length, take, map, refl, sym, ap, subst, slice_index_or, String, Global, length-drop}
 use Rattle.std.specs.Prelude.{Option, None, Some, Result, Ok, Err, IfSome, if◌then◌else◌}
 use Rattle.std.specs.String.{string_bytes}
 use Rattle.std.specs.declared.vec.Vec.{Vec}
@@ -7,26 +7,16 @@ use Rattle.std.proofs.lemmas.List.{get_or-map, length-map, take-map}
 use Rattle.papy_io.specs.Files.{Files}
 use Rattle.script_lexer.specs.declared.fault.LexRule.TheVariants.{TooLarge}
 use Rattle.script_lexer.specs.Lines.{LogicalLine, Lexes, physical_lines, text_of, mark_len}
-use Rattle.core_tree.specs.declared.script.CoreScript.{CoreScript}
-use Rattle.script_linker.specs.Link.{AreFilesOf, IsFaultOf}
-use Rattle.script_linker.specs.declared.fault.LinkFault.{LinkFault}
-use Rattle.script_linker.specs.declared.fault.LinkFault.TheVariants as link
 use Rattle.script_linker.specs.declared.set.SourceFile.{SourceFile}
-use Rattle.type_rules.specs.Faults.{IsFaultBelow}
-use Rattle.type_rules.specs.Heads.{core_script_head, script_head}
-use Rattle.type_rules.specs.declared.fault.TypeFault.{TypeFault}
-use Rattle.type_rules.specs.declared.fault.TypeFault.TheVariants as typing
-use Rattle.command_files.specs.declared.ending.Ending.{Ending}
-use Rattle.command_files.specs.declared.ending.Ending.TheVariants as ending
 use Rattle.command_files.specs.declared.file_fault.FileFault.{FileFault}
 use Rattle.command_files.specs.declared.file_fault.FileFault.TheVariants.{ReadFault, OutOfMemory, Refused}
 use Rattle.command_files.specs.declared.refusal.Place.{Place}
 use Rattle.command_files.specs.declared.refusal.Place.TheVariants.{Line}
 use Rattle.command_files.specs.declared.refusal.Rule.{Rule}
 use Rattle.command_files.specs.declared.refusal.Rule.TheVariants.{Lexical}
-use Rattle.command_files.specs.Ending.{CountsReads, IsWordBelow, MissesScript, word_at}
+use Rattle.command_files.specs.Ending.{IsWordBelow, MissesScript, word_at}
 use Rattle.command_files.specs.FileFault.{MissesFile, ending_at}
-use Rattle.command_files.specs.Scripts.{EndsOnScripts, EndsOnSet, HoldScripts, HoldsRefused, HoldsScript, ParsesScript, ReadsScript, RefusesScript, RefusesSet, link_ending, type_ending}
+use Rattle.command_files.specs.Scripts.{EndsOnScripts, HoldScripts, HoldsRefused, HoldsScript, ParsesScript, ReadsScript, RefusesScript}
 use Rattle.command_files.specs.SourceTexts.{EndsOnTexts, text_of as bytes_in}
 use Rattle.command_files.specs.declared.source_texts.NamedText.{NamedText}
 use Rattle.command_files.specs.TextFile.{ReadsText}

@@ -1,18 +1,16 @@
 -- Whole files that were read: their size, and what they were found to be.
 use Rattle.std.proofs.Common.{arith, ◌≡◌, ◌≤◌, ◌+◌, ℕ, length, refl, subst}
-use Rattle.std.specs.Prelude.{Option, None, Some, Result, Ok, Err, List, IfErr, IfOk}
+use Rattle.std.specs.Prelude.{Option, None, Some, Ok, Err, List}
 use Rattle.std.specs.declared.alloc.Global.{Global}
 use Rattle.std.specs.declared.vec.Vec.{Vec}
 use Rattle.core_tree.specs.declared.scene_tree.SceneTree.{SceneTree}
-use Rattle.papy_io.specs.declared.whole_file.ReadAllFault.{ReadAllFault}
-use Rattle.papy_io.specs.Files.{Files, told_bytes}
+use Rattle.papy_io.specs.Files.{Files}
 use Rattle.papy_io.specs.ReadAll.{ReadsFile}
 use Rattle.scene_reader.specs.declared.fault.SceneFault.{SceneFault}
 use Rattle.scene_reader.specs.declared.fault.SceneFault.TheVariants as scene
 use Rattle.scene_reader.specs.declared.fault.SceneRule.TheVariants.{Limit}
 use Rattle.command_files.specs.declared.file_fault.FileFault.{FileFault}
 use Rattle.command_files.specs.declared.file_fault.FileFault.TheVariants.{ReadFault, OutOfMemory, Refused}
-use Rattle.command_files.specs.declared.pex_file.KeptPex.{KeptPex}
 use Rattle.command_files.specs.declared.pex_file.PexFile.{PexFile}
 use Rattle.command_files.specs.declared.refusal.Place.TheVariants.{Offset, Whole}
 use Rattle.command_files.specs.declared.refusal.Rule.TheVariants.{Pex, Scene}
