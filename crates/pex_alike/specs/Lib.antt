@@ -1,0 +1,2 @@
+pub mod SameCode
+pub mod Scopes
