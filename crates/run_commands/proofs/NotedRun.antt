@@ -56,7 +56,7 @@ noted_more from between to first second third a b =
       moves = a.moves ++ b.moves;
       count = omega (arith, a.count, b.count, many);
       now_is = b.now_is ∙ ap (λ (t : List ℕ). t ++ journal_text (turn_lines between b.moves)) a.now_is
-        ∙ append_assoc first (journal_text (turn_lines from a.moves)) (journal_text (turn_lines between b.moves)) ∙ ap (λ (t : List ℕ). first ++ t) (sym lines);
+          ∙ append_assoc first (journal_text (turn_lines from a.moves)) (journal_text (turn_lines between b.moves)) ∙ ap (λ (t : List ℕ). first ++ t) (sym lines);
     }
 
 -- the names so far and one more
@@ -79,7 +79,7 @@ journal_is names turns head noted last journal heads turned ends is =
       moves = turned.moves;
       count = omega (arith, turned.count);
       text_is = is ∙ ap (λ (t : List ℕ). t ++ last) turned.now_is ∙ append_assoc head body last
-        ∙ ap (λ (t : List ℕ). head ++ (body ++ t)) ends ∙ ap (λ (t : List ℕ). t ++ (body ++ journal_text (End turns ∷ []))) heads;
+          ∙ ap (λ (t : List ℕ). head ++ (body ++ t)) ends ∙ ap (λ (t : List ℕ). t ++ (body ++ journal_text (End turns ∷ []))) heads;
     }
 
 -- ---- a run

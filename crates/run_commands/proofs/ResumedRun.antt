@@ -208,7 +208,6 @@ resume_outputs most holds name found NotBuilt before now read resumes = absurd r
 resume_outputs most holds name found Usage before now read resumes = absurd resumes
 resume_outputs most holds name found (ReadFault word) before now read resumes = absurd resumes
 
-
 -- ---- what a held file has
 
 is-file : (bytes : List ℕ) (value : Pex) → IsFile bytes value → verified.IsFile value

@@ -57,8 +57,8 @@ pub record BreaksTogether (first count word : ℕ) (place : Place) (rule : Rule)
 abbrev pub RefusesProgram : ℕ → ℕ → List (List ℕ) → Files → ℕ → Place → Rule → Type 0
 RefusesProgram named first words files word place rule = IsHeld (scene_of named words) files
     × (RefusesScene named word place rule
-      ⊎ RefusesValue first (files_from first words) files word place rule
-      ⊎ (BreaksTogether first (length (files_from first words)) word place rule × AreHeld (files_from first words) files))
+    ⊎ RefusesValue first (files_from first words) files word place rule
+    ⊎ (BreaksTogether first (length (files_from first words)) word place rule × AreHeld (files_from first words) files))
 
 -- how a command ends early of whose refusals this holds
 abbrev pub EndsOn : (ℕ → Place → Rule → Type 0) → Ending → Type 0
