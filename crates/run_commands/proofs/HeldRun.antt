@@ -1,14 +1,13 @@
 -- How `hold` ends, and what it leaves.
-use Rattle.std.proofs.Common.{arith, ◌≡◌, ◌≢◌, ◌≤◌, ◌<◌, ◌+◌, ◌∙◌, ℕ, suc, Bool, true, List, [], ◌∷◌, ◌++◌, length, map, take, refl, sym, ap, subst, inl, inr}
+use Rattle.std.proofs.Common.{arith, ◌≡◌, ◌≢◌, ◌≤◌, ◌<◌, ℕ, true, List, [], length, map, take, refl, inl, inr}
 use Rattle.std.proofs.lemmas.Grind.{common_steps}
-use Rattle.std.specs.Prelude.{All, Option, None, Some, Result, Ok, Err, IfOk, IfSome}
+use Rattle.std.specs.Prelude.{Option, None, Some, Result, Ok, Err, IfSome}
 use Rattle.std.specs.declared.alloc.Global.{Global}
 use Rattle.std.specs.declared.vec.Vec.{Vec}
-use Rattle.machine_state.specs.Plain.{PlainState, plain}
-use Rattle.machine_state.specs.declared.state.MachineState.{MachineState}
-use Rattle.papy_io.specs.Files.{Files, ChangesTold, told_bytes}
-use Rattle.papy_io.specs.Sink.{Appended, AppendsSome}
-use Rattle.papy_io.specs.WriteFile.{HoldsNow, MayHold, WritesFile}
+use Rattle.machine_state.specs.Plain.{PlainState}
+use Rattle.papy_io.specs.Files.{Files}
+use Rattle.papy_io.specs.Sink.{AppendsSome}
+use Rattle.papy_io.specs.WriteFile.{WritesFile}
 use Rattle.papy_io.specs.declared.fault.IoFault.{IoFault}
 use Rattle.papy_io.specs.declared.fault.IoFault.TheVariants as io
 use Rattle.scene_runner.proofs.Appending.{appends_nothing}
@@ -21,11 +20,11 @@ use Rattle.command_files.specs.declared.ending.Ending.TheVariants.{Done, OutOfMe
 use Rattle.command_files.specs.declared.refusal.Place.{Place}
 use Rattle.command_files.specs.declared.refusal.Rule.{Rule}
 use Rattle.command_files.specs.Ending.{CountsReads, IsWordBelow, write_ending}
-use Rattle.command_files.specs.Outputs.{IsPart, Outputs, RefusedLate}
+use Rattle.command_files.specs.Outputs.{IsPart, Outputs}
 use Rattle.run_commands.specs.Answers.{HoldAnswers}
-use Rattle.run_commands.specs.Hold.{HoldLeaves, HoldsProgram, HoldsRun, IsHeldRun, IsTooLarge, MayWriteHeld, PlaysHeld, Saves}
+use Rattle.run_commands.specs.Hold.{HoldLeaves, HoldsProgram, HoldsRun, IsHeldRun, IsTooLarge, PlaysHeld, Saves}
 use Rattle.run_commands.specs.Play.{RefusesScene, Starts, turns_ending}
-use Rattle.run_commands.specs.Program.{AreSmall, EndsOnProgram, IsHeldProgram, MissesRead, files_from, scene_of}
+use Rattle.run_commands.specs.Program.{EndsOnProgram, IsHeldProgram, MissesRead, files_from, scene_of}
 use Rattle.run_commands.specs.declared.program.Program.{Program}
 use Rattle.run_commands.proofs.EarlyEnds.{EndsEarly}
 

@@ -1,8 +1,6 @@
 -- How `journal` ends, and what it leaves.
-use Rattle.std.proofs.Common.{arith, ◌≡◌, ◌≢◌, ◌<◌, ◌≤◌, ◌+◌, ◌∙◌, ℕ, List, length, refl, sym, ap, subst, inl, inr, map}
-use Rattle.std.specs.Prelude.{Option, None, Some, Result, Ok, Err, IfOk, IfSome}
-use Rattle.std.specs.declared.alloc.Global.{Global}
-use Rattle.std.specs.declared.vec.Vec.{Vec}
+use Rattle.std.proofs.Common.{◌≡◌, ◌≢◌, ℕ, List, refl, inl, inr, map}
+use Rattle.std.specs.Prelude.{Option, Ok, Err}
 use Rattle.core_tree.specs.declared.scene_tree.SceneTree.{SceneTree}
 use Rattle.papy_io.specs.declared.fault.IoFault.{IoFault}
 use Rattle.papy_io.specs.declared.fault.IoFault.TheVariants as io
@@ -10,13 +8,12 @@ use Rattle.papy_io.specs.Count.{CountsFaults}
 use Rattle.papy_io.specs.Files.{Files}
 use Rattle.papy_io.specs.WriteFile.{WritesFile}
 use Rattle.scene_binder.specs.Instances.{tree_name}
-use Rattle.stack_machine.specs.Machine.{CountsFault}
 use Rattle.stack_machine.specs.declared.status.TurnFault.{TurnFault}
 use Rattle.stack_machine.specs.declared.status.TurnFault.TheVariants as turn
 use Rattle.command_files.specs.declared.ending.Ending.{Ending}
 use Rattle.command_files.specs.declared.ending.Ending.TheVariants.{Done, OutOfMemory, Usage, ReadFault, WriteFault, Refused, NotBuilt}
 use Rattle.command_files.specs.Ending.{CountsBoth, CountsReads, CountsWrites, IsWordBelow, write_ending}
-use Rattle.run_commands.specs.Journal.{HoldsNoted, IsJournalOf, IsShort, JournalLeaves, MayHoldNoted, NotesRun, PlaysNoted}
+use Rattle.run_commands.specs.Journal.{IsShort, JournalLeaves, NotesRun}
 use Rattle.run_commands.specs.Play.{Plays, Starts, turns_ending}
 use Rattle.run_commands.specs.Program.{EndsOnProgram, MissesRead}
 

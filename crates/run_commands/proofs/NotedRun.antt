@@ -1,28 +1,19 @@
 -- The journal of a run, turn by turn.
-use Rattle.std.proofs.Common.{arith, ◌≡◌, ◌<◌, ◌≤◌, ◌+◌, ◌∙◌, ℕ, suc, List, [], ◌∷◌, ◌++◌, length, map, take, get_or, refl, sym, ap, subst, inl, inr, append_assoc, append-nil, length-append}
-use Rattle.std.specs.Prelude.{Option, None, Some, Result, Ok, Err, IfOk, IfSome, OnOk}
-use Rattle.std.specs.declared.alloc.Global.{Global}
-use Rattle.std.specs.declared.vec.Vec.{Vec}
+use Rattle.std.proofs.Common.{arith, ◌≡◌, ◌<◌, ◌≤◌, ◌+◌, ◌∙◌, ℕ, suc, List, [], ◌∷◌, ◌++◌, length, map, take, get_or, sym, ap, subst, append_assoc, append-nil, length-append}
+use Rattle.std.specs.Prelude.{Option}
 use Rattle.std.proofs.lemmas.List.Concat.{flat_map-append}
 use Rattle.std.proofs.lemmas.List.{map-append, take_more, take_all}
 use Rattle.core_tree.specs.declared.scene.BoundInstance.{BoundInstance}
 use Rattle.core_tree.specs.declared.scene.Scene.{Scene}
 use Rattle.core_tree.specs.declared.scene_tree.SceneTree.{SceneTree}
-use Rattle.papy_io.specs.declared.fault.IoFault.{IoFault}
-use Rattle.papy_io.specs.declared.fault.IoFault.TheVariants as io
-use Rattle.papy_io.specs.Files.{Files, ChangesTold}
-use Rattle.papy_io.specs.WriteFile.{HoldsNow, MayHold, WritesFile}
 use Rattle.run_replay.specs.Lines.{JournalLine, Heading, Instance, Turn, End, Moved, ended_line, journal_text}
 use Rattle.run_replay.specs.declared.lock_move.LockMove.{LockMove}
 use Rattle.scene_binder.specs.Bound.{instance_name}
 use Rattle.scene_binder.specs.Instances.{tree_name}
 use Rattle.stack_machine.specs.Machine.{HasEnded, MachineView}
 use Rattle.scene_runner.specs.Report.{Reports}
-use Rattle.command_files.specs.declared.ending.Ending.{Ending}
-use Rattle.command_files.specs.declared.ending.Ending.TheVariants.{Done, OutOfMemory, Usage, ReadFault, WriteFault, Refused, NotBuilt}
-use Rattle.command_files.specs.Ending.{CountsBoth, CountsReads, CountsWrites, IsWordBelow, write_ending}
-use Rattle.run_commands.specs.Journal.{CountsNoted, HoldsNoted, IsJournalOf, IsShort, JournalLeaves, MayHoldNoted, NotesRun, NotesTurns, PlaysNoted, turn_lines}
-use Rattle.run_commands.specs.Play.{IsStarted, Plays, Starts}
+use Rattle.run_commands.specs.Journal.{IsJournalOf, NotesRun, NotesTurns, turn_lines}
+use Rattle.run_commands.specs.Play.{IsStarted}
 use Rattle.run_commands.proofs.RunEnds.{run_turns, run_writes}
 
 -- ---- lines

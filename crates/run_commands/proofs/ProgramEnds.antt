@@ -1,22 +1,19 @@
 -- How a command ends that runs compiled files on a scene.
-use Rattle.std.proofs.Common.{arith, ◌≡◌, ◌≤◌, ℕ, List, [], ◌++◌, length, take, refl, inl, inr}
+use Rattle.std.proofs.Common.{arith, ◌≡◌, ℕ, List, length, take, refl, inl, inr}
 use Rattle.std.proofs.lemmas.Grind.{common_steps}
-use Rattle.std.specs.Prelude.{Option, None, Some, Result, Ok, Err, Bool, IfSome}
+use Rattle.std.specs.Prelude.{Option, None, Some, Bool, IfSome}
 use Rattle.core_tree.specs.declared.scene_tree.SceneTree.{SceneTree}
 use Rattle.papy_io.specs.Files.{Files}
-use Rattle.papy_io.specs.Sink.{Appended}
 use Rattle.papy_io.specs.declared.fault.IoFault.{IoFault}
 use Rattle.papy_io.specs.declared.fault.IoFault.TheVariants as io
 use Rattle.command_files.specs.declared.ending.Ending.{Ending}
 use Rattle.command_files.specs.declared.ending.Ending.TheVariants.{Done, OutOfMemory, Usage, ReadFault, WriteFault, Refused, NotBuilt}
-use Rattle.command_files.specs.declared.refusal.Place.{Place}
-use Rattle.command_files.specs.declared.refusal.Rule.{Rule}
 use Rattle.command_files.specs.Ending.{write_ending}
 use Rattle.command_files.specs.Held.{AreHeld, IsHeld}
 use Rattle.command_files.specs.Outputs.{IsPart, Outputs}
 use Rattle.run_commands.specs.Answers.{ProgramAnswers}
-use Rattle.run_commands.specs.Play.{Plays, RefusesScene}
-use Rattle.run_commands.specs.Program.{AreKept, EndsOnProgram, IsHeldProgram, MissesRead, files_from, scene_of}
+use Rattle.run_commands.specs.Play.{Plays}
+use Rattle.run_commands.specs.Program.{EndsOnProgram, IsHeldProgram, MissesRead, files_from, scene_of}
 use Rattle.run_commands.specs.Report.{most_turns}
 use Rattle.run_commands.specs.declared.program.Program.{Program}
 use Rattle.run_commands.proofs.EarlyEnds.{EndsEarly}

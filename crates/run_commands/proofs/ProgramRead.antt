@@ -16,19 +16,16 @@ use Rattle.command_files.specs.declared.file_fault.FileFault.{FileFault}
 use Rattle.command_files.specs.declared.file_fault.FileFault.TheVariants as file
 use Rattle.command_files.specs.declared.pex_file.KeptPex.{KeptPex}
 use Rattle.command_files.specs.declared.pex_file.PexFile.{PexFile}
-use Rattle.command_files.specs.declared.refusal.Place.{Place}
-use Rattle.command_files.specs.declared.refusal.Rule.{Rule}
 use Rattle.command_files.specs.declared.scene_file.KeptScene.{KeptScene}
 use Rattle.command_files.specs.Compiled.{bytes_of}
-use Rattle.command_files.specs.Ending.{CountsReads, CountsWrites, IsWordBelow, word_at}
+use Rattle.command_files.specs.Ending.{CountsReads, IsWordBelow, word_at}
 use Rattle.command_files.specs.FileFault.{CountsFile, MissesFile, ending_at}
-use Rattle.command_files.specs.Held.{AreHeld, Hold, IsHeld}
+use Rattle.command_files.specs.Held.{AreHeld, Hold}
 use Rattle.command_files.specs.PexFile.{ReadsKept, ReadsPex}
 use Rattle.command_files.specs.SceneFile.{ReadsKeptScene}
 use Rattle.command_files.specs.Scripts.{CountsScripts}
 use Rattle.command_files.proofs.HeldScripts.{held-more}
-use Rattle.run_commands.specs.Play.{RefusesScene}
-use Rattle.run_commands.specs.Program.{AreKept, AreSmall, BreaksTogether, EndsOn, EndsOnProgram, EndsOnValues, EndsRead, EndsTogether, IsHeldProgram, IsKept, MissesRead, MissesValue, ReadsValue, RefusesProgram, RefusesValue, Verifies, files_from, scene_of}
+use Rattle.run_commands.specs.Program.{AreKept, AreSmall, BreaksTogether, EndsOnProgram, EndsOnValues, IsHeldProgram, MissesRead, MissesValue, ReadsValue, Verifies, files_from, scene_of}
 use Rattle.run_commands.specs.declared.program.Program.{Program}
 
 -- ---- one file

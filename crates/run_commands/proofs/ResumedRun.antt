@@ -1,22 +1,22 @@
 -- How `resume` ends.
-use Rattle.std.proofs.Common.{arith, ◌≡◌, ◌≢◌, ◌≤◌, ◌<◌, ◌+◌, ◌^◌, ◌∙◌, ℕ, suc, List, [], ◌∷◌, ◌++◌, length, map, take, refl, sym, ap, subst, inl, inr, append-nil}
+use Rattle.std.proofs.Common.{arith, ◌≡◌, ◌≢◌, ◌≤◌, ◌<◌, ◌+◌, ◌∙◌, ℕ, suc, List, [], ◌∷◌, ◌++◌, length, map, refl, sym, ap, inl, inr, append-nil}
 use Rattle.std.proofs.Math.Seq.{take-append_seam}
 use Rattle.std.proofs.lemmas.List.{length-map}
 use Rattle.std.proofs.lemmas.List.Elements.{All-cons, All-nil}
-use Rattle.std.specs.Prelude.{All, Option, None, Some, Result, Ok, Err, IfErr, IfOk, IfSome}
+use Rattle.std.specs.Prelude.{All, Option, None, Some, Result, Ok, Err, IfOk, IfSome}
 use Rattle.std.specs.List.{AllZip}
 use Rattle.std.specs.declared.alloc.Global.{Global}
 use Rattle.std.specs.declared.vec.Vec.{Vec}
-use Rattle.machine_state.specs.Plain.{PlainState, plain, plain_device}
-use Rattle.papy_io.specs.Files.{Files, told_bytes}
+use Rattle.machine_state.specs.Plain.{plain, plain_device}
+use Rattle.papy_io.specs.Files.{Files}
 use Rattle.papy_io.specs.Sink.{Appended, AppendsSome}
 use Rattle.pex_values.specs.declared.values.Pex.{Pex}
 use Rattle.pex_verify.specs.Files as verified
-use Rattle.scene_runner.specs.Report.{Closes, IsClosing, IsReport, Reports, turns_line}
+use Rattle.scene_runner.specs.Report.{Closes, IsClosing, IsReport, turns_line}
 use Rattle.scene_runner.proofs.Appending.{appends_nothing, reports_behind}
 use Rattle.stack_machine.specs.declared.status.TurnFault.{TurnFault}
 use Rattle.stack_machine.specs.declared.status.TurnFault.TheVariants as turn
-use Rattle.stack_save.specs.Held.{AreFiles, HasLayout, IsFile, IsHeld, LoadGives, Spells, limit}
+use Rattle.stack_save.specs.Held.{HasLayout, IsFile, IsHeld, LoadGives, limit}
 use Rattle.stack_save.specs.declared.fault.HeldFault.{HeldFault}
 use Rattle.stack_save.specs.declared.fault.HeldFault.TheVariants as held
 use Rattle.stack_save.specs.declared.fault.HeldRule.{HeldRule}

@@ -5,7 +5,6 @@ use Rattle.papy_io.specs.Files.{Files, told_bytes}
 use Rattle.papy_io.specs.Sink.{AppendsSome}
 use Rattle.pex_verify.specs.Files.{IsFile}
 use Rattle.scene_runner.specs.Report.{IsReport, Reports}
-use Rattle.stack_machine.specs.Machine.{MachineView}
 use Rattle.stack_save.specs.Held.{HasHeading, HasLayout, IsHeld, Spells, limit}
 use Rattle.stack_save.specs.declared.fault.HeldFault.{HeldFault}
 use Rattle.stack_save.specs.declared.fault.HeldFault.TheVariants as held

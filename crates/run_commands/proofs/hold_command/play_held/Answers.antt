@@ -1,8 +1,6 @@
-use Rattle.std.proofs.Common.{arith, ◌≡◌, ◌+◌, ◌∙◌, map}
-use Rattle.machine_state.specs.Plain.{plain}
+use Rattle.std.proofs.Common.{map}
 use Rattle.command_files.specs.Compiled.{bytes_of}
-use Rattle.run_commands.proofs.HeldRun.{saved_held, turned_held, unstarted_held}
-use Rattle.run_commands.proofs.RunEnds.{turns_count}
+use Rattle.run_commands.proofs.HeldRun.{unstarted_held}
 use Rattle.run_commands.proofs.SceneParts.{unstarted_writes}
 use Rattle.run_commands.proofs.hold_command.play_held.Goals as goal
 

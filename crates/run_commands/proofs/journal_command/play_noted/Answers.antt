@@ -1,4 +1,4 @@
-use Rattle.std.proofs.Common.{◌∙◌, sym}
+use Rattle.std.proofs.Common.{◌∙◌}
 use Rattle.run_commands.proofs.JournalEnds.{turns_short, unstarted_short}
 use Rattle.run_commands.proofs.NotedRun.{run_noted}
 use Rattle.run_commands.proofs.RunEnds.{turns_count, turns_play}

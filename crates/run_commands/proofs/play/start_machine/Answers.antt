@@ -1,4 +1,4 @@
-use Rattle.std.proofs.Common.{arith, refl, ap, sym, ◌∙◌}
+use Rattle.std.proofs.Common.{arith, ap}
 use Rattle.stack_machine.proofs.AsMany.{as_many}
 use Rattle.run_commands.proofs.RunEnds.{machine_starts}
 use Rattle.run_commands.proofs.SceneParts.{few_instances, few_calls, refused_starts}

@@ -1,11 +1,11 @@
-use Rattle.std.proofs.Common.{arith, ◌≡◌, ◌<◌, ◌≤◌, ◌+◌, ◌-◌, ◌∙◌, ℕ, map, length, sym, ap}
+use Rattle.std.proofs.Common.{arith, ◌≡◌, ◌≤◌, ◌+◌, ◌∙◌, ℕ, map, length, sym, ap}
 use Rattle.std.specs.Prelude.{vec_len}
 use Rattle.std.specs.declared.alloc.Global.{Global}
 use Rattle.std.specs.declared.vec.Vec.{Vec}
 use Rattle.std.proofs.lemmas.List.{length-map}
 use Rattle.std.specs.String.{string_bytes}
 use Rattle.scene_reader.specs.Limits.{KeepsLimits}
-use Rattle.run_commands.specs.Program.{AreSmall, files_from, scene_of}
+use Rattle.run_commands.specs.Program.{AreSmall, files_from}
 use Rattle.run_commands.specs.declared.program.Program.{Program}
 use Rattle.run_commands.proofs.ProgramRead.{carried, count_from, kept_are_held, names_from, program_held, scene_below, scene_counts, scene_ends, scene_misses, scene_named, together_ends, together_misses, together_reads, together_word, values_end, values_miss}
 use Rattle.run_commands.proofs.EarlyEnds.{word_within}

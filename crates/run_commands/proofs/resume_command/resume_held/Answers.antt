@@ -1,6 +1,4 @@
-use Rattle.std.proofs.Common.{◌∙◌}
-use Rattle.run_commands.proofs.ResumedRun.{late_resumes, late_writes, turns_resume}
-use Rattle.run_commands.proofs.RunEnds.{turns_count}
+use Rattle.run_commands.proofs.ResumedRun.{late_resumes, late_writes}
 use Rattle.run_commands.proofs.resume_command.resume_held.Goals as goal
 
 pub returns-in-Err-clause-faults : goal.returns-in-Err-clause-faults

@@ -1,4 +1,4 @@
-use Rattle.std.proofs.Common.{arith, ◌∙◌, refl}
+use Rattle.std.proofs.Common.{◌∙◌, refl}
 use Rattle.scene_runner.proofs.Appending.{appends_more, appends_nothing}
 use Rattle.run_commands.proofs.NotedRun.{noted_more, noted_none}
 use Rattle.run_commands.proofs.turns.note_turns.Goals as goal
