@@ -1,18 +1,13 @@
 -- How `hold` ends, and what it leaves.
-use Rattle.std.proofs.Common.{arith, ◌≡◌, ◌≢◌, ◌≤◌, ◌<◌, ℕ, true, List, [], length, map, take, refl, inl, inr}
+use Rattle.std.proofs.Common.{arith, ◌≡◌, ◌≢◌, ◌<◌, ℕ, true, List, [], length, map, take, refl, inl, inr}
 use Rattle.std.proofs.lemmas.Grind.{common_steps}
-use Rattle.std.specs.Prelude.{Option, None, Some, Result, Ok, Err, IfSome}
-use Rattle.std.specs.declared.alloc.Global.{Global}
-use Rattle.std.specs.declared.vec.Vec.{Vec}
-use Rattle.machine_state.specs.Plain.{PlainState}
+use Rattle.std.specs.Prelude.{Option, None, Some, Ok, Err, IfSome}
 use Rattle.papy_io.specs.Files.{Files}
 use Rattle.papy_io.specs.Sink.{AppendsSome}
 use Rattle.papy_io.specs.WriteFile.{WritesFile}
 use Rattle.papy_io.specs.declared.fault.IoFault.{IoFault}
 use Rattle.papy_io.specs.declared.fault.IoFault.TheVariants as io
 use Rattle.scene_runner.proofs.Appending.{appends_nothing}
-use Rattle.stack_machine.specs.declared.status.TurnFault.{TurnFault}
-use Rattle.stack_machine.specs.declared.status.TurnFault.TheVariants as turn
 use Rattle.core_tree.specs.declared.scene_tree.SceneTree.{SceneTree}
 use Rattle.command_files.specs.Compiled.{bytes_of}
 use Rattle.command_files.specs.declared.ending.Ending.{Ending}
@@ -22,8 +17,8 @@ use Rattle.command_files.specs.declared.refusal.Rule.{Rule}
 use Rattle.command_files.specs.Ending.{CountsReads, IsWordBelow, write_ending}
 use Rattle.command_files.specs.Outputs.{IsPart, Outputs}
 use Rattle.run_commands.specs.Answers.{HoldAnswers}
-use Rattle.run_commands.specs.Hold.{HoldLeaves, HoldsProgram, HoldsRun, IsHeldRun, IsTooLarge, PlaysHeld, Saves}
-use Rattle.run_commands.specs.Play.{RefusesScene, Starts, turns_ending}
+use Rattle.run_commands.specs.Hold.{HoldLeaves, HoldsProgram, HoldsRun, IsHeldRun, IsTooLarge, PlaysHeld}
+use Rattle.run_commands.specs.Play.{RefusesScene, Starts}
 use Rattle.run_commands.specs.Program.{EndsOnProgram, IsHeldProgram, MissesRead, files_from, scene_of}
 use Rattle.run_commands.specs.declared.program.Program.{Program}
 use Rattle.run_commands.proofs.EarlyEnds.{EndsEarly}
@@ -38,20 +33,6 @@ unstarted_held tree most values scene Usage written starts = absurd starts
 unstarted_held tree most values scene WriteFault written starts = absurd starts
 unstarted_held tree most values scene NotBuilt written starts = absurd starts
 unstarted_held tree most values scene (ReadFault word) written starts = absurd starts
-
-pub turned_held : (most : ℕ) (values : List (List ℕ)) (scene : List ℕ) (fault : TurnFault) (before now : Option (List ℕ)) → AppendsSome before now → PlaysHeld most values scene (Err (turns_ending fault)) before now
-turned_held most values scene turn.WriteFault before now appends = appends
-turned_held most values scene turn.OutOfMemory before now appends = appends
-
-pub saved_held : (most : ℕ) (values : List (List ℕ)) (scene : List ℕ) (state : PlainState) (result : Result (Vec ℕ Global) Ending) (before now : Option (List ℕ)) → state.turn ≤ most → AppendsSome before now → Saves values scene state result → PlaysHeld most values scene result before now
-saved_held most values scene state (Ok bytes) before now within appends saves = (record { state = state; within = within; spells = saves.0; small = saves.1 }, appends)
-saved_held most values scene state (Err (Refused word place rule)) before now within appends saves = inr (saves.0, appends)
-saved_held most values scene state (Err OutOfMemory) before now within appends saves = appends
-saved_held most values scene state (Err WriteFault) before now within appends saves = absurd saves
-saved_held most values scene state (Err Done) before now within appends saves = absurd saves
-saved_held most values scene state (Err Usage) before now within appends saves = absurd saves
-saved_held most values scene state (Err NotBuilt) before now within appends saves = absurd saves
-saved_held most values scene state (Err (ReadFault word)) before now within appends saves = absurd saves
 
 -- ---- what is left
 

@@ -1,10 +1,9 @@
 -- How `journal` ends, and what it leaves.
-use Rattle.std.proofs.Common.{◌≡◌, ◌≢◌, ℕ, List, refl, inl, inr, map}
+use Rattle.std.proofs.Common.{ℕ, List, refl, inl, inr, map}
 use Rattle.std.specs.Prelude.{Option, Ok, Err}
 use Rattle.core_tree.specs.declared.scene_tree.SceneTree.{SceneTree}
 use Rattle.papy_io.specs.declared.fault.IoFault.{IoFault}
 use Rattle.papy_io.specs.declared.fault.IoFault.TheVariants as io
-use Rattle.papy_io.specs.Count.{CountsFaults}
 use Rattle.papy_io.specs.Files.{Files}
 use Rattle.papy_io.specs.WriteFile.{WritesFile}
 use Rattle.scene_binder.specs.Instances.{tree_name}
@@ -12,10 +11,10 @@ use Rattle.stack_machine.specs.declared.status.TurnFault.{TurnFault}
 use Rattle.stack_machine.specs.declared.status.TurnFault.TheVariants as turn
 use Rattle.command_files.specs.declared.ending.Ending.{Ending}
 use Rattle.command_files.specs.declared.ending.Ending.TheVariants.{Done, OutOfMemory, Usage, ReadFault, WriteFault, Refused, NotBuilt}
-use Rattle.command_files.specs.Ending.{CountsBoth, CountsReads, CountsWrites, IsWordBelow, write_ending}
+use Rattle.command_files.specs.Ending.{CountsBoth, CountsWrites, write_ending}
 use Rattle.run_commands.specs.Journal.{IsShort, JournalLeaves, NotesRun}
 use Rattle.run_commands.specs.Play.{Plays, Starts, turns_ending}
-use Rattle.run_commands.specs.Program.{EndsOnProgram, MissesRead}
+use Rattle.run_commands.specs.Program.{EndsOnProgram}
 
 -- ---- endings that aren't done
 
@@ -43,27 +42,6 @@ output_counts Usage before now files counts = (counts, refl)
 output_counts (ReadFault word) before now files counts = (counts, refl)
 output_counts (Refused word place rule) before now files counts = (counts, refl)
 output_counts NotBuilt before now files counts = (counts, refl)
-
--- the output was written, and the file wasn't
-pub file_counts : (fault : IoFault) (before now files files' : ℕ) → now ≡ before → CountsFaults {T = Unit {0}} (Err fault) files files' → CountsBoth (write_ending fault) before now files files'
-file_counts io.Failed before now files files' same counts = inr (same, counts)
-file_counts io.OutOfMemory before now files files' same counts = (same, counts)
-
-pub file_reads : (fault : IoFault) (before now : ℕ) → now ≡ before → CountsReads (write_ending fault) before now
-file_reads io.Failed before now same = same
-file_reads io.OutOfMemory before now same = same
-
-pub file_is_no_usage : (fault : IoFault) → write_ending fault ≢ Usage
-file_is_no_usage io.Failed = λ is. cc
-file_is_no_usage io.OutOfMemory = λ is. cc
-
-pub file_word : (fault : IoFault) (count : ℕ) → IsWordBelow count (write_ending fault)
-file_word io.Failed count = tt
-file_word io.OutOfMemory count = tt
-
-pub file_misses : (number first : ℕ) (words : List (List ℕ)) (fault : IoFault) (missed : Option (List ℕ)) → MissesRead number first words (write_ending fault) missed
-file_misses number first words io.Failed missed = tt
-file_misses number first words io.OutOfMemory missed = tt
 
 -- ---- what is left
 

@@ -1,12 +1,10 @@
 -- The journal of a run, turn by turn.
-use Rattle.std.proofs.Common.{arith, ◌≡◌, ◌<◌, ◌≤◌, ◌+◌, ◌∙◌, ℕ, suc, List, [], ◌∷◌, ◌++◌, length, map, take, get_or, sym, ap, subst, append_assoc, append-nil, length-append}
+use Rattle.std.proofs.Common.{arith, ◌≡◌, ◌≤◌, ◌+◌, ◌∙◌, ℕ, suc, List, [], ◌∷◌, ◌++◌, length, map, sym, ap, subst, append_assoc, append-nil, length-append}
 use Rattle.std.specs.Prelude.{Option}
 use Rattle.std.proofs.lemmas.List.Concat.{flat_map-append}
-use Rattle.std.proofs.lemmas.List.{map-append, take_more, take_all}
-use Rattle.core_tree.specs.declared.scene.BoundInstance.{BoundInstance}
 use Rattle.core_tree.specs.declared.scene.Scene.{Scene}
 use Rattle.core_tree.specs.declared.scene_tree.SceneTree.{SceneTree}
-use Rattle.run_replay.specs.Lines.{JournalLine, Heading, Instance, Turn, End, Moved, ended_line, journal_text}
+use Rattle.run_replay.specs.Lines.{JournalLine, Turn, Moved, ended_line, journal_text}
 use Rattle.run_replay.specs.declared.lock_move.LockMove.{LockMove}
 use Rattle.scene_binder.specs.Bound.{instance_name}
 use Rattle.scene_binder.specs.Instances.{tree_name}
@@ -48,29 +46,6 @@ noted_more from between to first second third a b =
       count = omega (arith, a.count, b.count, many);
       now_is = b.now_is ∙ ap (λ (t : List ℕ). t ++ journal_text (turn_lines between b.moves)) a.now_is
           ∙ append_assoc first (journal_text (turn_lines from a.moves)) (journal_text (turn_lines between b.moves)) ∙ ap (λ (t : List ℕ). first ++ t) (sym lines);
-    }
-
--- the names so far and one more
-pub names_more : (instances items : List BoundInstance) (names : List (List ℕ)) (i : ℕ) (instance : BoundInstance) (name : List ℕ) (more : List (List ℕ)) → items ≡ instances → i < length items → instance ≡ get_or items i instance →
-    names ≡ map instance_name (take i instances) → name ≡ instance_name instance → more ≡ names ++ name ∷ [] → more ≡ map instance_name (take (i + 1) instances)
-names_more instances items names i instance name more same inside is so_far named added =
-    let here : instance_name instance ≡ instance_name (get_or instances i instance) = ap instance_name (is ∙ ap (λ (xs : List BoundInstance). get_or xs i instance) same) in
-    let longer : map instance_name (take (i + 1) instances) ≡ map instance_name (take i instances) ++ instance_name (get_or instances i instance) ∷ [] =
-    ap (map instance_name) (take_more instances i instance (omega (arith, ap length same))) ∙ map-append instance_name (take i instances) (get_or instances i instance ∷ []) in
-    added ∙ ap (λ (ns : List (List ℕ)). ns ++ name ∷ []) so_far ∙ ap (λ (n : List ℕ). map instance_name (take i instances) ++ n ∷ []) (named ∙ here) ∙ sym longer
-
-pub names_all : (instances items : List BoundInstance) (names : List (List ℕ)) (i : ℕ) → items ≡ instances → length items ≤ i → names ≡ map instance_name (take i instances) → names ≡ map instance_name instances
-names_all instances items names i same past so_far = so_far ∙ ap (map instance_name) (take_all i instances (omega (arith, ap length same)))
-
--- a whole journal
-pub journal_is : (names : List (List ℕ)) (turns : ℕ) (head noted last journal : List ℕ) → head ≡ journal_text (Heading ∷ map Instance names) → NotesTurns 0 turns head noted → last ≡ journal_text (End turns ∷ []) → journal ≡ noted ++ last → IsJournalOf names turns journal
-journal_is names turns head noted last journal heads turned ends is =
-    let body : List ℕ = journal_text (turn_lines 0 turned.moves) in
-    record {
-      moves = turned.moves;
-      count = omega (arith, turned.count);
-      text_is = is ∙ ap (λ (t : List ℕ). t ++ last) turned.now_is ∙ append_assoc head body last
-          ∙ ap (λ (t : List ℕ). head ++ (body ++ t)) ends ∙ ap (λ (t : List ℕ). t ++ (body ++ journal_text (End turns ∷ []))) heads;
     }
 
 -- ---- a run

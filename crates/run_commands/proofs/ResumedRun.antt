@@ -15,7 +15,6 @@ use Rattle.pex_verify.specs.Files as verified
 use Rattle.scene_runner.specs.Report.{Closes, IsClosing, IsReport, turns_line}
 use Rattle.scene_runner.proofs.Appending.{appends_nothing, reports_behind}
 use Rattle.stack_machine.specs.declared.status.TurnFault.{TurnFault}
-use Rattle.stack_machine.specs.declared.status.TurnFault.TheVariants as turn
 use Rattle.stack_save.specs.Held.{HasLayout, IsFile, IsHeld, LoadGives, limit}
 use Rattle.stack_save.specs.declared.fault.HeldFault.{HeldFault}
 use Rattle.stack_save.specs.declared.fault.HeldFault.TheVariants as held
@@ -35,7 +34,6 @@ use Rattle.command_files.specs.FileFault.{CountsFile, MissesFile, ending_at}
 use Rattle.command_files.specs.Outputs.{AnswersTo, IsPart, Outputs}
 use Rattle.command_files.specs.TextFile.{ReadsText}
 use Rattle.run_commands.specs.Answers.{ResumeAnswers}
-use Rattle.run_commands.specs.Play.{turns_ending}
 use Rattle.run_commands.specs.Program.{MissesRead}
 use Rattle.run_commands.specs.Resume.{Breaks, GoesOn, IsBehindLoading, IsHeldAt, IsLate, IsReady, IsRest, LoadsHeld, ReadsHeld, RefusesHeld, Resumes, held_ending}
 
@@ -74,10 +72,6 @@ late_resumes from most held.OutOfMemory written late = appends_nothing written w
 pub late_writes : (fault : HeldFault) (count : ℕ) → CountsWrites (held_ending fault) count count
 late_writes (held.Broken by) count = refl
 late_writes held.OutOfMemory count = refl
-
-pub turns_resume : (from most : ℕ) (fault : TurnFault) (before now : Option (List ℕ)) → AppendsSome before now → Resumes from most (turns_ending fault) before now
-turns_resume from most turn.WriteFault before now appends = appends
-turns_resume from most turn.OutOfMemory before now appends = appends
 
 pub went_on : {T : Type 0} (result : Result T TurnFault) (from turns most : ℕ) (before between now : Option (List ℕ)) → from ≤ turns → turns ≤ from + most → AppendsSome before between → IfOk result (λ _. Closes turns between now) → IfOk result (λ _. GoesOn from most before now)
 went_on (Ok value) from turns most before between now on within appends closes =
