@@ -4,7 +4,8 @@
   check_explore.py                   all of these
   check_explore.py --program PATH    another program than PAPYRUS_PROGRAM in the environment, or the one that was built last
 
-  known     small scenes have the outcomes that are known by hand
+  known     small scenes, and some of the examples, have the outcomes that are known by hand
+  parting   two outcomes part where they do by hand, and each of the two orders that are told shows its outcome
   plain     small scenes have the outcomes that trying every list of stacks shows, turn by turn, without a look at any state
   shown     each scene that is written shows its outcome
   alike     the answer is the same whatever the number of jobs, and random orders lead to outcomes that all orders have
@@ -46,6 +47,14 @@ Function Count(Int times)
         times -= 1
     EndWhile
 EndFunction
+Function CountAsleep(Int times)
+    While times > 0
+        Int next = Gold + 1
+        Scene.Sleep(1)
+        Gold = next
+        times -= 1
+    EndWhile
+EndFunction
 """
 FLAG = """ScriptName Flag extends ObjectReference
 Bool Property IsUp Auto
@@ -75,6 +84,23 @@ Function Look()
     EndIf
 EndFunction
 """
+FRIEND = """ScriptName Friend extends ObjectReference
+Friend Property Other Auto
+Bool Property IsThere Auto
+Int Property Met Auto
+Function WaitFirst()
+    While !Other.IsThere
+    EndWhile
+    IsThere = True
+    Met += 1
+EndFunction
+Function ComeFirst()
+    IsThere = True
+    While !Other.IsThere
+    EndWhile
+    Met += 1
+EndFunction
+"""
 
 
 def call(instance, function, *arguments, turn=0):
@@ -88,16 +114,36 @@ def scene(instances, *calls, **more):
 
 CHESTS = [("chest", "Chest", {})]
 WAITERS = [("flag", "Flag", {}), ("one", "Waiter", {"Target": {"instance": "flag"}}), ("two", "Waiter", {"Target": {"instance": "flag"}})]
-# Scenes with the words behind their files, and the values of what is asked for in all outcomes.
+FRIENDS = [("one", "Friend", {"Other": {"instance": "two"}}), ("two", "Friend", {"Other": {"instance": "one"}})]
+NEVER = "never ends"
+LOOK = scene(WAITERS, call("one", "Look"), call("two", "Raise"))
+# Scenes with the words behind their files, and the values of what is asked for in all outcomes, with NEVER where some stack never ends.
+# A stack that counts k times reads once and then only writes over what it wrote: it ends with its first reading and k more. The one that writes last
+# may have read first before the other wrote, or behind any of the other's k writes. Where both begin at turn 0 and sleep, both have read before either writes.
 KNOWN = [
     ("the lost update, wherever its second half begins", scene(CHESTS, call("chest", "Take", 3), call("chest", "Take", 3)), ["--any-start"], "chest.Gold", {"4", "7"}),
     ("its repair", scene(CHESTS, call("chest", "TakeAtOnce", 3), call("chest", "TakeAtOnce", 3)), ["--any-start"], "chest.Gold", {"4"}),
     ("two stacks of one increment", scene(CHESTS, call("chest", "Count", 1), call("chest", "Count", 1)), ["--any-start"], "chest.Gold", {"11", "12"}),
     ("two stacks of two increments", scene(CHESTS, call("chest", "Count", 2), call("chest", "Count", 2)), ["--any-start"], "chest.Gold", {"12", "13", "14"}),
-    ("a look before or behind a raise", scene(WAITERS, call("one", "Look"), call("two", "Raise")), [], "flag.Seen", {"0", "1"}),
+    ("two stacks of one increment around a sleep", scene(CHESTS, call("chest", "CountAsleep", 1), call("chest", "CountAsleep", 1)), ["--any-start"], "chest.Gold", {"11", "12"}),
+    ("two stacks of two increments around a sleep", scene(CHESTS, call("chest", "CountAsleep", 2), call("chest", "CountAsleep", 2)), ["--any-start"], "chest.Gold", {"12", "13", "14"}),
+    ("two that begin together", scene(CHESTS, call("chest", "CountAsleep", 2), call("chest", "CountAsleep", 2)), [], "chest.Gold", {"12"}),
+    ("a look before or behind a raise", LOOK, [], "flag.Seen", {"0", "1"}),
     ("a wait for a raise", scene(WAITERS, call("one", "Await"), call("two", "Raise")), [], "flag.Seen", {"1"}),
-    ("a wait that keeps the flag's lock", scene(WAITERS, call("flag", "Await"), call("two", "Raise")), [], "flag.Seen", set()),
+    ("a wait that keeps the flag's lock", scene(WAITERS, call("flag", "Await"), call("two", "Raise")), [], "flag.Seen", {NEVER}),
+    ("a raise may come before that wait", scene(WAITERS, call("flag", "Await"), call("two", "Raise")), ["--any-start"], "flag.Seen", {"1", NEVER}),
+    ("two that wait for each other first", scene(FRIENDS, call("one", "WaitFirst"), call("two", "WaitFirst")), [], "one.Met", {NEVER}),
+    ("two that come first", scene(FRIENDS, call("one", "ComeFirst"), call("two", "ComeFirst")), [], "one.Met", {"1"}),
 ]
+# Examples likewise: whoever comes first to the north gate opens it and the other is late, and the baker bakes 5, 7 and 2 in whatever order of turns.
+EXAMPLES = [
+    ("gate", [], "north.Late", {"1"}),
+    ("producer", [], "baker.Bread", {"14"}),
+    ("producer", ["--any-start"], "baker.Bread", {"14"}),
+]
+PARTING = re.compile(
+    r"^Why outcomes .*\n  Both orders may begin with (\d+) turns?: (.*)\n  Then .*\n"
+    r"  Then turn (\d+).* is stack (\d+)'s for outcome (\d+): (.*)\n  Then turn (\d+).* is stack (\d+)'s for outcome (\d+): (.*)$", re.MULTILINE)
 # Scenes that are tried list by list.
 PLAIN = [
     scene(CHESTS, call("chest", "Take", 3), call("chest", "Take", 4, turn=1)),
@@ -114,7 +160,7 @@ class Room:
     def __init__(self, program, folder):
         self.program, self.folder = program, folder
         self.scripts = []
-        for name, text in (("Chest", CHEST), ("Flag", FLAG), ("Waiter", WAITER)):
+        for name, text in (("Chest", CHEST), ("Flag", FLAG), ("Waiter", WAITER), ("Friend", FRIEND)):
             (folder / f"{name}.psc").write_text(text)
             self.scripts.append(f"{name}.psc")
         self.files = [f"{name[:-4]}.pex" for name in self.scripts]
@@ -148,21 +194,58 @@ def outcomes_of(text):
     return found
 
 
+def known_fault(room, name, scripts, words, asked, wanted):
+    """What is found of a scene otherwise than it is known, or nothing."""
+    status, text, notes = room.explore(name, *scripts, *words, "--of", asked)
+    if (status, notes) != (0, b"") or b"All orders were followed" not in text:
+        return f"status {status}, {notes.decode()}{text.decode()}"
+    found = outcomes_of(text)
+    endless = [name for name, lines in found.items() if any("never ends" in line for line in lines)]
+    values = {line.split(" = ")[1] for lines in found.values() for line in lines if " = " in line} | ({NEVER} if endless else set())
+    if values != wanted:
+        return f"{asked} is {sorted(values)} in place of {sorted(wanted)}"
+    shown = {name: [line.decode().rstrip("\n") for line in kept(room.run("run", name, *scripts)[1], [asked])] for name in found if name not in endless}
+    return next((f"{name} shows another outcome" for name, lines in shown.items() if lines != found[name]), "")
+
+
 def check_known(tally, room):
     for what, tree, words, asked, wanted in KNOWN:
-        status, text, notes = room.explore(room.lay(tree), *room.scripts, *words, "--of", asked)
+        fault = known_fault(room, room.lay(tree), room.scripts, words, asked, wanted)
+        tally.note(fault and f"{what}: {fault}")
+    for example, words, asked, wanted in EXAMPLES:
+        scripts = [str(path) for path in sorted((ROOT / "examples" / example).glob("*.psc"))]
+        fault = known_fault(room, str(ROOT / "examples" / example / "scene.json"), scripts, words, asked, wanted)
+        tally.note(fault and f"examples/{example} {' '.join(words)}: {fault}")
+
+
+def turns_of(text):
+    """The stacks of an order as it is printed."""
+    parts = [] if text == "none" else [re.fullmatch(r"(-|\d+)(?:x(\d+))?", part) for part in text.split()]
+    return [NO_STACK if part[1] == "-" else int(part[1]) for part in parts for _ in range(int(part[2] or 1))]
+
+
+def parting_of(text):
+    """The common beginning of two orders, and for each outcome by its number the stack that has the turn behind that, and the order."""
+    number, common, *sides = PARTING.search(text.decode()).groups()
+    assert len(turns_of(common)) == int(number)
+    return turns_of(common), {outcome: (int(turn), int(stack), turns_of(order)) for turn, stack, outcome, order in (sides[:4], sides[4:])}
+
+
+def check_parting(tally, room):
+    """By hand: the first is who waits first, for the flag of a look and a raise, and for the keeper of the two gates."""
+    gates = [str(ROOT / "examples" / "gate" / name) for name in ("Controller.psc", "Gate.psc")]
+    tree = json.loads((ROOT / "examples" / "gate" / "scene.json").read_text())
+    opened = {0: "#0 [Gate <north>] is open, 1 in all", 2: "#2 [Gate <south>] is open, 1 in all"}
+    for what, tree, scripts, marks in (("a look and a raise", LOOK, room.scripts, {0: "Seen = 0", 1: "Seen = 1"}), ("the gates", tree, gates, opened)):
+        _, text, _ = room.explore(room.lay(tree), *scripts)
         found = outcomes_of(text)
-        values = {line.split(" = ")[1] for lines in found.values() for line in lines if " = " in line}
-        if (status, notes) != (0, b"") or b"All orders were followed" not in text:
-            tally.note(f"{what}: status {status}, {notes.decode()}{text.decode()}")
-        else:
-            tally.note("" if values == wanted else f"{what}: {asked} is {sorted(values)} in place of {sorted(wanted)}")
-        endless = [lines for lines in found.values() if any("never ends" in line for line in lines)]
-        tally.note("" if bool(endless) == (not wanted) else f"{what}: {len(endless)} outcomes in which stacks never end")
-        for name, lines in found.items():
-            if lines not in endless:
-                shown = room.run("exec", name, *room.files)[1]
-                tally.note("" if [line.decode() for line in kept(shown, [asked])] == [line + "\n" for line in lines] else f"{what}: {name} shows another outcome")
+        common, sides = parting_of(text)
+        tally.note("" if len(found) == 2 and {stack for _, stack, _ in sides.values()} == set(marks) else f"{what}: {text.decode()}")
+        for number, (turn, stack, order) in sides.items():
+            report = room.run("run", room.lay({**tree, "order": order, "turns": len(order)}, "parted.json"), *scripts)[1]
+            lines = [line.decode().rstrip("\n") for line in kept(report, [])]
+            is_so = order[: turn + 1] == [*common, stack] and lines == found[f"outcome-{number}.json"] and any(marks.get(stack) == line.strip() for line in lines)
+            tally.note("" if is_so else f"{what}: outcome {number} isn't that of {order} behind {common}: {lines}")
 
 
 def tried(room, tree):
@@ -200,8 +283,7 @@ def check_alike(tally, room):
         name = room.lay(tree)
         answers = {room.explore(name, *room.files, *words, "--of", asked, "--jobs", jobs) for jobs in ("1", "3")}
         tally.note("" if len(answers) == 1 else f"{what}: another answer with other jobs")
-    tree = KNOWN[4][1]
-    name = room.lay(tree)
+    name = room.lay(LOOK)
     answers = {room.explore(name, *room.files, "--random", "20", "--seed", "7", "--of", "Seen", "--jobs", jobs) for jobs in ("1", "2")}
     tally.note("" if len(answers) == 1 else "random runs: another answer with other jobs")
     lines = {line for found in answers for lines in outcomes_of(found[1]).values() for line in lines}
@@ -211,7 +293,7 @@ def check_alike(tally, room):
 
 
 def check_refused(tally, room):
-    good = room.lay(KNOWN[4][1], "good.json")
+    good = room.lay(LOOK, "good.json")
     (room.folder / "Wrong.psc").write_text("ScriptName Wrong\nFloat Property F Auto\n")
     (room.folder / "wrong.json").write_text("{")
     (room.folder / "unbound.json").write_text(json.dumps(scene([("it", "Nobody", {})])))
@@ -237,7 +319,7 @@ def main():
     tally = check_pages.Tally()
     with tempfile.TemporaryDirectory(prefix="papyrus-explore-") as folder:
         room = Room(program, pathlib.Path(folder).resolve())
-        for check in (check_known, check_plain, check_alike, check_refused):
+        for check in (check_known, check_parting, check_plain, check_alike, check_refused):
             check(tally, room)
     print("\n".join([*tally.wrong, f"{tally.passed} passed, {len(tally.wrong)} failed"]))
     return 1 if tally.wrong else 0
