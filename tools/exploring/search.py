@@ -236,18 +236,21 @@ class Search:
         graph = self.graph
         room = max(0, most_states - len(graph))
         done = 0
-        for (number, _), found in zip(tasks, pool((graph.path(number), choices) for number, choices in tasks[:room])):
-            if len(graph) >= most_states:
-                break
-            done += 1
-            for reached in found:
-                target, is_new = graph.add(reached.sum, number, reached.step, reached.turn)
-                if reached.report is not None:
-                    graph.end(target, reached.report)
-                elif is_new:
-                    buckets[reached.turn].append((target, reached.choices))
-            progress.tell(graph, len(tasks) - done + sum(map(len, buckets.values())))
-        graph.open += [number for number, _ in tasks[done:]]
+        try:
+            for (number, _), found in zip(tasks, pool((graph.path(number), choices) for number, choices in tasks[:room])):
+                if len(graph) >= most_states:
+                    break
+                for reached in found:
+                    target, is_new = graph.add(reached.sum, number, reached.step, reached.turn)
+                    if reached.report is not None:
+                        graph.end(target, reached.report)
+                    elif is_new:
+                        buckets[reached.turn].append((target, reached.choices))
+                done += 1
+                progress.tell(graph, len(tasks) - done + sum(map(len, buckets.values())))
+        finally:
+            # Also where Ctrl-C comes in between: nothing may be said of how these go on.
+            graph.open += [number for number, _ in tasks[done:]]
 
 
 def begin_here(words):
