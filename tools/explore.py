@@ -15,11 +15,9 @@ Each step of each run is made by the program's own commands, so what it shows is
 of the program, with its line: 2 for other words, 3 where a file can't be read, 5 to 9 for refused files, and 4 where nothing can be written.
 """
 import argparse
-import multiprocessing
 import os
 import pathlib
 import shutil
-import signal
 import sys
 
 sys.path.insert(0, str(pathlib.Path(__file__).resolve().parent))
@@ -37,7 +35,7 @@ class Words(argparse.ArgumentParser):
     """Answers other words as the program does."""
 
     def error(self, message):
-        raise Refused(f"papyrus: usage\n", 2)
+        raise Refused("papyrus: usage\n", 2)
 
 
 def whole(least, most):
@@ -86,7 +84,7 @@ class Teller:
         if len(lines) > MOST_LINES:
             print(f"  .. and {len(lines) - MOST_LINES} more lines")
 
-    def endless(self, findings, properties):
+    def endless(self, findings):
         """What is told of the states in which stacks never end, and the first state, by what is told."""
         told = {}
         for state, runs, group in findings.endless():
@@ -109,7 +107,7 @@ class Teller:
             return
         paths = [path_to(findings.graph, parting.state, self.orders, order) for order in parting.orders]
         common = path_to(findings.graph, parting.state, self.orders)
-        differ = [line for line in differences(findings.lines[one], findings.lines[other])]
+        differ = list(differences(findings.lines[one], findings.lines[other]))
         print(f"\nWhy outcomes {numbers[one]} and {numbers[other]} differ{': ' + '; '.join(differ[:4]) if differ else ''}")
         print(f"  Both orders may begin with {count(len(common.order), 'turn')}: {order_text(common.order) or 'none'}")
         self.held(common)
@@ -192,7 +190,7 @@ def tell_search(search, was_whole, words, teller):
             head = f"{outcome.leading} of {count(len(search.graph), 'state')} lead to it"
             teller.outcome(place, head, outcome.lines, path_to(search.graph, outcome.state, teller.orders))
     place = len(outcomes)
-    for lines, state in teller.endless(findings, words.of).items():
+    for lines, state in teller.endless(findings).items():
         place += 1
         if place <= MOST_OUTCOMES:
             teller.outcome(place, "not every stack ends", [line.encode() for line in lines], path_to(search.graph, state, teller.orders))
@@ -248,8 +246,8 @@ def main():
     except BrokenPipeError:
         os.dup2(os.open(os.devnull, os.O_WRONLY), sys.stdout.fileno())
         return 4
-    except OSError as error:
-        sys.stderr.write(f"papyrus: cannot write\n")
+    except OSError:
+        sys.stderr.write("papyrus: cannot write\n")
         return 4
     finally:
         shutil.rmtree(room, ignore_errors=True)
