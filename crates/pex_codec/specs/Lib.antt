@@ -1,11 +1,5 @@
 pub mod Writing
 pub mod Spells
-pub mod Widths
-pub mod Values
-pub mod FunctionReading
-pub mod Uncut
-pub mod ObjectReading
-pub mod FileReading
-pub mod Pieces
+pub mod Reading
+pub mod Scanning
 pub mod Decoding
-pub mod DecoderState

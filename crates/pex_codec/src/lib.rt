@@ -4,22 +4,14 @@
 #![tactic(auto)]
 
 mod code;
-mod decoder;
 mod encoding;
 mod faults;
-mod fields;
-mod file_reader;
-mod function_reader;
-mod laws;
-mod object_reader;
+mod heads;
 mod objects;
-mod pieces;
+mod parts;
 mod progress;
 mod spelled;
-mod uncut;
 
-pub use decoder::Decoder;
 pub use encoding::encode;
 pub use faults::{EncodeFault, PexFault, PexRule};
-pub use laws::one_spelling;
 pub use progress::Fed;
