@@ -1,2 +1,4 @@
 pub mod Lists
+pub mod Stable
+pub mod StableTasks
 pub mod Whole

@@ -1,8 +1,10 @@
 -- What a caller sees of a decoder, and what bytes lead to.
 use Rattle.std.specs.Prelude.{◌≡◌, ◌≢◌, ℕ, ◌<◌, ◌≤◌, List, [], ◌++◌, length, take, Result, Ok, Err}
 use Rattle.pex_values.specs.declared.values.Pex.{Pex}
-use Rattle.pex_values.specs.Fit.{limit}
+use Rattle.pex_values.specs.Fit.{Fits, limit}
 use Rattle.pex_values.specs.Plain.{PlainPex, plain}
+use Rattle.pex_values.specs.Shape.{IsWellShaped}
+use Rattle.pex_values.specs.Spelling.{spelling}
 use Rattle.pex_codec.specs.declared.faults.PexFault.{PexFault}
 use Rattle.pex_codec.specs.declared.faults.PexFault.TheVariants.{Broken, OutOfMemory}
 use Rattle.pex_codec.specs.declared.faults.PexRule.{PexRule}
@@ -112,3 +114,19 @@ FinishFrom (standing.Refused fault) taken result = result ≡ Err fault
 -- the same without the value
 abbrev pub FinishGives : Progress → Result Unit PexFault → Type 0
 FinishGives d result = FinishFrom d.standing d.taken result
+
+-- ---- what is left of it where only the number of the bytes is known
+
+-- a value that so many bytes spell
+pub record IsSpelledBy (taken : ℕ) (v : PlainPex) : Type 0 where
+  pub shaped : IsWellShaped v
+  pub fits : Fits v
+  pub size : length (spelling v) ≡ taken
+
+-- the value that so many bytes were
+abbrev pub IsDecoded : ℕ → Pex → Type 0
+IsDecoded taken v = IsSpelledBy taken (plain v)
+
+-- so many bytes were a value
+abbrev pub SpellOne : ℕ → Type 0
+SpellOne taken = (v : PlainPex) × IsSpelledBy taken v
