@@ -130,3 +130,33 @@ IsDecoded taken v = IsSpelledBy taken (plain v)
 -- so many bytes were a value
 abbrev pub SpellOne : ℕ → Type 0
 SpellOne taken = (v : PlainPex) × IsSpelledBy taken v
+
+-- ---- a whole file at once
+
+-- the value that the bytes spell, or the first rule that they break
+abbrev pub Decodes : List ℕ → Result Pex PexFault → Type 0
+Decodes bytes (Ok v) = Spells (plain v) bytes
+Decodes bytes (Err (Broken offset rule)) = Breaks bytes offset rule
+Decodes bytes (Err OutOfMemory) = Unit {0}
+
+-- the same without the value
+abbrev pub Judges : List ℕ → Result Unit PexFault → Type 0
+Judges bytes (Ok _) = IsSpelling bytes
+Judges bytes (Err (Broken offset rule)) = Breaks bytes offset rule
+Judges bytes (Err OutOfMemory) = Unit {0}
+
+-- a new decoder that got all of the bytes
+abbrev pub StandsAt : List ℕ → Progress → Standing → Type 0
+StandsAt bytes d standing.Reading = d.taken ≡ bytes
+StandsAt bytes d standing.Complete = d.taken ≡ bytes
+StandsAt bytes d (standing.Refused fault) = ⊥
+
+abbrev pub GotAll : List ℕ → Result Unit PexFault → Progress → Type 0
+GotAll bytes (Ok _) d = StandsAt bytes d d.standing
+GotAll bytes (Err (Broken offset rule)) d = Breaks bytes offset rule
+GotAll bytes (Err OutOfMemory) d = Unit {0}
+
+abbrev pub DecoderOf : List ℕ → Result Progress PexFault → Type 0
+DecoderOf bytes (Ok d) = StandsAt bytes d d.standing
+DecoderOf bytes (Err (Broken offset rule)) = Breaks bytes offset rule
+DecoderOf bytes (Err OutOfMemory) = Unit {0}
