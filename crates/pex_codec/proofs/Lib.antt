@@ -1,2 +1,5 @@
 pub mod Lists
+pub mod Tasks
+pub mod Opens
+pub mod Moves
 pub mod Whole

@@ -37,3 +37,13 @@ pub(crate) struct Task {
     pub part: Part,
     pub left: u32,
 }
+
+/// What the first fields of a part open: what is to come behind them, and the number of strings from there on.
+#[derive(Clone, Copy)]
+pub(crate) struct Opened {
+    pub strings: u16,
+    pub first: Task,
+    pub second: Task,
+    pub third: Task,
+    pub fourth: Task,
+}
