@@ -2,4 +2,5 @@ pub mod Writing
 pub mod Spells
 pub mod Reading
 pub mod Scanning
+pub mod Taking
 pub mod Decoding
