@@ -4,9 +4,11 @@
 #![tactic(auto)]
 
 mod code;
+mod cursor;
 mod encoding;
 mod faults;
 mod heads;
+mod items;
 mod objects;
 mod parts;
 mod progress;
