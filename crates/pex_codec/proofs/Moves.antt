@@ -5,7 +5,9 @@ use Rattle.std.proofs.lemmas.Bool.{leb-true}
 use Rattle.std.proofs.lemmas.List.{drop-drop}
 use Rattle.pex_values.specs.Opcodes.{operands_of}
 use Rattle.pex_values.specs.Bits.{has_variable}
-use Rattle.pex_codec.specs.Opening.{Moved, fixed_with, fixed_at, debug_count_with, debug_count_at}
+use Rattle.pex_codec.specs.Scanning.{with_strings, times_at}
+use Rattle.pex_codec.specs.declared.parts.Part.TheVariants as part
+use Rattle.pex_codec.specs.Opening.{Moved, fixed_with, fixed_at, state_count_at, debug_count_with, debug_count_at}
 use Rattle.pex_codec.specs.Reading.{Reading, Reader, Got, Short, Refused, then_read, read_as, judged, byte_at, bytes_at, number_at, reference_at, string_at, items_at, optional_at, datum_with, kind_at, datum_at, pair_at, opcode_at, count_at, variable_at, function_head_at, property_head_at, object_head_at, size_form_at, lines_head_at, debug_flag_at, flag_at, heading_at}
 use Rattle.pex_values.specs.declared.values.SizeForm.{SizeForm}
 use Rattle.pex_values.specs.declared.values.SizeForm.TheVariants.{Counted, Bare}
@@ -86,7 +88,7 @@ pub number_moves : (width at : ℕ) (bytes : List ℕ) → Moves width (number_a
 unfolding number_at
 number_moves width at bytes = moves_as _ width at bytes (bytes_at width at bytes) (bytes_move width at bytes)
 
-number_on : (width at : ℕ) (bytes : List ℕ) → 1 ≤ width → Moves 1 (number_at width at bytes) at bytes
+pub number_on : (width at : ℕ) (bytes : List ℕ) → 1 ≤ width → Moves 1 (number_at width at bytes) at bytes
 number_on width at bytes some = down width at bytes (number_at width at bytes) some (number_moves width at bytes)
 
 pub reference_moves : (strings at : ℕ) (bytes : List ℕ) → Moves 1 (reference_at strings at bytes) at bytes
@@ -153,10 +155,16 @@ count_0 at bytes =
     moves_then 0 at bytes (judged _ _ at (kind_at at bytes)) _ (moves_judged _ _ at 0 at bytes (kind_at at bytes) (less 1 at bytes (kind_at at bytes) (kind_moves at bytes)))
     (λ kind at1 rest1. moves_judged _ _ at 0 at1 rest1 (number_at 4 at1 rest1) (number_0 4 at1 rest1))
 
+pub operands_move : (n strings at : ℕ) (bytes : List ℕ) → Moves 0 (times_at part.Operand n strings at bytes) at bytes
+operands_move zero strings at bytes = stays at bytes
+operands_move (suc n) strings at bytes =
+    moves_then 0 at bytes (with_strings strings (datum_at strings at bytes)) _ (moves_as _ 0 at bytes (datum_at strings at bytes) (datum_0 strings at bytes))
+    (λ strings1 at1 rest1. operands_move n strings1 at1 rest1)
+
 fixed_rest : (strings : ℕ) (operands : Option (ℕ × Bool)) (at : ℕ) (bytes : List ℕ) → Moves 0 (fixed_with strings operands at bytes) at bytes
 fixed_rest strings (Some (n, true)) at bytes =
-    moves_then 0 at bytes (items_at (datum_at strings) n at bytes) _ (items_move (datum_at strings) n at bytes (datum_0 strings)) (λ fixed at1 rest1. count_0 at1 rest1)
-fixed_rest strings (Some (n, false)) at bytes = moves_as _ 0 at bytes (items_at (datum_at strings) n at bytes) (items_move (datum_at strings) n at bytes (datum_0 strings))
+    moves_then 0 at bytes (times_at part.Operand n strings at bytes) _ (operands_move n strings at bytes) (λ fixed at1 rest1. count_0 at1 rest1)
+fixed_rest strings (Some (n, false)) at bytes = moves_as _ 0 at bytes (times_at part.Operand n strings at bytes) (operands_move n strings at bytes)
 fixed_rest strings None at bytes = tt
 
 pub fixed_moves : (strings at : ℕ) (bytes : List ℕ) → Moves 1 (fixed_at strings at bytes) at bytes
@@ -211,6 +219,10 @@ lines_head_moves strings at bytes =
     (λ b at2 rest2. moves_then 0 at2 rest2 (reference_at strings at2 rest2) _ (reference_0 strings at2 rest2)
     (λ c at3 rest3. moves_then 0 at3 rest3 (byte_at at3 rest3) _ (byte_0 at3 rest3)
     (λ d at4 rest4. moves_as _ 0 at4 rest4 (number_at 2 at4 rest4) (number_0 2 at4 rest4)))))
+
+pub state_count_moves : (strings at : ℕ) (bytes : List ℕ) → Moves 1 (state_count_at strings at bytes) at bytes
+unfolding state_count_at
+state_count_moves strings at bytes = moves_then 1 at bytes (reference_at strings at bytes) _ (reference_moves strings at bytes) (λ name at1 rest1. number_0 2 at1 rest1)
 
 -- ---- tables and the heading
 

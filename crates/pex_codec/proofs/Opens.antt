@@ -13,20 +13,15 @@ use Rattle.pex_codec.specs.declared.heads.LinesHead.{LinesHead}
 use Rattle.pex_codec.specs.declared.parts.Part.{Part}
 use Rattle.pex_codec.specs.declared.parts.Part.TheVariants as part
 use Rattle.pex_codec.specs.declared.parts.Task.{Task}
-use Rattle.pex_codec.specs.Opening.{fixed_with, fixed_at, debug_count_with, debug_count_at}
+use Rattle.pex_codec.specs.Opening.{task, times_of, object_tasks, whole_file, fixed_with, fixed_at, state_count_at, debug_count_with, debug_count_at}
 use Rattle.pex_codec.specs.Reading.{Reading, Reader, Got, Short, Refused, then_read, read_as, number_at, reference_at, items_at, list_at, optional_at, string_at, datum_at, count_at, pair_at, opcode_at, instruction_with, instruction_at, function_head_at, function_with, function_at, named_at, state_at, variable_at, property_head_at, property_with, property_at, object_head_at, object_with, object_at, size_form_at, lines_head_at, lines_with, lines_at, debug_flag_at, debug_with, debug_at, flag_at, heading_at, Texts, texts_at, pex_with, pex_at}
 use Rattle.pex_codec.specs.Scanning.{with_strings, part_at, times_at, tasks_at}
-use Rattle.pex_codec.proofs.Tasks.{then_next, then_then, as_then, as_as, then_got, task, tasks_append, times_once, times_items, follow, follow_last}
+use Rattle.pex_codec.proofs.Tasks.{then_next, then_then, as_then, as_as, then_got, tasks_append, times_once, times_items, follow, follow_last}
 
 -- a part whose first fields are read, and the rest of which is a stack
 opens : {A B : Type 0} (view : B → ℕ) (first : Reading A) (next : A → Reader B) (stack : A → Reader ℕ)
     → ((a : A) (at1 : ℕ) (rest1 : List ℕ) → read_as view (next a at1 rest1) ≡ stack a at1 rest1) → read_as view (then_read first next) ≡ then_read first stack
 opens view first next stack same = as_then view first next ∙ then_next first (λ a at1 rest1. read_as view (next a at1 rest1)) stack same
-
--- a part that is there where it is asked for
-abbrev pub times_of : Bool → ℕ
-times_of true = 1
-times_of false = 0
 
 optional_once : {A : Type 0} (part : Part) (strings : ℕ) (asked : Bool) (item : Reader A) → ((at : ℕ) (bytes : List ℕ) → part_at part strings at bytes ≡ with_strings strings (item at bytes))
     → (at : ℕ) (bytes : List ℕ) → times_at part (times_of asked) strings at bytes ≡ with_strings strings (optional_at asked item at bytes)
@@ -71,20 +66,33 @@ abbrev instruction_of : ℕ → List Datum → List Datum → PlainInstruction
 instruction_of opcode fixed more = record { opcode = opcode; fixed = fixed; more = more }
 
 fixed_only : (strings opcode : ℕ) (fixed : Reading (List Datum))
-    → with_strings strings (read_as (λ operands. instruction_of opcode operands []) fixed) ≡ then_read (read_as (λ operands. 0) fixed) (λ n at1 rest1. tasks_at (task part.Operand n ∷ []) strings at1 rest1)
+    → with_strings strings (read_as (λ operands. instruction_of opcode operands []) fixed) ≡ then_read (read_as (λ operands. 0) (with_strings strings fixed)) (λ n at1 rest1. tasks_at (task part.Operand n ∷ []) strings at1 rest1)
 fixed_only strings opcode (Got operands at1 rest1) = refl
 fixed_only strings opcode Short = refl
 fixed_only strings opcode (Refused o rule) = refl
+
+fixed_more : (strings : ℕ) (fixed : Reading (List Datum)) (next : Reader ℕ) (stack : ℕ → Reader ℕ)
+    → then_read fixed (λ operands at1 rest1. then_read (next at1 rest1) stack) ≡ then_read (then_read (with_strings strings fixed) (λ operands at1 rest1. next at1 rest1)) stack
+fixed_more strings (Got operands at1 rest1) next stack = refl
+fixed_more strings Short next stack = refl
+fixed_more strings (Refused o rule) next stack = refl
+
+operands_are : (strings n at : ℕ) (bytes : List ℕ) → times_at part.Operand n strings at bytes ≡ with_strings strings (items_at (datum_at strings) n at bytes)
+operands_are strings n at bytes = times_items part.Operand strings (datum_at strings) (λ at1 rest1. refl) n at bytes
 
 instruction_rest : (strings : ℕ) (opcode : ℕ) (operands : Option (ℕ × Bool)) (at : ℕ) (bytes : List ℕ)
     → with_strings strings (instruction_with strings opcode operands at bytes) ≡ then_read (fixed_with strings operands at bytes) (λ n at1 rest1. tasks_at (task part.Operand n ∷ []) strings at1 rest1)
 instruction_rest strings opcode (Some (n, true)) at bytes =
     let item = datum_at strings in
-    opens (λ _. strings) (items_at item n at bytes) _ (λ fixed at1 rest1. then_read (count_at at1 rest1) (λ count at2 rest2. tasks_at (task part.Operand count ∷ []) strings at2 rest2))
-    (λ fixed at1 rest1. opens (λ _. strings) (count_at at1 rest1) _ (λ count at2 rest2. tasks_at (task part.Operand count ∷ []) strings at2 rest2)
-      (λ count at2 rest2. follow_last (λ _. strings) strings part.Operand count at2 rest2 _ (items_at item count at2 rest2) (λ a. refl) (times_items part.Operand strings item (λ at3 rest3. refl) count at2 rest2)))
-    ∙ sym (then_then (items_at item n at bytes) (λ fixed at1 rest1. count_at at1 rest1) (λ count at2 rest2. tasks_at (task part.Operand count ∷ []) strings at2 rest2))
-instruction_rest strings opcode (Some (n, false)) at bytes = fixed_only strings opcode (items_at (datum_at strings) n at bytes)
+    let stack = λ (count : ℕ) (at2 : ℕ) (rest2 : List ℕ). tasks_at (task part.Operand count ∷ []) strings at2 rest2 in
+    opens (λ _. strings) (items_at item n at bytes) _ (λ fixed at1 rest1. then_read (count_at at1 rest1) stack)
+    (λ fixed at1 rest1. opens (λ _. strings) (count_at at1 rest1) _ stack
+      (λ count at2 rest2. follow_last (λ _. strings) strings part.Operand count at2 rest2 _ (items_at item count at2 rest2) (λ a. refl) (operands_are strings count at2 rest2)))
+    ∙ fixed_more strings (items_at item n at bytes) count_at stack
+    ∙ sym (ap (λ (r : Reading ℕ). then_read (then_read r (λ operands at1 rest1. count_at at1 rest1)) stack) (operands_are strings n at bytes))
+instruction_rest strings opcode (Some (n, false)) at bytes =
+    fixed_only strings opcode (items_at (datum_at strings) n at bytes)
+    ∙ sym (ap (λ (r : Reading ℕ). then_read (read_as (λ operands. 0) r) (λ n at1 rest1. tasks_at (task part.Operand n ∷ []) strings at1 rest1)) (operands_are strings n at bytes))
 instruction_rest strings opcode None at bytes = refl
 
 pub instruction_opens : (strings at : ℕ) (bytes : List ℕ) → part_at part.Instruction strings at bytes ≡ then_read (fixed_at strings at bytes) (λ n at1 rest1. tasks_at (task part.Operand n ∷ []) strings at1 rest1)
@@ -114,12 +122,13 @@ named_opens strings at bytes =
     (λ name at1 rest1. follow_last (λ _. strings) strings part.Function 1 at1 rest1 _ (function_at strings at1 rest1) (λ a. refl) (times_once part.Function strings at1 rest1))
 
 pub state_opens : (strings at : ℕ) (bytes : List ℕ)
-    → part_at part.State strings at bytes
-      ≡ then_read (reference_at strings at bytes) (λ name at1 rest1. then_read (number_at 2 at1 rest1) (λ n at2 rest2. tasks_at (task part.Named n ∷ []) strings at2 rest2))
-unfolding state_at
+    → part_at part.State strings at bytes ≡ then_read (state_count_at strings at bytes) (λ n at2 rest2. tasks_at (task part.Named n ∷ []) strings at2 rest2)
+unfolding state_at state_count_at
 state_opens strings at bytes =
-    opens (λ _. strings) (reference_at strings at bytes) _ (λ name at1 rest1. then_read (number_at 2 at1 rest1) (λ n at2 rest2. tasks_at (task part.Named n ∷ []) strings at2 rest2))
+    let stack = λ (n : ℕ) (at2 : ℕ) (rest2 : List ℕ). tasks_at (task part.Named n ∷ []) strings at2 rest2 in
+    opens (λ _. strings) (reference_at strings at bytes) _ (λ name at1 rest1. then_read (number_at 2 at1 rest1) stack)
     (λ name at1 rest1. as_as (λ _. strings) _ (list_at (named_at strings) at1 rest1) ∙ list_opens part.Named strings (named_at strings) (λ at9 rest9. refl) at1 rest1)
+    ∙ sym (then_then (reference_at strings at bytes) (λ name at1 rest1. number_at 2 at1 rest1) stack)
 
 -- ---- properties and objects
 
@@ -136,10 +145,6 @@ property_opens strings at bytes =
       (optional_once part.Function strings (has_read h.bits) (function_at strings) (λ at9 rest9. refl) at1 rest1)
       (λ read at2 rest2. follow_last (λ _. strings) strings part.Function (times_of (has_write h.bits)) at2 rest2 _ (optional_at (has_write h.bits) (function_at strings) at2 rest2) (λ a. refl)
         (optional_once part.Function strings (has_write h.bits) (function_at strings) (λ at9 rest9. refl) at2 rest2)))
-
--- what an object's head opens
-abbrev pub object_tasks : ObjectHead → List Task
-object_tasks h = task (part.Size h.size_at h.size) 1 ∷ task part.States 1 ∷ task part.Properties 1 ∷ task part.Variable h.variables ∷ []
 
 pub object_opens : (strings at : ℕ) (bytes : List ℕ)
     → part_at part.Object strings at bytes ≡ then_read (object_head_at strings at bytes) (λ h at1 rest1. tasks_at (object_tasks h) strings at1 rest1)
@@ -234,9 +239,6 @@ three_texts heading at bytes =
         (λ user at2 rest2. text_step heading 0 (string_at at2 rest2) _
           (λ machine at3 rest3. strings_rest heading source user machine at3 rest3)))
     ∙ sym (tasks_append behind_heading (task part.Text 3 ∷ []) 0 at bytes)
-
-abbrev pub whole_file : List Task
-whole_file = task part.Objects 1 ∷ task part.Flags 1 ∷ task part.Debug 1 ∷ task part.Strings 1 ∷ task part.Text 3 ∷ task part.Heading 1 ∷ []
 
 -- what a new scan reads
 pub pex_opens : (at : ℕ) (bytes : List ℕ) → read_as strings_of (pex_at at bytes) ≡ tasks_at whole_file 0 at bytes

@@ -4,6 +4,7 @@ use Rattle.std.proofs.Common.{◌≡◌, ℕ, zero, suc, List, [], ◌∷◌, �
 use Rattle.pex_codec.specs.declared.parts.Part.{Part}
 use Rattle.pex_codec.specs.declared.parts.Part.TheVariants as part
 use Rattle.pex_codec.specs.declared.parts.Task.{Task}
+use Rattle.pex_codec.specs.Opening.{task}
 use Rattle.pex_codec.specs.Reading.{Reading, Reader, Got, Short, Refused, then_read, read_as, items_at}
 use Rattle.pex_codec.specs.Scanning.{with_strings, part_at, times_at, tasks_at}
 
@@ -35,9 +36,6 @@ then_got Short = refl
 then_got (Refused o rule) = refl
 
 -- ---- stacks
-
-abbrev pub task : Part → ℕ → Task
-task part n = record { part = part; left = n }
 
 -- the upper part of a stack comes first
 pub tasks_append : (xs ys : List Task) (strings at : ℕ) (bytes : List ℕ) → tasks_at (xs ++ ys) strings at bytes ≡ then_read (tasks_at ys strings at bytes) (tasks_at xs)

@@ -10,8 +10,10 @@ mod faults;
 mod heads;
 mod items;
 mod objects;
+mod opening;
 mod parts;
 mod progress;
+mod rows;
 mod spelled;
 
 pub use encoding::encode;
