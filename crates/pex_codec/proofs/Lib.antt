@@ -1,6 +1,7 @@
 pub mod Lists
+pub mod Taken
 pub mod Tasks
 pub mod Opens
 pub mod Moves
-pub mod Taken
+pub mod FirstFields
 pub mod Whole

@@ -1,6 +1,6 @@
 //! Takes bytes and numbers from the front of a file's bytes.
 
-ghost use Rattle.std.specs.Prelude.{◌≡◌, ◌+◌, ◌≤◌, length};
+ghost use Rattle.std.specs.Prelude.{◌≡◌, ◌+◌, ◌≤◌, length, IfOk};
 ghost use Rattle.pex_codec.specs.declared.cursor.Stop.TheVariants.{OutOfMemory as NoMemory};
 
 use crate::faults::PexRule;
@@ -60,7 +60,8 @@ impl<'a> Cursor<'a> {
     #[inline(always)]
     #[tactic(auto, unfolding(crate::specs::Reading::bytes_at))]
     pub(crate) fn take(&mut self, count: usize) -> Result<&'a [u8], Stop>
-        ensures { Takes (λ b. b.now) (reading.bytes_at count) result self.old self.new }
+        ensures taken { Takes (λ b. b.now) (reading.bytes_at count) result self.old self.new }
+        ensures count { IfOk result (λ b. length b.now ≡ count) }
     {
         if self.rest.len() < count {
             return Err(Stop::Short);

@@ -1,6 +1,6 @@
 use Rattle.std.proofs.Common.{refl, rules}
 use Rattle.pex_codec.specs.declared.parts.Part.TheVariants as part
-use Rattle.pex_codec.proofs.Taken.{opens_err, opens_ok}
+use Rattle.pex_codec.proofs.FirstFields.{opens_err, opens_ok}
 use Rattle.pex_codec.proofs.Moves.{fixed_moves}
 use Rattle.pex_codec.proofs.Opens.{instruction_opens}
 use Rattle.pex_codec.proofs.opening.instruction.Goals as goal

@@ -1,6 +1,6 @@
 use Rattle.std.proofs.Common.{refl, rules}
 use Rattle.pex_codec.specs.declared.parts.Part.TheVariants as part
-use Rattle.pex_codec.proofs.Taken.{opens_err, opens_ok}
+use Rattle.pex_codec.proofs.FirstFields.{opens_err, opens_ok}
 use Rattle.pex_codec.proofs.Moves.{reference_moves}
 use Rattle.pex_codec.proofs.Opens.{named_opens}
 use Rattle.pex_codec.proofs.opening.named.Goals as goal

@@ -1,7 +1,7 @@
 use Rattle.std.proofs.Common.{refl, rules}
 use Rattle.pex_codec.specs.Reading.{pair_at}
 use Rattle.pex_codec.specs.declared.parts.Part.TheVariants as part
-use Rattle.pex_codec.proofs.Taken.{opens_err, opens_ok, whole_opens}
+use Rattle.pex_codec.proofs.FirstFields.{opens_err, opens_ok, whole_opens}
 use Rattle.pex_codec.proofs.Moves.{pair_moves}
 use Rattle.pex_codec.proofs.opening.pair.Goals as goal
 

@@ -2,7 +2,7 @@ use Rattle.std.proofs.Common.{refl, rules}
 use Rattle.pex_codec.specs.Reading.{state_at}
 use Rattle.std.proofs.Common.{arith}
 use Rattle.pex_codec.specs.declared.parts.Part.TheVariants as part
-use Rattle.pex_codec.proofs.Taken.{opens_err, opens_ok}
+use Rattle.pex_codec.proofs.FirstFields.{opens_err, opens_ok}
 use Rattle.pex_codec.proofs.Moves.{number_on}
 use Rattle.pex_codec.proofs.Opens.{list_opens}
 use Rattle.pex_codec.proofs.opening.states.Goals as goal

@@ -1,7 +1,7 @@
 use Rattle.std.proofs.Common.{refl, rules}
 use Rattle.std.proofs.Common.{arith}
 use Rattle.pex_codec.specs.declared.parts.Part.TheVariants as part
-use Rattle.pex_codec.proofs.Taken.{opens_err, opens_ok}
+use Rattle.pex_codec.proofs.FirstFields.{opens_err, opens_ok}
 use Rattle.pex_codec.proofs.Moves.{number_on}
 use Rattle.pex_codec.proofs.Opens.{strings_open}
 use Rattle.pex_codec.proofs.opening.string_table.Goals as goal

@@ -1,7 +1,7 @@
 use Rattle.std.proofs.Common.{refl, rules}
 use Rattle.pex_codec.specs.Reading.{variable_at}
 use Rattle.pex_codec.specs.declared.parts.Part.TheVariants as part
-use Rattle.pex_codec.proofs.Taken.{opens_err, opens_ok, whole_opens}
+use Rattle.pex_codec.proofs.FirstFields.{opens_err, opens_ok, whole_opens}
 use Rattle.pex_codec.proofs.Moves.{variable_moves}
 use Rattle.pex_codec.proofs.opening.variable.Goals as goal
 
