@@ -4,4 +4,6 @@ pub mod Tasks
 pub mod Opens
 pub mod Moves
 pub mod FirstFields
+pub mod Stable
+pub mod StableTasks
 pub mod Whole
