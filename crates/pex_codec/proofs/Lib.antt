@@ -1,2 +1,4 @@
+pub mod Exact
+pub mod ExactCode
 pub mod Lists
 pub mod Whole

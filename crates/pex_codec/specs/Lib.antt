@@ -3,3 +3,4 @@ pub mod Spells
 pub mod Reading
 pub mod Scanning
 pub mod Decoding
+pub mod Laws
