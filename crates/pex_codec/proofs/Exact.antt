@@ -108,6 +108,18 @@ taken {reader = reader} exact next at bytes y end rest b e =
     let s = exact.sound p.part at bytes p.mid p.behind b p.first in
     record { part = p.part; mid = p.mid; behind = p.behind; may = s.may; spans = s.spans; others = s.others; later = p.later }
 
+-- a part behind a view
+pub record Read {A B : Type 0} (view : A → B) (reading : Reading A) (y : B) (end : ℕ) (rest : List ℕ) : Type 0 where
+  pub part : A
+  pub is : view part ≡ y
+  pub first : reading ≡ Got part end rest
+
+pub read_got : {A B : Type 0} (view : A → B) (reading : Reading A) (y : B) (end : ℕ) (rest : List ℕ) → read_as view reading ≡ Got y end rest → Read view reading y end rest
+read_got view (Got x mid behind) y end rest e =
+    same_got (λ z i r. Read view (Got x mid behind) z i r) (view x) y mid end behind rest e (record { part = x; is = refl; first = refl })
+read_got view Short y end rest e = short_got y end rest e
+read_got view (Refused offset rule) y end rest e = refused_got offset rule y end rest e
+
 -- the last part of some
 pub record Viewed {A B : Type 0} (P : A → Type 0) (f : A → List ℕ) (view : A → B) (at : ℕ) (bytes : List ℕ) (y : B) (end : ℕ) (rest : List ℕ) : Type 0 where
   pub part : A
@@ -116,17 +128,12 @@ pub record Viewed {A B : Type 0} (P : A → Type 0) (f : A → List ℕ) (view :
   pub spans : Spans at bytes (f part) end rest
   pub others : AreBytes rest
 
-viewed_from : {A B : Type 0} {P : A → Type 0} {f : A → List ℕ} {reader : Reader A} → IsExact P f reader → (view : A → B) (at : ℕ) (bytes : List ℕ) (y : B) (end : ℕ) (rest : List ℕ)
-    → AreBytes bytes → (reading : Reading A) → reader at bytes ≡ reading → read_as view reading ≡ Got y end rest → Viewed P f view at bytes y end rest
-viewed_from {P = P} {f = f} exact view at bytes y end rest b (Got x mid behind) is e =
-    let s = exact.sound x at bytes mid behind b is in
-    same_got (λ z i r. Viewed P f view at bytes z i r) (view x) y mid end behind rest e (record { part = x; is = refl; may = s.may; spans = s.spans; others = s.others })
-viewed_from exact view at bytes y end rest b Short is e = short_got y end rest e
-viewed_from exact view at bytes y end rest b (Refused offset rule) is e = refused_got offset rule y end rest e
-
 pub viewed : {A B : Type 0} {P : A → Type 0} {f : A → List ℕ} {reader : Reader A} → IsExact P f reader → (view : A → B) (at : ℕ) (bytes : List ℕ) (y : B) (end : ℕ) (rest : List ℕ)
     → AreBytes bytes → read_as view (reader at bytes) ≡ Got y end rest → Viewed P f view at bytes y end rest
-viewed {reader = reader} exact view at bytes y end rest b e = viewed_from exact view at bytes y end rest b (reader at bytes) refl e
+viewed {reader = reader} exact view at bytes y end rest b e =
+    let r = read_got view (reader at bytes) y end rest e in
+    let s = exact.sound r.part at bytes end rest b r.first in
+    record { part = r.part; is = r.is; may = s.may; spans = s.spans; others = s.others }
 
 pub follow : {A B : Type 0} {P : A → Type 0} {f : A → List ℕ} {reader : Reader A} (next : A → Reader B) → IsExact P f reader → (x : A) (at : ℕ) (rest : List ℕ) → P x
     → then_read (reader at (f x ++ rest)) next ≡ next x (at + length (f x)) rest

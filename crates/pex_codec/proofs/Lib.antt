@@ -1,4 +1,5 @@
 pub mod Exact
 pub mod ExactCode
+pub mod ExactObject
 pub mod Lists
 pub mod Whole
