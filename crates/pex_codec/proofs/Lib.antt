@@ -1,5 +1,6 @@
 pub mod Exact
 pub mod ExactCode
+pub mod ExactFile
 pub mod ExactObject
 pub mod Lists
 pub mod Whole
