@@ -1,6 +1,5 @@
 pub mod Encoded
 pub mod HeldScripts
-pub mod PexCounting
 pub mod PexRead
 pub mod ScriptFaults
 pub mod TextRead

@@ -1,46 +1,59 @@
--- What reading a compiled file gives, by what its parts gave.
-use Rattle.std.proofs.Common.{arith, ◌≡◌, ◌∙◌, ℕ, List}
-use Rattle.std.specs.Prelude.{Option, None, Some, Result, Ok, Err}
-use Rattle.papy_io.specs.declared.fault.IoFault.{IoFault}
-use Rattle.papy_io.specs.declared.fault.IoFault.TheVariants as io
-use Rattle.papy_io.specs.Count.{CountsFaults}
-use Rattle.papy_io.specs.Desk.{MissesStart}
+-- What reading a compiled file gives, by what reading its bytes and decoding them gave.
+use Rattle.std.proofs.Common.{arith, ◌≡◌, ℕ, List, length, ap, refl, subst, sym}
+use Rattle.std.specs.Prelude.{Option, None, Some, Ok, Err}
+use Rattle.std.specs.declared.alloc.Global.{Global}
+use Rattle.std.specs.declared.vec.Vec.{Vec}
 use Rattle.papy_io.specs.Files.{Files}
+use Rattle.pex_codec.specs.declared.faults.PexFault.{PexFault}
+use Rattle.pex_codec.specs.declared.faults.PexFault.TheVariants as pex
+use Rattle.pex_codec.specs.declared.faults.PexRule.TheVariants.{TooLarge}
+use Rattle.pex_codec.specs.Decoding.{Decodes, IsSpelledBy, IsSpelling, SpellOne}
+use Rattle.pex_codec.specs.Spells.{Spells}
+use Rattle.pex_values.specs.declared.values.Pex.{Pex}
+use Rattle.pex_values.specs.Plain.{PlainPex, plain}
 use Rattle.command_files.specs.declared.file_fault.FileFault.{FileFault}
 use Rattle.command_files.specs.declared.file_fault.FileFault.TheVariants.{ReadFault, OutOfMemory, Refused}
-use Rattle.command_files.specs.declared.pex_file.PexFile.{PexFile}
-use Rattle.command_files.specs.FileFault.{CountsFile, MissesFile, start_fault}
-use Rattle.pex_codec.specs.Decoding.{IsDecoded, Progress, SpellOne}
-use Rattle.command_files.specs.PexFile.{Counts, CountsHeld, CountsPex, Decodes, Judges, ReadsPex, ReadsSized}
+use Rattle.command_files.specs.PexFile.{IsRefusalOf, Reads, ReadsBytes, ReadsPex, ReadsKept, CountsPex}
+
+-- a value and the bytes that spell it
+pub spelled_by : (v : PlainPex) (bytes : List ℕ) → Spells v bytes → IsSpelledBy (length bytes) v
+spelled_by v bytes spells = record { shaped = spells.shaped; fits = spells.fits; size = ap length (sym spells.spelled) }
+
+pub spelled_one : (bytes : List ℕ) → IsSpelling bytes → SpellOne (length bytes)
+spelled_one bytes (v, spells) = (v, spelled_by v bytes spells)
 
 -- a file that was not read whole
-pub start_counts : (fault : IoFault) (before now : ℕ) → CountsFaults {T = Option ℕ} (Err fault) before now → CountsFile {T = Progress × ℕ} (Err (start_fault fault)) before now
-start_counts io.Failed before now counts = counts
-start_counts io.OutOfMemory before now counts = counts
+pub read_unread : {T : Type 0} (Says : T → List ℕ → Type 0) (holds : Option Files) (name : List ℕ) (fault : FileFault) → ReadsBytes holds name (Err fault) → Reads Says holds name (Err fault)
+read_unread Says None name fault read = tt
+read_unread Says (Some files) name ReadFault read = tt
+read_unread Says (Some files) name OutOfMemory read = tt
+read_unread Says (Some files) name (Refused place rule) (bytes, held, past, place_is, rule_is) =
+    (bytes, held, record { breaks = λ few. absurd (omega (arith, past, few)); too_large = λ _. (place_is, rule_is) })
 
-pub start_misses : (name : List ℕ) (fault : IoFault) (before now : Option (List ℕ)) → MissesStart {T = Option ℕ} name (Err fault) before now → MissesFile {T = Progress × ℕ} name (Err (start_fault fault)) now
-start_misses name io.Failed before now misses = misses
-start_misses name io.OutOfMemory before now misses = tt
+-- a file that was read and breaks a rule
+pub read_refused : {T : Type 0} (Says : T → List ℕ → Type 0) (holds : Option Files) (name : List ℕ) (bytes : Vec ℕ Global) (fault : PexFault) (told : FileFault)
+    → ReadsBytes holds name (Ok bytes) → Decodes bytes.items (Err fault) → IsRefusalOf fault told → Reads Says holds name (Err told)
+read_refused Says None name bytes fault told read breaks is = tt
+read_refused {T} Says (Some files) name bytes pex.OutOfMemory told read breaks is = subst (λ (f : FileFault). Reads {T} Says (Some files) name (Err f)) (sym is) tt
+read_refused {T} Says (Some files) name bytes (pex.Broken offset rule) told read breaks is =
+    subst (λ (f : FileFault). Reads {T} Says (Some files) name (Err f)) (sym is)
+    (bytes.items, read.1, record {
+      breaks = λ few. record { offset = offset; broken = rule; place_is = refl; rule_is = refl; breaks = breaks };
+      too_large = λ past. absurd (omega (arith, past, read.0));
+    })
 
-pub start_reads : (holds : Option Files) (name : List ℕ) (fault : IoFault) → CountsPex holds name (Err (start_fault fault))
-start_reads None name fault = tt
-start_reads (Some files) name io.Failed = tt
-start_reads (Some files) name io.OutOfMemory = tt
+-- a file that was read and spells a value
+pub read_decoded : (holds : Option Files) (name : List ℕ) (bytes : Vec ℕ Global) (value : Pex) (size : ℕ) → ReadsBytes holds name (Ok bytes) → Spells (plain value) bytes.items → size ≡ length bytes.items
+    → ReadsPex holds name (Ok (record { value = value; size = size }))
+read_decoded None name bytes value size read spells is = tt
+read_decoded (Some files) name bytes value size read spells is = (bytes.items, read.1, record { spelled = spells; size = is })
 
--- a file that isn't too large gave something with the number of its bytes, or is refused
-read-judged : {T : Type 0} (size_of : T → ℕ) (P : T → Type 0) (holds : Option Files) (name : List ℕ) (size : ℕ) (result : Result T FileFault) → ((x : T) → P x → size_of x ≡ size)
-    → CountsHeld holds name (Ok (Some size)) → Judges P result → ReadsSized size_of holds name result
-read-judged size_of P None name size result sized held judges = tt
-read-judged size_of P (Some files) name size (Ok x) sized (bytes, held, is, small) judges = (bytes, held, sized x judges ∙ is)
-read-judged size_of P (Some files) name size (Err (Refused place rule)) sized (bytes, held, is, small) pex =
-    (bytes, held, record { pex = pex; too_large = λ past. absurd (omega arith) })
-read-judged size_of P (Some files) name size (Err OutOfMemory) sized held judges = tt
-read-judged size_of P (Some files) name size (Err ReadFault) sized held judges = absurd judges
+pub read_kept : (holds : Option Files) (name : List ℕ) (bytes : Vec ℕ Global) (value : Pex) → ReadsBytes holds name (Ok bytes) → Spells (plain value) bytes.items
+    → ReadsKept holds name (Ok (record { value = value; bytes = bytes }))
+read_kept None name bytes value read spells = tt
+read_kept (Some files) name bytes value read spells = (bytes.items, read.1, record { spelled = spells; bytes = refl })
 
-pub read_decoded : (holds : Option Files) (name : List ℕ) (size : ℕ) (result : Result PexFile FileFault) → CountsHeld holds name (Ok (Some size)) → Decodes size result → ReadsPex holds name result
-read_decoded holds name size result held decodes =
-    read-judged (λ (f : PexFile). f.size) (λ (f : PexFile). IsDecoded size f.value × (f.size ≡ size)) holds name size result (λ f judged. judged.1) held decodes
-
-pub read_counted : (holds : Option Files) (name : List ℕ) (size : ℕ) (result : Result ℕ FileFault) → CountsHeld holds name (Ok (Some size)) → Counts size result → CountsPex holds name result
-read_counted holds name size result held counts =
-    read-judged (λ (n : ℕ). n) (λ (n : ℕ). SpellOne size × (n ≡ size)) holds name size result (λ n judged. judged.1) held counts
+pub read_counted : (holds : Option Files) (name : List ℕ) (bytes : Vec ℕ Global) (size : ℕ) → ReadsBytes holds name (Ok bytes) → IsSpelling bytes.items → size ≡ length bytes.items
+    → CountsPex holds name (Ok size)
+read_counted None name bytes size read spelled is = tt
+read_counted (Some files) name bytes size read spelled is = (bytes.items, read.1, record { spelled = spelled; size = is })

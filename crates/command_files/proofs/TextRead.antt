@@ -11,43 +11,15 @@ use Rattle.scene_reader.specs.declared.fault.SceneFault.TheVariants as scene
 use Rattle.scene_reader.specs.declared.fault.SceneRule.TheVariants.{Limit}
 use Rattle.command_files.specs.declared.file_fault.FileFault.{FileFault}
 use Rattle.command_files.specs.declared.file_fault.FileFault.TheVariants.{ReadFault, OutOfMemory, Refused}
-use Rattle.command_files.specs.declared.pex_file.PexFile.{PexFile}
-use Rattle.command_files.specs.declared.refusal.Place.TheVariants.{Offset, Whole}
-use Rattle.command_files.specs.declared.refusal.Rule.TheVariants.{Pex, Scene}
+use Rattle.command_files.specs.declared.refusal.Place.TheVariants.{Whole}
+use Rattle.command_files.specs.declared.refusal.Rule.TheVariants.{Scene}
 use Rattle.command_files.specs.declared.scene_file.KeptScene.{KeptScene}
-use Rattle.command_files.specs.PexFile.{Decodes, HasGot, ReadsKept, limit}
 use Rattle.command_files.specs.SceneFile.{IsSceneFault, ReadsKeptScene, ReadsScene, scene_fault}
 use Rattle.command_files.specs.TextFile.{ReadsText}
-use Rattle.pex_codec.specs.Decoding.{Progress}
-use Rattle.pex_codec.specs.declared.faults.PexRule.TheVariants.{TooLarge}
 
 pub read_small : (holds : Option Files) (name : List ℕ) (most : ℕ) (text : Vec ℕ Global) → ReadsFile holds name most (Ok text) → length text.items ≤ most
 read_small None name most text read = read.0
 read_small (Some files) name most text read = read.0
-
--- ---- compiled files
-
--- a decoder that got all bytes at once
-pub got_whole : (count : ℕ) (old new : Progress) → HasGot 0 old → ((n : ℕ) → HasGot n old → HasGot (n + count) new) → HasGot count new
-got_whole count old new none feeds = let same : 0 + count ≡ count = omega arith in subst (λ n. HasGot n new) same (feeds 0 none)
-
-pub kept_unread : (holds : Option Files) (name : List ℕ) (fault : FileFault) → ReadsText holds name limit (Offset limit) (Pex TooLarge) (Err fault) → ReadsKept holds name (Err fault)
-kept_unread None name fault read = tt
-kept_unread (Some files) name ReadFault read = tt
-kept_unread (Some files) name OutOfMemory read = tt
-kept_unread (Some files) name (Refused place rule) (bytes, held, past, place_is, rule_is) =
-    (bytes, held, record { pex = (limit, TooLarge, place_is, rule_is); too_large = λ _. (place_is, rule_is) })
-
-pub kept_decoded : (holds : Option Files) (name : List ℕ) (bytes : Vec ℕ Global) (file : PexFile) → ReadsText holds name limit (Offset limit) (Pex TooLarge) (Ok bytes) → ReadsKept holds name (Ok (record { value = file.value; bytes = bytes }))
-kept_decoded None name bytes file read = tt
-kept_decoded (Some files) name bytes file read = read.1
-
-pub kept_refused : (holds : Option Files) (name : List ℕ) (bytes : Vec ℕ Global) (fault : FileFault) → ReadsText holds name limit (Offset limit) (Pex TooLarge) (Ok bytes) → Decodes (length bytes.items) (Err fault) → ReadsKept holds name (Err fault)
-kept_refused None name bytes fault read decodes = tt
-kept_refused (Some files) name bytes ReadFault read decodes = tt
-kept_refused (Some files) name bytes OutOfMemory read decodes = tt
-kept_refused (Some files) name bytes (Refused place rule) read decodes =
-    (bytes.items, read.1, record { pex = decodes; too_large = λ past. absurd (let small = read.0 in omega arith) })
 
 -- ---- scenes
 

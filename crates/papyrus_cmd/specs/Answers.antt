@@ -9,7 +9,7 @@ use Rattle.papyrus_cmd.specs.declared.command.PlayCommand.{PlayCommand}
 use Rattle.papyrus_cmd.specs.declared.command.PlayCommand.TheVariants as play
 use Rattle.command_files.specs.declared.ending.Ending.{Ending}
 use Rattle.command_files.specs.declared.ending.Ending.TheVariants.{Done, OutOfMemory, Usage, ReadFault, WriteFault, Refused, NotBuilt}
-use Rattle.pex_codec.specs.Decoding.{SpellOne}
+use Rattle.pex_codec.specs.Decoding.{IsSpelling}
 use Rattle.papyrus_cmd.specs.Asm.{RefusesListing}
 use Rattle.papyrus_cmd.specs.Check.{accepted_line}
 use Rattle.papyrus_cmd.specs.Command.{command_of}
@@ -32,13 +32,9 @@ CompileAnswersTo names files Usage text = ⊥
 CompileAnswersTo names files (ReadFault word) text = ⊥
 CompileAnswersTo names files WriteFault text = ⊥
 
--- the bytes spell a value
-abbrev pub IsPex : List ℕ → Type 0
-IsPex bytes = SpellOne (length bytes)
-
 -- how `check` ends on a file with these bytes, and what it writes
 abbrev pub CheckAnswers : List ℕ → Ending → List ℕ → Type 0
-CheckAnswers bytes Done text = IsPex bytes × (text ≡ accepted_line (length bytes))
+CheckAnswers bytes Done text = IsSpelling bytes × (text ≡ accepted_line (length bytes))
 CheckAnswers bytes (Refused word place rule) text = (word ≡ 1) × RefusesPex bytes place rule × (text ≡ [])
 CheckAnswers bytes NotBuilt text = ⊥
 CheckAnswers bytes OutOfMemory text = ⊥
@@ -48,7 +44,7 @@ CheckAnswers bytes WriteFault text = ⊥
 
 -- how `show` ends on a file with these bytes; nothing is said yet of what it writes
 abbrev pub ShowAnswers : List ℕ → Ending → List ℕ → Type 0
-ShowAnswers bytes Done text = IsPex bytes
+ShowAnswers bytes Done text = IsSpelling bytes
 ShowAnswers bytes (Refused word place rule) text = (word ≡ 1) × RefusesPex bytes place rule × (text ≡ [])
 ShowAnswers bytes NotBuilt text = ⊥
 ShowAnswers bytes OutOfMemory text = ⊥

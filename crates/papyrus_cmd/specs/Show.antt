@@ -1,20 +1,20 @@
 -- What `show` writes.
-use Rattle.std.specs.Prelude.{◌≡◌, ℕ, List, length, Option, Some, IfSome}
+use Rattle.std.specs.Prelude.{◌≡◌, ℕ, List, Option, Some, IfSome}
 use Rattle.papy_io.specs.Files.{Files, told_bytes}
-use Rattle.pex_codec.specs.Decoding.{IsSpelledBy}
+use Rattle.pex_codec.specs.Spells.{Spells}
 use Rattle.pex_listing.specs.Lines.{head_lines}
 use Rattle.pex_listing.specs.Showing.{Begins}
 use Rattle.pex_values.specs.Plain.{PlainPex}
 use Rattle.command_files.specs.declared.ending.Ending.{Ending}
 use Rattle.command_files.specs.declared.ending.Ending.TheVariants.{Done, OutOfMemory, Usage, ReadFault, WriteFault, Refused, NotBuilt}
 
--- the file of this name has as many bytes as spell the value, and the first lines of the value's listing, up to the end of the
+-- the bytes of the file of this name spell the value, and the first lines of the value's listing, up to the end of the
 -- string table, were appended, and bytes behind them or none
 pub record ListsHeld (name : List ℕ) (before now : Option (List ℕ)) (files : Files) : Type 0 where
   pub bytes : List ℕ
   pub value : PlainPex
   pub held : told_bytes (Some files) name ≡ Some bytes
-  pub spelled : IsSpelledBy (length bytes) value
+  pub spelled : Spells value bytes
   pub begun : Begins (head_lines value) before now
 
 -- the listing of the file of this name was written where the command ended well

@@ -1,8 +1,10 @@
 -- What a caller sees of a decoder, and what bytes lead to.
 use Rattle.std.specs.Prelude.{◌≡◌, ◌≢◌, ℕ, ◌<◌, ◌≤◌, List, [], ◌++◌, length, take, Result, Ok, Err}
 use Rattle.pex_values.specs.declared.values.Pex.{Pex}
-use Rattle.pex_values.specs.Fit.{limit}
+use Rattle.pex_values.specs.Fit.{Fits, limit}
 use Rattle.pex_values.specs.Plain.{PlainPex, plain}
+use Rattle.pex_values.specs.Shape.{IsWellShaped}
+use Rattle.pex_values.specs.Spelling.{spelling}
 use Rattle.pex_codec.specs.declared.faults.PexFault.{PexFault}
 use Rattle.pex_codec.specs.declared.faults.PexFault.TheVariants.{Broken, OutOfMemory}
 use Rattle.pex_codec.specs.declared.faults.PexRule.{PexRule}
@@ -112,3 +114,49 @@ FinishFrom (standing.Refused fault) taken result = result ≡ Err fault
 -- the same without the value
 abbrev pub FinishGives : Progress → Result Unit PexFault → Type 0
 FinishGives d result = FinishFrom d.standing d.taken result
+
+-- ---- what is left of it where only the number of the bytes is known
+
+-- a value that so many bytes spell
+pub record IsSpelledBy (taken : ℕ) (v : PlainPex) : Type 0 where
+  pub shaped : IsWellShaped v
+  pub fits : Fits v
+  pub size : length (spelling v) ≡ taken
+
+-- the value that so many bytes were
+abbrev pub IsDecoded : ℕ → Pex → Type 0
+IsDecoded taken v = IsSpelledBy taken (plain v)
+
+-- so many bytes were a value
+abbrev pub SpellOne : ℕ → Type 0
+SpellOne taken = (v : PlainPex) × IsSpelledBy taken v
+
+-- ---- a whole file at once
+
+-- the value that the bytes spell, or the first rule that they break
+abbrev pub Decodes : List ℕ → Result Pex PexFault → Type 0
+Decodes bytes (Ok v) = Spells (plain v) bytes
+Decodes bytes (Err (Broken offset rule)) = Breaks bytes offset rule
+Decodes bytes (Err OutOfMemory) = Unit {0}
+
+-- the same without the value
+abbrev pub Judges : List ℕ → Result Unit PexFault → Type 0
+Judges bytes (Ok _) = IsSpelling bytes
+Judges bytes (Err (Broken offset rule)) = Breaks bytes offset rule
+Judges bytes (Err OutOfMemory) = Unit {0}
+
+-- a new decoder that got all of the bytes
+abbrev pub StandsAt : List ℕ → Progress → Standing → Type 0
+StandsAt bytes d standing.Reading = d.taken ≡ bytes
+StandsAt bytes d standing.Complete = d.taken ≡ bytes
+StandsAt bytes d (standing.Refused fault) = ⊥
+
+abbrev pub GotAll : List ℕ → Result Unit PexFault → Progress → Type 0
+GotAll bytes (Ok _) d = StandsAt bytes d d.standing
+GotAll bytes (Err (Broken offset rule)) d = Breaks bytes offset rule
+GotAll bytes (Err OutOfMemory) d = Unit {0}
+
+abbrev pub DecoderOf : List ℕ → Result Progress PexFault → Type 0
+DecoderOf bytes (Ok d) = StandsAt bytes d d.standing
+DecoderOf bytes (Err (Broken offset rule)) = Breaks bytes offset rule
+DecoderOf bytes (Err OutOfMemory) = Unit {0}

@@ -39,14 +39,14 @@ kept_is_file (Err fault) decoded = tt
 
 pub kept_reads : (holds : Option Files) (name : List ℕ) (result : Result KeptPex FileFault) → ReadsKept holds name result → ReadsValue true holds name result
 kept_reads None name result read = tt
-kept_reads (Some files) name (Ok found) read = read
+kept_reads (Some files) name (Ok found) (bytes, held, kept) = rw kept.bytes held
 kept_reads (Some files) name (Err (file.Refused place rule)) read = read
 kept_reads (Some files) name (Err file.ReadFault) read = tt
 kept_reads (Some files) name (Err file.OutOfMemory) read = tt
 
 pub part_reads : (holds : Option Files) (name : List ℕ) (found : PexFile) (kept : KeptPex) → ReadsPex holds name (Ok found) → ReadsValue false holds name (Ok kept)
 part_reads None name found kept read = tt
-part_reads (Some files) name found kept (bytes, held, size) = (bytes, held)
+part_reads (Some files) name found kept (bytes, held, read) = (bytes, held)
 
 pub part_unread : (holds : Option Files) (name : List ℕ) (fault : FileFault) → ReadsPex holds name (Err fault) → ReadsValue false holds name (Err fault)
 part_unread None name fault read = tt

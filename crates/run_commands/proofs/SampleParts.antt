@@ -4,7 +4,8 @@ use Rattle.std.specs.List.{range_with_len}
 use Rattle.std.proofs.lemmas.List.{length-map, map-append}
 use Rattle.std.proofs.lemmas.List.FromFn.{length-map-range_with_len, map-range_with_len_more}
 use Rattle.core_tree.specs.declared.scene_tree.SceneTree.{SceneTree}
-use Rattle.pex_codec.specs.Decoding.{IsDecoded}
+use Rattle.pex_codec.specs.Spells.{Spells}
+use Rattle.pex_values.specs.Plain.{plain}
 use Rattle.pex_values.specs.declared.values.Pex.{Pex}
 use Rattle.pex_verify.specs.Files.{IsFile}
 use Rattle.scene_reader.specs.Default.{call_plan, instance_plan}
@@ -61,5 +62,5 @@ one_more_behind f g first before after x number grown so_far is =
     ∙ ap (λ ys. ys ++ f x ∷ []) so_far
     ∙ ap (λ ys. first ∷ ys) (ap (λ y. map g (range_with_len 0 number) ++ y ∷ []) is ∙ sym (map-range_with_len_more g 0 number number place))
 
-pub decoded_is_file : (len : ℕ) (value : Pex) → IsDecoded len value → IsFile value
-decoded_is_file len value decoded = record { shaped = decoded.shaped; fits = decoded.fits }
+pub decoded_is_file : (bytes : List ℕ) (value : Pex) → Spells (plain value) bytes → IsFile value
+decoded_is_file bytes value spells = record { shaped = spells.shaped; fits = spells.fits }

@@ -4,7 +4,8 @@ ghost use Rattle.std.specs.Io.BufRead.{drop_through, take_through};
 ghost use Rattle.std.specs.String.{string_bytes};
 ghost use Rattle.papy_io.specs.Count.{CountsFaults};
 ghost use Rattle.papy_io.specs.Files.{Files};
-ghost use Rattle.pex_codec.specs.Decoding.{IsDecoded};
+ghost use Rattle.pex_codec.specs.Spells.{Spells};
+ghost use Rattle.pex_values.specs.Plain.{plain};
 ghost use Rattle.pex_verify.specs.Files.{IsFile};
 ghost use Rattle.command_files.specs.Ending.{CountsWrites, IsWordBelow};
 ghost use Rattle.command_files.specs.Outputs.{Outputs};
@@ -20,7 +21,7 @@ use command_files::{CompileFault, Ending, accept_texts, compile_set};
 use latent_natives::Device;
 use papy_base::OutOfMemory;
 use papy_io::{IoFault, MemorySink, Sink};
-use pex_codec::{Decoder, Fed, PexFault};
+use pex_codec::{PexFault, decode};
 use pex_values::Pex;
 use pex_verify::{Loaded, verify};
 use std::alloc::Global;
@@ -62,29 +63,9 @@ fn unread(fault: PexFault) -> CompileFault {
 
 /// The value that all of these bytes spell.
 fn decoded(alloc: Global, bytes: &[u8]) -> Result<Pex, CompileFault>
-    ensures { IfOk result (IsDecoded (length bytes.now)) }
+    ensures { IfOk result (λ value. Spells (plain value) bytes.now) }
 {
-    let mut decoder = match Decoder::new(alloc) {
-        Ok(decoder) => decoder,
-        Err(_) => return Err(CompileFault::OutOfMemory),
-    };
-    match decoder.feed(bytes) {
-        Ok(Fed::Done { taken }) => {
-            if taken < bytes.len() {
-                drop(decoder);
-                return Err(CompileFault::NotBuilt);
-            }
-        }
-        Ok(Fed::More) => {
-            drop(decoder);
-            return Err(CompileFault::NotBuilt);
-        }
-        Err(fault) => {
-            drop(decoder);
-            return Err(unread(fault));
-        }
-    }
-    match decoder.end() {
+    match decode(alloc, bytes) {
         Ok(value) => Ok(value),
         Err(fault) => Err(unread(fault)),
     }

@@ -6,8 +6,9 @@ use Rattle.std.specs.declared.vec.Vec.{Vec}
 use Rattle.machine_state.specs.Plain.{PlainState, plain}
 use Rattle.machine_state.specs.Ranges.{IsInRange}
 use Rattle.machine_state.specs.Savable.{FitsTwoBytes, FitsFourBytes, IsSavable}
-use Rattle.pex_codec.specs.Decoding.{IsDecoded}
+use Rattle.pex_codec.specs.Spells as pex
 use Rattle.pex_values.specs.declared.values.Pex.{Pex}
+use Rattle.pex_values.specs.Plain.{plain as plain_pex}
 use Rattle.stack_save.specs.Spelling.{heading, spelling}
 use Rattle.stack_save.specs.declared.fault.HeldFault.{HeldFault}
 use Rattle.stack_save.specs.declared.fault.HeldFault.TheVariants.{Broken, OutOfMemory}
@@ -45,9 +46,9 @@ SaveGives files scene state (Err NoMemory) = Unit {0}
 
 -- ---- loading
 
--- the bytes were decoded to this value, as the decoder says
+-- the bytes are a compiled file, which spells this value
 abbrev pub IsFile : List ℕ → Pex → Type 0
-IsFile bytes value = IsDecoded (length bytes) value
+IsFile bytes value = pex.Spells (plain_pex value) bytes
 
 -- each value is that of a file
 abbrev pub AreFiles : List (List ℕ) → List Pex → Type 0

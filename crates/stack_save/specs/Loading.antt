@@ -1,13 +1,11 @@
 -- What reading the layout of a held file and decoding its PEX files answer.
-use Rattle.std.specs.Prelude.{◌≡◌, ℕ, List, ◌++◌, map, Result, Ok, Err}
+use Rattle.std.specs.Prelude.{ℕ, List, ◌++◌, map, Result, Ok, Err}
 use Rattle.std.specs.declared.alloc.Global.{Global}
 use Rattle.std.specs.declared.vec.Vec.{Vec}
 use Rattle.std.specs.Borrow.{Bor}
 use Rattle.machine_state.specs.Plain.{plain}
 use Rattle.machine_state.specs.Ranges.{IsInRange}
 use Rattle.machine_state.specs.Savable.{IsSavable}
-use Rattle.pex_codec.specs.Decoding.{Progress}
-use Rattle.pex_codec.specs.declared.progress.Standing.TheVariants.{Complete}
 use Rattle.pex_values.specs.declared.values.Pex.{Pex}
 use Rattle.stack_save.specs.Held.{HasFiles, Spells, HasLayout, IsFile, AreFiles}
 use Rattle.stack_save.specs.Reading.{PlainHeld}
@@ -51,11 +49,6 @@ abbrev pub BreaksFiles : HeldFault → Type 0
 BreaksFiles (Broken rules.BadFiles) = Unit {0}
 BreaksFiles (Broken _) = ⊥
 BreaksFiles OutOfMemory = Unit {0}
-
--- all bytes of a file were a value
-abbrev pub FeedsWhole : ℕ → Progress → Result Unit HeldFault → Type 0
-FeedsWhole length decoder (Ok done) = (decoder.standing ≡ Complete) × (decoder.taken ≡ length)
-FeedsWhole length decoder (Err fault) = BreaksFiles fault
 
 abbrev pub DecodesFile : List ℕ → Result Pex HeldFault → Type 0
 DecodesFile bytes (Ok value) = IsFile bytes value

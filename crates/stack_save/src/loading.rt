@@ -1,12 +1,11 @@
 //! The bytes of a held file to its files, its scene and its state.
 
-ghost use Rattle.std.specs.Prelude.{◌≡◌, ◌↔◌, ◌^◌, ◌++◌, ⊤, length, map, IsTrue, MatchOption};
+ghost use Rattle.std.specs.Prelude.{◌≡◌, ◌^◌, ◌++◌, ⊤, length, map, MatchOption};
 ghost use Rattle.std.specs.List.{flat_map};
 ghost use Rattle.machine_state.specs.Savable.{FitsFourBytes};
-ghost use Rattle.pex_codec.specs.Decoding.{IsNew};
 ghost use Rattle.pex_values.specs.Spelling as pex;
 ghost use Rattle.stack_save.specs.Held.{LoadGives, HasHeading};
-ghost use Rattle.stack_save.specs.Loading.{FeedsWhole, IsLayout, ReadsLayout, DecodesFile, DecodesFiles, held_fields, plain_layout, lent};
+ghost use Rattle.stack_save.specs.Loading.{IsLayout, ReadsLayout, DecodesFile, DecodesFiles, held_fields, plain_layout, lent};
 ghost use Rattle.stack_save.specs.Parts.{AreItems, AreParts, Takes};
 ghost use Rattle.stack_save.specs.Reading as reading;
 ghost use Rattle.stack_save.specs.Spelling as spell;
@@ -16,7 +15,7 @@ use crate::fault::{HeldFault, HeldRule, LayoutFault};
 use crate::state::take_state;
 use crate::{HEADING, HELD_LIMIT};
 use machine_state::MachineState;
-use pex_codec::{Decoder, Fed};
+use pex_codec::decode;
 use pex_values::Pex;
 use std::alloc::Global;
 
@@ -90,42 +89,13 @@ fn read_layout<'a>(alloc: Global, bytes: &'a [u8]) -> Result<Layout<'a>, LayoutF
     Ok(layout)
 }
 
-/// Feeds the whole file. It is refused where it is no value, or where bytes follow one.
-#[tactic(auto, using(crate::proofs::Faults::breaks_files))]
-fn feed_whole(decoder: &mut Decoder, bytes: &[u8]) -> Result<(), HeldFault>
-    requires { IsNew decoder.old }
-    ensures { FeedsWhole (length bytes.now) decoder.new result }
-{
-    let fed = decoder.feed(bytes)?;
-    if !is_whole(fed, bytes.len()) {
-        return Err(HeldFault::Broken {
-            rule: HeldRule::BadFiles,
-        });
-    }
-    Ok(())
-}
-
 /// The value of a PEX file.
 #[tactic(auto, using(crate::proofs::Faults::breaks_files))]
-fn decode(alloc: Global, bytes: &[u8]) -> Result<Pex, HeldFault>
+fn decode_file(alloc: Global, bytes: &[u8]) -> Result<Pex, HeldFault>
     ensures { DecodesFile bytes.now result }
 {
-    let mut decoder = Decoder::new(alloc)?;
-    if let Err(fault) = feed_whole(&mut decoder, bytes) {
-        drop(decoder);
-        return Err(fault);
-    }
-    Ok(decoder.end()?)
-}
-
-/// Whether so many bytes were a value.
-fn is_whole(fed: Fed, length: usize) -> bool
-    ensures { IsTrue result ↔ (fed ≡ Fed.Done length) }
-{
-    match fed {
-        Fed::Done { taken } => taken == length,
-        Fed::More => false,
-    }
+    let value = decode(alloc, bytes)?;
+    Ok(value)
 }
 
 fn decode_files(alloc: Global, files: &[&[u8]]) -> Result<Vec<Pex>, HeldFault>
@@ -133,7 +103,7 @@ fn decode_files(alloc: Global, files: &[&[u8]]) -> Result<Vec<Pex>, HeldFault>
 {
     let mut values = Vec::new(alloc);
     for file in files {
-        let value = decode(alloc, file)?;
+        let value = decode_file(alloc, file)?;
         values.push(value)?;
     }
     Ok(values)

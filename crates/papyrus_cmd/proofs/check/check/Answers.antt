@@ -14,7 +14,7 @@ returns-in-Ok-write_accepted-clause-output g c =
     let named : word_at (map string_bytes c.args.files.now) 0 ≡ string_bytes file =
     get_or-map string_bytes c.args.files.now 0 file [] c.requires.some ∙ ap string_bytes (sym c.index-files-0.is) in
     let read = rw c.as_bytes.ensures.value at c.in-Ok.ensures.read in
-    let ends = checked (g.D.Desk.holds c.args.desk.now) (string_bytes file) c.in-Ok.size read c.in-Ok.ensures.spelled in
+    let ends = checked (g.D.Desk.holds c.args.desk.now) (string_bytes file) c.in-Ok.size read in
     rw named (_, c.in-Ok-write_accepted.ensures.written, ends)
 
 pub returns-in-Err-write_accepted-clause-output : goal.returns-in-Err-write_accepted-clause-output
@@ -23,5 +23,5 @@ returns-in-Err-write_accepted-clause-output g c =
     let named : word_at (map string_bytes c.args.files.now) 0 ≡ string_bytes file =
     get_or-map string_bytes c.args.files.now 0 file [] c.requires.some ∙ ap string_bytes (sym c.index-files-0.is) in
     let read = rw c.as_bytes.ensures.value at c.in-Ok.ensures.read in
-    let ends = checked (g.D.Desk.holds c.args.desk.now) (string_bytes file) c.in-Ok.size read c.in-Ok.ensures.spelled in
+    let ends = checked (g.D.Desk.holds c.args.desk.now) (string_bytes file) c.in-Ok.size read in
     rw (named, c.from.ensures) (part_is_output (AnswersTo CheckAnswers (string_bytes file)) _ _ _ _ _ ends c.in-Err-write_accepted.ensures.written)

@@ -12,7 +12,7 @@ returns-in-Ok-write_listing-clause-output g c =
     get_or-map string_bytes c.args.files.now 0 file [] c.requires.some ∙ ap string_bytes (sym c.index-files-0.is) in
     let read = rw c.as_bytes.ensures.value at c.in-Ok.ensures.read in
     let wrote = c.show.ensures.appended in
-    let ends = shown (g.D.Desk.holds c.args.desk.now) (string_bytes file) c.in-Ok.pex wrote.bytes read c.in-Ok.ensures.decoded in
+    let ends = shown (g.D.Desk.holds c.args.desk.now) (string_bytes file) c.in-Ok.pex wrote.bytes read in
     rw named (wrote.bytes, wrote.appended, ends)
 
 pub returns-in-Ok-write_listing-clause-listed : goal.returns-in-Ok-write_listing-clause-listed
@@ -21,7 +21,7 @@ returns-in-Ok-write_listing-clause-listed g c =
     let named : word_at (map string_bytes c.args.files.now) 0 ≡ string_bytes file =
     get_or-map string_bytes c.args.files.now 0 file [] c.requires.some ∙ ap string_bytes (sym c.index-files-0.is) in
     let read = rw c.as_bytes.ensures.value at c.in-Ok.ensures.read in
-    rw named (head_shown (g.D.Desk.holds c.args.desk.now) (string_bytes file) c.in-Ok.pex _ _ read c.in-Ok.ensures.decoded c.in-Ok-write_listing.ensures.begun)
+    rw named (head_shown (g.D.Desk.holds c.args.desk.now) (string_bytes file) c.in-Ok.pex _ _ read c.in-Ok-write_listing.ensures.begun)
 
 pub returns-in-Err-WriteFault-clause-output : goal.returns-in-Err-WriteFault-clause-output
 returns-in-Err-WriteFault-clause-output g c =
@@ -30,7 +30,7 @@ returns-in-Err-WriteFault-clause-output g c =
     get_or-map string_bytes c.args.files.now 0 file [] c.requires.some ∙ ap string_bytes (sym c.index-files-0.is) in
     let read = rw c.as_bytes.ensures.value at c.in-Ok.ensures.read in
     let wrote = c.show.ensures.appended in
-    let ends = partly_shown (g.D.Desk.holds c.args.desk.now) (string_bytes file) c.in-Ok.pex wrote.bytes read c.in-Ok.ensures.decoded in
+    let ends = partly_shown (g.D.Desk.holds c.args.desk.now) (string_bytes file) c.in-Ok.pex wrote.bytes read in
     rw named (wrote.bytes, wrote.appended, ends)
 
 pub returns-in-Err-OutOfMemory-clause-output : goal.returns-in-Err-OutOfMemory-clause-output
@@ -40,5 +40,5 @@ returns-in-Err-OutOfMemory-clause-output g c =
     get_or-map string_bytes c.args.files.now 0 file [] c.requires.some ∙ ap string_bytes (sym c.index-files-0.is) in
     let read = rw c.as_bytes.ensures.value at c.in-Ok.ensures.read in
     let wrote = c.show.ensures.appended in
-    let ends = partly_shown (g.D.Desk.holds c.args.desk.now) (string_bytes file) c.in-Ok.pex wrote.bytes read c.in-Ok.ensures.decoded in
+    let ends = partly_shown (g.D.Desk.holds c.args.desk.now) (string_bytes file) c.in-Ok.pex wrote.bytes read in
     rw named (wrote.bytes, wrote.appended, ends)
