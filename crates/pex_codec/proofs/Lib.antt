@@ -1,3 +1,7 @@
+pub mod Exact
+pub mod ExactCode
+pub mod ExactFile
+pub mod ExactObject
 pub mod Lists
 pub mod Taken
 pub mod Tasks

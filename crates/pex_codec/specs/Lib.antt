@@ -5,3 +5,4 @@ pub mod Scanning
 pub mod Taking
 pub mod Opening
 pub mod Decoding
+pub mod Laws
