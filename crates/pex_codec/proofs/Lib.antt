@@ -1,4 +1,13 @@
+pub mod Exact
+pub mod ExactCode
+pub mod ExactFile
+pub mod ExactObject
 pub mod Lists
+pub mod Taken
+pub mod Tasks
+pub mod Opens
+pub mod Moves
+pub mod FirstFields
 pub mod Stable
 pub mod StableTasks
 pub mod Whole
