@@ -2,6 +2,7 @@ pub mod Exact
 pub mod ExactCode
 pub mod ExactFile
 pub mod ExactObject
+pub mod Feeding
 pub mod Lists
 pub mod Taken
 pub mod Tasks

@@ -6,3 +6,5 @@ pub mod Taking
 pub mod Opening
 pub mod Decoding
 pub mod Laws
+pub mod Scans
+pub mod DecoderState

@@ -6,6 +6,7 @@
 mod code;
 mod code_values;
 mod cursor;
+mod decoder;
 mod encoding;
 mod faults;
 mod heads;
@@ -17,10 +18,15 @@ mod opening;
 mod parts;
 mod progress;
 mod rows;
+mod scan;
 mod spelled;
+mod scanned_bytes;
 mod texts;
 mod values;
+mod whole_file;
 
+pub use decoder::Decoder;
 pub use encoding::encode;
 pub use faults::{EncodeFault, PexFault, PexRule};
 pub use progress::Fed;
+pub use whole_file::{decode, judge};
