@@ -2,7 +2,9 @@ pub mod Exact
 pub mod ExactCode
 pub mod ExactFile
 pub mod ExactObject
+pub mod ExactReading
 pub mod Lists
+pub mod Pieces
 pub mod Stable
 pub mod StableTasks
 pub mod Whole

@@ -7,6 +7,7 @@ mod code;
 mod encoding;
 mod faults;
 mod heads;
+mod laws;
 mod objects;
 mod parts;
 mod progress;
@@ -14,4 +15,5 @@ mod spelled;
 
 pub use encoding::encode;
 pub use faults::{EncodeFault, PexFault, PexRule};
+pub use laws::{encoded_is_decoded, one_spelling, pieces_add_up, reading_is_exact};
 pub use progress::Fed;
