@@ -3,6 +3,7 @@ pub mod ExactCode
 pub mod ExactFile
 pub mod ExactObject
 pub mod ExactReading
+pub mod Found
 pub mod Lists
 pub mod Pieces
 pub mod Stable
