@@ -3,9 +3,14 @@ pub mod ExactCode
 pub mod ExactFile
 pub mod ExactObject
 pub mod ExactReading
+pub mod FirstFields
 pub mod Found
 pub mod Lists
+pub mod Moves
+pub mod Opens
 pub mod Pieces
 pub mod Stable
 pub mod StableTasks
+pub mod Taken
+pub mod Tasks
 pub mod Whole

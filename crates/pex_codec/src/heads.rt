@@ -1,5 +1,18 @@
 //! The fields of a file that stand together, each read and judged in the order of the format.
 
+ghost use Rattle.std.specs.Prelude.{◌==◌, ◌||◌};
+ghost use Rattle.pex_codec.specs.Reading as reading;
+ghost use Rattle.pex_codec.specs.Reading.{judged};
+ghost use Rattle.pex_codec.specs.Taking.{Takes};
+ghost use Rattle.pex_codec.specs.declared.faults.PexRule.TheVariants.{BadMagic, BadVersion, BadGame};
+
+use crate::cursor::{Cursor, Stop};
+use crate::faults::PexRule;
+use pex_values::has_variable;
+
+/// The number that a file begins with.
+const MAGIC: u32 = 0xFA57_C0DE;
+
 /// What the header says besides its strings.
 #[derive(Clone, Copy)]
 pub(crate) struct Heading {
@@ -49,4 +62,168 @@ pub(crate) struct LinesHead {
     pub function: u16,
     pub kind: u8,
     pub lines: u16,
+}
+
+impl<'a> Cursor<'a> {
+    #[tactic(auto, unfolding(crate::specs::Reading::heading_at))]
+    pub(crate) fn heading(&mut self) -> Result<Heading, Stop>
+        ensures { Takes (λ head. head) reading.heading_at result self.old self.new }
+    {
+        self.magic()?;
+        self.major()?;
+        let minor = self.minor()?;
+        self.game()?;
+        let time = self.u64()?;
+        Ok(Heading { minor, time })
+    }
+
+    /// The number that a file begins with.
+    fn magic(&mut self) -> Result<u32, Stop>
+        ensures { Takes (λ n. n) (λ at bytes. judged (λ magic. magic == 0xFA57C0DE) BadMagic at (reading.number_at 4 at bytes)) result self.old self.new }
+    {
+        let offset = self.at;
+        let magic = self.u32()?;
+        if magic != MAGIC {
+            return Err(Stop::Refused {
+                offset,
+                rule: PexRule::BadMagic,
+            });
+        }
+        Ok(magic)
+    }
+
+    /// The major version.
+    fn major(&mut self) -> Result<u8, Stop>
+        ensures { Takes (λ n. n) (λ at bytes. judged (λ major. major == 3) BadVersion at (reading.byte_at at bytes)) result self.old self.new }
+    {
+        let offset = self.at;
+        let major = self.byte()?;
+        if major != 3 {
+            return Err(Stop::Refused {
+                offset,
+                rule: PexRule::BadVersion,
+            });
+        }
+        Ok(major)
+    }
+
+    /// The minor version.
+    fn minor(&mut self) -> Result<u8, Stop>
+        ensures { Takes (λ n. n) (λ at bytes. judged (λ minor. minor == 1 || minor == 2) BadVersion at (reading.byte_at at bytes)) result self.old self.new }
+    {
+        let offset = self.at;
+        let minor = self.byte()?;
+        if minor != 1 && minor != 2 {
+            return Err(Stop::Refused {
+                offset,
+                rule: PexRule::BadVersion,
+            });
+        }
+        Ok(minor)
+    }
+
+    /// The game's number.
+    fn game(&mut self) -> Result<u16, Stop>
+        ensures { Takes (λ n. n) (λ at bytes. judged (λ game. game == 1) BadGame at (reading.number_at 2 at bytes)) result self.old self.new }
+    {
+        let offset = self.at;
+        let game = self.u16()?;
+        if game != 1 {
+            return Err(Stop::Refused {
+                offset,
+                rule: PexRule::BadGame,
+            });
+        }
+        Ok(game)
+    }
+
+    #[tactic(auto, unfolding(crate::specs::Reading::function_head_at))]
+    pub(crate) fn function_head(&mut self, strings: u16) -> Result<FunctionHead, Stop>
+        ensures { Takes (λ head. head) (reading.function_head_at strings) result self.old self.new }
+    {
+        let result = self.reference(strings)?;
+        let doc = self.reference(strings)?;
+        let flags = self.u32()?;
+        let bits = self.byte()?;
+        let parameters = self.u16()?;
+        Ok(FunctionHead {
+            result,
+            doc,
+            flags,
+            bits,
+            parameters,
+        })
+    }
+
+    #[tactic(auto, unfolding(crate::specs::Reading::property_head_at))]
+    pub(crate) fn property_head(&mut self, strings: u16) -> Result<PropertyHead, Stop>
+        ensures { Takes (λ head. head) (reading.property_head_at strings) result self.old self.new }
+    {
+        let name = self.reference(strings)?;
+        let kind = self.reference(strings)?;
+        let doc = self.reference(strings)?;
+        let flags = self.u32()?;
+        let bits = self.byte()?;
+        let variable = self.optional_reference(has_variable(bits), strings)?;
+        Ok(PropertyHead {
+            name,
+            kind,
+            doc,
+            flags,
+            bits,
+            variable,
+        })
+    }
+
+    /// A reference where one is asked for.
+    fn optional_reference(&mut self, asked: bool, strings: u16) -> Result<Option<u16>, Stop>
+        ensures { Takes (λ reference. reference) (reading.optional_at asked (reading.reference_at strings)) result self.old self.new }
+    {
+        if asked {
+            return Ok(Some(self.reference(strings)?));
+        }
+        Ok(None)
+    }
+
+    #[tactic(auto, unfolding(crate::specs::Reading::object_head_at))]
+    pub(crate) fn object_head(&mut self, strings: u16) -> Result<ObjectHead, Stop>
+        ensures { Takes (λ head. head) (reading.object_head_at strings) result self.old self.new }
+    {
+        let name = self.reference(strings)?;
+        let size_at = self.at;
+        let size = self.u32()?;
+        let parent = self.reference(strings)?;
+        let doc = self.reference(strings)?;
+        let flags = self.u32()?;
+        let auto_state = self.reference(strings)?;
+        let variables = self.u16()?;
+        Ok(ObjectHead {
+            name,
+            size_at,
+            size,
+            parent,
+            doc,
+            flags,
+            auto_state,
+            variables,
+        })
+    }
+
+    #[tactic(auto, unfolding(crate::specs::Reading::lines_head_at))]
+    pub(crate) fn lines_head(&mut self, strings: u16) -> Result<LinesHead, Stop>
+        ensures { Takes (λ head. head) (reading.lines_head_at strings) result self.old self.new }
+    {
+        let object = self.reference(strings)?;
+        let state = self.reference(strings)?;
+        let function = self.reference(strings)?;
+        let kind = self.byte()?;
+        let lines = self.u16()?;
+        Ok(LinesHead {
+            object,
+            state,
+            function,
+            kind,
+            lines,
+        })
+    }
 }

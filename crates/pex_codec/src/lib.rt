@@ -4,14 +4,23 @@
 #![tactic(auto)]
 
 mod code;
+mod code_values;
+mod cursor;
 mod encoding;
 mod faults;
 mod heads;
+mod item_list;
+mod items;
 mod laws;
+mod object_values;
 mod objects;
+mod opening;
 mod parts;
 mod progress;
+mod rows;
 mod spelled;
+mod texts;
+mod values;
 
 pub use encoding::encode;
 pub use faults::{EncodeFault, PexFault, PexRule};

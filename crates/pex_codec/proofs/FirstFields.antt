@@ -1,0 +1,39 @@
+-- From what was taken to what was opened.
+use Rattle.std.specs.Prelude.{Result, Ok, Err}
+use Rattle.std.proofs.Common.{◌≡◌, ℕ, ◌≤◌, List, refl, sym, ap, subst, ◌∙◌}
+use Rattle.pex_codec.specs.declared.cursor.Cursor.{Cursor}
+use Rattle.pex_codec.specs.declared.cursor.Stop.{Stop}
+use Rattle.pex_codec.specs.declared.cursor.Stop.TheVariants as stop
+use Rattle.pex_codec.specs.declared.parts.Opened.{Opened}
+use Rattle.pex_codec.specs.declared.parts.Part.{Part}
+use Rattle.pex_codec.specs.declared.parts.Task.{Task}
+use Rattle.pex_codec.specs.Opening.{Opens, HasOpened, IsOpened, Moved, tasks_of, least_of}
+use Rattle.pex_codec.specs.Reading.{Reading, Reader, Got, Short, Refused, then_read}
+use Rattle.pex_codec.specs.Scanning.{with_strings, part_at, tasks_at}
+use Rattle.pex_codec.specs.Taking.{Stops}
+use Rattle.pex_codec.proofs.Moves.{Moves, moved}
+
+-- what isn't there keeps what begins with it from being there
+pub stops_behind : {A B : Type 0} (e : Stop) (r : Reading A) (next : A → Reader B) (whole : Reading B) → whole ≡ then_read r next → Stops r e → Stops whole e
+stops_behind stop.Short r next whole is stops = is ∙ ap (λ (x : Reading _). then_read x next) stops
+stops_behind (stop.Refused offset rule) r next whole is stops = is ∙ ap (λ (x : Reading _). then_read x next) stops
+stops_behind stop.OutOfMemory r next whole is stops = tt
+
+pub opens_err : {A : Type 0} (e : Stop) (result : Result Opened Stop) (part : Part) (strings : ℕ) (old new : Cursor) (r : Reading A) (next : A → Reader ℕ)
+    → result ≡ Err e → part_at part strings old.at old.rest.now ≡ then_read r next → Stops r e → Opens part strings result old new
+opens_err e result part strings old new r next is law stops =
+    subst (λ (x : Result Opened Stop). Opens part strings x old new) (sym is) (stops_behind e r next (part_at part strings old.at old.rest.now) law stops)
+
+pub opens_ok : {A : Type 0} (part : Part) (strings : ℕ) (opened : Opened) (old new : Cursor) (r : Reading A) (next : A → Reader ℕ) (a : A) (tasks : List Task) (strings1 : ℕ)
+    → part_at part strings old.at old.rest.now ≡ then_read r next → r ≡ Got a new.at new.rest.now → IsOpened opened tasks strings1
+    → next a new.at new.rest.now ≡ tasks_at tasks strings1 new.at new.rest.now → Moves (least_of part) r old.at old.rest.now → HasOpened part strings opened old new
+opens_ok part strings opened old new r next a tasks strings1 law taken is reads moves = record {
+  same = law ∙ ap (λ (x : Reading _). then_read x next) taken ∙ reads ∙ sym (is.same new.at new.rest.now);
+  moved = moved (least_of part) r old.at old.rest.now a new.at new.rest.now moves taken;
+}
+
+-- a part that is nothing but what was taken
+pub whole_opens : {A : Type 0} (strings : ℕ) (r : Reading A) → with_strings strings r ≡ then_read r (λ a at1 rest1. Got strings at1 rest1)
+whole_opens strings (Got a at rest) = refl
+whole_opens strings Short = refl
+whole_opens strings (Refused o rule) = refl
