@@ -56,7 +56,7 @@ pub record TakesEnd (old : List ℕ) (piece : List ℕ) (n : ℕ) (new : List �
 pub record TakesAll (old : ScannedBytes) (piece : List ℕ) (new : ScannedBytes) : Type 0 where
   pub taken : new.bytes.items ≡ old.bytes.items ++ piece
   pub unfinished : IsUnfinished new.bytes.items
-  pub open : IsOpen new
+  pub stands : IsOpen new
 
 -- a rule that a piece may break
 pub record BreaksPiece (bytes : List ℕ) (offset : ℕ) (rule : PexRule) : Type 0 where
