@@ -1,5 +1,5 @@
 -- Items that are taken one at a time.
-use Rattle.std.specs.Prelude.{zero, suc, ◌-◌, Result, Err}
+use Rattle.std.specs.Prelude.{suc, ◌-◌, Result, Err}
 use Rattle.std.proofs.Common.{◌≡◌, ℕ, ◌+◌, ◌<◌, List, [], ◌∷◌, ◌++◌, length, map, refl, sym, ap, subst, ◌∙◌, append_assoc, arith}
 use Rattle.std.proofs.lemmas.List.{map-append, length-append}
 use Rattle.pex_codec.specs.declared.cursor.Cursor.{Cursor}
@@ -26,7 +26,7 @@ in_front-more xs x (Refused offset rule) = refl
 
 items_at-next : {Y : Type 0} (item : Reader Y) (count i at : ℕ) (bytes : List ℕ) → i < count
     → items_at item (count - i) at bytes
-      ≡ then_read (item at bytes) (λ first at1 rest1. read_as (λ others. first ∷ others) (items_at item (count - (i + 1)) at1 rest1))
+    ≡ then_read (item at bytes) (λ first at1 rest1. read_as (λ others. first ∷ others) (items_at item (count - (i + 1)) at1 rest1))
 items_at-next item count i at bytes below =
     let next : count - i ≡ suc (count - (i + 1)) = omega arith in
     ap (λ (n : ℕ). items_at item n at bytes) next
