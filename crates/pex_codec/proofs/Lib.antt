@@ -4,6 +4,7 @@ pub mod ExactFile
 pub mod ExactObject
 pub mod ExactReading
 pub mod Feeding
+pub mod FieldRules
 pub mod FirstFields
 pub mod Found
 pub mod Lists

@@ -15,6 +15,7 @@ use Rattle.pex_codec.specs.declared.progress.Standing.{Standing}
 use Rattle.pex_codec.specs.declared.progress.Standing.TheVariants as standing
 use Rattle.pex_codec.specs.declared.scanned_bytes.ScannedBytes.{ScannedBytes}
 use Rattle.pex_codec.specs.Decoding.{Progress, Breaks, IsSpelling, IsUnfinished}
+use Rattle.pex_codec.specs.Laws.{AreBytes}
 use Rattle.pex_codec.specs.Reading.{Reading, Got, Short, Refused, read_as, pex_at}
 use Rattle.pex_codec.specs.Scans.{left_at}
 
@@ -26,6 +27,7 @@ ends reading = read_as (λ v. length v.strings) reading
 pub record Follows (t : ScannedBytes) : Type 0 where
   pub within : t.open ≤ length t.bytes.items
   pub fits : length t.bytes.items ≤ limit
+  pub each : AreBytes t.bytes.items
   pub same : (x : List ℕ) → ends (pex_at 0 (t.bytes.items ++ x)) ≡ left_at t.scan t.open (drop t.open t.bytes.items ++ x)
 
 -- and the bytes end within the open item
@@ -39,6 +41,7 @@ pub record HasEnded (t : ScannedBytes) : Type 0 where
   pub rest : List ℕ
   pub ended : ends (pex_at 0 t.bytes.items) ≡ Got strings t.open rest
   pub within : t.open ≤ length t.bytes.items
+  pub each : AreBytes t.bytes.items
 
 -- what going over the bytes led to
 abbrev pub GoesOver : ScannedBytes → Result Unit Stop → ScannedBytes → Type 0

@@ -62,20 +62,13 @@ impl ScannedBytes {
                     taken: end - before,
                 })
             }
-            Err(Stop::Short) => fed_all(count, piece.len()),
+            Err(Stop::Short) if count < piece.len() => Err(PexFault::Broken {
+                offset: FILE_LIMIT,
+                rule: PexRule::TooLarge,
+            }),
+            Err(Stop::Short) => Ok(Fed::More),
             Err(Stop::Refused { offset, rule }) => Err(PexFault::Broken { offset, rule }),
             Err(Stop::OutOfMemory) => Err(PexFault::OutOfMemory),
         }
     }
-}
-
-/// What so many bytes of a piece led to within which no value ended.
-fn fed_all(count: usize, len: usize) -> Result<Fed, PexFault> {
-    if count < len {
-        return Err(PexFault::Broken {
-            offset: FILE_LIMIT,
-            rule: PexRule::TooLarge,
-        });
-    }
-    Ok(Fed::More)
 }
