@@ -8,6 +8,8 @@ pub mod Tasks
 pub mod Opens
 pub mod Moves
 pub mod FirstFields
+pub mod Passing
+pub mod Scans
 pub mod Stable
 pub mod StableTasks
 pub mod Whole

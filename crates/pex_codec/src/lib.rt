@@ -17,6 +17,7 @@ mod opening;
 mod parts;
 mod progress;
 mod rows;
+mod scan;
 mod spelled;
 mod texts;
 mod values;

@@ -11,4 +11,4 @@ returns-in_err-count c =
 
 pub returns : goal.returns
 returns c =
-    opens_ok part.Debug c.args.strings c.one.result c.args.cursor.now c.debug_count.new.cursor _ _ _ _ _ (debug_opens c.args.strings c.args.cursor.now.at c.args.cursor.now.rest.now) c.in_ok-count.ensures c.one.ensures refl (debug_count_moves c.args.cursor.now.at c.args.cursor.now.rest.now)
+    opens_ok part.Debug c.args.strings c.one.result c.args.cursor.now c.debug_count.new.cursor _ _ _ _ _ (debug_opens c.args.strings c.args.cursor.now.at c.args.cursor.now.rest.now) c.in_ok-count.ensures c.one.ensures (cc) (debug_count_moves c.args.cursor.now.at c.args.cursor.now.rest.now)

@@ -11,4 +11,4 @@ returns-in_err-head c =
 
 pub returns : goal.returns
 returns c =
-    opens_ok part.Lines c.args.strings c.one.result c.args.cursor.now c.lines_head.new.self _ _ _ _ _ (lines_open c.args.strings c.args.cursor.now.at c.args.cursor.now.rest.now) c.in_ok-head.ensures c.one.ensures refl (lines_head_moves c.args.strings c.args.cursor.now.at c.args.cursor.now.rest.now)
+    opens_ok part.Lines c.args.strings c.one.result c.args.cursor.now c.lines_head.new.self _ _ _ _ _ (lines_open c.args.strings c.args.cursor.now.at c.args.cursor.now.rest.now) c.in_ok-head.ensures c.one.ensures (cc) (lines_head_moves c.args.strings c.args.cursor.now.at c.args.cursor.now.rest.now)

@@ -11,4 +11,4 @@ returns-in_err-head c =
 
 pub returns : goal.returns
 returns c =
-    opens_ok part.Property c.args.strings c.two.result c.args.cursor.now c.property_head.new.self _ _ _ _ _ (property_opens c.args.strings c.args.cursor.now.at c.args.cursor.now.rest.now) c.in_ok-head.ensures c.two.ensures refl (property_head_moves c.args.strings c.args.cursor.now.at c.args.cursor.now.rest.now)
+    opens_ok part.Property c.args.strings c.two.result c.args.cursor.now c.property_head.new.self _ _ _ _ _ (property_opens c.args.strings c.args.cursor.now.at c.args.cursor.now.rest.now) c.in_ok-head.ensures c.two.ensures (cc) (property_head_moves c.args.strings c.args.cursor.now.at c.args.cursor.now.rest.now)

@@ -11,4 +11,4 @@ returns-in_err-count c =
 
 pub returns : goal.returns
 returns c =
-    opens_ok part.State c.args.strings c.one.result c.args.cursor.now c.state_count.new.cursor _ _ _ _ _ (state_opens c.args.strings c.args.cursor.now.at c.args.cursor.now.rest.now) c.in_ok-count.ensures c.one.ensures refl (state_count_moves c.args.strings c.args.cursor.now.at c.args.cursor.now.rest.now)
+    opens_ok part.State c.args.strings c.one.result c.args.cursor.now c.state_count.new.cursor _ _ _ _ _ (state_opens c.args.strings c.args.cursor.now.at c.args.cursor.now.rest.now) c.in_ok-count.ensures c.one.ensures (cc) (state_count_moves c.args.strings c.args.cursor.now.at c.args.cursor.now.rest.now)

@@ -12,4 +12,4 @@ returns-in_err-count c =
 
 pub returns : goal.returns
 returns c =
-    opens_ok part.Strings c.args.strings c.one.result c.args.cursor.now c.u16.new.self _ _ _ _ _ (strings_open c.args.strings c.args.cursor.now.at c.args.cursor.now.rest.now) c.in_ok-count.ensures c.one.ensures refl (number_on 2 c.args.cursor.now.at c.args.cursor.now.rest.now (omega arith))
+    opens_ok part.Strings c.args.strings c.one.result c.args.cursor.now c.u16.new.self _ _ _ _ _ (strings_open c.args.strings c.args.cursor.now.at c.args.cursor.now.rest.now) c.in_ok-count.ensures c.one.ensures (cc) (number_on 2 c.args.cursor.now.at c.args.cursor.now.rest.now (omega arith))
