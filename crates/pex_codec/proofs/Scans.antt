@@ -1,5 +1,5 @@
 -- What the steps of a scan are.
-use Rattle.std.specs.Prelude.{zero, suc, ◌-◌, Bool, true, false, Result, Ok, Err, if◌then◌else◌, ◌==◌}
+use Rattle.std.specs.Prelude.{zero, suc, ◌-◌, Bool, true, false, Result, Ok, Err, IfOk, if◌then◌else◌, ◌==◌}
 use Rattle.std.proofs.Common.{◌≡◌, ℕ, ◌+◌, ◌*◌, ◌<◌, ◌≤◌, List, [], ◌∷◌, ◌++◌, length, drop, refl, sym, ap, subst, ◌∙◌, arith, append_assoc, length-drop}
 use Rattle.std.proofs.lemmas.List.{length-append}
 use Rattle.pex_values.specs.declared.values.SizeForm.{SizeForm}
@@ -16,7 +16,8 @@ use Rattle.pex_codec.specs.declared.parts.Task.{Task}
 use Rattle.pex_codec.specs.Opening.{task, tasks_of, Moved, Passes, HasOpened, Opens, least_of}
 use Rattle.pex_codec.specs.Reading.{Reading, Reader, Got, Short, Refused, then_read, read_as, size_form_at}
 use Rattle.pex_codec.specs.Scanning.{with_strings, part_at, times_at, tasks_at}
-use Rattle.pex_codec.specs.ScanSteps.{SameStack, some_left}
+use Rattle.pex_codec.specs.ScanSteps.{SameStack, some_left, scan_at, work_of, IsStep, Waits, Steps}
+use Rattle.pex_codec.specs.declared.scan.Scan.{Scan}
 use Rattle.pex_codec.specs.Taking.{Stops}
 use Rattle.pex_codec.proofs.Tasks.{then_next, then_then, tasks_append, tasks_none}
 use Rattle.pex_codec.proofs.FirstFields.{stops_behind, whole_opens}
@@ -88,22 +89,22 @@ part_stops below part (suc left) strings at bytes e some stops =
 part_stops below part zero strings at bytes e some stops = absurd (omega arith)
 
 -- a part was opened
-pub part_opened : (below put : List Task) (part : Part) (left strings : ℕ) (opened : Opened) (from to : Cursor)
-    → 0 < left → HasOpened part strings opened from to
-    → SameStack (below ++ (task part (left - 1) ∷ opened.fourth ∷ opened.third ∷ opened.second ∷ [])) put
+pub part_opened : (below put : List Task) (part : Part) (left fewer strings : ℕ) (opened : Opened) (from to : Cursor)
+    → left ≡ suc fewer → HasOpened part strings opened from to
+    → SameStack (below ++ (task part fewer ∷ opened.fourth ∷ opened.third ∷ opened.second ∷ [])) put
     → tasks_at (below ++ (task part left ∷ [])) strings from.at from.rest.now ≡ tasks_at (put ++ (opened.first ∷ [])) opened.strings to.at to.rest.now
-part_opened below put part (suc left) strings opened from to some has is =
+part_opened below put part left fewer strings opened from to one has is =
     let at = to.at in
     let rest = to.rest.now in
-    let stack = below ++ (task part left ∷ opened.fourth ∷ opened.third ∷ opened.second ∷ []) in
-    top_first below part (suc left) strings from.at from.rest.now
-    ∙ ap (λ (r : Reading ℕ). then_read (then_read r (λ strings1 at1 rest1. times_at part left strings1 at1 rest1)) (tasks_at below)) has.same
-    ∙ then_then (tasks_at (tasks_of opened) opened.strings at rest) (λ strings1 at1 rest1. times_at part left strings1 at1 rest1) (tasks_at below)
-    ∙ then_next (tasks_at (tasks_of opened) opened.strings at rest) _ (tasks_at (below ++ (task part left ∷ []))) (λ s at1 rest1. sym (top_first below part left s at1 rest1))
-    ∙ sym (tasks_append (below ++ (task part left ∷ [])) (tasks_of opened) opened.strings at rest)
-    ∙ ap (λ (xs : List Task). tasks_at xs opened.strings at rest) (append_assoc below (task part left ∷ []) (tasks_of opened) ∙ sym (append_assoc below (task part left ∷ opened.fourth ∷ opened.third ∷ opened.second ∷ []) (opened.first ∷ [])))
+    let stack = below ++ (task part fewer ∷ opened.fourth ∷ opened.third ∷ opened.second ∷ []) in
+    ap (λ (n : ℕ). tasks_at (below ++ (task part n ∷ [])) strings from.at from.rest.now) one
+    ∙ top_first below part (suc fewer) strings from.at from.rest.now
+    ∙ ap (λ (r : Reading ℕ). then_read (then_read r (λ strings1 at1 rest1. times_at part fewer strings1 at1 rest1)) (tasks_at below)) has.same
+    ∙ then_then (tasks_at (tasks_of opened) opened.strings at rest) (λ strings1 at1 rest1. times_at part fewer strings1 at1 rest1) (tasks_at below)
+    ∙ then_next (tasks_at (tasks_of opened) opened.strings at rest) _ (tasks_at (below ++ (task part fewer ∷ []))) (λ s at1 rest1. sym (top_first below part fewer s at1 rest1))
+    ∙ sym (tasks_append (below ++ (task part fewer ∷ [])) (tasks_of opened) opened.strings at rest)
+    ∙ ap (λ (xs : List Task). tasks_at xs opened.strings at rest) (append_assoc below (task part fewer ∷ []) (tasks_of opened) ∙ sym (append_assoc below (task part fewer ∷ opened.fourth ∷ opened.third ∷ opened.second ∷ []) (opened.first ∷ [])))
     ∙ (same_above stack put (opened.first ∷ []) is).same opened.strings at rest
-part_opened below put part zero strings opened from to some has is = absurd (omega arith)
 
 -- ---- a size is judged once
 
@@ -133,3 +134,98 @@ pub size_stops : (below : List Task) (size_at size left strings at : ℕ) (bytes
 size_stops below size_at size left strings at bytes e some stops =
     part_stops below (part.Size size_at size) left strings at bytes e some
     (stops_behind e (size_form_at size_at size at bytes) (λ form at1 rest1. Got strings at1 rest1) (part_at (part.Size size_at size) strings at bytes) (whole_opens strings (size_form_at size_at size at bytes)) stops)
+
+-- ---- steps of a scan
+
+some_one : (n : ℕ) → some_left n ≤ 1
+some_one zero = omega arith
+some_one (suc n) = omega arith
+
+some_there : (n : ℕ) → 0 < n → some_left n ≡ 1
+some_there zero some = absurd (omega arith)
+some_there (suc n) some = refl
+
+behind_is : (least from : ℕ) (bytes : List ℕ) (to : ℕ) (behind : List ℕ) → Moved least from bytes to behind → length behind + least ≤ length bytes
+behind_is least from bytes to behind moved = omega (arith, ap length moved.rest, length-drop moved.count bytes, moved.within, moved.enough)
+
+any_moved : (least from : ℕ) (bytes : List ℕ) (to : ℕ) (behind : List ℕ) → Moved least from bytes to behind → Moved 0 from bytes to behind
+any_moved least from bytes to behind moved = record { count = moved.count; within = moved.within; enough = omega arith; at = moved.at; rest = moved.rest }
+
+still : (from : Cursor) → Moved 0 from.at from.rest.now from.at from.rest.now
+still from = record { count = 0; within = omega arith; enough = omega arith; at = omega arith; rest = refl }
+
+abbrev pub with_left : Scan → ℕ → Scan
+with_left scan left = record { strings = scan.strings; current = record { part = scan.current.part; left = left }; below = scan.below }
+
+pub row_step : (old : Scan) (from : Cursor) (now : ℕ) (to : Cursor) → Passes old.current.part old.strings old.current.left from now to → now < old.current.left → IsStep old from (with_left old now) to
+row_step old from now to passed fewer = record {
+  same = row_passed old.below.items old.current.part old.current.left old.strings from now to passed;
+  moved = any_moved (old.current.left - now) from.at from.rest.now to.at to.rest.now passed.moved;
+  less =
+      let shorter = behind_is (old.current.left - now) from.at from.rest.now to.at to.rest.now passed.moved in
+      let a = some_one now in
+      omega arith;
+}
+
+abbrev pub size_step_of : Scan → Cursor → Part → Type 0
+size_step_of old cursor p =
+    tasks_at (old.below.items ++ (task p old.current.left ∷ [])) old.strings cursor.at cursor.rest.now ≡ tasks_at (old.below.items ++ (task p 0 ∷ [])) old.strings cursor.at cursor.rest.now
+
+pub size_step : (old : Scan) (size_at size : ℕ) (cursor here : Cursor) (form : SizeForm) → 0 < old.current.left → old.current.part ≡ part.Size size_at size
+    → size_form_at size_at size cursor.at cursor.rest.now ≡ Got form here.at here.rest.now → IsStep old cursor (with_left old 0) cursor
+size_step old size_at size cursor here form some is taken = record {
+  same = subst (λ (p : Part). size_step_of old cursor p) (sym is) (size_judged old.below.items size_at size old.current.left old.strings cursor.at cursor.rest.now form here.at here.rest.now taken);
+  moved = still cursor;
+  less = let a = some_there old.current.left some in omega arith;
+}
+
+waits : (e : Stop) (scan : Scan) (cursor : Cursor) → Stops (scan_at scan cursor.at cursor.rest.now) e → Steps {T = Unit} (Err e) scan cursor scan cursor
+waits stop.Short scan cursor stops = record { short = stops; scan = refl; cursor = refl }
+waits (stop.Refused offset rule) scan cursor stops = stops
+waits stop.OutOfMemory scan cursor stops = tt
+
+pub steps_err : (e : Stop) (result : Result Unit Stop) (scan : Scan) (cursor : Cursor) → result ≡ Err e → Stops (scan_at scan cursor.at cursor.rest.now) e → Steps result scan cursor scan cursor
+steps_err e result scan cursor is stops = subst (λ (x : Result Unit Stop). Steps x scan cursor scan cursor) (sym is) (waits e scan cursor stops)
+
+pub size_waits : (e : Stop) (result : Result Unit Stop) (scan : Scan) (size_at size : ℕ) (cursor : Cursor) → result ≡ Err e → 0 < scan.current.left → scan.current.part ≡ part.Size size_at size
+    → Stops (size_form_at size_at size cursor.at cursor.rest.now) e → Steps result scan cursor scan cursor
+size_waits e result scan size_at size cursor is some same stops =
+    steps_err e result scan cursor is
+    (subst (λ (p : Part). Stops (tasks_at (scan.below.items ++ (task p scan.current.left ∷ [])) scan.strings cursor.at cursor.rest.now) e) (sym same)
+      (size_stops scan.below.items size_at size scan.current.left scan.strings cursor.at cursor.rest.now e some stops))
+
+pub part_waits : (e : Stop) (result : Result Unit Stop) (scan : Scan) (cursor : Cursor) → result ≡ Err e → 0 < scan.current.left
+    → Stops (part_at scan.current.part scan.strings cursor.at cursor.rest.now) e → Steps result scan cursor scan cursor
+part_waits e result scan cursor is some stops =
+    steps_err e result scan cursor is (part_stops scan.below.items scan.current.part scan.current.left scan.strings cursor.at cursor.rest.now e some stops)
+
+pub next_step : (old new : Scan) (cursor : Cursor) → old.current.left ≡ 0 → new.strings ≡ old.strings → old.below.items ≡ new.below.items ++ (new.current ∷ []) → IsStep old cursor new cursor
+next_step old new cursor none strings items = record {
+  same =
+      (same_none old.current.part old.current.left old.below.items none).same old.strings cursor.at cursor.rest.now
+      ∙ ap (λ (xs : List Task). tasks_at xs old.strings cursor.at cursor.rest.now) items
+      ∙ ap (λ (n : ℕ). tasks_at (new.below.items ++ (new.current ∷ [])) n cursor.at cursor.rest.now) (sym strings);
+  moved = still cursor;
+  less = let a = some_one new.current.left in omega (arith, ap length items, length-append new.below.items (new.current ∷ []));
+}
+
+pub open_step : (old new : Scan) (opened : Opened) (from to : Cursor) → 0 < old.current.left → least_of old.current.part ≡ 1 → HasOpened old.current.part old.strings opened from to
+    → SameStack (old.below.items ++ (task old.current.part (old.current.left - 1) ∷ opened.fourth ∷ opened.third ∷ opened.second ∷ [])) new.below.items
+    → new.strings ≡ opened.strings → new.current ≡ opened.first → IsStep old from new to
+open_step old new opened from to some least has is strings first = record {
+  same =
+      part_opened old.below.items new.below.items old.current.part old.current.left (old.current.left - 1) old.strings opened from to (omega arith) has is
+      ∙ ap (λ (n : ℕ). tasks_at (new.below.items ++ (opened.first ∷ [])) n to.at to.rest.now) (sym strings)
+      ∙ ap (λ (t : Task). tasks_at (new.below.items ++ (t ∷ [])) new.strings to.at to.rest.now) (sym first);
+  moved = any_moved (least_of old.current.part) from.at from.rest.now to.at to.rest.now has.moved;
+  less =
+      let shorter = behind_is (least_of old.current.part) from.at from.rest.now to.at to.rest.now has.moved in
+      let high = is.height in
+      let more = length-append old.below.items (task old.current.part (old.current.left - 1) ∷ opened.fourth ∷ opened.third ∷ opened.second ∷ []) in
+      let a = some_one new.current.left in
+      omega arith;
+}
+
+pub if_ok : {T E : Type 0} (r : Result T E) (P Q : Type 0) → (P → Q) → IfOk r (λ (_ : T). P) → IfOk r (λ (_ : T). Q)
+if_ok (Ok x) P Q f p = f p
+if_ok (Err e) P Q f p = tt

@@ -1,7 +1,7 @@
 //! Goes through a file without its values.
 
 ghost use Rattle.std.specs.Prelude.{◌≡◌, ◌<◌, Decides, IfOk, [], ◌∷◌, ◌++◌};
-ghost use Rattle.pex_codec.specs.Opening.{Passes, least_of};
+ghost use Rattle.pex_codec.specs.Opening.{Passes, least_of, task};
 ghost use Rattle.pex_codec.specs.ScanSteps.{work_of, IsStep, Steps, StepsIf, SameStack, IsNewScan};
 ghost use Rattle.pex_codec.specs.declared.parts.Part.TheVariants as part;
 
@@ -53,25 +53,30 @@ fn put_opened(tasks: &mut Vec<Task>, rest: Task, opened: &Opened) -> Result<(), 
     put(tasks, opened.second)
 }
 
+fn once(part: Part) -> Task
+    ensures { result ≡ task part 1 }
+{
+    Task { part, left: 1 }
+}
+
 impl Scan {
     /// A whole file is to come.
     pub(crate) fn new(alloc: Global) -> Result<Scan, AllocError>
         ensures { IfOk result IsNewScan }
     {
-        let mut below = Vec::with_capacity(alloc, 5)?;
-        for part in [Part::Objects, Part::Flags, Part::Debug, Part::Strings] {
-            below.push(Task { part, left: 1 })?;
-        }
-        below.push(Task {
-            part: Part::Text,
-            left: 3,
-        })?;
+        let below = vec![in alloc;
+            once(Part::Objects),
+            once(Part::Flags),
+            once(Part::Debug),
+            once(Part::Strings),
+            Task {
+                part: Part::Text,
+                left: 3,
+            },
+        ]?;
         Ok(Scan {
             strings: 0,
-            current: Task {
-                part: Part::Heading,
-                left: 1,
-            },
+            current: once(Part::Heading),
             below,
         })
     }
