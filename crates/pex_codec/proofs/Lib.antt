@@ -7,9 +7,10 @@ pub mod Taken
 pub mod Tasks
 pub mod Opens
 pub mod Moves
+pub mod Stable
+pub mod StableTasks
+pub mod StableFields
 pub mod FirstFields
 pub mod Passing
 pub mod Scans
-pub mod Stable
-pub mod StableTasks
 pub mod Whole

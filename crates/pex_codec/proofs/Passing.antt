@@ -1,6 +1,6 @@
 -- Rows of a part: how many are passed, and what is left.
 use Rattle.std.specs.Prelude.{zero, suc, ◌-◌, Result, Err}
-use Rattle.std.proofs.Common.{◌≡◌, ℕ, ◌+◌, ◌<◌, ◌≤◌, List, [], ◌∷◌, length, drop, refl, sym, ap, subst, ◌∙◌, arith, length-drop}
+use Rattle.std.proofs.Common.{◌≡◌, ℕ, ◌+◌, ◌<◌, ◌≤◌, List, [], ◌∷◌, ◌++◌, length, drop, refl, sym, ap, subst, ◌∙◌, arith, length-drop}
 use Rattle.std.proofs.lemmas.List.{drop-drop}
 use Rattle.pex_codec.specs.declared.cursor.Cursor.{Cursor}
 use Rattle.pex_codec.specs.declared.cursor.Stop.{Stop}
@@ -13,7 +13,8 @@ use Rattle.pex_codec.specs.Scanning.{with_strings, part_at, times_at, tasks_at}
 use Rattle.pex_codec.specs.Taking.{Stops, Takes}
 use Rattle.pex_codec.proofs.Moves.{Moves, moved, datum_moves, fixed_moves}
 use Rattle.pex_codec.proofs.Opens.{instruction_opens}
-use Rattle.pex_codec.proofs.FirstFields.{stops_behind}
+use Rattle.pex_codec.proofs.FirstFields.{stops_behind, extended}
+use Rattle.pex_codec.proofs.StableTasks.{part_stable}
 
 -- ---- so many operands
 
@@ -79,15 +80,16 @@ Moved-on least more from bytes to behind end rest first second = record {
 pub Passes-none : (part : Part) (strings left : ℕ) (old : Cursor) → Passes part strings left old left old
 Passes-none part strings left old = record {
   fewer = omega arith;
-  same = refl;
+  same = λ x. refl;
   moved = record { count = 0; within = omega arith; enough = omega arith; at = omega arith; rest = refl };
 }
 
 pub Passes-more : (part : Part) (strings left : ℕ) (old : Cursor) (now : ℕ) (new next : Cursor) (fewer : ℕ) → now ≡ suc fewer → Passes part strings left old now new → PassesOne part strings new next → Passes part strings left old fewer next
 Passes-more part strings left old now new next fewer is passed one = record {
   fewer = omega (arith, passed.fewer);
-  same =
-      passed.same ∙ ap (λ (n : ℕ). times_at part n strings new.at new.rest.now) is
-      ∙ ap (λ (x : Reading ℕ). then_read x (λ strings1 at1 rest1. times_at part fewer strings1 at1 rest1)) one.same;
+  same = λ x.
+    passed.same x ∙ ap (λ (n : ℕ). times_at part n strings new.at (new.rest.now ++ x)) is
+    ∙ ap (λ (r : Reading ℕ). then_read r (λ strings1 at1 rest1. times_at part fewer strings1 at1 rest1))
+      (extended (part_at part strings) (part_stable part strings) new.at new.rest.now strings next.at next.rest.now x one.same);
   moved = subst (λ (n : ℕ). Moved n old.at old.rest.now next.at next.rest.now) (omega (arith, passed.fewer)) (Moved-on (left - now) 1 old.at old.rest.now new.at new.rest.now next.at next.rest.now passed.moved one.moved);
 }

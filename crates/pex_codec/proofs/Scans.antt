@@ -20,7 +20,8 @@ use Rattle.pex_codec.specs.ScanSteps.{SameStack, some_left, scan_at, work_of, Is
 use Rattle.pex_codec.specs.declared.scan.Scan.{Scan}
 use Rattle.pex_codec.specs.Taking.{Stops}
 use Rattle.pex_codec.proofs.Tasks.{then_next, then_then, tasks_append, tasks_none}
-use Rattle.pex_codec.proofs.FirstFields.{stops_behind, whole_opens}
+use Rattle.pex_codec.proofs.FirstFields.{stops_behind, whole_opens, extended}
+use Rattle.pex_codec.proofs.Stable.{size_form_stable}
 
 -- ---- stacks
 
@@ -74,11 +75,11 @@ top_first below part n strings at bytes = tasks_append below (task part n ∷ []
 
 -- part of a row was passed
 pub row_passed : (below : List Task) (part : Part) (left strings : ℕ) (from : Cursor) (now : ℕ) (to : Cursor) → Passes part strings left from now to
-    → tasks_at (below ++ (task part left ∷ [])) strings from.at from.rest.now ≡ tasks_at (below ++ (task part now ∷ [])) strings to.at to.rest.now
-row_passed below part left strings from now to passed =
-    top_first below part left strings from.at from.rest.now
-    ∙ ap (λ (r : Reading ℕ). then_read r (tasks_at below)) passed.same
-    ∙ sym (top_first below part now strings to.at to.rest.now)
+    → (x : List ℕ) → tasks_at (below ++ (task part left ∷ [])) strings from.at (from.rest.now ++ x) ≡ tasks_at (below ++ (task part now ∷ [])) strings to.at (to.rest.now ++ x)
+row_passed below part left strings from now to passed x =
+    top_first below part left strings from.at (from.rest.now ++ x)
+    ∙ ap (λ (r : Reading ℕ). then_read r (tasks_at below)) (passed.same x)
+    ∙ sym (top_first below part now strings to.at (to.rest.now ++ x))
 
 -- where the next of a part isn't there, nothing is
 pub part_stops : (below : List Task) (part : Part) (left strings at : ℕ) (bytes : List ℕ) (e : Stop) → 0 < left → Stops (part_at part strings at bytes) e
@@ -92,14 +93,14 @@ part_stops below part zero strings at bytes e some stops = absurd (omega arith)
 pub part_opened : (below put : List Task) (part : Part) (left fewer strings : ℕ) (opened : Opened) (from to : Cursor)
     → left ≡ suc fewer → HasOpened part strings opened from to
     → SameStack (below ++ (task part fewer ∷ opened.fourth ∷ opened.third ∷ opened.second ∷ [])) put
-    → tasks_at (below ++ (task part left ∷ [])) strings from.at from.rest.now ≡ tasks_at (put ++ (opened.first ∷ [])) opened.strings to.at to.rest.now
-part_opened below put part left fewer strings opened from to one has is =
+    → (x : List ℕ) → tasks_at (below ++ (task part left ∷ [])) strings from.at (from.rest.now ++ x) ≡ tasks_at (put ++ (opened.first ∷ [])) opened.strings to.at (to.rest.now ++ x)
+part_opened below put part left fewer strings opened from to one has is x =
     let at = to.at in
-    let rest = to.rest.now in
+    let rest = to.rest.now ++ x in
     let stack = below ++ (task part fewer ∷ opened.fourth ∷ opened.third ∷ opened.second ∷ []) in
-    ap (λ (n : ℕ). tasks_at (below ++ (task part n ∷ [])) strings from.at from.rest.now) one
-    ∙ top_first below part (suc fewer) strings from.at from.rest.now
-    ∙ ap (λ (r : Reading ℕ). then_read (then_read r (λ strings1 at1 rest1. times_at part fewer strings1 at1 rest1)) (tasks_at below)) has.same
+    ap (λ (n : ℕ). tasks_at (below ++ (task part n ∷ [])) strings from.at (from.rest.now ++ x)) one
+    ∙ top_first below part (suc fewer) strings from.at (from.rest.now ++ x)
+    ∙ ap (λ (r : Reading ℕ). then_read (then_read r (λ strings1 at1 rest1. times_at part fewer strings1 at1 rest1)) (tasks_at below)) (has.same x)
     ∙ then_then (tasks_at (tasks_of opened) opened.strings at rest) (λ strings1 at1 rest1. times_at part fewer strings1 at1 rest1) (tasks_at below)
     ∙ then_next (tasks_at (tasks_of opened) opened.strings at rest) _ (tasks_at (below ++ (task part fewer ∷ []))) (λ s at1 rest1. sym (top_first below part fewer s at1 rest1))
     ∙ sym (tasks_append (below ++ (task part fewer ∷ [])) (tasks_of opened) opened.strings at rest)
@@ -167,14 +168,16 @@ row_step old from now to passed fewer = record {
       omega arith;
 }
 
-abbrev pub size_step_of : Scan → Cursor → Part → Type 0
-size_step_of old cursor p =
-    tasks_at (old.below.items ++ (task p old.current.left ∷ [])) old.strings cursor.at cursor.rest.now ≡ tasks_at (old.below.items ++ (task p 0 ∷ [])) old.strings cursor.at cursor.rest.now
+abbrev pub size_step_of : Scan → ℕ → List ℕ → Part → Type 0
+size_step_of old at bytes p = tasks_at (old.below.items ++ (task p old.current.left ∷ [])) old.strings at bytes ≡ tasks_at (old.below.items ++ (task p 0 ∷ [])) old.strings at bytes
 
 pub size_step : (old : Scan) (size_at size : ℕ) (cursor here : Cursor) (form : SizeForm) → 0 < old.current.left → old.current.part ≡ part.Size size_at size
     → size_form_at size_at size cursor.at cursor.rest.now ≡ Got form here.at here.rest.now → IsStep old cursor (with_left old 0) cursor
 size_step old size_at size cursor here form some is taken = record {
-  same = subst (λ (p : Part). size_step_of old cursor p) (sym is) (size_judged old.below.items size_at size old.current.left old.strings cursor.at cursor.rest.now form here.at here.rest.now taken);
+  same = λ x.
+    subst (λ (p : Part). size_step_of old cursor.at (cursor.rest.now ++ x) p) (sym is)
+      (size_judged old.below.items size_at size old.current.left old.strings cursor.at (cursor.rest.now ++ x) form here.at (here.rest.now ++ x)
+        (extended (size_form_at size_at size) (size_form_stable size_at size) cursor.at cursor.rest.now form here.at here.rest.now x taken));
   moved = still cursor;
   less = let a = some_there old.current.left some in omega arith;
 }
@@ -201,10 +204,10 @@ part_waits e result scan cursor is some stops =
 
 pub next_step : (old new : Scan) (cursor : Cursor) → old.current.left ≡ 0 → new.strings ≡ old.strings → old.below.items ≡ new.below.items ++ (new.current ∷ []) → IsStep old cursor new cursor
 next_step old new cursor none strings items = record {
-  same =
-      (same_none old.current.part old.current.left old.below.items none).same old.strings cursor.at cursor.rest.now
-      ∙ ap (λ (xs : List Task). tasks_at xs old.strings cursor.at cursor.rest.now) items
-      ∙ ap (λ (n : ℕ). tasks_at (new.below.items ++ (new.current ∷ [])) n cursor.at cursor.rest.now) (sym strings);
+  same = λ x.
+    (same_none old.current.part old.current.left old.below.items none).same old.strings cursor.at (cursor.rest.now ++ x)
+    ∙ ap (λ (xs : List Task). tasks_at xs old.strings cursor.at (cursor.rest.now ++ x)) items
+    ∙ ap (λ (n : ℕ). tasks_at (new.below.items ++ (new.current ∷ [])) n cursor.at (cursor.rest.now ++ x)) (sym strings);
   moved = still cursor;
   less = let a = some_one new.current.left in omega (arith, ap length items, length-append new.below.items (new.current ∷ []));
 }
@@ -213,10 +216,10 @@ pub open_step : (old new : Scan) (opened : Opened) (from to : Cursor) → 0 < ol
     → SameStack (old.below.items ++ (task old.current.part (old.current.left - 1) ∷ opened.fourth ∷ opened.third ∷ opened.second ∷ [])) new.below.items
     → new.strings ≡ opened.strings → new.current ≡ opened.first → IsStep old from new to
 open_step old new opened from to some least has is strings first = record {
-  same =
-      part_opened old.below.items new.below.items old.current.part old.current.left (old.current.left - 1) old.strings opened from to (omega arith) has is
-      ∙ ap (λ (n : ℕ). tasks_at (new.below.items ++ (opened.first ∷ [])) n to.at to.rest.now) (sym strings)
-      ∙ ap (λ (t : Task). tasks_at (new.below.items ++ (t ∷ [])) new.strings to.at to.rest.now) (sym first);
+  same = λ x.
+    part_opened old.below.items new.below.items old.current.part old.current.left (old.current.left - 1) old.strings opened from to (omega arith) has is x
+    ∙ ap (λ (n : ℕ). tasks_at (new.below.items ++ (opened.first ∷ [])) n to.at (to.rest.now ++ x)) (sym strings)
+    ∙ ap (λ (t : Task). tasks_at (new.below.items ++ (t ∷ [])) new.strings to.at (to.rest.now ++ x)) (sym first);
   moved = any_moved (least_of old.current.part) from.at from.rest.now to.at to.rest.now has.moved;
   less =
       let shorter = behind_is (least_of old.current.part) from.at from.rest.now to.at to.rest.now has.moved in

@@ -29,9 +29,9 @@ some_left (suc left) = 1
 abbrev pub work_of : Scan → ℕ
 work_of scan = 2 * length scan.below.items + some_left scan.current.left
 
--- what is still to come is the same from the new place on, and there is less of it
+-- what is still to come is the same from the new place on, whatever bytes follow, and there is less of it
 pub record IsStep (old : Scan) (from : Cursor) (new : Scan) (to : Cursor) : Type 0 where
-  pub same : scan_at old from.at from.rest.now ≡ scan_at new to.at to.rest.now
+  pub same : (x : List ℕ) → scan_at old from.at (from.rest.now ++ x) ≡ scan_at new to.at (to.rest.now ++ x)
   pub moved : Moved 0 from.at from.rest.now to.at to.rest.now
   pub less : 16 * length to.rest.now + work_of new < 16 * length from.rest.now + work_of old
 
