@@ -34,9 +34,9 @@ read_unread Says (Some files) name (Refused place rule) (bytes, held, past, plac
 pub read_refused : {T : Type 0} (Says : T → List ℕ → Type 0) (holds : Option Files) (name : List ℕ) (bytes : Vec ℕ Global) (fault : PexFault) (told : FileFault)
     → ReadsBytes holds name (Ok bytes) → Decodes bytes.items (Err fault) → IsRefusalOf fault told → Reads Says holds name (Err told)
 read_refused Says None name bytes fault told read breaks is = tt
-read_refused {T} Says (Some files) name bytes pex.OutOfMemory told read breaks is = subst (λ (f : FileFault). Reads {T} Says (Some files) name (Err f)) (sym is) tt
+read_refused {T} Says (Some files) name bytes pex.OutOfMemory told read breaks is = subst (λ (f : FileFault). Reads {T = T} Says (Some files) name (Err f)) (sym is) tt
 read_refused {T} Says (Some files) name bytes (pex.Broken offset rule) told read breaks is =
-    subst (λ (f : FileFault). Reads {T} Says (Some files) name (Err f)) (sym is)
+    subst (λ (f : FileFault). Reads {T = T} Says (Some files) name (Err f)) (sym is)
     (bytes.items, read.1, record {
       breaks = λ few. record { offset = offset; broken = rule; place_is = refl; rule_is = refl; breaks = breaks };
       too_large = λ past. absurd (omega (arith, past, read.0));
@@ -51,7 +51,7 @@ read_decoded (Some files) name bytes value size read spells is = (bytes.items, r
 pub read_kept : (holds : Option Files) (name : List ℕ) (bytes : Vec ℕ Global) (value : Pex) → ReadsBytes holds name (Ok bytes) → Spells (plain value) bytes.items
     → ReadsKept holds name (Ok (record { value = value; bytes = bytes }))
 read_kept None name bytes value read spells = tt
-read_kept (Some files) name bytes value read spells = (bytes.items, read.1, record { spelled = spells; bytes = refl })
+read_kept (Some files) name bytes value read spells = (bytes.items, read.1, record { spelled = spells; kept = refl })
 
 pub read_counted : (holds : Option Files) (name : List ℕ) (bytes : Vec ℕ Global) (size : ℕ) → ReadsBytes holds name (Ok bytes) → IsSpelling bytes.items → size ≡ length bytes.items
     → CountsPex holds name (Ok size)

@@ -76,7 +76,7 @@ CountsPex holds name result = Reads IsCounted holds name result
 -- the value that the bytes spell, and the bytes
 pub record IsKept (file : KeptPex) (bytes : List ℕ) : Type 0 where
   pub spelled : Spells (plain file.value) bytes
-  pub bytes : file.bytes.items ≡ bytes
+  pub kept : file.bytes.items ≡ bytes
 
 abbrev pub ReadsKept : Option Files → List ℕ → Result KeptPex FileFault → Type 0
 ReadsKept holds name result = Reads IsKept holds name result

@@ -61,6 +61,7 @@ fn refused(fault: PexFault) -> FileFault
 
 /// Reads a compiled file. It is refused with the first rule P that it breaks, but one of more than 16 MiB with P12, whatever else it
 /// breaks. `ReadFault` comes where it wasn't read.
+#[tactic(auto, using(crate::proofs::PexRead::read_unread, crate::proofs::PexRead::read_refused, crate::proofs::PexRead::read_decoded, crate::proofs::PexRead::spelled_by))]
 pub fn read_pex<D: Desk>(alloc: Global, desk: &mut D, name: &[u8]) -> Result<PexFile, FileFault>
     requires { D.busy desk.old ≡ Idle }
     ensures holds { D.holds desk.new ≡ D.holds desk.old }
@@ -85,6 +86,7 @@ pub fn read_pex<D: Desk>(alloc: Global, desk: &mut D, name: &[u8]) -> Result<Pex
 }
 
 /// Reads a compiled file as `read_pex` does, and gives its bytes too.
+#[tactic(auto, using(crate::proofs::PexRead::read_unread, crate::proofs::PexRead::read_refused, crate::proofs::PexRead::read_kept, crate::proofs::PexRead::spelled_by))]
 pub fn read_kept_pex<D: Desk>(
     alloc: Global,
     desk: &mut D,
@@ -115,6 +117,7 @@ pub fn read_kept_pex<D: Desk>(
 
 /// Counts the bytes of a compiled file that `read_pex` would read, and refuses what it would refuse. It makes no value, so it takes less
 /// time and memory.
+#[tactic(auto, using(crate::proofs::PexRead::read_unread, crate::proofs::PexRead::read_refused, crate::proofs::PexRead::read_counted, crate::proofs::PexRead::spelled_one))]
 pub fn count_pex<D: Desk>(alloc: Global, desk: &mut D, name: &[u8]) -> Result<usize, FileFault>
     requires { D.busy desk.old ≡ Idle }
     ensures holds { D.holds desk.new ≡ D.holds desk.old }

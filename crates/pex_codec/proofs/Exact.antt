@@ -44,7 +44,7 @@ joined {at} {mid} {end} {bytes} {behind} {rest} {x} {y} a b = record {
 pub spelled_as : {at end : ℕ} {bytes rest x y : List ℕ} → x ≡ y → Spans at bytes x end rest → Spans at bytes y end rest
 spelled_as {at} {end} {bytes} {rest} e s = subst (λ z. Spans at bytes z end rest) e s
 
-front_bytes : (x y : List ℕ) → AreBytes (x ++ y) → AreBytes x
+pub front_bytes : (x y : List ℕ) → AreBytes (x ++ y) → AreBytes x
 front_bytes [] y h = tt
 front_bytes (b ∷ x) y h = (h.0, front_bytes x y h.1)
 
@@ -56,6 +56,11 @@ pub byte_below : (bytes : List ℕ) → AreBytes bytes → (k : ℕ) → get_or 
 byte_below [] h k = omega arith
 byte_below (b ∷ bytes) h zero = h.0
 byte_below (b ∷ bytes) h (suc k) = byte_below bytes h.1 k
+
+-- what a slice of bytes holds
+pub bytes_below : (bytes : List ℕ) → ((k : ℕ) → get_or bytes k 0 < 256) → AreBytes bytes
+bytes_below [] h = tt
+bytes_below (b ∷ bytes) h = (h 0, bytes_below bytes (λ k. h (suc k)))
 
 -- ---- answers
 

@@ -1,5 +1,5 @@
 -- The bytes of values, instructions and functions.
-use Rattle.std.proofs.Common.{◌≡◌, ℕ, zero, suc, ◌+◌, ◌<◌, ◌≤◌, ◌^◌, ℤ, pos, negsuc, List, [], ◌∷◌, ◌++◌, length, Bool, true, false, Option, Some, None, refl, sym, ap, subst, ◌∙◌, append_assoc, length-append, arith}
+use Rattle.std.proofs.Common.{◌≡◌, ℕ, zero, suc, ◌+◌, ◌<◌, ◌≤◌, ◌^◌, ℤ, pos, negsuc, List, [], ◌∷◌, ◌++◌, length, Bool, true, false, Option, Some, None, refl, sym, ap, subst, ◌∙◌, append_assoc, arith}
 use Rattle.std.specs.Prelude.{FitsSigned, nat_le, nat_lt, is_some, ◌==◌}
 use Rattle.std.specs.Int.{w32, cast_unsigned, cast_signed}
 use Rattle.std.specs.List.{flat_map, AllByRecursion}
@@ -9,17 +9,16 @@ use Rattle.std.proofs.Math.Facts.{sfits_to_z}
 use Rattle.std.proofs.lemmas.List.{append-nil, nil_from_length}
 use Rattle.pex_values.specs.declared.values.Datum.{Datum}
 use Rattle.pex_values.specs.declared.values.Datum.TheVariants.{NoneValue, Word, Quoted, Int, Float, Bool as BoolByte}
-use Rattle.pex_values.specs.Fit.{IsCounted, FitsInstruction, FitsFunction, FitsState}
+use Rattle.pex_values.specs.Fit.{FitsInstruction, FitsFunction, FitsState}
 use Rattle.pex_values.specs.Opcodes.{operands_of}
 use Rattle.pex_values.specs.Plain.{PlainInstruction, PlainFunction, PlainState}
 use Rattle.pex_values.specs.Shape.{IsReference, ArePair, AgreesWith, IsShapedDatum, IsShapedInstruction, IsShapedFunction, IsShapedNamed, IsShapedState}
-use Rattle.pex_values.specs.Spelling.{one_byte, two_bytes, four_bytes, integer, datum, counted, instruction, pair, list, function, named, state}
+use Rattle.pex_values.specs.Spelling.{one_byte, two_bytes, four_bytes, datum, counted, instruction, pair, list, function, named, state}
 use Rattle.pex_codec.specs.declared.faults.PexRule.TheVariants.{BadKind, BadOpcode, BadCount, BadIndex}
 use Rattle.pex_codec.specs.declared.heads.FunctionHead.{FunctionHead}
 use Rattle.pex_codec.specs.Laws.{AreBytes}
-use Rattle.pex_codec.specs.Reading.{Reading, Reader, Got, Short, then_read, read_as, judged, byte_at, number_at, reference_at, items_at, list_at, kind_at, datum_with, datum_at, pair_at, opcode_at, count_at, instruction_with, instruction_at, function_head_at, function_with, function_at, named_at, state_at}
-use Rattle.pex_codec.specs.Writing.{FitEach}
-use Rattle.pex_codec.proofs.Exact.{Spans, Stands, IsExact, joined, spelled_as, same_got, ended_at, short_got, taken, viewed, follow, ending, exact_as, judged_exact, row2, row3, row4, row5, byte_exact, two_exact, four_exact, AreItems, items_exact, list_exact}
+use Rattle.pex_codec.specs.Reading.{Reader, Got, read_as, judged, number_at, reference_at, list_at, kind_at, datum_with, datum_at, pair_at, opcode_at, count_at, instruction_with, instruction_at, function_head_at, function_with, function_at, named_at, state_at}
+use Rattle.pex_codec.proofs.Exact.{Spans, Stands, IsExact, joined, spelled_as, same_got, ended_at, short_got, taken, viewed, follow, ending, exact_as, judged_exact, row2, row3, row4, row5, byte_exact, two_exact, four_exact, items_exact, list_exact}
 
 -- ---- references
 

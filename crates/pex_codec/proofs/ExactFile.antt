@@ -1,7 +1,7 @@
 -- The bytes of a whole file.
-use Rattle.std.proofs.Common.{◌≡◌, ℕ, zero, suc, ◌+◌, ◌<◌, ◌≤◌, ◌^◌, List, [], ◌∷◌, ◌++◌, length, Bool, true, false, Option, Some, None, inl, inr, refl, sym, ap, subst, ◌∙◌, append_assoc, length-append, arith}
+use Rattle.std.proofs.Common.{◌≡◌, ℕ, zero, suc, ◌+◌, ◌<◌, ◌≤◌, ◌^◌, List, ◌++◌, length, Bool, true, false, Option, Some, None, inl, inr, refl, sym, ap, subst, ◌∙◌, arith}
 use Rattle.std.specs.Prelude.{IfSome, ◌==◌, ◌||◌, ◌⊎◌, nat_le}
-use Rattle.std.specs.List.{flat_map, AllByRecursion}
+use Rattle.std.specs.List.{flat_map}
 use Rattle.std.proofs.lemmas.Bool.Decides.{nat_tests}
 use Rattle.pex_values.specs.Fit.{IsCounted, FitsDebug}
 use Rattle.pex_values.specs.Plain.{PlainLines, PlainDebug, PlainObject, PlainPex}
@@ -11,11 +11,11 @@ use Rattle.pex_codec.specs.declared.faults.PexRule.TheVariants.{BadMagic, BadVer
 use Rattle.pex_codec.specs.declared.heads.Heading.{Heading}
 use Rattle.pex_codec.specs.declared.heads.LinesHead.{LinesHead}
 use Rattle.pex_codec.specs.Laws.{AreBytes}
-use Rattle.pex_codec.specs.Reading.{Reading, Reader, Got, Short, then_read, read_as, judged, byte_at, number_at, string_at, reference_at, items_at, list_at, lines_head_at, lines_with, lines_at, debug_flag_at, debug_with, debug_at, flag_at, heading_at, Texts, texts_at, pex_with, pex_at, object_at}
+use Rattle.pex_codec.specs.Reading.{Reader, Got, then_read, read_as, judged, byte_at, number_at, list_at, lines_head_at, lines_with, lines_at, debug_flag_at, debug_with, debug_at, flag_at, heading_at, Texts, texts_at, pex_with, pex_at}
 use Rattle.pex_codec.specs.Writing.{FitEach}
-use Rattle.pex_codec.proofs.Exact.{Spans, Stands, IsExact, joined, spelled_as, same_got, ended_at, taken, viewed, follow, ending, judged_exact, row2, row3, row4, row5, byte_exact, two_exact, four_exact, eight_exact, string_exact, AreItems, items_exact, list_exact}
+use Rattle.pex_codec.proofs.Exact.{Spans, Stands, IsExact, joined, spelled_as, same_got, ended_at, taken, viewed, follow, ending, judged_exact, row2, row3, row4, row5, byte_exact, two_exact, four_exact, eight_exact, string_exact, items_exact, list_exact}
 use Rattle.pex_codec.proofs.ExactCode.{reference_exact, each_first, each_second, each_both}
-use Rattle.pex_codec.proofs.ExactObject.{IsSized, ShapedObject, object_exact}
+use Rattle.pex_codec.proofs.ExactObject.{IsSized, object_exact}
 
 -- ---- debug information
 
@@ -37,9 +37,9 @@ unfolding lines_head_at
 head_complete strings h at rest p =
     let r = reference_exact strings in
     row5 (lines_head_at strings) at (two_bytes h.object) (two_bytes h.state) (two_bytes h.function) (one_byte h.kind) (two_bytes h.lines) rest h
-      (follow _ r h.object at _ p.object ∙ (follow _ r h.state (at + 2) _ p.state ∙ (follow _ r h.function (at + 2 + 2) _ p.function
-      ∙ (follow (λ kind at4 rest4. read_as (λ lines. make_head h.object h.state h.function kind lines) (number_at 2 at4 rest4)) byte_exact h.kind (at + 2 + 2 + 2) (two_bytes h.lines ++ rest) p.kind
-      ∙ ending (λ lines. make_head h.object h.state h.function h.kind lines) two_exact h.lines (at + 2 + 2 + 2 + 1) rest p.lines))))
+    (follow _ r h.object at _ p.object ∙ (follow _ r h.state (at + 2) _ p.state ∙ (follow _ r h.function (at + 2 + 2) _ p.function
+    ∙ (follow (λ kind at4 rest4. read_as (λ lines. make_head h.object h.state h.function kind lines) (number_at 2 at4 rest4)) byte_exact h.kind (at + 2 + 2 + 2) (two_bytes h.lines ++ rest) p.kind
+    ∙ ending (λ lines. make_head h.object h.state h.function h.kind lines) two_exact h.lines (at + 2 + 2 + 2 + 1) rest p.lines))))
 
 head_sound : (strings : ℕ) (h : LinesHead) (at : ℕ) (bytes : List ℕ) (end : ℕ) (rest : List ℕ) → AreBytes bytes → lines_head_at strings at bytes ≡ Got h end rest → Stands (IsLinesHead strings) lines_head h at bytes end rest
 unfolding lines_head_at
@@ -51,11 +51,11 @@ head_sound strings h at bytes end rest b e =
     let kind = taken byte_exact _ of_function.mid of_function.behind h end rest of_function.others of_function.later in
     let count = viewed two_exact _ kind.mid kind.behind h end rest kind.others kind.later in
     subst (λ z. Stands (IsLinesHead strings) lines_head z at bytes end rest) count.is
-      (record {
-        may = record { object = of_object.may; state = of_state.may; function = of_function.may; kind = kind.may; lines = count.may };
-        spans = joined (joined (joined (joined of_object.spans of_state.spans) of_function.spans) kind.spans) count.spans;
-        others = count.others;
-      })
+    (record {
+      may = record { object = of_object.may; state = of_state.may; function = of_function.may; kind = kind.may; lines = count.may };
+      spans = joined (joined (joined (joined of_object.spans of_state.spans) of_function.spans) kind.spans) count.spans;
+      others = count.others;
+    })
 
 lines_head_exact : (strings : ℕ) → IsExact (IsLinesHead strings) lines_head (lines_head_at strings)
 lines_head_exact strings = record { complete = head_complete strings; sound = head_sound strings }
@@ -73,8 +73,8 @@ lines_complete : (strings : ℕ) (e : PlainLines) (at : ℕ) (rest : List ℕ) �
 unfolding lines lines_at
 lines_complete strings e at rest p =
     row2 (lines_at strings) at (lines_head (head_of e)) (flat_map two_bytes e.lines) rest e
-      (follow lines_with (lines_head_exact strings) (head_of e) at (flat_map two_bytes e.lines ++ rest) (record { object = p.0.object; state = p.0.state; function = p.0.function; kind = p.0.kind; lines = p.1 })
-      ∙ ending (λ numbers. make_lines (head_of e) numbers) (items_exact two_exact (length e.lines)) e.lines (at + 9) rest (refl, p.0.lines))
+    (follow lines_with (lines_head_exact strings) (head_of e) at (flat_map two_bytes e.lines ++ rest) (record { object = p.0.object; state = p.0.state; function = p.0.function; kind = p.0.kind; lines = p.1 })
+    ∙ ending (λ numbers. make_lines (head_of e) numbers) (items_exact two_exact (length e.lines)) e.lines (at + 9) rest (refl, p.0.lines))
 
 lines_sound : (strings : ℕ) (x : PlainLines) (at : ℕ) (bytes : List ℕ) (end : ℕ) (rest : List ℕ) → AreBytes bytes → lines_at strings at bytes ≡ Got x end rest → Stands (ShapedLines strings) lines x at bytes end rest
 unfolding lines lines_at
@@ -85,11 +85,11 @@ lines_sound strings x at bytes end rest b e =
     let count = sym numbers.may.0 in
     let number = λ (n : ℕ). two_bytes h.object ++ two_bytes h.state ++ two_bytes h.function ++ one_byte h.kind ++ two_bytes n ++ flat_map two_bytes numbers.part in
     subst (λ z. Stands (ShapedLines strings) lines z at bytes end rest) numbers.is
-      (record {
-        may = (record { object = head.may.object; state = head.may.state; function = head.may.function; kind = head.may.kind; lines = numbers.may.1 }, subst (λ (n : ℕ). n < 2 ^ 16) count head.may.lines);
-        spans = spelled_as (ap number count) (joined head.spans numbers.spans);
-        others = numbers.others;
-      })
+    (record {
+      may = (record { object = head.may.object; state = head.may.state; function = head.may.function; kind = head.may.kind; lines = numbers.may.1 }, subst (λ (n : ℕ). n < 2 ^ 16) count head.may.lines);
+      spans = spelled_as (ap number count) (joined head.spans numbers.spans);
+      others = numbers.others;
+    })
 
 pub lines_exact : (strings : ℕ) → IsExact (ShapedLines strings) lines (lines_at strings)
 lines_exact strings = record { complete = lines_complete strings; sound = lines_sound strings }
@@ -113,9 +113,9 @@ debug_complete strings None at rest p = ended_at None rest (suc at) (at + 1) (om
 debug_complete strings (Some d) at rest p =
     let functions = each_both (IsShapedLines strings) (λ e. IsCounted e.lines) d.functions p.0.functions p.1.each in
     row3 (debug_at strings) at (one_byte 1) (eight_bytes d.time) (list lines d.functions) rest (Some d)
-      (follow (λ time at1 rest1. read_as (λ functions. Some (make_debug time functions)) (list_at (lines_at strings) at1 rest1)) eight_exact d.time (suc at) (list lines d.functions ++ rest) p.0.time
-      ∙ (ending (λ functions. Some (make_debug d.time functions)) (list_exact (lines_exact strings)) d.functions (suc at + 8) rest (p.1.functions, functions)
-      ∙ ended_at (Some d) rest (suc at + 8 + length (list lines d.functions)) (at + 1 + 8 + length (list lines d.functions)) (omega arith)))
+    (follow (λ time at1 rest1. read_as (λ functions. Some (make_debug time functions)) (list_at (lines_at strings) at1 rest1)) eight_exact d.time (suc at) (list lines d.functions ++ rest) p.0.time
+    ∙ (ending (λ functions. Some (make_debug d.time functions)) (list_exact (lines_exact strings)) d.functions (suc at + 8) rest (p.1.functions, functions)
+    ∙ ended_at (Some d) rest (suc at + 8 + length (list lines d.functions)) (at + 1 + 8 + length (list lines d.functions)) (omega arith)))
 
 debug_behind : (strings n : ℕ) (d : Option PlainDebug) (at : ℕ) (bytes : List ℕ) (end : ℕ) (rest : List ℕ) → n ≤ 1 → AreBytes bytes → (mid : ℕ) (behind : List ℕ) → Spans at bytes (one_byte n) mid behind → AreBytes behind
     → debug_with strings n mid behind ≡ Got d end rest → Stands (ShapedDebug strings) debug d at bytes end rest
@@ -126,12 +126,14 @@ debug_behind strings (suc zero) d at bytes end rest small b mid behind spans oth
     let time = taken eight_exact (λ time at1 rest1. read_as (λ functions. Some (make_debug time functions)) (list_at (lines_at strings) at1 rest1)) mid behind d end rest others e in
     let functions = viewed (list_exact (lines_exact strings)) (λ functions. Some (make_debug time.part functions)) time.mid time.behind d end rest time.others time.later in
     subst (λ z. Stands (ShapedDebug strings) debug z at bytes end rest) functions.is
-      (record {
-        may = (record { time = time.may; functions = each_first (IsShapedLines strings) (λ e. IsCounted e.lines) functions.part functions.may.1 },
-          record { functions = functions.may.0; each = each_second (IsShapedLines strings) (λ e. IsCounted e.lines) functions.part functions.may.1 });
-        spans = joined spans (joined time.spans functions.spans);
-        others = functions.others;
-      })
+    (record {
+      may = (
+        record { time = time.may; functions = each_first (IsShapedLines strings) (λ e. IsCounted e.lines) functions.part functions.may.1 },
+        record { functions = functions.may.0; each = each_second (IsShapedLines strings) (λ e. IsCounted e.lines) functions.part functions.may.1 },
+      );
+      spans = joined spans (joined time.spans functions.spans);
+      others = functions.others;
+    })
 debug_behind strings (suc (suc n)) d at bytes end rest small b mid behind spans others e = absurd (omega (arith, small))
 
 debug_sound : (strings : ℕ) (d : Option PlainDebug) (at : ℕ) (bytes : List ℕ) (end : ℕ) (rest : List ℕ) → AreBytes bytes → debug_at strings at bytes ≡ Got d end rest → Stands (ShapedDebug strings) debug d at bytes end rest
@@ -152,13 +154,13 @@ flag_exact strings =
     let r = reference_exact strings in
     record {
       complete = λ x at rest p.
-        row2 (flag_at strings) at (two_bytes x.0) (one_byte x.1) rest x
+          row2 (flag_at strings) at (two_bytes x.0) (one_byte x.1) rest x
           (follow (λ name at1 rest1. read_as (λ index. (name, index)) (byte_at at1 rest1)) r x.0 at (one_byte x.1 ++ rest) p.name
           ∙ ending (λ index. (x.0, index)) byte_exact x.1 (at + 2) rest p.index);
       sound = λ x at bytes end rest b e.
-        let name = taken r (λ name at1 rest1. read_as (λ index. (name, index)) (byte_at at1 rest1)) at bytes x end rest b e in
-        let index = viewed byte_exact (λ index. (name.part, index)) name.mid name.behind x end rest name.others name.later in
-        subst (λ z. Stands (IsShapedFlag strings) flag z at bytes end rest) index.is (record { may = record { name = name.may; index = index.may }; spans = joined name.spans index.spans; others = index.others });
+          let name = taken r (λ name at1 rest1. read_as (λ index. (name, index)) (byte_at at1 rest1)) at bytes x end rest b e in
+          let index = viewed byte_exact (λ index. (name.part, index)) name.mid name.behind x end rest name.others name.later in
+          subst (λ z. Stands (IsShapedFlag strings) flag z at bytes end rest) index.is (record { may = record { name = name.may; index = index.may }; spans = joined name.spans index.spans; others = index.others });
     }
 
 -- ---- the header
@@ -213,11 +215,11 @@ heading_complete : (h : Heading) (at : ℕ) (rest : List ℕ) → IsHeading h �
 unfolding heading_at
 heading_complete h at rest p =
     row5 heading_at at (four_bytes 0xFA57C0DE) (one_byte 3) (one_byte h.minor) (two_bytes 1) (eight_bytes h.time) rest h
-      (follow behind_magic magic_exact 0xFA57C0DE at (one_byte 3 ++ (one_byte h.minor ++ (two_bytes 1 ++ (eight_bytes h.time ++ rest)))) (omega arith, refl)
-      ∙ (follow behind_major major_exact 3 (at + 4) (one_byte h.minor ++ (two_bytes 1 ++ (eight_bytes h.time ++ rest))) (omega arith, refl)
-      ∙ (follow behind_minor minor_exact h.minor (at + 4 + 1) (two_bytes 1 ++ (eight_bytes h.time ++ rest)) (minor_tests h.minor p.minor)
-      ∙ (follow (behind_game h.minor) game_exact 1 (at + 4 + 1 + 1) (eight_bytes h.time ++ rest) (omega arith, refl)
-      ∙ ending (λ time. make_heading h.minor time) eight_exact h.time (at + 4 + 1 + 1 + 2) rest p.time))))
+    (follow behind_magic magic_exact 0xFA57C0DE at (one_byte 3 ++ (one_byte h.minor ++ (two_bytes 1 ++ (eight_bytes h.time ++ rest)))) (omega arith, refl)
+    ∙ (follow behind_major major_exact 3 (at + 4) (one_byte h.minor ++ (two_bytes 1 ++ (eight_bytes h.time ++ rest))) (omega arith, refl)
+    ∙ (follow behind_minor minor_exact h.minor (at + 4 + 1) (two_bytes 1 ++ (eight_bytes h.time ++ rest)) (minor_tests h.minor p.minor)
+    ∙ (follow (behind_game h.minor) game_exact 1 (at + 4 + 1 + 1) (eight_bytes h.time ++ rest) (omega arith, refl)
+    ∙ ending (λ time. make_heading h.minor time) eight_exact h.time (at + 4 + 1 + 1 + 2) rest p.time))))
 
 heading_sound : (h : Heading) (at : ℕ) (bytes : List ℕ) (end : ℕ) (rest : List ℕ) → AreBytes bytes → heading_at at bytes ≡ Got h end rest → Stands IsHeading heading_bytes h at bytes end rest
 unfolding heading_at
@@ -234,11 +236,11 @@ heading_sound h at bytes end rest b e =
     let same : fields magic.part major.part game.part ≡ fields 0xFA57C0DE 3 1 =
     ap (λ (m : ℕ). fields m major.part game.part) magic_is ∙ (ap (λ (v : ℕ). fields 0xFA57C0DE v game.part) major_is ∙ ap (λ (g : ℕ). fields 0xFA57C0DE 3 g) game_is) in
     subst (λ z. Stands IsHeading heading_bytes z at bytes end rest) time.is
-      (record {
-        may = record { minor = minor_from (minor.part == 1) (minor.part == 2) minor.part refl refl minor.may.1; time = time.may };
-        spans = spelled_as same (joined (joined (joined (joined magic.spans major.spans) minor.spans) game.spans) time.spans);
-        others = time.others;
-      })
+    (record {
+      may = record { minor = minor_from (minor.part == 1) (minor.part == 2) minor.part refl refl minor.may.1; time = time.may };
+      spans = spelled_as same (joined (joined (joined (joined magic.spans major.spans) minor.spans) game.spans) time.spans);
+      others = time.others;
+    })
 
 heading_exact : IsExact IsHeading heading_bytes heading_at
 heading_exact = record { complete = heading_complete; sound = heading_sound }
@@ -262,9 +264,9 @@ texts_complete t at rest p =
     let b = string t.user in
     let c = string t.machine in
     row4 texts_at at a b c (list string t.strings) rest t
-      (follow _ string_exact t.source at (b ++ (c ++ (list string t.strings ++ rest))) p.source ∙ (follow _ string_exact t.user (at + length a) (c ++ (list string t.strings ++ rest)) p.user
-      ∙ (follow _ string_exact t.machine (at + length a + length b) (list string t.strings ++ rest) p.machine
-      ∙ ending (λ strings. make_texts t.source t.user t.machine strings) (list_exact string_exact) t.strings (at + length a + length b + length c) rest p.strings)))
+    (follow _ string_exact t.source at (b ++ (c ++ (list string t.strings ++ rest))) p.source ∙ (follow _ string_exact t.user (at + length a) (c ++ (list string t.strings ++ rest)) p.user
+    ∙ (follow _ string_exact t.machine (at + length a + length b) (list string t.strings ++ rest) p.machine
+    ∙ ending (λ strings. make_texts t.source t.user t.machine strings) (list_exact string_exact) t.strings (at + length a + length b + length c) rest p.strings)))
 
 texts_sound : (t : Texts) (at : ℕ) (bytes : List ℕ) (end : ℕ) (rest : List ℕ) → AreBytes bytes → texts_at at bytes ≡ Got t end rest → Stands FitTexts texts_bytes t at bytes end rest
 unfolding texts_at
@@ -274,11 +276,11 @@ texts_sound t at bytes end rest b e =
     let machine = taken string_exact _ user.mid user.behind t end rest user.others user.later in
     let strings = viewed (list_exact string_exact) _ machine.mid machine.behind t end rest machine.others machine.later in
     subst (λ z. Stands FitTexts texts_bytes z at bytes end rest) strings.is
-      (record {
-        may = record { source = source.may; user = user.may; machine = machine.may; strings = strings.may };
-        spans = joined (joined (joined source.spans user.spans) machine.spans) strings.spans;
-        others = strings.others;
-      })
+    (record {
+      may = record { source = source.may; user = user.may; machine = machine.may; strings = strings.may };
+      spans = joined (joined (joined source.spans user.spans) machine.spans) strings.spans;
+      others = strings.others;
+    })
 
 texts_exact : IsExact FitTexts texts_bytes texts_at
 texts_exact = record { complete = texts_complete; sound = texts_sound }
@@ -339,11 +341,11 @@ pex_complete v at rest p =
     let os = list object v.objects in
     let objects = each_both (IsShapedObject n) IsSized v.objects p.shaped.objects p.objects.1 in
     row5 pex_at at (heading_bytes h) ts ds fs os rest v
-      (follow behind_heading heading_exact h at (ts ++ (ds ++ (fs ++ (os ++ rest)))) (record { minor = p.shaped.minor; time = p.shaped.time })
-      ∙ (follow (behind_texts h) texts_exact t (at + 16) (ds ++ (fs ++ (os ++ rest))) (record { source = p.source; user = p.user; machine = p.machine; strings = p.strings })
-      ∙ (follow _ (debug_exact n) v.debug (at + 16 + length ts) (fs ++ (os ++ rest)) (info_both n v.debug p.shaped.debug p.debug)
-      ∙ (follow _ (list_exact (flag_exact n)) v.user_flags (at + 16 + length ts + length ds) (os ++ rest) (p.user_flags, p.shaped.user_flags)
-      ∙ ending (λ objects. make_pex h t v.debug v.user_flags objects) (list_exact (object_exact n)) v.objects (at + 16 + length ts + length ds + length fs) rest (p.objects.0, objects)))))
+    (follow behind_heading heading_exact h at (ts ++ (ds ++ (fs ++ (os ++ rest)))) (record { minor = p.shaped.minor; time = p.shaped.time })
+    ∙ (follow (behind_texts h) texts_exact t (at + 16) (ds ++ (fs ++ (os ++ rest))) (record { source = p.source; user = p.user; machine = p.machine; strings = p.strings })
+    ∙ (follow _ (debug_exact n) v.debug (at + 16 + length ts) (fs ++ (os ++ rest)) (info_both n v.debug p.shaped.debug p.debug)
+    ∙ (follow _ (list_exact (flag_exact n)) v.user_flags (at + 16 + length ts + length ds) (os ++ rest) (p.user_flags, p.shaped.user_flags)
+    ∙ ending (λ objects. make_pex h t v.debug v.user_flags objects) (list_exact (object_exact n)) v.objects (at + 16 + length ts + length ds + length fs) rest (p.objects.0, objects)))))
 
 pex_sound : (v : PlainPex) (at : ℕ) (bytes : List ℕ) (end : ℕ) (rest : List ℕ) → AreBytes bytes → pex_at at bytes ≡ Got v end rest → Stands IsFile spelling v at bytes end rest
 unfolding spelling pex_at
@@ -355,26 +357,26 @@ pex_sound v at bytes end rest b e =
     let flags = taken (list_exact (flag_exact n)) _ d.mid d.behind v end rest d.others d.later in
     let objects = viewed (list_exact (object_exact n)) (λ objects. make_pex h.part t.part d.part flags.part objects) flags.mid flags.behind v end rest flags.others flags.later in
     subst (λ z. Stands IsFile spelling z at bytes end rest) objects.is
-      (record {
-        may = record {
-          shaped = record {
-            minor = h.may.minor;
-            time = h.may.time;
-            debug = info_first n d.part d.may;
-            user_flags = flags.may.1;
-            objects = each_first (IsShapedObject n) IsSized objects.part objects.may.1;
-          };
-          source = t.may.source;
-          user = t.may.user;
-          machine = t.may.machine;
-          strings = t.may.strings;
-          debug = info_second n d.part d.may;
-          user_flags = flags.may.0;
-          objects = (objects.may.0, each_second (IsShapedObject n) IsSized objects.part objects.may.1);
+    (record {
+      may = record {
+        shaped = record {
+          minor = h.may.minor;
+          time = h.may.time;
+          debug = info_first n d.part d.may;
+          user_flags = flags.may.1;
+          objects = each_first (IsShapedObject n) IsSized objects.part objects.may.1;
         };
-        spans = joined (joined (joined (joined h.spans t.spans) d.spans) flags.spans) objects.spans;
-        others = objects.others;
-      })
+        source = t.may.source;
+        user = t.may.user;
+        machine = t.may.machine;
+        strings = t.may.strings;
+        debug = info_second n d.part d.may;
+        user_flags = flags.may.0;
+        objects = (objects.may.0, each_second (IsShapedObject n) IsSized objects.part objects.may.1);
+      };
+      spans = joined (joined (joined (joined h.spans t.spans) d.spans) flags.spans) objects.spans;
+      others = objects.others;
+    })
 
 pub pex_exact : IsExact IsFile spelling pex_at
 pex_exact = record { complete = pex_complete; sound = pex_sound }

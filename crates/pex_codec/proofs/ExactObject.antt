@@ -1,14 +1,14 @@
 -- The bytes of variables, properties and objects.
-use Rattle.std.proofs.Common.{◌≡◌, ℕ, zero, suc, ◌+◌, ◌<◌, ◌≤◌, ◌^◌, List, [], ◌∷◌, ◌++◌, length, Bool, true, false, Option, Some, None, refl, sym, ap, subst, ◌∙◌, append_assoc, length-append, arith}
-use Rattle.std.specs.Prelude.{IfSome, is_some, ◌==◌, if◌then◌else◌}
-use Rattle.std.specs.List.{flat_map, AllByRecursion}
+use Rattle.std.proofs.Common.{◌≡◌, ℕ, ◌+◌, ◌<◌, ◌^◌, List, ◌++◌, length, Bool, true, false, Option, Some, None, refl, sym, ap, subst, ◌∙◌, length-append, arith}
+use Rattle.std.specs.Prelude.{IfSome, ◌==◌, if◌then◌else◌}
+use Rattle.std.specs.List.{flat_map}
 use Rattle.std.proofs.lemmas.Bool.Decides.{nat_tests}
 use Rattle.pex_values.specs.declared.values.Datum.{Datum}
 use Rattle.pex_values.specs.declared.values.PexVariable.{PexVariable}
 use Rattle.pex_values.specs.declared.values.SizeForm.{SizeForm}
 use Rattle.pex_values.specs.declared.values.SizeForm.TheVariants.{Counted, Bare}
 use Rattle.pex_values.specs.Bits.{has_variable, has_read, has_write}
-use Rattle.pex_values.specs.Fit.{IsCounted, FitsFunction, FitsState, FitsProperty, FitsObject}
+use Rattle.pex_values.specs.Fit.{FitsFunction, FitsState, FitsProperty, FitsObject}
 use Rattle.pex_values.specs.Plain.{PlainFunction, PlainState, PlainProperty, PlainObject}
 use Rattle.pex_values.specs.Shape.{IsReference, IsShapedFunction, IsShapedState, IsShapedVariable, IsShapedProperty, IsShapedObject}
 use Rattle.pex_values.specs.Spelling.{one_byte, two_bytes, four_bytes, datum, variable, optional, function, property, state, list, object_data, size_of, object}
@@ -16,9 +16,9 @@ use Rattle.pex_codec.specs.declared.faults.PexRule.TheVariants.{BadSize}
 use Rattle.pex_codec.specs.declared.heads.PropertyHead.{PropertyHead}
 use Rattle.pex_codec.specs.declared.heads.ObjectHead.{ObjectHead}
 use Rattle.pex_codec.specs.Laws.{AreBytes}
-use Rattle.pex_codec.specs.Reading.{Reading, Reader, Got, Short, Refused, then_read, read_as, byte_at, number_at, reference_at, items_at, list_at, optional_at, datum_at, function_at, state_at, variable_at, property_head_at, property_with, property_at, object_head_at, size_form_at, object_with, object_at}
+use Rattle.pex_codec.specs.Reading.{Reader, Got, Refused, then_read, read_as, reference_at, optional_at, function_at, variable_at, property_head_at, property_with, property_at, object_head_at, size_form_at, object_with, object_at}
 use Rattle.pex_codec.specs.Writing.{FitEach}
-use Rattle.pex_codec.proofs.Exact.{Spans, Stands, IsExact, joined, spelled_as, same_got, ended_at, short_got, refused_got, parted, Read, read_got, taken, viewed, follow, ending, row2, row3, row4, row5, byte_exact, two_exact, four_exact, AreItems, items_exact, list_exact, IsWanted, optional_exact}
+use Rattle.pex_codec.proofs.Exact.{Spans, Stands, IsExact, joined, spelled_as, same_got, ended_at, refused_got, parted, read_got, taken, viewed, follow, ending, row2, row3, row4, byte_exact, two_exact, four_exact, AreItems, items_exact, list_exact, IsWanted, optional_exact}
 use Rattle.pex_codec.proofs.ExactCode.{reference_exact, datum_exact, ShapedFunction, function_exact, ShapedState, state_exact, each_first, each_second, each_both}
 
 -- ---- variables
@@ -31,8 +31,8 @@ unfolding variable variable_at
 variable_complete strings v at rest p =
     let r = reference_exact strings in
     row4 (variable_at strings) at (two_bytes v.name) (two_bytes v.kind) (four_bytes v.flags) (datum v.value) rest v
-      (follow _ r v.name at _ p.name ∙ (follow _ r v.kind (at + 2) _ p.kind ∙ (follow _ four_exact v.flags (at + 2 + 2) _ p.flags
-      ∙ ending (λ value. make_variable v.name v.kind v.flags value) (datum_exact strings) v.value (at + 2 + 2 + 4) rest p.value)))
+    (follow _ r v.name at _ p.name ∙ (follow _ r v.kind (at + 2) _ p.kind ∙ (follow _ four_exact v.flags (at + 2 + 2) _ p.flags
+    ∙ ending (λ value. make_variable v.name v.kind v.flags value) (datum_exact strings) v.value (at + 2 + 2 + 4) rest p.value)))
 
 variable_sound : (strings : ℕ) (v : PexVariable) (at : ℕ) (bytes : List ℕ) (end : ℕ) (rest : List ℕ) → AreBytes bytes → variable_at strings at bytes ≡ Got v end rest → Stands (IsShapedVariable strings) variable v at bytes end rest
 unfolding variable variable_at
@@ -43,11 +43,11 @@ variable_sound strings v at bytes end rest b e =
     let flags = taken four_exact _ kind.mid kind.behind v end rest kind.others kind.later in
     let value = viewed (datum_exact strings) _ flags.mid flags.behind v end rest flags.others flags.later in
     subst (λ z. Stands (IsShapedVariable strings) variable z at bytes end rest) value.is
-      (record {
-        may = record { name = name.may; kind = kind.may; flags = flags.may; value = value.may };
-        spans = joined (joined (joined name.spans kind.spans) flags.spans) value.spans;
-        others = value.others;
-      })
+    (record {
+      may = record { name = name.may; kind = kind.may; flags = flags.may; value = value.may };
+      spans = joined (joined (joined name.spans kind.spans) flags.spans) value.spans;
+      others = value.others;
+    })
 
 pub variable_exact : (strings : ℕ) → IsExact (IsShapedVariable strings) variable (variable_at strings)
 variable_exact strings = record { complete = variable_complete strings; sound = variable_sound strings }
@@ -81,10 +81,10 @@ unfolding property_head_at
 head_complete strings h at rest p =
     let r = reference_exact strings in
     row2 (property_head_at strings) at (property_front h) (optional two_bytes h.variable) rest h
-      (follow _ r h.name at _ p.name ∙ (follow _ r h.kind (at + 2) _ p.kind ∙ (follow _ r h.doc (at + 2 + 2) _ p.doc ∙ (follow _ four_exact h.flags (at + 2 + 2 + 2) _ p.flags
-      ∙ (follow (behind_bits strings h.name h.kind h.doc h.flags) byte_exact h.bits (at + 2 + 2 + 2 + 4) (optional two_bytes h.variable ++ rest) p.bits
-      ∙ (ending (λ variable. make_head h.name h.kind h.doc h.flags h.bits variable) (optional_exact r (has_variable h.bits)) h.variable (at + 2 + 2 + 2 + 4 + 1) rest p.variable
-      ∙ ended_at h rest (at + 2 + 2 + 2 + 4 + 1 + length (optional two_bytes h.variable)) (at + 11 + length (optional two_bytes h.variable)) (omega arith)))))))
+    (follow _ r h.name at _ p.name ∙ (follow _ r h.kind (at + 2) _ p.kind ∙ (follow _ r h.doc (at + 2 + 2) _ p.doc ∙ (follow _ four_exact h.flags (at + 2 + 2 + 2) _ p.flags
+    ∙ (follow (behind_bits strings h.name h.kind h.doc h.flags) byte_exact h.bits (at + 2 + 2 + 2 + 4) (optional two_bytes h.variable ++ rest) p.bits
+    ∙ (ending (λ variable. make_head h.name h.kind h.doc h.flags h.bits variable) (optional_exact r (has_variable h.bits)) h.variable (at + 2 + 2 + 2 + 4 + 1) rest p.variable
+    ∙ ended_at h rest (at + 2 + 2 + 2 + 4 + 1 + length (optional two_bytes h.variable)) (at + 11 + length (optional two_bytes h.variable)) (omega arith)))))))
 
 head_sound : (strings : ℕ) (h : PropertyHead) (at : ℕ) (bytes : List ℕ) (end : ℕ) (rest : List ℕ) → AreBytes bytes → property_head_at strings at bytes ≡ Got h end rest → Stands (IsPropertyHead strings) property_head h at bytes end rest
 unfolding property_head_at
@@ -97,11 +97,11 @@ head_sound strings h at bytes end rest b e =
     let bits = taken byte_exact _ flags.mid flags.behind h end rest flags.others flags.later in
     let variable = viewed (optional_exact r (has_variable bits.part)) _ bits.mid bits.behind h end rest bits.others bits.later in
     subst (λ z. Stands (IsPropertyHead strings) property_head z at bytes end rest) variable.is
-      (record {
-        may = record { name = name.may; kind = kind.may; doc = doc.may; flags = flags.may; bits = bits.may; variable = variable.may };
-        spans = joined (joined (joined (joined (joined name.spans kind.spans) doc.spans) flags.spans) bits.spans) variable.spans;
-        others = variable.others;
-      })
+    (record {
+      may = record { name = name.may; kind = kind.may; doc = doc.may; flags = flags.may; bits = bits.may; variable = variable.may };
+      spans = joined (joined (joined (joined (joined name.spans kind.spans) doc.spans) flags.spans) bits.spans) variable.spans;
+      others = variable.others;
+    })
 
 property_head_exact : (strings : ℕ) → IsExact (IsPropertyHead strings) property_head (property_head_at strings)
 property_head_exact strings = record { complete = head_complete strings; sound = head_sound strings }
@@ -134,11 +134,11 @@ property_complete strings x at rest p =
     let h = head_of x in
     let front = at + length (property_head h) in
     row3 (property_at strings) at (property_head h) (optional function x.read) (optional function x.write) rest x
-      (follow (property_with strings) (property_head_exact strings) h at (optional function x.read ++ (optional function x.write ++ rest))
-        (record { name = p.0.name; kind = p.0.kind; doc = p.0.doc; flags = p.0.flags; bits = p.0.bits; variable = (p.0.has_variable, p.0.variable) })
-      ∙ (follow (λ read at1 rest1. read_as (λ write. make_property h read write) (optional_at (has_write h.bits) (function_at strings) at1 rest1))
-          (optional_exact f (has_read x.bits)) x.read front (optional function x.write ++ rest) (p.0.has_read, if_both strings x.read p.0.read p.1.read)
-      ∙ ending (λ write. make_property h x.read write) (optional_exact f (has_write x.bits)) x.write (front + length (optional function x.read)) rest (p.0.has_write, if_both strings x.write p.0.write p.1.write)))
+    (follow (property_with strings) (property_head_exact strings) h at (optional function x.read ++ (optional function x.write ++ rest))
+    (record { name = p.0.name; kind = p.0.kind; doc = p.0.doc; flags = p.0.flags; bits = p.0.bits; variable = (p.0.has_variable, p.0.variable) })
+    ∙ (follow (λ read at1 rest1. read_as (λ write. make_property h read write) (optional_at (has_write h.bits) (function_at strings) at1 rest1))
+    (optional_exact f (has_read x.bits)) x.read front (optional function x.write ++ rest) (p.0.has_read, if_both strings x.read p.0.read p.1.read)
+    ∙ ending (λ write. make_property h x.read write) (optional_exact f (has_write x.bits)) x.write (front + length (optional function x.read)) rest (p.0.has_write, if_both strings x.write p.0.write p.1.write)))
 
 property_sound : (strings : ℕ) (x : PlainProperty) (at : ℕ) (bytes : List ℕ) (end : ℕ) (rest : List ℕ) → AreBytes bytes → property_at strings at bytes ≡ Got x end rest → Stands (ShapedProperty strings) property x at bytes end rest
 unfolding property property_at
@@ -149,8 +149,9 @@ property_sound strings x at bytes end rest b e =
     let read = taken (optional_exact f (has_read h.bits)) _ head.mid head.behind x end rest head.others head.later in
     let write = viewed (optional_exact f (has_write h.bits)) _ read.mid read.behind x end rest read.others read.later in
     subst (λ z. Stands (ShapedProperty strings) property z at bytes end rest) write.is
-      (record {
-        may = (record {
+    (record {
+      may = (
+        record {
           name = head.may.name;
           kind = head.may.kind;
           doc = head.may.doc;
@@ -162,10 +163,12 @@ property_sound strings x at bytes end rest b e =
           variable = head.may.variable.1;
           read = if_first strings read.part read.may.1;
           write = if_first strings write.part write.may.1;
-        }, record { read = if_second strings read.part read.may.1; write = if_second strings write.part write.may.1 });
-        spans = joined (joined head.spans read.spans) write.spans;
-        others = write.others;
-      })
+        },
+        record { read = if_second strings read.part read.may.1; write = if_second strings write.part write.may.1 },
+      );
+      spans = joined (joined head.spans read.spans) write.spans;
+      others = write.others;
+    })
 
 pub property_exact : (strings : ℕ) → IsExact (ShapedProperty strings) property (property_at strings)
 property_exact strings = record { complete = property_complete strings; sound = property_sound strings }
@@ -212,12 +215,12 @@ object_head_sound strings h at bytes end rest b e =
     let auto_state = taken r _ flags.mid flags.behind h end rest flags.others flags.later in
     let variables = viewed two_exact _ auto_state.mid auto_state.behind h end rest auto_state.others auto_state.later in
     subst (λ z. HeadStands strings z at bytes end rest) variables.is
-      (record {
-        may = record { name = name.may; size = size.may; parent = parent.may; doc = doc.may; flags = flags.may; auto_state = auto_state.may; variables = variables.may };
-        size_at = name.spans.ended;
-        spans = joined (joined (joined (joined (joined (joined name.spans size.spans) parent.spans) doc.spans) flags.spans) auto_state.spans) variables.spans;
-        others = variables.others;
-      })
+    (record {
+      may = record { name = name.may; size = size.may; parent = parent.may; doc = doc.may; flags = flags.may; auto_state = auto_state.may; variables = variables.may };
+      size_at = name.spans.ended;
+      spans = joined (joined (joined (joined (joined (joined name.spans size.spans) parent.spans) doc.spans) flags.spans) auto_state.spans) variables.spans;
+      others = variables.others;
+    })
 
 -- ---- the size of an object
 
@@ -302,12 +305,12 @@ object_complete strings o at rest p =
     let properties = each_both (IsShapedProperty strings) FitsProperty o.properties p.0.properties f.each_property in
     let states = each_both (IsShapedState strings) FitsState o.states p.0.states f.each_state in
     row4 (object_at strings) at (object_head h) vs ps ss rest o
-      (ap (λ r. then_read r (object_with strings)) (object_head_complete strings h at (vs ++ (ps ++ (ss ++ rest)))
-        (record { name = p.0.name; size = p.1.1; parent = p.0.parent; doc = p.0.doc; flags = p.0.flags; auto_state = p.0.auto_state; variables = f.variables }) refl)
-      ∙ (follow _ (items_exact (variable_exact strings) (length o.variables)) o.variables (at + 18) (ps ++ (ss ++ rest)) (refl, p.0.variables)
-      ∙ (follow _ (list_exact (property_exact strings)) o.properties (at + 18 + length vs) (ss ++ rest) (f.properties, properties)
-      ∙ (follow _ (list_exact (state_exact strings)) o.states (at + 18 + length vs + length ps) rest (f.states, states)
-      ∙ ap (λ r. read_as (λ form. make_object h o.variables o.properties o.states form) r) (size_complete o.size_form (at + 2) (size_of o.size_form len) len (at + 18 + length vs + length ps + length ss) rest refl behind)))))
+    (ap (λ r. then_read r (object_with strings)) (object_head_complete strings h at (vs ++ (ps ++ (ss ++ rest)))
+    (record { name = p.0.name; size = p.1.1; parent = p.0.parent; doc = p.0.doc; flags = p.0.flags; auto_state = p.0.auto_state; variables = f.variables }) refl)
+    ∙ (follow _ (items_exact (variable_exact strings) (length o.variables)) o.variables (at + 18) (ps ++ (ss ++ rest)) (refl, p.0.variables)
+    ∙ (follow _ (list_exact (property_exact strings)) o.properties (at + 18 + length vs) (ss ++ rest) (f.properties, properties)
+    ∙ (follow _ (list_exact (state_exact strings)) o.states (at + 18 + length vs + length ps) rest (f.states, states)
+    ∙ ap (λ r. read_as (λ form. make_object h o.variables o.properties o.states form) r) (size_complete o.size_form (at + 2) (size_of o.size_form len) len (at + 18 + length vs + length ps + length ss) rest refl behind)))))
 
 -- an object of parts that were read
 object_made : (strings : ℕ) (h : ObjectHead) (vs : List PexVariable) (ps : List PlainProperty) (ss : List PlainState) (form : SizeForm) (o : PlainObject) (at : ℕ) (bytes : List ℕ) (mid : ℕ) (behind : List ℕ) (end : ℕ) (rest : List ℕ)
@@ -325,8 +328,9 @@ object_made strings h vs ps ss form o at bytes mid behind end rest head variable
     let whole : Spans at bytes (object made) mid behind = spelled_as same spans in
     let there : Spans at bytes (object made) end rest = record { spelled = whole.spelled ∙ ap (λ (r : List ℕ). object made ++ r) (sym form_is.same_rest); ended = form_is.same_end ∙ whole.ended } in
     subst (λ z. Stands (ShapedObject strings) object z at bytes end rest) is
-      (record {
-        may = (record {
+    (record {
+      may = (
+        record {
           name = head.name;
           parent = head.parent;
           doc = head.doc;
@@ -335,16 +339,21 @@ object_made strings h vs ps ss form o at bytes mid behind end rest head variable
           variables = variables.1;
           properties = each_first (IsShapedProperty strings) FitsProperty ps properties.1;
           states = each_first (IsShapedState strings) FitsState ss states.1;
-        }, (record {
-          variables = subst (λ (n : ℕ). n < 2 ^ 16) count head.variables;
-          properties = properties.0;
-          each_property = each_second (IsShapedProperty strings) FitsProperty ps properties.1;
-          states = states.0;
-          each_state = each_second (IsShapedState strings) FitsState ss states.1;
-        }, subst (λ (n : ℕ). n < 2 ^ 32) form_is.holds head.size));
-        spans = there;
-        others = subst AreBytes (sym form_is.same_rest) others;
-      })
+        },
+        (
+          record {
+            variables = subst (λ (n : ℕ). n < 2 ^ 16) count head.variables;
+            properties = properties.0;
+            each_property = each_second (IsShapedProperty strings) FitsProperty ps properties.1;
+            states = states.0;
+            each_state = each_second (IsShapedState strings) FitsState ss states.1;
+          },
+          subst (λ (n : ℕ). n < 2 ^ 32) form_is.holds head.size,
+        ),
+      );
+      spans = there;
+      others = subst AreBytes (sym form_is.same_rest) others;
+    })
 
 object_sound : (strings : ℕ) (o : PlainObject) (at : ℕ) (bytes : List ℕ) (end : ℕ) (rest : List ℕ) → AreBytes bytes → object_at strings at bytes ≡ Got o end rest → Stands (ShapedObject strings) object o at bytes end rest
 unfolding object object_data object_at
@@ -357,10 +366,10 @@ object_sound strings o at bytes end rest b e =
     let states = taken (list_exact (state_exact strings)) _ properties.mid properties.behind o end rest properties.others properties.later in
     let last = read_got (make_object h variables.part properties.part states.part) (size_form_at h.size_at h.size states.mid states.behind) o end rest states.later in
     object_made strings h variables.part properties.part states.part last.part o at bytes states.mid states.behind end rest head.may variables.may properties.may states.may
-      (joined (joined (joined head.spans variables.spans) properties.spans) states.spans) states.others
-      (size_sound last.part h.size_at h.size (length (object_data (make_object h variables.part properties.part states.part last.part))) states.mid states.behind end rest
-        (omega (arith, head.size_at, head.spans.ended, variables.spans.ended, properties.spans.ended, states.spans.ended, data_length (make_object h variables.part properties.part states.part last.part))) last.first)
-      last.is
+    (joined (joined (joined head.spans variables.spans) properties.spans) states.spans) states.others
+    (size_sound last.part h.size_at h.size (length (object_data (make_object h variables.part properties.part states.part last.part))) states.mid states.behind end rest
+    (omega (arith, head.size_at, head.spans.ended, variables.spans.ended, properties.spans.ended, states.spans.ended, data_length (make_object h variables.part properties.part states.part last.part))) last.first)
+    last.is
 
 pub object_exact : (strings : ℕ) → IsExact (ShapedObject strings) object (object_at strings)
 object_exact strings = record { complete = object_complete strings; sound = object_sound strings }

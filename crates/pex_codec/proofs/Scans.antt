@@ -1,7 +1,7 @@
 -- What the steps of a scan are.
 use Rattle.std.specs.Prelude.{zero, suc, ◌-◌, Bool, true, false, Result, Ok, Err, IfOk, if◌then◌else◌, ◌==◌}
 use Rattle.std.proofs.Common.{◌≡◌, ℕ, ◌+◌, ◌*◌, ◌<◌, ◌≤◌, List, [], ◌∷◌, ◌++◌, length, drop, refl, sym, ap, subst, ◌∙◌, arith, append_assoc, length-drop}
-use Rattle.std.proofs.lemmas.List.{length-append}
+use Rattle.std.proofs.lemmas.List.{length-append, append-nil}
 use Rattle.pex_values.specs.declared.values.SizeForm.{SizeForm}
 use Rattle.pex_values.specs.declared.values.SizeForm.TheVariants.{Counted, Bare}
 use Rattle.pex_codec.specs.declared.cursor.Cursor.{Cursor}
@@ -16,10 +16,12 @@ use Rattle.pex_codec.specs.declared.parts.Task.{Task}
 use Rattle.pex_codec.specs.Opening.{task, tasks_of, Moved, Passes, HasOpened, Opens, least_of}
 use Rattle.pex_codec.specs.Reading.{Reading, Reader, Got, Short, Refused, then_read, read_as, size_form_at}
 use Rattle.pex_codec.specs.Scanning.{with_strings, part_at, times_at, tasks_at}
-use Rattle.pex_codec.specs.ScanSteps.{SameStack, some_left, scan_at, work_of, IsStep, Waits, Steps}
+use Rattle.pex_codec.specs.ScanSteps.{SameStack, some_left, work_of, IsStep, Steps}
+use Rattle.pex_codec.specs.Scans.{left_at, Finishes, Waits, ScansOn}
 use Rattle.pex_codec.specs.declared.scan.Scan.{Scan}
 use Rattle.pex_codec.specs.Taking.{Stops}
 use Rattle.pex_codec.proofs.Tasks.{then_next, then_then, tasks_append, tasks_none}
+use Rattle.pex_codec.proofs.Passing.{Moved-on}
 use Rattle.pex_codec.proofs.FirstFields.{stops_behind, whole_opens, extended}
 use Rattle.pex_codec.proofs.Stable.{size_form_stable}
 
@@ -142,6 +144,14 @@ some_one : (n : ℕ) → some_left n ≤ 1
 some_one zero = omega arith
 some_one (suc n) = omega arith
 
+some_none : (n : ℕ) → some_left n ≡ 0 → n ≡ 0
+some_none zero none = refl
+some_none (suc n) none = absurd (omega arith)
+
+empty_of : (xs : List Task) → length xs ≡ 0 → xs ≡ []
+empty_of [] none = refl
+empty_of (x ∷ xs) none = absurd (omega arith)
+
 some_there : (n : ℕ) → 0 < n → some_left n ≡ 1
 some_there zero some = absurd (omega arith)
 some_there (suc n) some = refl
@@ -182,12 +192,12 @@ size_step old size_at size cursor here form some is taken = record {
   less = let a = some_there old.current.left some in omega arith;
 }
 
-waits : (e : Stop) (scan : Scan) (cursor : Cursor) → Stops (scan_at scan cursor.at cursor.rest.now) e → Steps {T = Unit} (Err e) scan cursor scan cursor
+waits : (e : Stop) (scan : Scan) (cursor : Cursor) → Stops (left_at scan cursor.at cursor.rest.now) e → Steps {T = Unit} (Err e) scan cursor scan cursor
 waits stop.Short scan cursor stops = record { short = stops; scan = refl; cursor = refl }
 waits (stop.Refused offset rule) scan cursor stops = stops
 waits stop.OutOfMemory scan cursor stops = tt
 
-pub steps_err : (e : Stop) (result : Result Unit Stop) (scan : Scan) (cursor : Cursor) → result ≡ Err e → Stops (scan_at scan cursor.at cursor.rest.now) e → Steps result scan cursor scan cursor
+pub steps_err : (e : Stop) (result : Result Unit Stop) (scan : Scan) (cursor : Cursor) → result ≡ Err e → Stops (left_at scan cursor.at cursor.rest.now) e → Steps result scan cursor scan cursor
 steps_err e result scan cursor is stops = subst (λ (x : Result Unit Stop). Steps x scan cursor scan cursor) (sym is) (waits e scan cursor stops)
 
 pub size_waits : (e : Stop) (result : Result Unit Stop) (scan : Scan) (size_at size : ℕ) (cursor : Cursor) → result ≡ Err e → 0 < scan.current.left → scan.current.part ≡ part.Size size_at size
@@ -232,3 +242,45 @@ open_step old new opened from to some least has is strings first = record {
 pub if_ok : {T E : Type 0} (r : Result T E) (P Q : Type 0) → (P → Q) → IfOk r (λ (_ : T). P) → IfOk r (λ (_ : T). Q)
 if_ok (Ok x) P Q f p = f p
 if_ok (Err e) P Q f p = tt
+
+-- ---- going on
+
+-- it came from one place to another
+pub record CameTo (old : Scan) (from : Cursor) (new : Scan) (to : Cursor) : Type 0 where
+  pub follows : (x : List ℕ) → left_at old from.at (from.rest.now ++ x) ≡ left_at new to.at (to.rest.now ++ x)
+  pub moved : Moved 0 from.at from.rest.now to.at to.rest.now
+
+pub came_nowhere : (old : Scan) (from : Cursor) → CameTo old from old from
+came_nowhere old from = record { follows = λ x. refl; moved = still from }
+
+pub came_further : (old : Scan) (from : Cursor) (new : Scan) (to : Cursor) (next : Scan) (end : Cursor) → CameTo old from new to → IsStep new to next end → CameTo old from next end
+came_further old from new to next end came step = record {
+  follows = λ x. came.follows x ∙ step.same x;
+  moved = Moved-on 0 0 from.at from.rest.now to.at to.rest.now end.at end.rest.now came.moved step.moved;
+}
+
+here : (old : Scan) (from : Cursor) (new : Scan) (to : Cursor) → CameTo old from new to → left_at old from.at from.rest.now ≡ left_at new to.at to.rest.now
+here old from new to came =
+    ap (λ (b : List ℕ). left_at old from.at b) (sym (append-nil from.rest.now)) ∙ came.follows [] ∙ ap (λ (b : List ℕ). left_at new to.at b) (append-nil to.rest.now)
+
+nothing_left : (new : Scan) (to : Cursor) → work_of new ≡ 0 → left_at new to.at to.rest.now ≡ Got new.strings to.at to.rest.now
+nothing_left new to none =
+    let left = some_none new.current.left (omega arith) in
+    let below = empty_of new.below.items (omega arith) in
+    top_first new.below.items new.current.part new.current.left new.strings to.at to.rest.now
+    ∙ ap (λ (n : ℕ). then_read (times_at new.current.part n new.strings to.at to.rest.now) (tasks_at new.below.items)) left
+    ∙ ap (λ (xs : List Task). tasks_at xs new.strings to.at to.rest.now) below
+
+pub came_to_end : (old : Scan) (from : Cursor) (new : Scan) (to : Cursor) → CameTo old from new to → work_of new ≡ 0 → Finishes old new from to
+came_to_end old from new to came none = record { done = here old from new to came ∙ nothing_left new to none; moved = came.moved }
+
+stopped : (e : Stop) (old : Scan) (from : Cursor) (new : Scan) (to : Cursor) (next : Scan) (end : Cursor) → CameTo old from new to → Steps {T = Unit} (Err e) new to next end → ScansOn old (Err e) next from end
+stopped stop.Short old from new to next end came stays =
+    subst (λ (c : Cursor). Waits old next from c) (sym stays.cursor) (subst (λ (s : Scan). Waits old s from to) (sym stays.scan)
+      (record { follows = came.follows; short = stays.short; moved = came.moved }))
+stopped (stop.Refused offset rule) old from new to next end came refused = here old from new to came ∙ refused
+stopped stop.OutOfMemory old from new to next end came none = tt
+
+pub came_to_stop : (e : Stop) (result : Result Unit Stop) (old : Scan) (from : Cursor) (new : Scan) (to : Cursor) (next : Scan) (end : Cursor)
+    → result ≡ Err e → CameTo old from new to → Steps {T = Unit} (Err e) new to next end → ScansOn old result next from end
+came_to_stop e result old from new to next end is came steps = subst (λ (r : Result Unit Stop). ScansOn old r next from end) (sym is) (stopped e old from new to next end came steps)

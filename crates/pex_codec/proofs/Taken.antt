@@ -1,5 +1,5 @@
 -- Items that are taken one at a time.
-use Rattle.std.specs.Prelude.{zero, suc, ◌-◌, Result, Err}
+use Rattle.std.specs.Prelude.{suc, ◌-◌, Result, Err}
 use Rattle.std.proofs.Common.{◌≡◌, ℕ, ◌+◌, ◌<◌, List, [], ◌∷◌, ◌++◌, length, map, refl, sym, ap, subst, ◌∙◌, append_assoc, arith}
 use Rattle.std.proofs.lemmas.List.{map-append, length-append}
 use Rattle.pex_codec.specs.declared.cursor.Cursor.{Cursor}
@@ -26,22 +26,22 @@ in_front-more xs x (Refused offset rule) = refl
 
 items_at-next : {Y : Type 0} (item : Reader Y) (count i at : ℕ) (bytes : List ℕ) → i < count
     → items_at item (count - i) at bytes
-      ≡ then_read (item at bytes) (λ first at1 rest1. read_as (λ others. first ∷ others) (items_at item (count - (i + 1)) at1 rest1))
+    ≡ then_read (item at bytes) (λ first at1 rest1. read_as (λ others. first ∷ others) (items_at item (count - (i + 1)) at1 rest1))
 items_at-next item count i at bytes below =
     let next : count - i ≡ suc (count - (i + 1)) = omega arith in
     ap (λ (n : ℕ). items_at item n at bytes) next
 
-pub TookFirst-more : {X Y : Type 0} (plain : X → Y) (item : Reader Y) (count : ℕ) (old : Cursor) (i : ℕ) (items : List X) (new : Cursor) (x : X) (next : Cursor)
+pub TookFirst-more : {X Y : Type 0} (plain : X → Y) (item : Reader Y) (count : ℕ) (old : Cursor) (i : ℕ) (items grown : List X) (new : Cursor) (x : X) (next : Cursor)
     → TookFirst plain item count old i items new → i < count → item new.at new.rest.now ≡ Got (plain x) next.at next.rest.now
-    → TookFirst plain item count old (i + 1) (items ++ x ∷ []) next
-TookFirst-more plain item count old i items new x next first below taken = record {
-  length_is = omega (arith, length-append items (x ∷ []), first.length_is);
+    → grown ≡ items ++ x ∷ [] → TookFirst plain item count old (i + 1) grown next
+TookFirst-more plain item count old i items grown new x next first below taken is = record {
+  length_is = omega (arith, length-append items (x ∷ []), first.length_is, ap length is);
   reads =
       first.reads
       ∙ (ap (λ r. in_front (map plain items) r) (items_at-next item count i new.at new.rest.now below
       ∙ ap (λ r. then_read r (λ one at1 rest1. read_as (λ others. one ∷ others) (items_at item (count - (i + 1)) at1 rest1))) taken)
       ∙ (in_front-more (map plain items) (plain x) (items_at item (count - (i + 1)) next.at next.rest.now)
-      ∙ ap (λ ys. in_front ys (items_at item (count - (i + 1)) next.at next.rest.now)) (sym (map-append plain items (x ∷ [])))));
+      ∙ ap (λ ys. in_front ys (items_at item (count - (i + 1)) next.at next.rest.now)) (sym (ap (λ ys. map plain ys) is ∙ map-append plain items (x ∷ [])))));
 }
 
 -- what is read where no further item stands

@@ -7,3 +7,5 @@ pub mod Opening
 pub mod ScanSteps
 pub mod Decoding
 pub mod Laws
+pub mod Scans
+pub mod DecoderState

@@ -89,17 +89,14 @@ pub(crate) fn take_function(
     ensures { Takes plain_function (reading.function_at strings) result cursor.old cursor.new }
 {
     let head = cursor.function_head(strings)?;
-    let parameters = take_items(alloc, cursor, strings, head.parameters as usize)?;
-    let locals = take_list(alloc, cursor, strings)?;
-    let code = take_list(alloc, cursor, strings)?;
     Ok(PexFunction {
         result: head.result,
         doc: head.doc,
         flags: head.flags,
         bits: head.bits,
-        parameters,
-        locals,
-        code,
+        parameters: take_items(alloc, cursor, strings, head.parameters as usize)?,
+        locals: take_list(alloc, cursor, strings)?,
+        code: take_list(alloc, cursor, strings)?,
     })
 }
 
@@ -136,8 +133,9 @@ impl Item for (u16, PexFunction) {
         cursor: &mut Cursor<'_>,
         strings: u16,
     ) -> Result<(u16, PexFunction), Stop> {
-        let name = cursor.reference(strings)?;
-        let function = take_function(alloc, cursor, strings)?;
-        Ok((name, function))
+        Ok((
+            cursor.reference(strings)?,
+            take_function(alloc, cursor, strings)?,
+        ))
     }
 }

@@ -1,7 +1,7 @@
 //! Takes bytes and numbers from the front of a file's bytes.
 
-ghost use Rattle.std.specs.Prelude.{◌≡◌, ◌+◌, ◌≤◌, length, IfOk};
-ghost use Rattle.pex_codec.specs.declared.cursor.Stop.TheVariants.{OutOfMemory as NoMemory};
+ghost use Rattle.std.specs.Prelude.{◌≡◌, ◌+◌, ◌≤◌, Ok, Err, length, if◌then◌else◌, IfOk};
+ghost use Rattle.pex_codec.specs.declared.cursor.Stop.TheVariants.{OutOfMemory as NoMemory, Refused};
 
 use crate::faults::PexRule;
 use byteorder::{BigEndian, ByteOrder};
@@ -41,6 +41,17 @@ impl<T: Drop> From<AllocFailed<T>> for Stop {
     fn from(_error: AllocFailed<T>) -> Stop {
         Stop::OutOfMemory
     }
+}
+
+/// The part, or why it is refused.
+#[inline(always)]
+pub(crate) fn judged<T: Copy>(part: T, good: bool, offset: u32, rule: PexRule) -> Result<T, Stop>
+    ensures { result ≡ (if good then Ok part else Err (Refused offset rule)) }
+{
+    if good {
+        return Ok(part);
+    }
+    Err(Stop::Refused { offset, rule })
 }
 
 /// The bytes that weren't taken yet.
@@ -118,13 +129,7 @@ impl<'a> Cursor<'a> {
     {
         let offset = self.at;
         let number = self.u16()?;
-        if number >= strings {
-            return Err(Stop::Refused {
-                offset,
-                rule: PexRule::BadIndex,
-            });
-        }
-        Ok(number)
+        judged(number, number < strings, offset, PexRule::BadIndex)
     }
 
     /// The number of bytes, and the bytes.

@@ -1,21 +1,24 @@
 //! Takes the bytes of a file in any pieces.
 
-ghost use Rattle.std.specs.Prelude.{IfOk, length};
+ghost use Rattle.std.specs.Prelude.{IfOk};
 ghost use Rattle.pex_codec.specs.Decoding.{IsNew, FeedGives, EndGives, FinishGives};
 
+use crate::cursor::Stop;
 use crate::faults::{PexFault, PexRule};
-use crate::pieces::PieceReader;
 use crate::progress::{Fed, Standing};
+use crate::scanned_bytes::ScannedBytes;
+use crate::values::pex;
 use papy_base::OutOfMemory;
 use pex_values::Pex;
 use std::alloc::Global;
 use std::marker::Model;
 
 /// Reads a value from the bytes that spell it. They come in any pieces, and no cut between them changes an
-/// answer. It keeps what was read so far, with its code packed, and the field that is being read, and no byte of a finished field.
+/// answer. It keeps the bytes that it took, at most 16 MiB, and what is to come behind them.
 #[derive(Drop)]
 pub struct Decoder {
-    pieces: PieceReader,
+    alloc: Global,
+    taken: ScannedBytes,
     standing: Standing,
 }
 
@@ -36,9 +39,10 @@ impl Decoder {
     pub fn new(alloc: Global) -> Result<Decoder, OutOfMemory>
         ensures { IfOk result IsNew }
     {
-        let pieces = PieceReader::new(alloc)?;
+        let taken = ScannedBytes::new(alloc)?;
         Ok(Decoder {
-            pieces,
+            alloc,
+            taken,
             standing: Standing::Reading,
         })
     }
@@ -49,16 +53,16 @@ impl Decoder {
     /// The rules of the file are judged as `PexRule` says. After a refusal, or want of memory, each further
     /// call answers the same.
     pub fn feed(&mut self, piece: &[u8]) -> Result<Fed, PexFault>
-        ensures { FeedGives self.old (length piece.now) result self.new }
+        ensures { FeedGives self.old piece.now result self.new }
     {
         let outcome = match self.standing {
             Standing::Refused(fault) => return Err(fault),
             Standing::Complete if piece.is_empty() => return Ok(Fed::Done { taken: 0 }),
             Standing::Complete => Err(PexFault::Broken {
-                offset: self.pieces.taken(),
+                offset: self.taken.bytes.len() as u32,
                 rule: PexRule::Trailing,
             }),
-            Standing::Reading => self.pieces.feed(piece),
+            Standing::Reading => self.taken.take(piece),
         };
         self.standing = match outcome {
             Ok(Fed::More) => Standing::Reading,
@@ -68,13 +72,17 @@ impl Decoder {
         outcome
     }
 
-    /// The value, which is well shaped and fits. `Truncated` comes where it isn't complete, and `OutOfMemory` where it is and
-    /// there is no memory for its unpacked code.
+    /// The value that the bytes spell. `Truncated` comes where they spell none, and `OutOfMemory` where there is no memory for it.
     pub fn end(self) -> Result<Pex, PexFault>
         ensures { EndGives self result }
     {
         self.finish()?;
-        Ok(self.pieces.into_value()?)
+        match pex(self.alloc, &self.taken.bytes) {
+            Ok(value) => Ok(value),
+            Err(Stop::OutOfMemory) => Err(PexFault::OutOfMemory),
+            // Bytes that spell a value are read.
+            Err(Stop::Short | Stop::Refused { .. }) => Err(PexFault::OutOfMemory),
+        }
     }
 
     /// Ok where the bytes so far spell a value. It answers as `end` does, and needs no memory, since it makes no value.
@@ -85,7 +93,7 @@ impl Decoder {
             Standing::Refused(fault) => Err(fault),
             Standing::Complete => Ok(()),
             Standing::Reading => Err(PexFault::Broken {
-                offset: self.pieces.taken(),
+                offset: self.taken.bytes.len() as u32,
                 rule: PexRule::Truncated,
             }),
         }

@@ -2,11 +2,10 @@
 
 ghost use Rattle.std.specs.Prelude.{◌==◌, ◌||◌};
 ghost use Rattle.pex_codec.specs.Reading as reading;
-ghost use Rattle.pex_codec.specs.Reading.{judged};
 ghost use Rattle.pex_codec.specs.Taking.{Takes};
 ghost use Rattle.pex_codec.specs.declared.faults.PexRule.TheVariants.{BadMagic, BadVersion, BadGame};
 
-use crate::cursor::{Cursor, Stop};
+use crate::cursor::{Cursor, Stop, judged};
 use crate::faults::PexRule;
 use pex_values::has_variable;
 
@@ -79,79 +78,50 @@ impl<'a> Cursor<'a> {
 
     /// The number that a file begins with.
     fn magic(&mut self) -> Result<u32, Stop>
-        ensures { Takes (λ n. n) (λ at bytes. judged (λ magic. magic == 0xFA57C0DE) BadMagic at (reading.number_at 4 at bytes)) result self.old self.new }
+        ensures { Takes (λ n. n) (λ at bytes. reading.judged (λ magic. magic == 0xFA57C0DE) BadMagic at (reading.number_at 4 at bytes)) result self.old self.new }
     {
         let offset = self.at;
         let magic = self.u32()?;
-        if magic != MAGIC {
-            return Err(Stop::Refused {
-                offset,
-                rule: PexRule::BadMagic,
-            });
-        }
-        Ok(magic)
+        judged(magic, magic == MAGIC, offset, PexRule::BadMagic)
     }
 
     /// The major version.
     fn major(&mut self) -> Result<u8, Stop>
-        ensures { Takes (λ n. n) (λ at bytes. judged (λ major. major == 3) BadVersion at (reading.byte_at at bytes)) result self.old self.new }
+        ensures { Takes (λ n. n) (λ at bytes. reading.judged (λ major. major == 3) BadVersion at (reading.byte_at at bytes)) result self.old self.new }
     {
         let offset = self.at;
         let major = self.byte()?;
-        if major != 3 {
-            return Err(Stop::Refused {
-                offset,
-                rule: PexRule::BadVersion,
-            });
-        }
-        Ok(major)
+        judged(major, major == 3, offset, PexRule::BadVersion)
     }
 
     /// The minor version.
     fn minor(&mut self) -> Result<u8, Stop>
-        ensures { Takes (λ n. n) (λ at bytes. judged (λ minor. minor == 1 || minor == 2) BadVersion at (reading.byte_at at bytes)) result self.old self.new }
+        ensures { Takes (λ n. n) (λ at bytes. reading.judged (λ minor. minor == 1 || minor == 2) BadVersion at (reading.byte_at at bytes)) result self.old self.new }
     {
         let offset = self.at;
         let minor = self.byte()?;
-        if minor != 1 && minor != 2 {
-            return Err(Stop::Refused {
-                offset,
-                rule: PexRule::BadVersion,
-            });
-        }
-        Ok(minor)
+        judged(minor, minor == 1 || minor == 2, offset, PexRule::BadVersion)
     }
 
     /// The game's number.
     fn game(&mut self) -> Result<u16, Stop>
-        ensures { Takes (λ n. n) (λ at bytes. judged (λ game. game == 1) BadGame at (reading.number_at 2 at bytes)) result self.old self.new }
+        ensures { Takes (λ n. n) (λ at bytes. reading.judged (λ game. game == 1) BadGame at (reading.number_at 2 at bytes)) result self.old self.new }
     {
         let offset = self.at;
         let game = self.u16()?;
-        if game != 1 {
-            return Err(Stop::Refused {
-                offset,
-                rule: PexRule::BadGame,
-            });
-        }
-        Ok(game)
+        judged(game, game == 1, offset, PexRule::BadGame)
     }
 
     #[tactic(auto, unfolding(crate::specs::Reading::function_head_at))]
     pub(crate) fn function_head(&mut self, strings: u16) -> Result<FunctionHead, Stop>
         ensures { Takes (λ head. head) (reading.function_head_at strings) result self.old self.new }
     {
-        let result = self.reference(strings)?;
-        let doc = self.reference(strings)?;
-        let flags = self.u32()?;
-        let bits = self.byte()?;
-        let parameters = self.u16()?;
         Ok(FunctionHead {
-            result,
-            doc,
-            flags,
-            bits,
-            parameters,
+            result: self.reference(strings)?,
+            doc: self.reference(strings)?,
+            flags: self.u32()?,
+            bits: self.byte()?,
+            parameters: self.u16()?,
         })
     }
 
@@ -189,23 +159,15 @@ impl<'a> Cursor<'a> {
     pub(crate) fn object_head(&mut self, strings: u16) -> Result<ObjectHead, Stop>
         ensures { Takes (λ head. head) (reading.object_head_at strings) result self.old self.new }
     {
-        let name = self.reference(strings)?;
-        let size_at = self.at;
-        let size = self.u32()?;
-        let parent = self.reference(strings)?;
-        let doc = self.reference(strings)?;
-        let flags = self.u32()?;
-        let auto_state = self.reference(strings)?;
-        let variables = self.u16()?;
         Ok(ObjectHead {
-            name,
-            size_at,
-            size,
-            parent,
-            doc,
-            flags,
-            auto_state,
-            variables,
+            name: self.reference(strings)?,
+            size_at: self.at,
+            size: self.u32()?,
+            parent: self.reference(strings)?,
+            doc: self.reference(strings)?,
+            flags: self.u32()?,
+            auto_state: self.reference(strings)?,
+            variables: self.u16()?,
         })
     }
 
@@ -213,17 +175,12 @@ impl<'a> Cursor<'a> {
     pub(crate) fn lines_head(&mut self, strings: u16) -> Result<LinesHead, Stop>
         ensures { Takes (λ head. head) (reading.lines_head_at strings) result self.old self.new }
     {
-        let object = self.reference(strings)?;
-        let state = self.reference(strings)?;
-        let function = self.reference(strings)?;
-        let kind = self.byte()?;
-        let lines = self.u16()?;
         Ok(LinesHead {
-            object,
-            state,
-            function,
-            kind,
-            lines,
+            object: self.reference(strings)?,
+            state: self.reference(strings)?,
+            function: self.reference(strings)?,
+            kind: self.byte()?,
+            lines: self.u16()?,
         })
     }
 }

@@ -5,7 +5,7 @@ ghost use Rattle.pex_values.specs.Opcodes.{operands_of};
 ghost use Rattle.pex_codec.specs.Reading as reading;
 ghost use Rattle.pex_codec.specs.Taking.{Takes};
 
-use crate::cursor::{Cursor, Stop};
+use crate::cursor::{Cursor, Stop, judged};
 use crate::faults::PexRule;
 use pex_values::{Datum, PexVariable, SizeForm, operand_count};
 
@@ -32,13 +32,7 @@ impl<'a> Cursor<'a> {
     {
         let offset = self.at;
         let kind = self.byte()?;
-        if kind > LAST_KIND {
-            return Err(Stop::Refused {
-                offset,
-                rule: PexRule::BadKind,
-            });
-        }
-        Ok(kind)
+        judged(kind, kind <= LAST_KIND, offset, PexRule::BadKind)
     }
 
     /// The value behind its kind.
@@ -71,9 +65,7 @@ impl<'a> Cursor<'a> {
     pub(crate) fn pair(&mut self, strings: u16) -> Result<(u16, u16), Stop>
         ensures { Takes (λ pair. pair) (reading.pair_at strings) result self.old self.new }
     {
-        let name = self.reference(strings)?;
-        let kind = self.reference(strings)?;
-        Ok((name, kind))
+        Ok((self.reference(strings)?, self.reference(strings)?))
     }
 
     /// An opcode, and what operands it has.
@@ -104,19 +96,11 @@ impl<'a> Cursor<'a> {
     pub(crate) fn count(&mut self) -> Result<u32, Stop>
         ensures { Takes (λ n. n) reading.count_at result self.old self.new }
     {
-        let refused = Stop::Refused {
-            offset: self.at,
-            rule: PexRule::BadCount,
-        };
+        let offset = self.at;
         let kind = self.kind()?;
-        if kind != INTEGER {
-            return Err(refused);
-        }
+        judged(kind, kind == INTEGER, offset, PexRule::BadCount)?;
         let count = self.u32()?;
-        if count >= 1 << 31 {
-            return Err(refused);
-        }
-        Ok(count)
+        judged(count, count < 1 << 31, offset, PexRule::BadCount)
     }
 
     /// A variable of a script.
@@ -124,15 +108,11 @@ impl<'a> Cursor<'a> {
     pub(crate) fn variable(&mut self, strings: u16) -> Result<PexVariable, Stop>
         ensures { Takes (λ variable. variable) (reading.variable_at strings) result self.old self.new }
     {
-        let name = self.reference(strings)?;
-        let kind = self.reference(strings)?;
-        let flags = self.u32()?;
-        let value = self.datum(strings)?;
         Ok(PexVariable {
-            name,
-            kind,
-            flags,
-            value,
+            name: self.reference(strings)?,
+            kind: self.reference(strings)?,
+            flags: self.u32()?,
+            value: self.datum(strings)?,
         })
     }
 
@@ -141,9 +121,7 @@ impl<'a> Cursor<'a> {
     pub(crate) fn flag(&mut self, strings: u16) -> Result<(u16, u8), Stop>
         ensures { Takes (λ flag. flag) (reading.flag_at strings) result self.old self.new }
     {
-        let name = self.reference(strings)?;
-        let index = self.byte()?;
-        Ok((name, index))
+        Ok((self.reference(strings)?, self.byte()?))
     }
 
     /// 1 where debug information follows, else 0.
@@ -153,13 +131,7 @@ impl<'a> Cursor<'a> {
     {
         let offset = self.at;
         let flag = self.byte()?;
-        if flag > 1 {
-            return Err(Stop::Refused {
-                offset,
-                rule: PexRule::BadDebugFlag,
-            });
-        }
-        Ok(flag)
+        judged(flag, flag <= 1, offset, PexRule::BadDebugFlag)
     }
 
     /// Which form the size of an object has whose data ends here. Its field stands at the offset `size_at`.

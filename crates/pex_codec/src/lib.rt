@@ -6,11 +6,13 @@
 mod code;
 mod code_values;
 mod cursor;
+mod decoder;
 mod encoding;
 mod faults;
 mod heads;
 mod item_list;
 mod items;
+mod laws;
 mod object_values;
 mod objects;
 mod opening;
@@ -19,9 +21,14 @@ mod progress;
 mod rows;
 mod scan;
 mod spelled;
+mod scanned_bytes;
 mod texts;
 mod values;
+mod whole_file;
 
+pub use decoder::Decoder;
 pub use encoding::encode;
 pub use faults::{EncodeFault, PexFault, PexRule};
+pub use laws::{encoded_is_decoded, one_spelling, pieces_add_up, reading_is_exact};
 pub use progress::Fed;
+pub use whole_file::{decode, judge};

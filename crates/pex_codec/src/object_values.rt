@@ -62,8 +62,6 @@ impl Item for PexProperty {
     #[tactic(auto, unfolding(crate::specs::Reading::property_at))]
     fn take(alloc: Global, cursor: &mut Cursor<'_>, strings: u16) -> Result<PexProperty, Stop> {
         let head = cursor.property_head(strings)?;
-        let read = take_optional_function(alloc, cursor, strings, has_read(head.bits))?;
-        let write = take_optional_function(alloc, cursor, strings, has_write(head.bits))?;
         Ok(PexProperty {
             name: head.name,
             kind: head.kind,
@@ -71,8 +69,8 @@ impl Item for PexProperty {
             flags: head.flags,
             bits: head.bits,
             variable: head.variable,
-            read,
-            write,
+            read: take_optional_function(alloc, cursor, strings, has_read(head.bits))?,
+            write: take_optional_function(alloc, cursor, strings, has_write(head.bits))?,
         })
     }
 }

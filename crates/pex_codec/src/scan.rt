@@ -1,14 +1,16 @@
 //! Goes through a file without its values.
 
 ghost use Rattle.std.specs.Prelude.{◌≡◌, ◌<◌, Decides, IfOk, [], ◌∷◌, ◌++◌};
-ghost use Rattle.pex_codec.specs.Opening.{Passes, least_of, task};
-ghost use Rattle.pex_codec.specs.ScanSteps.{work_of, IsStep, Steps, StepsIf, SameStack, IsNewScan};
+ghost use Rattle.pex_codec.specs.Opening.{Passes, least_of, task, whole_file};
+ghost use Rattle.pex_codec.specs.ScanSteps.{work_of, IsStep, Steps, StepsIf, SameStack};
+ghost use Rattle.pex_codec.specs.Scans.{stack_of, ScansOn};
 ghost use Rattle.pex_codec.specs.declared.parts.Part.TheVariants as part;
 
 use crate::cursor::{Cursor, Stop};
 use crate::opening::open;
 use crate::parts::{Opened, Part, Task};
 use crate::rows::{pass_instructions, pass_operands};
+use papy_base::OutOfMemory;
 use std::alloc::{AllocError, Global};
 
 /// What is still to come of a file.
@@ -61,8 +63,9 @@ fn once(part: Part) -> Task
 
 impl Scan {
     /// A whole file is to come.
-    pub(crate) fn new(alloc: Global) -> Result<Scan, AllocError>
-        ensures { IfOk result IsNewScan }
+    pub(crate) fn new(alloc: Global) -> Result<Scan, OutOfMemory>
+        ensures tasks { IfOk result (λ s. stack_of s ≡ whole_file) }
+        ensures strings { IfOk result (λ s. s.strings ≡ 0) }
     {
         let below = vec![in alloc;
             once(Part::Objects),
@@ -81,15 +84,25 @@ impl Scan {
         })
     }
 
+    /// Goes on as far as the bytes are there. Where they end within an item, it stands before that.
+    pub(crate) fn go_on(&mut self, cursor: &mut Cursor<'_>) -> Result<(), Stop>
+        ensures { ScansOn self.old result self.new cursor.old cursor.new }
+    {
+        'steps: while !self.is_done() {
+            self.step(cursor)?;
+        }
+        Ok(())
+    }
+
     /// Whether nothing is to come.
-    pub(crate) fn is_done(&self) -> bool
+    fn is_done(&self) -> bool
         ensures { Decides result (work_of self.now ≡ 0) }
     {
         self.current.left == 0 && self.below.is_empty()
     }
 
     /// Does a part of what is to come. Where the bytes end within it, nothing is changed.
-    pub(crate) fn step(&mut self, cursor: &mut Cursor<'_>) -> Result<(), Stop>
+    fn step(&mut self, cursor: &mut Cursor<'_>) -> Result<(), Stop>
         requires { 0 < work_of self.old }
         ensures { Steps result self.old cursor.old self.new cursor.new }
     {

@@ -43,15 +43,11 @@ fn take_texts(alloc: Global, cursor: &mut Cursor<'_>) -> Result<Texts, Stop>
     ensures taken { Takes plain_texts reading.texts_at result cursor.old cursor.new }
     ensures count { IfOk result (λ texts. length texts.strings.items < 2 ^ 16) }
 {
-    let source = take_text(alloc, cursor)?;
-    let user = take_text(alloc, cursor)?;
-    let machine = take_text(alloc, cursor)?;
-    let strings = take_list(alloc, cursor, 0)?;
     Ok(Texts {
-        source,
-        user,
-        machine,
-        strings,
+        source: take_text(alloc, cursor)?,
+        user: take_text(alloc, cursor)?,
+        machine: take_text(alloc, cursor)?,
+        strings: take_list(alloc, cursor, 0)?,
     })
 }
 

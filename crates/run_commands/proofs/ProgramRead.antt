@@ -39,7 +39,7 @@ kept_is_file (Err fault) decoded = tt
 
 pub kept_reads : (holds : Option Files) (name : List ℕ) (result : Result KeptPex FileFault) → ReadsKept holds name result → ReadsValue true holds name result
 kept_reads None name result read = tt
-kept_reads (Some files) name (Ok found) (bytes, held, kept) = rw kept.bytes held
+kept_reads (Some files) name (Ok found) (bytes, held, kept) = rw kept.kept held
 kept_reads (Some files) name (Err (file.Refused place rule)) read = read
 kept_reads (Some files) name (Err file.ReadFault) read = tt
 kept_reads (Some files) name (Err file.OutOfMemory) read = tt

@@ -1,8 +1,7 @@
-use Rattle.std.proofs.Common.{◌+◌, List, subst, sym}
 use Rattle.std.specs.declared.alloc.Global.{Global}
 use Rattle.std.specs.declared.vec.Vec.{Vec}
 use Rattle.std.proofs.lemmas.Result.{err_from_is_err_and}
-use Rattle.pex_codec.proofs.Taken.{TookFirst, TookFirst-more, TookFirst-stops, err_taken}
+use Rattle.pex_codec.proofs.Taken.{TookFirst-more, TookFirst-stops, err_taken}
 use Rattle.pex_codec.proofs.item_list.take_items.Goals as goal
 use Rattle.pex_codec.specs.Reading.{items_at}
 
@@ -19,9 +18,5 @@ returns-in_err-item-clause-taken g c =
 
 pub items-preserved : goal.items-preserved
 items-preserved g c =
-    let item = g.T.Item in
-    let at = item.at c.args.strings in
-    let old = c.args.cursor.now in
-    let new = c.take.new.cursor in
-    subst (λ (items : List g.row.T.Denot). TookFirst item.plain at c.args.count old (c.items.counter + 1) items new) (sym c.in_ok-push.ensures.items)
-    (TookFirst-more item.plain at c.args.count old c.items.counter c.items.items.items c.items.cursor c.in_ok-item.item new c.items.invariant c.items-test.true c.in_ok-item.ensures)
+    TookFirst-more g.T.Item.plain (g.T.Item.at c.args.strings) c.args.count c.args.cursor.now c.items.counter c.items.items.items c.push.new.self.items c.items.cursor c.in_ok-item.item c.take.new.cursor
+    c.items.invariant c.items-test.true c.in_ok-item.ensures c.in_ok-push.ensures.items
