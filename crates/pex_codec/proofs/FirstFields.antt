@@ -1,6 +1,6 @@
 -- From what was taken to what was opened.
 use Rattle.std.specs.Prelude.{Result, Ok, Err}
-use Rattle.std.proofs.Common.{◌≡◌, ℕ, ◌≤◌, List, refl, sym, ap, subst, ◌∙◌}
+use Rattle.std.proofs.Common.{◌≡◌, ℕ, ◌≤◌, List, ◌++◌, refl, sym, ap, subst, ◌∙◌}
 use Rattle.pex_codec.specs.declared.cursor.Cursor.{Cursor}
 use Rattle.pex_codec.specs.declared.cursor.Stop.{Stop}
 use Rattle.pex_codec.specs.declared.cursor.Stop.TheVariants as stop
@@ -12,6 +12,7 @@ use Rattle.pex_codec.specs.Reading.{Reading, Reader, Got, Short, Refused, then_r
 use Rattle.pex_codec.specs.Scanning.{with_strings, part_at, tasks_at}
 use Rattle.pex_codec.specs.Taking.{Stops}
 use Rattle.pex_codec.proofs.Moves.{Moves, moved}
+use Rattle.pex_codec.proofs.Stable.{Extends, IsStable}
 
 -- what isn't there keeps what begins with it from being there
 pub stops_behind : {A B : Type 0} (e : Stop) (r : Reading A) (next : A → Reader B) (whole : Reading B) → whole ≡ then_read r next → Stops r e → Stops whole e
@@ -24,12 +25,20 @@ pub opens_err : {A : Type 0} (e : Stop) (result : Result Opened Stop) (part : Pa
 opens_err e result part strings old new r next is law stops =
     subst (λ (x : Result Opened Stop). Opens part strings x old new) (sym is) (stops_behind e r next (part_at part strings old.at old.rest.now) law stops)
 
-pub opens_ok : {A : Type 0} (part : Part) (strings : ℕ) (opened : Opened) (old new : Cursor) (r : Reading A) (next : A → Reader ℕ) (a : A) (tasks : List Task) (strings1 : ℕ)
-    → part_at part strings old.at old.rest.now ≡ then_read r next → r ≡ Got a new.at new.rest.now → IsOpened opened tasks strings1
-    → next a new.at new.rest.now ≡ tasks_at tasks strings1 new.at new.rest.now → Moves (least_of part) r old.at old.rest.now → HasOpened part strings opened old new
-opens_ok part strings opened old new r next a tasks strings1 law taken is reads moves = record {
-  same = law ∙ ap (λ (x : Reading _). then_read x next) taken ∙ reads ∙ sym (is.same new.at new.rest.now);
-  moved = moved (least_of part) r old.at old.rest.now a new.at new.rest.now moves taken;
+-- what was got is got where other bytes follow
+pub extended : {A : Type 0} (reader : Reader A) → IsStable reader → (at : ℕ) (bytes : List ℕ) (a : A) (at1 : ℕ) (rest1 x : List ℕ) → reader at bytes ≡ Got a at1 rest1 → reader at (bytes ++ x) ≡ Got a at1 (rest1 ++ x)
+extended reader stable at bytes a at1 rest1 x is = subst (λ (r : Reading _). Extends r (reader at (bytes ++ x)) x) is (stable at bytes x)
+
+pub opens_ok : {A : Type 0} (part : Part) (strings : ℕ) (opened : Opened) (old new : Cursor) (reader : Reader A) (next : A → Reader ℕ) (a : A) (tasks : List Task) (strings1 : ℕ)
+    → IsStable reader → ((at : ℕ) (bytes : List ℕ) → part_at part strings at bytes ≡ then_read (reader at bytes) next) → reader old.at old.rest.now ≡ Got a new.at new.rest.now → IsOpened opened tasks strings1
+    → ((at : ℕ) (bytes : List ℕ) → next a at bytes ≡ tasks_at tasks strings1 at bytes) → Moves (least_of part) (reader old.at old.rest.now) old.at old.rest.now → HasOpened part strings opened old new
+opens_ok part strings opened old new reader next a tasks strings1 stable law taken is reads moves = record {
+  same = λ x.
+    law old.at (old.rest.now ++ x)
+    ∙ ap (λ (r : Reading _). then_read r next) (extended reader stable old.at old.rest.now a new.at new.rest.now x taken)
+    ∙ reads new.at (new.rest.now ++ x)
+    ∙ sym (is.same new.at (new.rest.now ++ x));
+  moved = moved (least_of part) (reader old.at old.rest.now) old.at old.rest.now a new.at new.rest.now moves taken;
 }
 
 -- a part that is nothing but what was taken

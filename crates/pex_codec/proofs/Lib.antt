@@ -10,8 +10,11 @@ pub mod Found
 pub mod Lists
 pub mod Moves
 pub mod Opens
+pub mod Passing
 pub mod Pieces
+pub mod Scans
 pub mod Stable
+pub mod StableFields
 pub mod StableTasks
 pub mod Taken
 pub mod Tasks

@@ -4,6 +4,7 @@ pub mod Reading
 pub mod Scanning
 pub mod Taking
 pub mod Opening
+pub mod ScanSteps
 pub mod Decoding
 pub mod Laws
 pub mod Scans

@@ -68,19 +68,19 @@ abbrev pub least_of : Part → ℕ
 least_of (part.Size size_at size) = 0
 least_of _ = 1
 
--- a part's first fields were read: what they opened reads the rest of it
+-- a part's first fields were read: what they opened reads the rest of it, whatever bytes follow
 pub record HasOpened (part : Part) (strings : ℕ) (opened : Opened) (old new : Cursor) : Type 0 where
-  pub same : part_at part strings old.at old.rest.now ≡ tasks_at (tasks_of opened) opened.strings new.at new.rest.now
+  pub same : (x : List ℕ) → part_at part strings old.at (old.rest.now ++ x) ≡ tasks_at (tasks_of opened) opened.strings new.at (new.rest.now ++ x)
   pub moved : Moved (least_of part) old.at old.rest.now new.at new.rest.now
 
 abbrev pub Opens : Part → ℕ → Result Opened Stop → Cursor → Cursor → Type 0
 Opens part strings (Ok opened) old new = HasOpened part strings opened old new
 Opens part strings (Err stop) old new = Stops (part_at part strings old.at old.rest.now) stop
 
--- of so many of a part some were passed, and so many are left
+-- of so many of a part some were passed, and so many are left, whatever bytes follow
 pub record Passes (part : Part) (strings left : ℕ) (old : Cursor) (now : ℕ) (new : Cursor) : Type 0 where
   pub fewer : now ≤ left
-  pub same : times_at part left strings old.at old.rest.now ≡ times_at part now strings new.at new.rest.now
+  pub same : (x : List ℕ) → times_at part left strings old.at (old.rest.now ++ x) ≡ times_at part now strings new.at (new.rest.now ++ x)
   pub moved : Moved (left - now) old.at old.rest.now new.at new.rest.now
 
 -- one of a part was passed

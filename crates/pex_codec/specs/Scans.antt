@@ -1,16 +1,21 @@
 -- What going on with a scan does.
-use Rattle.std.specs.Prelude.{◌≡◌, ℕ, List, ◌++◌, Result, Ok, Err}
+use Rattle.std.specs.Prelude.{◌≡◌, ℕ, List, [], ◌∷◌, ◌++◌, Result, Ok, Err}
 use Rattle.pex_codec.specs.declared.cursor.Cursor.{Cursor}
 use Rattle.pex_codec.specs.declared.cursor.Stop.{Stop}
 use Rattle.pex_codec.specs.declared.cursor.Stop.TheVariants as stop
+use Rattle.pex_codec.specs.declared.parts.Task.{Task}
 use Rattle.pex_codec.specs.declared.scan.Scan.{Scan}
 use Rattle.pex_codec.specs.Opening.{Moved}
-use Rattle.pex_codec.specs.Reading.{Reading, Got, Short, Refused}
+use Rattle.pex_codec.specs.Reading.{Reading, Reader, Got, Short, Refused}
 use Rattle.pex_codec.specs.Scanning.{tasks_at}
 
--- what the scan reads at a place of a file
-abbrev pub left_at : Scan → ℕ → List ℕ → Reading ℕ
-left_at scan at bytes = tasks_at scan.tasks.items scan.strings at bytes
+-- what is to come, the last of which comes first
+abbrev pub stack_of : Scan → List Task
+stack_of scan = scan.below.items ++ (scan.current ∷ [])
+
+-- what the scan reads at a place of a file: the number of strings, behind all that is to come
+abbrev pub left_at : Scan → Reader ℕ
+left_at scan at bytes = tasks_at (stack_of scan) scan.strings at bytes
 
 -- every task is done
 pub record Finishes (old new : Scan) (from to : Cursor) : Type 0 where

@@ -34,6 +34,7 @@ impl<'a> Cursor<'a> {
 
     /// An opcode and the operands that it always has, and how many more follow.
     #[inline(always)]
+    #[tactic(auto, unfolding(crate::specs::Opening::fixed_at))]
     pub(crate) fn fixed(&mut self, strings: u16) -> Result<u32, Stop>
         ensures { Takes (λ n. n) (fixed_at strings) result self.old self.new }
     {
@@ -46,7 +47,10 @@ impl<'a> Cursor<'a> {
     fn passes_operand(&mut self, strings: u16) -> bool
         ensures { PassesIf result part.Operand strings self.old self.new }
     {
-        self.datum(strings).is_ok()
+        match self.datum(strings) {
+            Ok(_) => true,
+            Err(_) => false,
+        }
     }
 
     /// Whether an instruction was passed that has no operands more.
@@ -55,8 +59,8 @@ impl<'a> Cursor<'a> {
         ensures { PassesIf result part.Instruction strings self.old self.new }
     {
         match self.fixed(strings) {
-            Ok(more) => more == 0,
-            Err(_) => false,
+            Ok(0) => true,
+            _ => false,
         }
     }
 }

@@ -1,10 +1,10 @@
-use Rattle.std.proofs.Common.{refl, rules}
-use Rattle.pex_codec.specs.Reading.{object_at}
-use Rattle.std.proofs.Common.{arith}
+use Rattle.std.proofs.Common.{arith, refl, rules}
 use Rattle.pex_codec.specs.declared.parts.Part.TheVariants as part
+use Rattle.pex_codec.specs.Reading.{number_at, object_at}
 use Rattle.pex_codec.proofs.FirstFields.{opens_err, opens_ok}
 use Rattle.pex_codec.proofs.Moves.{number_on}
 use Rattle.pex_codec.proofs.Opens.{list_opens}
+use Rattle.pex_codec.proofs.Stable.{number_stable}
 use Rattle.pex_codec.proofs.opening.objects.Goals as goal
 
 pub returns-in_err-count : goal.returns-in_err-count
@@ -13,4 +13,4 @@ returns-in_err-count c =
 
 pub returns : goal.returns
 returns c =
-    opens_ok part.Objects c.args.strings c.one.result c.args.cursor.now c.u16.new.self _ _ _ _ _ (list_opens part.Object c.args.strings (object_at c.args.strings) (λ at rest. refl) c.args.cursor.now.at c.args.cursor.now.rest.now) c.in_ok-count.ensures c.one.ensures refl (number_on 2 c.args.cursor.now.at c.args.cursor.now.rest.now (omega arith))
+    opens_ok part.Objects c.args.strings c.one.result c.args.cursor.now c.u16.new.self (number_at 2) _ _ _ _ (number_stable 2) (list_opens part.Object c.args.strings (object_at c.args.strings) (λ at rest. refl)) c.in_ok-count.ensures c.one.ensures (λ at bytes. cc) (number_on 2 c.args.cursor.now.at c.args.cursor.now.rest.now (omega arith))
