@@ -5,26 +5,31 @@ use Rattle.std.proofs.Common.{inl, inr, ◌≡◌, ℕ, ◌+◌, ◌-◌, ◌<�
 use Rattle.std.proofs.lemmas.List.{append-nil, take-append-drop, take-append-le, drop-append-le, drop-drop, take-take, length-take-le}
 use Rattle.std.proofs.Math.Seq.{take-append-add, take-length}
 use Rattle.pex_values.specs.Fit.{limit}
-use Rattle.pex_values.specs.Plain.{PlainPex}
+use Rattle.pex_values.specs.declared.values.Pex.{Pex}
+use Rattle.pex_values.specs.Plain.{PlainPex, plain}
 use Rattle.pex_codec.specs.declared.cursor.Cursor.{Cursor}
 use Rattle.pex_codec.specs.declared.cursor.Stop.{Stop}
 use Rattle.pex_codec.specs.declared.cursor.Stop.TheVariants as stop
+use Rattle.pex_codec.specs.declared.faults.PexFault.{PexFault}
+use Rattle.pex_codec.specs.declared.faults.PexFault.TheVariants.{Broken}
 use Rattle.pex_codec.specs.declared.faults.PexRule.{PexRule}
 use Rattle.pex_codec.specs.declared.faults.PexRule.TheVariants.{BadMagic, BadVersion, BadGame, BadDebugFlag, BadKind, BadOpcode, BadCount, BadIndex, BadSize, Truncated, Trailing, TooLarge}
+use Rattle.pex_codec.specs.declared.progress.Standing.{Standing}
+use Rattle.pex_codec.specs.declared.progress.Standing.TheVariants as standing
 use Rattle.pex_codec.specs.declared.scan.Scan.{Scan}
 use Rattle.pex_codec.specs.declared.scanned_bytes.ScannedBytes.{ScannedBytes}
-use Rattle.pex_codec.specs.Decoding.{Breaks, IsSpelling, IsUnfinished, reading}
-use Rattle.pex_codec.specs.DecoderState.{ends, Follows, IsOpen, HasEnded, GoesOver, TakesAll, TakesEnd, BreaksPiece}
+use Rattle.pex_codec.specs.Decoding.{Breaks, EndFrom, EndGives, FinishFrom, FinishGives, IsSpelling, IsUnfinished, Progress, reading}
+use Rattle.pex_codec.specs.DecoderState.{ends, Follows, IsOpen, HasEnded, GoesOver, StandsAs, TakesAll, TakesEnd, BreaksPiece}
 use Rattle.pex_codec.specs.Laws.{AreBytes}
 use Rattle.pex_codec.specs.Opening.{Moved, whole_file}
 use Rattle.pex_codec.specs.Reading.{Reading, Got, Short, Refused, read_as, number_at, bytes_at, heading_at, pex_at}
 use Rattle.pex_codec.specs.Scanning.{tasks_at}
-use Rattle.pex_codec.specs.Scans.{left_at, Finishes, Waits, ScansOn}
+use Rattle.pex_codec.specs.Scans.{left_at, stack_of, Finishes, Waits, ScansOn}
 use Rattle.pex_codec.specs.Spells.{Spells}
-use Rattle.pex_codec.proofs.Exact.{byte_below, front_bytes, bytes_below, short_got}
+use Rattle.pex_codec.proofs.Exact.{byte_below, front_bytes, bytes_below, short_got, same_got}
 use Rattle.pex_codec.proofs.ExactReading.{got_reading}
 use Rattle.pex_codec.proofs.FieldRules.{ByField, IsOfField, pex_by_field}
-use Rattle.pex_codec.proofs.Found.{Found, found, take_all}
+use Rattle.pex_codec.proofs.Found.{Found, found, found_whole, take_all}
 use Rattle.pex_codec.proofs.Opens.{pex_opens}
 
 -- ---- what the end of a reading tells of it
@@ -64,7 +69,7 @@ unfolding pex_at heading_at number_at bytes_at
 nothing = refl
 
 -- a new decoder
-pub opens_whole : (t : ScannedBytes) → t.bytes.items ≡ [] → t.open ≡ 0 → t.scan.tasks.items ≡ whole_file → t.scan.strings ≡ 0 → IsOpen t
+pub opens_whole : (t : ScannedBytes) → t.bytes.items ≡ [] → t.open ≡ 0 → stack_of t.scan ≡ whole_file → t.scan.strings ≡ 0 → IsOpen t
 opens_whole t none first tasks strings =
     let at_first : (x : List ℕ) → ends (pex_at 0 x) ≡ left_at t.scan 0 x = λ x. pex_opens 0 x ∙ rw (tasks, strings) refl in
     let same : (x : List ℕ) → ends (pex_at 0 (t.bytes.items ++ x)) ≡ left_at t.scan t.open (drop t.open t.bytes.items ++ x) = λ x. rw (none, first) (at_first x) in
@@ -294,3 +299,31 @@ piece_too_large old mid new piece count e more same o =
 pub piece_refused : (old mid : ScannedBytes) (piece : List ℕ) (count offset : ℕ) (rule : PexRule) → Extends old mid piece count → ends (pex_at 0 mid.bytes.items) ≡ Refused offset rule → BreaksPiece (old.bytes.items ++ piece) offset rule
 piece_refused old mid piece count offset rule e refused =
     takes_refusal old.bytes.items piece count offset rule e.is (ap (λ (b : List ℕ). ends (pex_at 0 b)) (sym e.bytes) ∙ refused)
+
+-- ---- what a decoder that took its bytes answers
+
+pub unfinished_truncated : (t : ScannedBytes) → IsOpen t → Breaks t.bytes.items (length t.bytes.items) Truncated
+unfinished_truncated t o = (is_unfinished t o, o.follows.fits, refl)
+
+pub value_spelled : (bytes : List ℕ) (v : PlainPex) → IsSpelling bytes → (at : ℕ) × (rest : List ℕ) × (pex_at 0 bytes ≡ Got v at rest) → Spells v bytes
+value_spelled bytes v (w, s) (at, rest, got) =
+    subst (λ (x : PlainPex). Spells x bytes) (same_got (λ z n r. w ≡ z) w v (length bytes) at [] rest (sym (found_whole w bytes s) ∙ got) refl) s
+
+finishes_from : (t : ScannedBytes) (s : Standing) (n : ℕ) → IsOpen t → s ≡ standing.Reading → n ≡ length t.bytes.items → FinishFrom s t.bytes.items (Err (Broken n Truncated))
+finishes_from t s n o reading count =
+    subst (λ (u : Standing). FinishFrom u t.bytes.items (Err (Broken n Truncated))) (sym reading)
+    (ap (λ (k : ℕ). Err (Broken k Truncated)) count, unfinished_truncated t o)
+
+pub finishes_open : (t : ScannedBytes) (s : Standing) (d : Progress) (n : ℕ) → IsOpen t → s ≡ standing.Reading → record { taken = t.bytes.items; standing = s } ≡ d → n ≡ length t.bytes.items → FinishGives d (Err (Broken n Truncated))
+finishes_open t s d n o reading is count = subst (λ (e : Progress). FinishGives e (Err (Broken n Truncated))) is (finishes_from t s n o reading count)
+
+ends_from : (t : ScannedBytes) (s : Standing) (v : Pex) (bytes : List ℕ) (r : Result Unit PexFault) → StandsAs s t → bytes ≡ t.bytes.items → FinishFrom s t.bytes.items r → r ≡ Ok tt
+    → (at : ℕ) × (rest : List ℕ) × (pex_at 0 bytes ≡ Got (plain v) at rest) → EndFrom s t.bytes.items (Ok v)
+ends_from t standing.Reading v bytes r stands same (finish, breaks) ok got = absurd cc
+ends_from t standing.Complete v bytes r stands same finish ok (at, rest, got) = value_spelled t.bytes.items (plain v) stands (at, rest, ap (pex_at 0) (sym same) ∙ got)
+ends_from t (standing.Refused fault) v bytes r stands same finish ok got = absurd cc
+
+pub ends_with : (t : ScannedBytes) (s : Standing) (d : Progress) (v : Pex) (bytes : List ℕ) (r : Result Unit PexFault) → StandsAs s t → record { taken = t.bytes.items; standing = s } ≡ d → bytes ≡ t.bytes.items → FinishGives d r → r ≡ Ok tt
+    → (at : ℕ) × (rest : List ℕ) × (pex_at 0 bytes ≡ Got (plain v) at rest) → EndGives d (Ok v)
+ends_with t s d v bytes r stands is same finish ok got =
+    subst (λ (e : Progress). EndGives e (Ok v)) is (ends_from t s v bytes r stands same (subst (λ (e : Progress). FinishGives e r) (sym is) finish) ok got)

@@ -45,7 +45,7 @@ returns-in-Err-Short-2 c =
     let mid : ScannedBytes = record { bytes = c.extend_from_slice.new.self; «open» = old.open; scan = old.scan } in
     let before : c.len-before.result ≡ length old.bytes.items = omega (arith, c.len-before.ensures, old.bytes.ok.0) in
     let e = extends old mid c.args.piece.now c.len-before.result c.min-count.result c.requires before c.min-count.ensures c.in_ok-extend_from_slice.ensures.items refl refl (λ i. omega (arith, c.type_inv.piece i)) in
-    let over = over_stop mid c.go_over.new.self c.go_over.result c.in-Err-Short-2.field-0 stop.Short c.go_over.ensures c.in-Err-Short-2.is c.in-Err-Short-2.field-0-is in
+    let over = over_stop mid c.go_over.new.self c.go_over.result c.in-Err-Short.field-0 stop.Short c.go_over.ensures c.in-Err-Short.is c.in-Err-Short-2.field-0-is in
     piece_taken old mid c.go_over.new.self c.args.piece.now c.min-count.result e (λ more. omega (arith, more, c.if-count-piece.false)) over.0 over.1
 
 pub returns-in-Err-Refused : goal.returns-in-Err-Refused
