@@ -36,11 +36,14 @@ pub read_refused : {T : Type 0} (Says : T → List ℕ → Type 0) (holds : Opti
 read_refused Says None name bytes fault told read breaks is = tt
 read_refused {T} Says (Some files) name bytes pex.OutOfMemory told read breaks is = subst (λ (f : FileFault). Reads {T = T} Says (Some files) name (Err f)) (sym is) tt
 read_refused {T} Says (Some files) name bytes (pex.Broken offset rule) told read breaks is =
-    subst (λ (f : FileFault). Reads {T = T} Says (Some files) name (Err f)) (sym is)
-    (bytes.items, read.1, record {
-      breaks = λ few. record { offset = offset; broken = rule; place_is = refl; rule_is = refl; breaks = breaks };
-      too_large = λ past. absurd (omega (arith, past, read.0));
-    })
+    subst (λ (f : FileFault). Reads {T = T} Says (Some files) name (Err f)) (sym is) (
+      bytes.items,
+      read.1,
+      record {
+        breaks = λ few. record { offset = offset; broken = rule; place_is = refl; rule_is = refl; breaks = breaks };
+        too_large = λ past. absurd (omega (arith, past, read.0));
+      },
+    )
 
 -- a file that was read and spells a value
 pub read_decoded : (holds : Option Files) (name : List ℕ) (bytes : Vec ℕ Global) (value : Pex) (size : ℕ) → ReadsBytes holds name (Ok bytes) → Spells (plain value) bytes.items → size ≡ length bytes.items

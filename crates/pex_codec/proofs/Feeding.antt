@@ -193,7 +193,6 @@ of_field bytes offset TooLarge is refused = absurd is
 by_field : (bytes : List ℕ) (offset : ℕ) (rule : PexRule) → ByField (reading bytes) → reading bytes ≡ Refused offset rule → BreaksPiece bytes offset rule
 by_field bytes offset rule by is = of_field bytes offset rule (subst (λ (r : Reading PlainPex). ByField r) is by) is
 
-
 -- what was taken of a piece is all of it, or as much as 16 MiB leave
 pub record IsTakenOf (old piece : List ℕ) (count : ℕ) : Type 0 where
   pub few : count ≤ length piece

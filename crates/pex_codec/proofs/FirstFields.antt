@@ -34,10 +34,10 @@ pub opens_ok : {A : Type 0} (part : Part) (strings : ℕ) (opened : Opened) (old
     → ((at : ℕ) (bytes : List ℕ) → next a at bytes ≡ tasks_at tasks strings1 at bytes) → Moves (least_of part) (reader old.at old.rest.now) old.at old.rest.now → HasOpened part strings opened old new
 opens_ok part strings opened old new reader next a tasks strings1 stable law taken is reads moves = record {
   same = λ x.
-    law old.at (old.rest.now ++ x)
-    ∙ ap (λ (r : Reading _). then_read r next) (extended reader stable old.at old.rest.now a new.at new.rest.now x taken)
-    ∙ reads new.at (new.rest.now ++ x)
-    ∙ sym (is.same new.at (new.rest.now ++ x));
+      law old.at (old.rest.now ++ x)
+      ∙ ap (λ (r : Reading _). then_read r next) (extended reader stable old.at old.rest.now a new.at new.rest.now x taken)
+      ∙ reads new.at (new.rest.now ++ x)
+      ∙ sym (is.same new.at (new.rest.now ++ x));
   moved = moved (least_of part) (reader old.at old.rest.now) old.at old.rest.now a new.at new.rest.now moves taken;
 }
 

@@ -44,7 +44,7 @@ count_one n head (Refused o rule) same = refl
 
 count_more : {A : Type 0} (n : ℕ) (first : Reading A) (others : Reader (List A)) → ((at : ℕ) (bytes : List ℕ) → read_as length (others at bytes) ≡ with_strings n (others at bytes))
     → read_as length (then_read first (λ head at1 rest1. read_as (λ rest. head ∷ rest) (others at1 rest1)))
-      ≡ with_strings (suc n) (then_read first (λ head at1 rest1. read_as (λ rest. head ∷ rest) (others at1 rest1)))
+    ≡ with_strings (suc n) (then_read first (λ head at1 rest1. read_as (λ rest. head ∷ rest) (others at1 rest1)))
 count_more n (Got head at1 rest1) others same = count_one n head (others at1 rest1) (same at1 rest1)
 count_more n Short others same = refl
 count_more n (Refused o rule) others same = refl
@@ -87,7 +87,7 @@ instruction_rest strings opcode (Some (n, true)) at bytes =
     let stack = λ (count : ℕ) (at2 : ℕ) (rest2 : List ℕ). tasks_at (task part.Operand count ∷ []) strings at2 rest2 in
     opens (λ _. strings) (items_at item n at bytes) _ (λ fixed at1 rest1. then_read (count_at at1 rest1) stack)
     (λ fixed at1 rest1. opens (λ _. strings) (count_at at1 rest1) _ stack
-      (λ count at2 rest2. follow_last (λ _. strings) strings part.Operand count at2 rest2 _ (items_at item count at2 rest2) (λ a. refl) (operands_are strings count at2 rest2)))
+    (λ count at2 rest2. follow_last (λ _. strings) strings part.Operand count at2 rest2 _ (items_at item count at2 rest2) (λ a. refl) (operands_are strings count at2 rest2)))
     ∙ fixed_more strings (items_at item n at bytes) count_at stack
     ∙ sym (ap (λ (r : Reading ℕ). then_read (then_read r (λ operands at1 rest1. count_at at1 rest1)) stack) (operands_are strings n at bytes))
 instruction_rest strings opcode (Some (n, false)) at bytes =
@@ -104,15 +104,15 @@ instruction_opens strings at bytes =
 
 pub function_opens : (strings at : ℕ) (bytes : List ℕ)
     → part_at part.Function strings at bytes
-      ≡ then_read (function_head_at strings at bytes) (λ h at1 rest1. tasks_at (task part.Code 1 ∷ task part.Pairs 1 ∷ task part.Pair h.parameters ∷ []) strings at1 rest1)
+    ≡ then_read (function_head_at strings at bytes) (λ h at1 rest1. tasks_at (task part.Code 1 ∷ task part.Pairs 1 ∷ task part.Pair h.parameters ∷ []) strings at1 rest1)
 unfolding function_at
 function_opens strings at bytes =
     opens (λ _. strings) (function_head_at strings at bytes) (function_with strings) (λ h at1 rest1. tasks_at (task part.Code 1 ∷ task part.Pairs 1 ∷ task part.Pair h.parameters ∷ []) strings at1 rest1)
     (λ h at1 rest1. follow (λ _. strings) strings part.Pair h.parameters (task part.Code 1 ∷ task part.Pairs 1 ∷ []) at1 rest1 (items_at (pair_at strings) h.parameters at1 rest1) _
-      (times_items part.Pair strings (pair_at strings) (λ at9 rest9. refl) h.parameters at1 rest1)
-      (λ parameters at2 rest2. follow (λ _. strings) strings part.Pairs 1 (task part.Code 1 ∷ []) at2 rest2 (list_at (pair_at strings) at2 rest2) _
-        (times_once part.Pairs strings at2 rest2)
-        (λ locals at3 rest3. follow_last (λ _. strings) strings part.Code 1 at3 rest3 _ (list_at (instruction_at strings) at3 rest3) (λ a. refl) (times_once part.Code strings at3 rest3))))
+    (times_items part.Pair strings (pair_at strings) (λ at9 rest9. refl) h.parameters at1 rest1)
+    (λ parameters at2 rest2. follow (λ _. strings) strings part.Pairs 1 (task part.Code 1 ∷ []) at2 rest2 (list_at (pair_at strings) at2 rest2) _
+    (times_once part.Pairs strings at2 rest2)
+    (λ locals at3 rest3. follow_last (λ _. strings) strings part.Code 1 at3 rest3 _ (list_at (instruction_at strings) at3 rest3) (λ a. refl) (times_once part.Code strings at3 rest3))))
 
 pub named_opens : (strings at : ℕ) (bytes : List ℕ)
     → part_at part.Named strings at bytes ≡ then_read (reference_at strings at bytes) (λ name at1 rest1. tasks_at (task part.Function 1 ∷ []) strings at1 rest1)
@@ -134,17 +134,17 @@ state_opens strings at bytes =
 
 pub property_opens : (strings at : ℕ) (bytes : List ℕ)
     → part_at part.Property strings at bytes
-      ≡ then_read (property_head_at strings at bytes)
-          (λ h at1 rest1. tasks_at (task part.Function (times_of (has_write h.bits)) ∷ task part.Function (times_of (has_read h.bits)) ∷ []) strings at1 rest1)
+    ≡ then_read (property_head_at strings at bytes)
+    (λ h at1 rest1. tasks_at (task part.Function (times_of (has_write h.bits)) ∷ task part.Function (times_of (has_read h.bits)) ∷ []) strings at1 rest1)
 unfolding property_at
 property_opens strings at bytes =
     opens (λ _. strings) (property_head_at strings at bytes) (property_with strings)
     (λ h at1 rest1. tasks_at (task part.Function (times_of (has_write h.bits)) ∷ task part.Function (times_of (has_read h.bits)) ∷ []) strings at1 rest1)
     (λ h at1 rest1. follow (λ _. strings) strings part.Function (times_of (has_read h.bits)) (task part.Function (times_of (has_write h.bits)) ∷ []) at1 rest1
-      (optional_at (has_read h.bits) (function_at strings) at1 rest1) _
-      (optional_once part.Function strings (has_read h.bits) (function_at strings) (λ at9 rest9. refl) at1 rest1)
-      (λ read at2 rest2. follow_last (λ _. strings) strings part.Function (times_of (has_write h.bits)) at2 rest2 _ (optional_at (has_write h.bits) (function_at strings) at2 rest2) (λ a. refl)
-        (optional_once part.Function strings (has_write h.bits) (function_at strings) (λ at9 rest9. refl) at2 rest2)))
+    (optional_at (has_read h.bits) (function_at strings) at1 rest1) _
+    (optional_once part.Function strings (has_read h.bits) (function_at strings) (λ at9 rest9. refl) at1 rest1)
+    (λ read at2 rest2. follow_last (λ _. strings) strings part.Function (times_of (has_write h.bits)) at2 rest2 _ (optional_at (has_write h.bits) (function_at strings) at2 rest2) (λ a. refl)
+    (optional_once part.Function strings (has_write h.bits) (function_at strings) (λ at9 rest9. refl) at2 rest2)))
 
 pub object_opens : (strings at : ℕ) (bytes : List ℕ)
     → part_at part.Object strings at bytes ≡ then_read (object_head_at strings at bytes) (λ h at1 rest1. tasks_at (object_tasks h) strings at1 rest1)
@@ -152,14 +152,14 @@ unfolding object_at
 object_opens strings at bytes =
     opens (λ _. strings) (object_head_at strings at bytes) (object_with strings) (λ h at1 rest1. tasks_at (object_tasks h) strings at1 rest1)
     (λ h at1 rest1. follow (λ _. strings) strings part.Variable h.variables (task (part.Size h.size_at h.size) 1 ∷ task part.States 1 ∷ task part.Properties 1 ∷ []) at1 rest1
-      (items_at (variable_at strings) h.variables at1 rest1) _
-      (times_items part.Variable strings (variable_at strings) (λ at9 rest9. refl) h.variables at1 rest1)
-      (λ variables at2 rest2. follow (λ _. strings) strings part.Properties 1 (task (part.Size h.size_at h.size) 1 ∷ task part.States 1 ∷ []) at2 rest2
-        (list_at (property_at strings) at2 rest2) _ (times_once part.Properties strings at2 rest2)
-        (λ properties at3 rest3. follow (λ _. strings) strings part.States 1 (task (part.Size h.size_at h.size) 1 ∷ []) at3 rest3
-          (list_at (state_at strings) at3 rest3) _ (times_once part.States strings at3 rest3)
-          (λ states at4 rest4. follow_last (λ _. strings) strings (part.Size h.size_at h.size) 1 at4 rest4 _ (size_form_at h.size_at h.size at4 rest4) (λ a. refl)
-            (times_once (part.Size h.size_at h.size) strings at4 rest4)))))
+    (items_at (variable_at strings) h.variables at1 rest1) _
+    (times_items part.Variable strings (variable_at strings) (λ at9 rest9. refl) h.variables at1 rest1)
+    (λ variables at2 rest2. follow (λ _. strings) strings part.Properties 1 (task (part.Size h.size_at h.size) 1 ∷ task part.States 1 ∷ []) at2 rest2
+    (list_at (property_at strings) at2 rest2) _ (times_once part.Properties strings at2 rest2)
+    (λ properties at3 rest3. follow (λ _. strings) strings part.States 1 (task (part.Size h.size_at h.size) 1 ∷ []) at3 rest3
+    (list_at (state_at strings) at3 rest3) _ (times_once part.States strings at3 rest3)
+    (λ states at4 rest4. follow_last (λ _. strings) strings (part.Size h.size_at h.size) 1 at4 rest4 _ (size_form_at h.size_at h.size at4 rest4) (λ a. refl)
+    (times_once (part.Size h.size_at h.size) strings at4 rest4)))))
 
 -- ---- debug information
 
@@ -169,7 +169,7 @@ unfolding lines_at
 lines_open strings at bytes =
     opens (λ _. strings) (lines_head_at strings at bytes) lines_with (λ h at1 rest1. tasks_at (task part.Line h.lines ∷ []) strings at1 rest1)
     (λ h at1 rest1. follow_last (λ _. strings) strings part.Line h.lines at1 rest1 _ (items_at (number_at 2) h.lines at1 rest1) (λ a. refl)
-      (times_items part.Line strings (number_at 2) (λ at9 rest9. refl) h.lines at1 rest1))
+    (times_items part.Line strings (number_at 2) (λ at9 rest9. refl) h.lines at1 rest1))
 
 debug_rest : (strings flag at : ℕ) (bytes : List ℕ)
     → with_strings strings (debug_with strings flag at bytes) ≡ then_read (debug_count_with flag at bytes) (λ n at1 rest1. tasks_at (task part.Lines n ∷ []) strings at1 rest1)
@@ -201,7 +201,7 @@ with_rest heading texts at bytes =
     let n = length texts.strings in
     follow strings_of n part.Debug 1 (task part.Objects 1 ∷ task part.Flags 1 ∷ []) at bytes (debug_at n at bytes) _ (times_once part.Debug n at bytes)
     (λ debug at1 rest1. follow strings_of n part.Flags 1 (task part.Objects 1 ∷ []) at1 rest1 (list_at (flag_at n) at1 rest1) _ (times_once part.Flags n at1 rest1)
-      (λ flags at2 rest2. follow_last strings_of n part.Objects 1 at2 rest2 _ (list_at (object_at n) at2 rest2) (λ a. refl) (times_once part.Objects n at2 rest2)))
+    (λ flags at2 rest2. follow_last strings_of n part.Objects 1 at2 rest2 _ (list_at (object_at n) at2 rest2) (λ a. refl) (times_once part.Objects n at2 rest2)))
 
 -- what stands behind the heading
 abbrev behind_heading : List Task
@@ -212,7 +212,7 @@ texts_of source user machine strings = record { source = source; user = user; ma
 
 table_rest : (heading : Heading) (source user machine : List ℕ) (table : Reading (List (List ℕ)))
     → read_as strings_of (then_read (read_as (texts_of source user machine) table) (pex_with heading))
-      ≡ then_read (read_as length table) (tasks_at behind_strings)
+    ≡ then_read (read_as length table) (tasks_at behind_strings)
 table_rest heading source user machine (Got strings at rest) = with_rest heading (texts_of source user machine strings) at rest
 table_rest heading source user machine Short = refl
 table_rest heading source user machine (Refused o rule) = refl
@@ -226,7 +226,7 @@ strings_rest heading source user machine at bytes =
 text_step : {A : Type 0} (heading : Heading) (n : ℕ) (first : Reading A) (next : A → Reader Texts)
     → ((a : A) (at1 : ℕ) (rest1 : List ℕ) → read_as strings_of (then_read (next a at1 rest1) (pex_with heading)) ≡ then_read (times_at part.Text n 0 at1 rest1) (tasks_at behind_heading))
     → read_as strings_of (then_read (then_read first next) (pex_with heading))
-      ≡ then_read (then_read (with_strings 0 first) (λ strings1 at1 rest1. times_at part.Text n strings1 at1 rest1)) (tasks_at behind_heading)
+    ≡ then_read (then_read (with_strings 0 first) (λ strings1 at1 rest1. times_at part.Text n strings1 at1 rest1)) (tasks_at behind_heading)
 text_step heading n (Got a at1 rest1) next same = same a at1 rest1
 text_step heading n Short next same = refl
 text_step heading n (Refused o rule) next same = refl
@@ -235,9 +235,9 @@ three_texts : (heading : Heading) (at : ℕ) (bytes : List ℕ) → read_as stri
 unfolding texts_at
 three_texts heading at bytes =
     text_step heading 2 (string_at at bytes) _
-      (λ source at1 rest1. text_step heading 1 (string_at at1 rest1) _
-        (λ user at2 rest2. text_step heading 0 (string_at at2 rest2) _
-          (λ machine at3 rest3. strings_rest heading source user machine at3 rest3)))
+    (λ source at1 rest1. text_step heading 1 (string_at at1 rest1) _
+    (λ user at2 rest2. text_step heading 0 (string_at at2 rest2) _
+    (λ machine at3 rest3. strings_rest heading source user machine at3 rest3)))
     ∙ sym (tasks_append behind_heading (task part.Text 3 ∷ []) 0 at bytes)
 
 -- what a new scan reads

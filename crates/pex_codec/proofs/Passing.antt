@@ -24,7 +24,7 @@ pub record Behind (strings count : ℕ) (old : Cursor) (i : ℕ) (new : Cursor) 
 
 next_operand : (strings count i at : ℕ) (bytes : List ℕ) → i < count
     → times_at part.Operand (count - i) strings at bytes
-      ≡ then_read (with_strings strings (datum_at strings at bytes)) (λ strings1 at1 rest1. times_at part.Operand (count - (i + 1)) strings1 at1 rest1)
+    ≡ then_read (with_strings strings (datum_at strings at bytes)) (λ strings1 at1 rest1. times_at part.Operand (count - (i + 1)) strings1 at1 rest1)
 next_operand strings count i at bytes below =
     let next : count - i ≡ suc (count - (i + 1)) = omega arith in
     ap (λ (n : ℕ). times_at part.Operand n strings at bytes) next
@@ -33,7 +33,7 @@ pub Behind-more : (strings count : ℕ) (old : Cursor) (i : ℕ) (new : Cursor) 
     → Behind strings count old i new → i < count → with_strings strings (datum_at strings new.at new.rest.now) ≡ with_strings strings r → r ≡ Got a next.at next.rest.now → Behind strings count old (i + 1) next
 Behind-more strings count old i new next a r behind below is taken = record {
   same = behind.same ∙ next_operand strings count i new.at new.rest.now below
-    ∙ ap (λ (x : Reading ℕ). then_read x (λ strings1 at1 rest1. times_at part.Operand (count - (i + 1)) strings1 at1 rest1)) (is ∙ ap (λ (x : Reading _). with_strings strings x) taken);
+      ∙ ap (λ (x : Reading ℕ). then_read x (λ strings1 at1 rest1. times_at part.Operand (count - (i + 1)) strings1 at1 rest1)) (is ∙ ap (λ (x : Reading _). with_strings strings x) taken);
 }
 
 as_stop : {A : Type 0} (strings : ℕ) (e : Stop) (r : Reading A) → Stops r e → Stops (with_strings strings r) e
@@ -45,7 +45,7 @@ pub Behind-stops : (strings count : ℕ) (old : Cursor) (i : ℕ) (new : Cursor)
     → Behind strings count old i new → i < count → Stops (datum_at strings new.at new.rest.now) e → Stops (times_at part.Operand count strings old.at old.rest.now) e
 Behind-stops strings count old i new e behind below is =
     stops_behind e (with_strings strings (datum_at strings new.at new.rest.now)) (λ strings1 at1 rest1. times_at part.Operand (count - (i + 1)) strings1 at1 rest1)
-      (times_at part.Operand count strings old.at old.rest.now) (behind.same ∙ next_operand strings count i new.at new.rest.now below) (as_stop strings e (datum_at strings new.at new.rest.now) is)
+    (times_at part.Operand count strings old.at old.rest.now) (behind.same ∙ next_operand strings count i new.at new.rest.now below) (as_stop strings e (datum_at strings new.at new.rest.now) is)
 
 pub operands_err : (e : Stop) (result : Result Unit Stop) (strings count : ℕ) (old new : Cursor) → result ≡ Err e → Stops (times_at part.Operand count strings old.at old.rest.now) e
     → Takes (λ (_ : Unit). strings) (times_at part.Operand count strings) result old new
@@ -88,8 +88,8 @@ pub Passes-more : (part : Part) (strings left : ℕ) (old : Cursor) (now : ℕ) 
 Passes-more part strings left old now new next fewer is passed one = record {
   fewer = omega (arith, passed.fewer);
   same = λ x.
-    passed.same x ∙ ap (λ (n : ℕ). times_at part n strings new.at (new.rest.now ++ x)) is
-    ∙ ap (λ (r : Reading ℕ). then_read r (λ strings1 at1 rest1. times_at part fewer strings1 at1 rest1))
+      passed.same x ∙ ap (λ (n : ℕ). times_at part n strings new.at (new.rest.now ++ x)) is
+      ∙ ap (λ (r : Reading ℕ). then_read r (λ strings1 at1 rest1. times_at part fewer strings1 at1 rest1))
       (extended (part_at part strings) (part_stable part strings) new.at new.rest.now strings next.at next.rest.now x one.same);
   moved = subst (λ (n : ℕ). Moved n old.at old.rest.now next.at next.rest.now) (omega (arith, passed.fewer)) (Moved-on (left - now) 1 old.at old.rest.now new.at new.rest.now next.at next.rest.now passed.moved one.moved);
 }

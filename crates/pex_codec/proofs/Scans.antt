@@ -30,7 +30,7 @@ use Rattle.pex_codec.proofs.Stable.{size_form_stable}
 pub same_none : (part : Part) (left : ℕ) (old : List Task) → left ≡ 0 → SameStack (old ++ (task part left ∷ [])) old
 same_none part left old none = record {
   same = λ strings at bytes.
-    ap (λ (n : ℕ). tasks_at (old ++ (task part n ∷ [])) strings at bytes) none ∙ tasks_append old (task part 0 ∷ []) strings at bytes;
+      ap (λ (n : ℕ). tasks_at (old ++ (task part n ∷ [])) strings at bytes) none ∙ tasks_append old (task part 0 ∷ []) strings at bytes;
   height = omega (arith, length-append old (task part left ∷ []));
 }
 
@@ -41,9 +41,9 @@ same_self old new is = record { same = λ strings at bytes. ap (λ (xs : List Ta
 pub same_above : (old new above : List Task) → SameStack old new → SameStack (old ++ above) (new ++ above)
 same_above old new above is = record {
   same = λ strings at bytes.
-    tasks_append old above strings at bytes
-    ∙ then_next (tasks_at above strings at bytes) (tasks_at old) (tasks_at new) (λ s at1 rest1. is.same s at1 rest1)
-    ∙ sym (tasks_append new above strings at bytes);
+      tasks_append old above strings at bytes
+      ∙ then_next (tasks_at above strings at bytes) (tasks_at old) (tasks_at new) (λ s at1 rest1. is.same s at1 rest1)
+      ∙ sym (tasks_append new above strings at bytes);
   height = omega (arith, length-append old above, length-append new above, is.height);
 }
 
@@ -129,7 +129,7 @@ pub size_judged : (below : List Task) (size_at size left strings at : ℕ) (byte
 size_judged below size_at size left strings at bytes form at1 rest1 is =
     top_first below (part.Size size_at size) left strings at bytes
     ∙ ap (λ (r : Reading ℕ). then_read r (tasks_at below))
-      (size_times size_at size strings at bytes left (size_once (size_at + size == at) (size_at + 4 + size == at) size_at strings at bytes form at1 rest1 is))
+    (size_times size_at size strings at bytes left (size_once (size_at + size == at) (size_at + 4 + size == at) size_at strings at bytes form at1 rest1 is))
     ∙ sym (top_first below (part.Size size_at size) 0 strings at bytes)
 
 pub size_stops : (below : List Task) (size_at size left strings at : ℕ) (bytes : List ℕ) (e : Stop) → 0 < left → Stops (size_form_at size_at size at bytes) e
@@ -185,9 +185,9 @@ pub size_step : (old : Scan) (size_at size : ℕ) (cursor here : Cursor) (form :
     → size_form_at size_at size cursor.at cursor.rest.now ≡ Got form here.at here.rest.now → IsStep old cursor (with_left old 0) cursor
 size_step old size_at size cursor here form some is taken = record {
   same = λ x.
-    subst (λ (p : Part). size_step_of old cursor.at (cursor.rest.now ++ x) p) (sym is)
+      subst (λ (p : Part). size_step_of old cursor.at (cursor.rest.now ++ x) p) (sym is)
       (size_judged old.below.items size_at size old.current.left old.strings cursor.at (cursor.rest.now ++ x) form here.at (here.rest.now ++ x)
-        (extended (size_form_at size_at size) (size_form_stable size_at size) cursor.at cursor.rest.now form here.at here.rest.now x taken));
+      (extended (size_form_at size_at size) (size_form_stable size_at size) cursor.at cursor.rest.now form here.at here.rest.now x taken));
   moved = still cursor;
   less = let a = some_there old.current.left some in omega arith;
 }
@@ -205,7 +205,7 @@ pub size_waits : (e : Stop) (result : Result Unit Stop) (scan : Scan) (size_at s
 size_waits e result scan size_at size cursor is some same stops =
     steps_err e result scan cursor is
     (subst (λ (p : Part). Stops (tasks_at (scan.below.items ++ (task p scan.current.left ∷ [])) scan.strings cursor.at cursor.rest.now) e) (sym same)
-      (size_stops scan.below.items size_at size scan.current.left scan.strings cursor.at cursor.rest.now e some stops))
+    (size_stops scan.below.items size_at size scan.current.left scan.strings cursor.at cursor.rest.now e some stops))
 
 pub part_waits : (e : Stop) (result : Result Unit Stop) (scan : Scan) (cursor : Cursor) → result ≡ Err e → 0 < scan.current.left
     → Stops (part_at scan.current.part scan.strings cursor.at cursor.rest.now) e → Steps result scan cursor scan cursor
@@ -215,9 +215,9 @@ part_waits e result scan cursor is some stops =
 pub next_step : (old new : Scan) (cursor : Cursor) → old.current.left ≡ 0 → new.strings ≡ old.strings → old.below.items ≡ new.below.items ++ (new.current ∷ []) → IsStep old cursor new cursor
 next_step old new cursor none strings items = record {
   same = λ x.
-    (same_none old.current.part old.current.left old.below.items none).same old.strings cursor.at (cursor.rest.now ++ x)
-    ∙ ap (λ (xs : List Task). tasks_at xs old.strings cursor.at (cursor.rest.now ++ x)) items
-    ∙ ap (λ (n : ℕ). tasks_at (new.below.items ++ (new.current ∷ [])) n cursor.at (cursor.rest.now ++ x)) (sym strings);
+      (same_none old.current.part old.current.left old.below.items none).same old.strings cursor.at (cursor.rest.now ++ x)
+      ∙ ap (λ (xs : List Task). tasks_at xs old.strings cursor.at (cursor.rest.now ++ x)) items
+      ∙ ap (λ (n : ℕ). tasks_at (new.below.items ++ (new.current ∷ [])) n cursor.at (cursor.rest.now ++ x)) (sym strings);
   moved = still cursor;
   less = let a = some_one new.current.left in omega (arith, ap length items, length-append new.below.items (new.current ∷ []));
 }
@@ -227,9 +227,9 @@ pub open_step : (old new : Scan) (opened : Opened) (from to : Cursor) → 0 < ol
     → new.strings ≡ opened.strings → new.current ≡ opened.first → IsStep old from new to
 open_step old new opened from to some least has is strings first = record {
   same = λ x.
-    part_opened old.below.items new.below.items old.current.part old.current.left (old.current.left - 1) old.strings opened from to (omega arith) has is x
-    ∙ ap (λ (n : ℕ). tasks_at (new.below.items ++ (opened.first ∷ [])) n to.at (to.rest.now ++ x)) (sym strings)
-    ∙ ap (λ (t : Task). tasks_at (new.below.items ++ (t ∷ [])) new.strings to.at (to.rest.now ++ x)) (sym first);
+      part_opened old.below.items new.below.items old.current.part old.current.left (old.current.left - 1) old.strings opened from to (omega arith) has is x
+      ∙ ap (λ (n : ℕ). tasks_at (new.below.items ++ (opened.first ∷ [])) n to.at (to.rest.now ++ x)) (sym strings)
+      ∙ ap (λ (t : Task). tasks_at (new.below.items ++ (t ∷ [])) new.strings to.at (to.rest.now ++ x)) (sym first);
   moved = any_moved (least_of old.current.part) from.at from.rest.now to.at to.rest.now has.moved;
   less =
       let shorter = behind_is (least_of old.current.part) from.at from.rest.now to.at to.rest.now has.moved in
@@ -277,7 +277,7 @@ came_to_end old from new to came none = record { done = here old from new to cam
 stopped : (e : Stop) (old : Scan) (from : Cursor) (new : Scan) (to : Cursor) (next : Scan) (end : Cursor) → CameTo old from new to → Steps {T = Unit} (Err e) new to next end → ScansOn old (Err e) next from end
 stopped stop.Short old from new to next end came stays =
     subst (λ (c : Cursor). Waits old next from c) (sym stays.cursor) (subst (λ (s : Scan). Waits old s from to) (sym stays.scan)
-      (record { follows = came.follows; short = stays.short; moved = came.moved }))
+    (record { follows = came.follows; short = stays.short; moved = came.moved }))
 stopped (stop.Refused offset rule) old from new to next end came refused = here old from new to came ∙ refused
 stopped stop.OutOfMemory old from new to next end came none = tt
 

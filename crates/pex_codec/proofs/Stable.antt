@@ -205,7 +205,7 @@ object_head_stable strings =
 
 by_sizes : (counted bare : Bool) (size_at at : ℕ) (bytes x : List ℕ)
     → Extends (if counted then Got Counted at bytes else (if bare then Got Bare at bytes else Refused size_at BadSize))
-        (if counted then Got Counted at (bytes ++ x) else (if bare then Got Bare at (bytes ++ x) else Refused size_at BadSize)) x
+    (if counted then Got Counted at (bytes ++ x) else (if bare then Got Bare at (bytes ++ x) else Refused size_at BadSize)) x
 by_sizes true bare size_at at bytes x = refl
 by_sizes false true size_at at bytes x = refl
 by_sizes false false size_at at bytes x = refl

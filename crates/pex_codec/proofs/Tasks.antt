@@ -54,7 +54,7 @@ times_once part strings at bytes = then_got (part_at part strings at bytes)
 rest_items : {A : Type 0} (part : Part) (strings : ℕ) (item : Reader A) (n : ℕ) (first : Reading A)
     → ((at : ℕ) (bytes : List ℕ) → times_at part n strings at bytes ≡ with_strings strings (items_at item n at bytes))
     → then_read (with_strings strings first) (λ strings1 at1 rest1. times_at part n strings1 at1 rest1)
-      ≡ with_strings strings (then_read first (λ head at1 rest1. read_as (λ others. head ∷ others) (items_at item n at1 rest1)))
+    ≡ with_strings strings (then_read first (λ head at1 rest1. read_as (λ others. head ∷ others) (items_at item n at1 rest1)))
 rest_items part strings item n (Got head at1 rest1) others =
     others at1 rest1 ∙ sym (as_as (λ _. strings) (λ others. head ∷ others) (items_at item n at1 rest1))
 rest_items part strings item n Short others = refl

@@ -173,7 +173,7 @@ property_head_at strings at bytes =
     (λ doc at3 rest3. then_read (number_at 4 at3 rest3)
     (λ flags at4 rest4. then_read (byte_at at4 rest4)
     (λ bits at5 rest5. read_as (λ variable. record { name = name; kind = kind; doc = doc; flags = flags; bits = bits; variable = variable })
-      (optional_at (has_variable bits) (reference_at strings) at5 rest5))))))
+    (optional_at (has_variable bits) (reference_at strings) at5 rest5))))))
 
 -- the functions behind a head
 abbrev pub property_with : ℕ → PropertyHead → Reader PlainProperty
@@ -253,7 +253,7 @@ lines_head_at strings at bytes =
 abbrev pub lines_with : LinesHead → Reader PlainLines
 lines_with head at bytes =
     read_as (λ lines. record { object = head.object; state = head.state; function = head.function; kind = head.kind; lines = lines })
-      (items_at (number_at 2) head.lines at bytes)
+    (items_at (number_at 2) head.lines at bytes)
 
 unfoldable pub lines_at : ℕ → Reader PlainLines
 lines_at strings at bytes = then_read (lines_head_at strings at bytes) lines_with
