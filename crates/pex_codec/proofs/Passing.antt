@@ -8,7 +8,7 @@ use Rattle.pex_codec.specs.declared.cursor.Stop.TheVariants as stop
 use Rattle.pex_codec.specs.declared.parts.Part.{Part}
 use Rattle.pex_codec.specs.declared.parts.Part.TheVariants as part
 use Rattle.pex_codec.specs.Opening.{Moved, Passes, PassesOne, fixed_at, task}
-use Rattle.pex_codec.specs.Reading.{Reading, Reader, Got, Short, Refused, then_read, read_as, datum_at}
+use Rattle.pex_codec.specs.Reading.{Reading, Reader, Got, Short, Refused, then_read, read_as, datum_at, opcode_at}
 use Rattle.pex_codec.specs.Scanning.{with_strings, part_at, times_at, tasks_at}
 use Rattle.pex_codec.specs.Taking.{Stops, Takes}
 use Rattle.pex_codec.proofs.Moves.{Moves, moved, datum_moves, fixed_moves}
@@ -65,6 +65,15 @@ instruction_passed strings old new taken = record {
   same = instruction_opens strings old.at old.rest.now ∙ ap (λ (x : Reading ℕ). then_read x (λ n at1 rest1. tasks_at (task part.Operand n ∷ []) strings at1 rest1)) taken;
   moved = moved 1 (fixed_at strings old.at old.rest.now) old.at old.rest.now 0 new.at new.rest.now (fixed_moves strings old.at old.rest.now) taken;
 }
+
+nop_at : (strings at : ℕ) (rest : List ℕ) → fixed_at strings at (0 ∷ rest) ≡ Got 0 (suc at) rest
+unfolding fixed_at opcode_at
+nop_at strings at rest = refl
+
+pub nop_passed : (strings : ℕ) (old new : Cursor) → old.rest.now ≡ 0 ∷ new.rest.now → new.at ≡ suc old.at → PassesOne part.Instruction strings old new
+nop_passed strings old new front at =
+    instruction_passed strings old new
+    (ap (λ (b : List ℕ). fixed_at strings old.at b) front ∙ nop_at strings old.at new.rest.now ∙ ap (λ (n : ℕ). Got 0 n new.rest.now) (sym at))
 
 -- ---- a row
 
