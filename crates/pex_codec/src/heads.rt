@@ -129,20 +129,16 @@ impl<'a> Cursor<'a> {
     pub(crate) fn property_head(&mut self, strings: u16) -> Result<PropertyHead, Stop>
         ensures { Takes (λ head. head) (reading.property_head_at strings) result self.old self.new }
     {
-        let name = self.reference(strings)?;
-        let kind = self.reference(strings)?;
-        let doc = self.reference(strings)?;
-        let flags = self.u32()?;
-        let bits = self.byte()?;
-        let variable = self.optional_reference(has_variable(bits), strings)?;
-        Ok(PropertyHead {
-            name,
-            kind,
-            doc,
-            flags,
-            bits,
-            variable,
-        })
+        let mut head = PropertyHead {
+            name: self.reference(strings)?,
+            kind: self.reference(strings)?,
+            doc: self.reference(strings)?,
+            flags: self.u32()?,
+            bits: self.byte()?,
+            variable: None,
+        };
+        head.variable = self.optional_reference(has_variable(head.bits), strings)?;
+        Ok(head)
     }
 
     /// A reference where one is asked for.
