@@ -7,7 +7,7 @@ ghost use Rattle.pex_codec.specs.declared.parts.Part.TheVariants as part;
 
 use crate::cursor::{Cursor, Stop};
 use crate::heads::{FunctionHead, LinesHead, ObjectHead, PropertyHead};
-use crate::parts::{Opened, Part, Task};
+use crate::parts::{NOTHING, Opened, Part, Task};
 use pex_values::{has_read, has_write};
 
 /// Takes the first fields of a part, which tell what is to come behind them.
@@ -15,38 +15,42 @@ pub(crate) fn open(part: Part, strings: u16, cursor: &mut Cursor<'_>) -> Result<
     ensures { Opens part strings result cursor.old cursor.new }
 {
     match part {
-        Part::Heading => whole(strings, cursor.heading()),
-        Part::Text => whole(strings, cursor.string()),
+        Part::Heading => then(strings, NOTHING, cursor.heading()),
+        Part::Text => then(strings, NOTHING, cursor.string()),
         Part::Strings => string_table(cursor.u16()),
         Part::Debug => list(strings, Part::Lines, debug_count(cursor)),
         Part::Lines => lines(strings, cursor.lines_head(strings)),
-        Part::Line => whole(strings, cursor.u16()),
+        Part::Line => then(strings, NOTHING, cursor.u16()),
         Part::Flags => list(strings, Part::Flag, cursor.u16()),
-        Part::Flag => whole(strings, cursor.flag(strings)),
+        Part::Flag => then(strings, NOTHING, cursor.flag(strings)),
         Part::Objects => list(strings, Part::Object, cursor.u16()),
         Part::Object => object(strings, cursor.object_head(strings)),
-        Part::Variable => whole(strings, cursor.variable(strings)),
+        Part::Variable => then(strings, NOTHING, cursor.variable(strings)),
         Part::Properties => list(strings, Part::Property, cursor.u16()),
         Part::Property => property(strings, cursor.property_head(strings)),
         Part::States => list(strings, Part::State, cursor.u16()),
         Part::State => list(strings, Part::Named, state_count(strings, cursor)),
-        Part::Named => named(strings, cursor.reference(strings)),
+        Part::Named => then(
+            strings,
+            Task::times(Part::Function, 1),
+            cursor.reference(strings),
+        ),
         Part::Function => function(strings, cursor.function_head(strings)),
         Part::Pairs => list(strings, Part::Pair, cursor.u16()),
-        Part::Pair => whole(strings, cursor.pair(strings)),
+        Part::Pair => then(strings, NOTHING, cursor.pair(strings)),
         Part::Code => list(strings, Part::Instruction, cursor.u16()),
         Part::Instruction => row(strings, Part::Operand, cursor.fixed(strings)),
-        Part::Operand => whole(strings, cursor.datum(strings)),
-        Part::Size { size_at, size } => whole(strings, cursor.size_form(size_at, size)),
+        Part::Operand => then(strings, NOTHING, cursor.datum(strings)),
+        Part::Size { size_at, size } => then(strings, NOTHING, cursor.size_form(size_at, size)),
     }
 }
 
-/// Nothing is to come behind what was taken.
-fn whole<T: Drop>(strings: u16, taken: Result<T, Stop>) -> Result<Opened, Stop>
-    ensures { OpensAs taken (λ _. []) (λ _. strings) result }
+/// A task is to come behind what was taken.
+fn then<T: Drop>(strings: u16, task: Task, taken: Result<T, Stop>) -> Result<Opened, Stop>
+    ensures { OpensAs taken (λ _. task ∷ []) (λ _. strings) result }
 {
     taken?;
-    Ok(Opened::one(strings, Part::Operand, 0))
+    Ok(Opened::three(strings, task, NOTHING, NOTHING))
 }
 
 /// So many items are to come.
@@ -98,32 +102,19 @@ fn state_count(strings: u16, cursor: &mut Cursor<'_>) -> Result<u16, Stop>
     cursor.u16()
 }
 
-fn named(strings: u16, name: Result<u16, Stop>) -> Result<Opened, Stop>
-    ensures { OpensAs name (λ _. task part.Function 1 ∷ []) (λ _. strings) result }
-{
-    name?;
-    Ok(Opened::one(strings, Part::Function, 1))
-}
-
 /// The variables, properties and states are to come, and whether the size is theirs.
 fn object(strings: u16, head: Result<ObjectHead, Stop>) -> Result<Opened, Stop>
     ensures { OpensAs head object_tasks (λ _. strings) result }
 {
     let head = head?;
+    let ObjectHead { size_at, size, .. } = head;
     Ok(Opened {
         strings,
         first: Task::times(Part::Variable, u32::from(head.variables)),
         second: Task::times(Part::Properties, 1),
         third: Task::times(Part::States, 1),
-        fourth: Task::times(size_of(&head), 1),
+        fourth: Task::times(Part::Size { size_at, size }, 1),
     })
-}
-
-fn size_of(head: &ObjectHead) -> Part
-    ensures { result ≡ part.Size head.now.size_at head.now.size }
-{
-    let ObjectHead { size_at, size, .. } = *head;
-    Part::Size { size_at, size }
 }
 
 /// The functions that the bits ask for are to come.
@@ -133,8 +124,7 @@ fn property(strings: u16, head: Result<PropertyHead, Stop>) -> Result<Opened, St
     let bits = head?.bits;
     let read = function_where(has_read(bits));
     let write = function_where(has_write(bits));
-    let nothing = function_where(false);
-    Ok(Opened::three(strings, read, write, nothing))
+    Ok(Opened::three(strings, read, write, NOTHING))
 }
 
 /// A function where it is asked for.

@@ -51,7 +51,7 @@ impl Task {
 }
 
 /// Nothing is to come.
-const NOTHING: Task = Task {
+pub(crate) const NOTHING: Task = Task {
     part: Part::Operand,
     left: 0,
 };

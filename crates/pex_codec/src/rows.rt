@@ -50,10 +50,7 @@ impl<'a> Cursor<'a> {
     fn passes_operand(&mut self, strings: u16) -> bool
         ensures { PassesIf result part.Operand strings self.old self.new }
     {
-        match self.datum(strings) {
-            Ok(_) => true,
-            Err(_) => false,
-        }
+        self.datum(strings).is_ok()
     }
 
     /// Whether a `nop` was passed.

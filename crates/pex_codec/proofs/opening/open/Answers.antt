@@ -12,13 +12,13 @@ use Rattle.pex_codec.proofs.opening.open.Goals as goal
 
 pub returns-in-Heading : goal.returns-in-Heading
 returns-in-Heading c =
-    opens_as (λ x. x) part.Heading c.args.strings (heading_at) _ c.heading.result _ _ c.whole.result c.args.cursor.now c.heading.new.self c.args.part c.in-Heading.is (heading_stable) (λ at bytes. whole_opens c.args.strings (heading_at at bytes))
-    (heading_moves c.args.cursor.now.at c.args.cursor.now.rest.now) (λ x at bytes. refl) c.heading.ensures c.whole.ensures
+    opens_as (λ x. x) part.Heading c.args.strings (heading_at) _ c.heading.result _ _ c.then.result c.args.cursor.now c.heading.new.self c.args.part c.in-Heading.is (heading_stable) (λ at bytes. whole_opens c.args.strings (heading_at at bytes))
+    (heading_moves c.args.cursor.now.at c.args.cursor.now.rest.now) (λ x at bytes. refl) c.heading.ensures c.then.ensures
 
 pub returns-in-Text : goal.returns-in-Text
 returns-in-Text c =
-    opens_as (λ (b : Bor (List ℕ)). b.now) part.Text c.args.strings (string_at) _ c.string.result _ _ c.whole-in-Text.result c.args.cursor.now c.string.new.self c.args.part c.in-Text.is (string_stable) (λ at bytes. whole_opens c.args.strings (string_at at bytes))
-    (string_moves c.args.cursor.now.at c.args.cursor.now.rest.now) (λ x at bytes. refl) c.string.ensures c.whole-in-Text.ensures
+    opens_as (λ (b : Bor (List ℕ)). b.now) part.Text c.args.strings (string_at) _ c.string.result _ _ c.then-in-Text.result c.args.cursor.now c.string.new.self c.args.part c.in-Text.is (string_stable) (λ at bytes. whole_opens c.args.strings (string_at at bytes))
+    (string_moves c.args.cursor.now.at c.args.cursor.now.rest.now) (λ x at bytes. refl) c.string.ensures c.then-in-Text.ensures
 
 pub returns-in-Strings : goal.returns-in-Strings
 returns-in-Strings c =
@@ -37,8 +37,8 @@ returns-in-Lines c =
 
 pub returns-in-Line : goal.returns-in-Line
 returns-in-Line c =
-    opens_as (λ x. x) part.Line c.args.strings (number_at 2) _ c.u16-in-Line.result _ _ c.whole-in-Line.result c.args.cursor.now c.u16-in-Line.new.self c.args.part c.in-Line.is (number_stable 2) (λ at bytes. whole_opens c.args.strings (number_at 2 at bytes))
-    (number_on 2 c.args.cursor.now.at c.args.cursor.now.rest.now (omega arith)) (λ x at bytes. refl) c.u16-in-Line.ensures c.whole-in-Line.ensures
+    opens_as (λ x. x) part.Line c.args.strings (number_at 2) _ c.u16-in-Line.result _ _ c.then-in-Line.result c.args.cursor.now c.u16-in-Line.new.self c.args.part c.in-Line.is (number_stable 2) (λ at bytes. whole_opens c.args.strings (number_at 2 at bytes))
+    (number_on 2 c.args.cursor.now.at c.args.cursor.now.rest.now (omega arith)) (λ x at bytes. refl) c.u16-in-Line.ensures c.then-in-Line.ensures
 
 pub returns-in-Flags : goal.returns-in-Flags
 returns-in-Flags c =
@@ -47,8 +47,8 @@ returns-in-Flags c =
 
 pub returns-in-Flag : goal.returns-in-Flag
 returns-in-Flag c =
-    opens_as (λ x. x) part.Flag c.args.strings (flag_at c.args.strings) _ c.flag.result _ _ c.whole-in-Flag.result c.args.cursor.now c.flag.new.self c.args.part c.in-Flag.is (flag_stable c.args.strings) (λ at bytes. whole_opens c.args.strings (flag_at c.args.strings at bytes))
-    (flag_moves c.args.strings c.args.cursor.now.at c.args.cursor.now.rest.now) (λ x at bytes. refl) c.flag.ensures c.whole-in-Flag.ensures
+    opens_as (λ x. x) part.Flag c.args.strings (flag_at c.args.strings) _ c.flag.result _ _ c.then-in-Flag.result c.args.cursor.now c.flag.new.self c.args.part c.in-Flag.is (flag_stable c.args.strings) (λ at bytes. whole_opens c.args.strings (flag_at c.args.strings at bytes))
+    (flag_moves c.args.strings c.args.cursor.now.at c.args.cursor.now.rest.now) (λ x at bytes. refl) c.flag.ensures c.then-in-Flag.ensures
 
 pub returns-in-Objects : goal.returns-in-Objects
 returns-in-Objects c =
@@ -62,8 +62,8 @@ returns-in-Object c =
 
 pub returns-in-Variable : goal.returns-in-Variable
 returns-in-Variable c =
-    opens_as (λ x. x) part.Variable c.args.strings (variable_at c.args.strings) _ c.variable.result _ _ c.whole-in-Variable.result c.args.cursor.now c.variable.new.self c.args.part c.in-Variable.is (variable_stable c.args.strings) (λ at bytes. whole_opens c.args.strings (variable_at c.args.strings at bytes))
-    (variable_moves c.args.strings c.args.cursor.now.at c.args.cursor.now.rest.now) (λ x at bytes. refl) c.variable.ensures c.whole-in-Variable.ensures
+    opens_as (λ x. x) part.Variable c.args.strings (variable_at c.args.strings) _ c.variable.result _ _ c.then-in-Variable.result c.args.cursor.now c.variable.new.self c.args.part c.in-Variable.is (variable_stable c.args.strings) (λ at bytes. whole_opens c.args.strings (variable_at c.args.strings at bytes))
+    (variable_moves c.args.strings c.args.cursor.now.at c.args.cursor.now.rest.now) (λ x at bytes. refl) c.variable.ensures c.then-in-Variable.ensures
 
 pub returns-in-Properties : goal.returns-in-Properties
 returns-in-Properties c =
@@ -87,8 +87,8 @@ returns-in-State c =
 
 pub returns-in-Named : goal.returns-in-Named
 returns-in-Named c =
-    opens_as (λ x. x) part.Named c.args.strings (reference_at c.args.strings) _ c.reference.result _ _ c.named.result c.args.cursor.now c.reference.new.self c.args.part c.in-Named.is (reference_stable c.args.strings) (named_opens c.args.strings)
-    (reference_moves c.args.strings c.args.cursor.now.at c.args.cursor.now.rest.now) (λ x at bytes. refl) c.reference.ensures c.named.ensures
+    opens_as (λ x. x) part.Named c.args.strings (reference_at c.args.strings) _ c.reference.result _ _ c.then-in-Named.result c.args.cursor.now c.reference.new.self c.args.part c.in-Named.is (reference_stable c.args.strings) (named_opens c.args.strings)
+    (reference_moves c.args.strings c.args.cursor.now.at c.args.cursor.now.rest.now) (λ x at bytes. cc) c.reference.ensures c.then-in-Named.ensures
 
 pub returns-in-Function : goal.returns-in-Function
 returns-in-Function c =
@@ -102,8 +102,8 @@ returns-in-Pairs c =
 
 pub returns-in-Pair : goal.returns-in-Pair
 returns-in-Pair c =
-    opens_as (λ x. x) part.Pair c.args.strings (pair_at c.args.strings) _ c.pair.result _ _ c.whole-in-Pair.result c.args.cursor.now c.pair.new.self c.args.part c.in-Pair.is (pair_stable c.args.strings) (λ at bytes. whole_opens c.args.strings (pair_at c.args.strings at bytes))
-    (pair_moves c.args.strings c.args.cursor.now.at c.args.cursor.now.rest.now) (λ x at bytes. refl) c.pair.ensures c.whole-in-Pair.ensures
+    opens_as (λ x. x) part.Pair c.args.strings (pair_at c.args.strings) _ c.pair.result _ _ c.then-in-Pair.result c.args.cursor.now c.pair.new.self c.args.part c.in-Pair.is (pair_stable c.args.strings) (λ at bytes. whole_opens c.args.strings (pair_at c.args.strings at bytes))
+    (pair_moves c.args.strings c.args.cursor.now.at c.args.cursor.now.rest.now) (λ x at bytes. refl) c.pair.ensures c.then-in-Pair.ensures
 
 pub returns-in-Code : goal.returns-in-Code
 returns-in-Code c =
@@ -117,5 +117,5 @@ returns-in-Instruction c =
 
 pub returns-in-Operand : goal.returns-in-Operand
 returns-in-Operand c =
-    opens_as (λ x. x) part.Operand c.args.strings (datum_at c.args.strings) _ c.datum.result _ _ c.whole-in-Operand.result c.args.cursor.now c.datum.new.self c.args.part c.in-Operand.is (datum_stable c.args.strings) (λ at bytes. whole_opens c.args.strings (datum_at c.args.strings at bytes))
-    (datum_moves c.args.strings c.args.cursor.now.at c.args.cursor.now.rest.now) (λ x at bytes. refl) c.datum.ensures c.whole-in-Operand.ensures
+    opens_as (λ x. x) part.Operand c.args.strings (datum_at c.args.strings) _ c.datum.result _ _ c.then-in-Operand.result c.args.cursor.now c.datum.new.self c.args.part c.in-Operand.is (datum_stable c.args.strings) (λ at bytes. whole_opens c.args.strings (datum_at c.args.strings at bytes))
+    (datum_moves c.args.strings c.args.cursor.now.at c.args.cursor.now.rest.now) (λ x at bytes. refl) c.datum.ensures c.then-in-Operand.ensures
