@@ -7,10 +7,10 @@ use Rattle.pex_codec.specs.declared.cursor.Stop.TheVariants as stop
 use Rattle.pex_codec.specs.declared.parts.Opened.{Opened}
 use Rattle.pex_codec.specs.declared.parts.Part.{Part}
 use Rattle.pex_codec.specs.declared.parts.Task.{Task}
-use Rattle.pex_codec.specs.Opening.{Opens, HasOpened, IsOpened, Moved, tasks_of, least_of}
+use Rattle.pex_codec.specs.Opening.{Opens, OpensAs, HasOpened, IsOpened, Moved, tasks_of, least_of}
 use Rattle.pex_codec.specs.Reading.{Reading, Reader, Got, Short, Refused, then_read}
 use Rattle.pex_codec.specs.Scanning.{with_strings, part_at, tasks_at}
-use Rattle.pex_codec.specs.Taking.{Stops}
+use Rattle.pex_codec.specs.Taking.{Stops, Takes}
 use Rattle.pex_codec.proofs.Moves.{Moves, moved}
 use Rattle.pex_codec.proofs.Stable.{Extends, IsStable}
 
@@ -46,3 +46,22 @@ pub whole_opens : {A : Type 0} (strings : ℕ) (r : Reading A) → with_strings 
 whole_opens strings (Got a at rest) = refl
 whole_opens strings Short = refl
 whole_opens strings (Refused o rule) = refl
+
+opens_known : {T A : Type 0} (plain : T → A) (part : Part) (strings : ℕ) (reader : Reader A) (next : A → Reader ℕ) (taken : Result T Stop) (tasks : T → List Task) (counted : T → ℕ) (result : Result Opened Stop) (old new : Cursor)
+    → IsStable reader → ((at : ℕ) (bytes : List ℕ) → part_at part strings at bytes ≡ then_read (reader at bytes) next) → Moves (least_of part) (reader old.at old.rest.now) old.at old.rest.now
+    → ((x : T) (at : ℕ) (bytes : List ℕ) → next (plain x) at bytes ≡ tasks_at (tasks x) (counted x) at bytes)
+    → Takes plain reader taken old new → OpensAs taken tasks counted result → Opens part strings result old new
+opens_known plain part strings reader next (Ok x) tasks counted (Ok opened) old new stable law moves reads takes is =
+    opens_ok part strings opened old new reader next (plain x) (tasks x) (counted x) stable law takes is (reads x) moves
+opens_known plain part strings reader next (Err e) tasks counted (Err f) old new stable law moves reads takes is =
+    opens_err e (Err f) part strings old new (reader old.at old.rest.now) next (ap Err is) (law old.at old.rest.now) takes
+opens_known plain part strings reader next (Ok x) tasks counted (Err f) old new stable law moves reads takes is = absurd is
+opens_known plain part strings reader next (Err e) tasks counted (Ok opened) old new stable law moves reads takes is = absurd is
+
+pub opens_as : {T A : Type 0} (plain : T → A) (part : Part) (strings : ℕ) (reader : Reader A) (next : A → Reader ℕ) (taken : Result T Stop) (tasks : T → List Task) (counted : T → ℕ) (result : Result Opened Stop) (old new : Cursor)
+    → (given : Part) → given ≡ part → IsStable reader → ((at : ℕ) (bytes : List ℕ) → part_at part strings at bytes ≡ then_read (reader at bytes) next)
+    → Moves (least_of part) (reader old.at old.rest.now) old.at old.rest.now
+    → ((x : T) (at : ℕ) (bytes : List ℕ) → next (plain x) at bytes ≡ tasks_at (tasks x) (counted x) at bytes)
+    → Takes plain reader taken old new → OpensAs taken tasks counted result → Opens given strings result old new
+opens_as plain part strings reader next taken tasks counted result old new given same stable law moves reads takes is =
+    subst (λ (p : Part). Opens p strings result old new) (sym same) (opens_known plain part strings reader next taken tasks counted result old new stable law moves reads takes is)

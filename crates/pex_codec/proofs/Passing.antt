@@ -1,5 +1,6 @@
 -- Rows of a part: how many are passed, and what is left.
-use Rattle.std.specs.Prelude.{zero, suc, ◌-◌, Result, Err}
+use Rattle.std.specs.Prelude.{zero, suc, ◌-◌, Bool, Result, Ok, Err, is_ok}
+use Rattle.pex_values.specs.declared.values.Datum.{Datum}
 use Rattle.std.proofs.Common.{◌≡◌, ℕ, ◌+◌, ◌<◌, ◌≤◌, List, [], ◌∷◌, ◌++◌, length, drop, refl, sym, ap, subst, ◌∙◌, arith, length-drop}
 use Rattle.std.proofs.lemmas.List.{drop-drop}
 use Rattle.pex_codec.specs.declared.cursor.Cursor.{Cursor}
@@ -7,7 +8,7 @@ use Rattle.pex_codec.specs.declared.cursor.Stop.{Stop}
 use Rattle.pex_codec.specs.declared.cursor.Stop.TheVariants as stop
 use Rattle.pex_codec.specs.declared.parts.Part.{Part}
 use Rattle.pex_codec.specs.declared.parts.Part.TheVariants as part
-use Rattle.pex_codec.specs.Opening.{Moved, Passes, PassesOne, fixed_at, task}
+use Rattle.pex_codec.specs.Opening.{Moved, Passes, PassesOne, PassesIf, fixed_at, task}
 use Rattle.pex_codec.specs.Reading.{Reading, Reader, Got, Short, Refused, then_read, read_as, datum_at, opcode_at}
 use Rattle.pex_codec.specs.Scanning.{with_strings, part_at, times_at, tasks_at}
 use Rattle.pex_codec.specs.Taking.{Stops, Takes}
@@ -59,6 +60,11 @@ operand_passed strings old new a r is moves taken = record {
   same = is ∙ ap (λ (x : Reading _). with_strings strings x) taken;
   moved = moved 1 r old.at old.rest.now a new.at new.rest.now moves taken;
 }
+
+pub operand_if : (taken : Result Datum Stop) (passed : Bool) (strings : ℕ) (old new : Cursor) → passed ≡ is_ok taken → Takes (λ datum. datum) (datum_at strings) taken old new → PassesIf passed part.Operand strings old new
+operand_if (Ok datum) passed strings old new is takes =
+    subst (λ (b : Bool). PassesIf b part.Operand strings old new) (sym is) (operand_passed strings old new datum (datum_at strings old.at old.rest.now) refl (datum_moves strings old.at old.rest.now) takes)
+operand_if (Err e) passed strings old new is takes = subst (λ (b : Bool). PassesIf b part.Operand strings old new) (sym is) tt
 
 pub instruction_passed : (strings : ℕ) (old new : Cursor) → fixed_at strings old.at old.rest.now ≡ Got 0 new.at new.rest.now → PassesOne part.Instruction strings old new
 instruction_passed strings old new taken = record {

@@ -1,10 +1,12 @@
 -- What the first fields of a part open: the tasks that are to come behind them.
 use Rattle.std.specs.Prelude.{◌≡◌, ℕ, ◌+◌, ◌*◌, ◌-◌, ◌<◌, ◌≤◌, zero, suc, Bool, true, false, List, [], ◌∷◌, ◌++◌, length, drop, Option, Some, None, Result, Ok, Err}
+use Rattle.pex_values.specs.Bits.{has_read, has_write}
 use Rattle.pex_values.specs.Opcodes.{operands_of}
 use Rattle.pex_codec.specs.declared.cursor.Cursor.{Cursor}
 use Rattle.pex_codec.specs.declared.cursor.Stop.{Stop}
 use Rattle.pex_codec.specs.declared.heads.FunctionHead.{FunctionHead}
 use Rattle.pex_codec.specs.declared.heads.ObjectHead.{ObjectHead}
+use Rattle.pex_codec.specs.declared.heads.PropertyHead.{PropertyHead}
 use Rattle.pex_codec.specs.declared.parts.Opened.{Opened}
 use Rattle.pex_codec.specs.declared.parts.Part.{Part}
 use Rattle.pex_codec.specs.declared.parts.Part.TheVariants as part
@@ -91,6 +93,16 @@ pub record PassesOne (part : Part) (strings : ℕ) (old new : Cursor) : Type 0 w
 abbrev pub PassesIf : Bool → Part → ℕ → Cursor → Cursor → Type 0
 PassesIf true part strings old new = PassesOne part strings old new
 PassesIf false part strings old new = Unit {0}
+
+-- what was opened where something was taken: these tasks, and so many strings from there on
+abbrev pub OpensAs : {T : Type 0} → Result T Stop → (T → List Task) → (T → ℕ) → Result Opened Stop → Type 0
+OpensAs (Ok taken) tasks strings (Ok opened) = IsOpened opened (tasks taken) (strings taken)
+OpensAs (Err stop) tasks strings (Err passed) = passed ≡ stop
+OpensAs _ tasks strings _ = ⊥
+
+-- what a property's head opens
+abbrev pub property_tasks : PropertyHead → List Task
+property_tasks h = task part.Function (times_of (has_write h.bits)) ∷ task part.Function (times_of (has_read h.bits)) ∷ []
 
 -- what a function's head opens
 abbrev pub function_tasks : FunctionHead → List Task

@@ -9,52 +9,31 @@ ghost use Rattle.pex_values.specs.Spelling as spell;
 ghost use Rattle.pex_codec.specs.Writing.{Writes, FitEach};
 
 use crate::faults::EncodeFault;
-use crate::spelled::{
-    Spelled, add_integer, add_u16, add_u32, make_room, put_byte, put_count, put_integer, put_list,
-    put_u16, put_u32,
-};
+use crate::spelled::{Spelled, put_byte, put_integer, put_list, put_u16, put_u32};
 use pex_values::{Datum, Instruction, PexFunction, operand_count};
 use std::alloc::AllocError;
-
-/// The most bytes of an operand.
-const MOST_BYTES: usize = 5;
-
-/// The bytes of a name with its type.
-const PAIR_BYTES: usize = 4;
 
 pub(crate) fn put_datum(out: &mut Vec<u8>, datum: Datum) -> Result<(), AllocError>
     ensures { OnOk result (out.new.items ≡ out.old.items ++ spell.datum datum) }
 {
-    make_room(out, MOST_BYTES)?;
-    add_datum(out, &datum);
-    Ok(())
-}
-
-#[inline(always)]
-fn add_datum(out: &mut Vec<u8>, datum: &Datum)
-    requires { vec_len out.old + MOST_BYTES ≤ vec_capacity out.old }
-    ensures bytes { out.new.items ≡ out.old.items ++ spell.datum datum.now }
-    ensures len { vec_len out.new ≤ vec_len out.old + MOST_BYTES }
-    ensures capacity { vec_capacity out.new ≡ vec_capacity out.old }
-{
     match datum {
-        Datum::NoneValue => out.push_reserved(0),
+        Datum::NoneValue => put_byte(out, 0),
         Datum::Word(n) => {
-            out.push_reserved(1);
-            add_u16(out, *n);
+            put_byte(out, 1)?;
+            put_u16(out, n)
         }
         Datum::Quoted(n) => {
-            out.push_reserved(2);
-            add_u16(out, *n);
+            put_byte(out, 2)?;
+            put_u16(out, n)
         }
-        Datum::Int(n) => add_integer(out, *n),
+        Datum::Int(n) => put_integer(out, n),
         Datum::Float(n) => {
-            out.push_reserved(4);
-            add_u32(out, *n);
+            put_byte(out, 4)?;
+            put_u32(out, n)
         }
         Datum::Bool(n) => {
-            out.push_reserved(5);
-            out.push_reserved(*n);
+            put_byte(out, 5)?;
+            put_byte(out, n)
         }
     }
 }
@@ -62,12 +41,8 @@ fn add_datum(out: &mut Vec<u8>, datum: &Datum)
 fn put_data(out: &mut Vec<u8>, data: &[Datum]) -> Result<(), AllocError>
     ensures { OnOk result (out.new.items ≡ out.old.items ++ flat_map spell.datum «data».now) }
 {
-    let Some(room) = data.len().checked_mul(MOST_BYTES) else {
-        return Err(AllocError);
-    };
-    make_room(out, room)?;
     for datum in data {
-        add_datum(out, datum);
+        put_datum(out, *datum)?;
     }
     Ok(())
 }
@@ -104,33 +79,7 @@ impl Spelled for Instruction {
 fn put_pairs(out: &mut Vec<u8>, pairs: &[(u16, u16)]) -> Result<(), EncodeFault>
     ensures { Writes result out.old.items out.new.items (IsCounted pairs.now) (spell.list spell.pair pairs.now) }
 {
-    put_count(out, pairs.len())?;
-    put_each_pair(out, pairs)?;
-    Ok(())
-}
-
-fn put_each_pair(out: &mut Vec<u8>, pairs: &[(u16, u16)]) -> Result<(), AllocError>
-    ensures { OnOk result (out.new.items ≡ out.old.items ++ flat_map spell.pair pairs.now) }
-{
-    let Some(room) = pairs.len().checked_mul(PAIR_BYTES) else {
-        return Err(AllocError);
-    };
-    make_room(out, room)?;
-    for pair in pairs {
-        add_pair(out, *pair);
-    }
-    Ok(())
-}
-
-#[inline(always)]
-fn add_pair(out: &mut Vec<u8>, pair: (u16, u16))
-    requires { vec_len out.old + PAIR_BYTES ≤ vec_capacity out.old }
-    ensures bytes { out.new.items ≡ out.old.items ++ spell.pair pair }
-    ensures len { vec_len out.new ≡ vec_len out.old + PAIR_BYTES }
-    ensures capacity { vec_capacity out.new ≡ vec_capacity out.old }
-{
-    add_u16(out, pair.0);
-    add_u16(out, pair.1);
+    put_list(out, pairs)
 }
 
 fn put_code(out: &mut Vec<u8>, code: &[Instruction]) -> Result<(), EncodeFault>

@@ -100,8 +100,7 @@ impl<'a> Cursor<'a> {
     pub(crate) fn u16(&mut self) -> Result<u16, Stop>
         ensures { Takes (λ n. n) (reading.number_at 2) result self.old self.new }
     {
-        let bytes = self.take(2)?;
-        Ok(BigEndian::read_u16(bytes))
+        Ok(BigEndian::read_u16(self.take(2)?))
     }
 
     #[inline(always)]
@@ -109,16 +108,14 @@ impl<'a> Cursor<'a> {
     pub(crate) fn u32(&mut self) -> Result<u32, Stop>
         ensures { Takes (λ n. n) (reading.number_at 4) result self.old self.new }
     {
-        let bytes = self.take(4)?;
-        Ok(BigEndian::read_u32(bytes))
+        Ok(BigEndian::read_u32(self.take(4)?))
     }
 
     #[tactic(auto, unfolding(crate::specs::Reading::number_at))]
     pub(crate) fn u64(&mut self) -> Result<u64, Stop>
         ensures { Takes (λ n. n) (reading.number_at 8) result self.old self.new }
     {
-        let bytes = self.take(8)?;
-        Ok(BigEndian::read_u64(bytes))
+        Ok(BigEndian::read_u64(self.take(8)?))
     }
 
     /// A place in a table of so many strings.

@@ -9,7 +9,7 @@ ghost use Rattle.pex_codec.specs.Spells.{Spells};
 ghost use Rattle.pex_codec.specs.Writing.{Writes, FitEach, FitsLines, FitsHeader, FitsTables, FitsParts, HasSize};
 
 use crate::faults::EncodeFault;
-use crate::spelled::{Spelled, put_byte, put_count, put_list, put_numbers, put_u16, put_u64};
+use crate::spelled::{Spelled, put_byte, put_list, put_u16, put_u64};
 use papy_base::Text;
 use pex_values::{FILE_LIMIT, Pex, PexDebug, PexLines, PexObject};
 use std::alloc::{AllocError, Global};
@@ -17,9 +17,7 @@ use std::alloc::{AllocError, Global};
 fn put_line_numbers(out: &mut Vec<u8>, lines: &[u16]) -> Result<(), EncodeFault>
     ensures { Writes result out.old.items out.new.items (IsCounted lines.now) (spell.list spell.two_bytes lines.now) }
 {
-    put_count(out, lines.len())?;
-    put_numbers(out, lines)?;
-    Ok(())
+    put_list(out, lines)
 }
 
 impl Spelled for PexLines {

@@ -3,7 +3,7 @@ ghost use Rattle.pex_codec.specs.declared.faults.EncodeFault.TheVariants.{OutOfM
 ghost use Rattle.pex_codec.specs.declared.faults.PexFault.TheVariants.{OutOfMemory as NoMemoryToDecode};
 
 use papy_base::OutOfMemory;
-use std::alloc::{AllocError, AllocFailed};
+use std::alloc::AllocError;
 use thiserror::Error;
 
 /// Why a value wasn't encoded.
@@ -30,14 +30,6 @@ impl From<AllocError> for EncodeFault {
     ghost from_gives = { λ _ fault. fault ≡ NoMemoryToEncode };
 
     fn from(_error: AllocError) -> EncodeFault {
-        EncodeFault::OutOfMemory
-    }
-}
-
-impl<T: Drop> From<AllocFailed<T>> for EncodeFault {
-    ghost from_gives = { λ _ fault. fault ≡ NoMemoryToEncode };
-
-    fn from(_error: AllocFailed<T>) -> EncodeFault {
         EncodeFault::OutOfMemory
     }
 }
@@ -94,14 +86,6 @@ impl From<AllocError> for PexFault {
     ghost from_gives = { λ _ fault. fault ≡ NoMemoryToDecode };
 
     fn from(_error: AllocError) -> PexFault {
-        PexFault::OutOfMemory
-    }
-}
-
-impl<T: Drop> From<AllocFailed<T>> for PexFault {
-    ghost from_gives = { λ _ fault. fault ≡ NoMemoryToDecode };
-
-    fn from(_error: AllocFailed<T>) -> PexFault {
         PexFault::OutOfMemory
     }
 }

@@ -68,48 +68,20 @@ impl<'a> Cursor<'a> {
     pub(crate) fn heading(&mut self) -> Result<Heading, Stop>
         ensures { Takes (λ head. head) reading.heading_at result self.old self.new }
     {
-        self.magic()?;
-        self.major()?;
-        let minor = self.minor()?;
-        self.game()?;
+        let start = self.at;
+        let magic = self.u32()?;
+        judged(magic, magic == MAGIC, start, PexRule::BadMagic)?;
+        let versions = self.at;
+        let major = self.byte()?;
+        judged(major, major == 3, versions, PexRule::BadVersion)?;
+        let second = self.at;
+        let minor = self.byte()?;
+        judged(minor, minor == 1 || minor == 2, second, PexRule::BadVersion)?;
+        let number = self.at;
+        let game = self.u16()?;
+        judged(game, game == 1, number, PexRule::BadGame)?;
         let time = self.u64()?;
         Ok(Heading { minor, time })
-    }
-
-    /// The number that a file begins with.
-    fn magic(&mut self) -> Result<u32, Stop>
-        ensures { Takes (λ n. n) (λ at bytes. reading.judged (λ magic. magic == 0xFA57C0DE) BadMagic at (reading.number_at 4 at bytes)) result self.old self.new }
-    {
-        let offset = self.at;
-        let magic = self.u32()?;
-        judged(magic, magic == MAGIC, offset, PexRule::BadMagic)
-    }
-
-    /// The major version.
-    fn major(&mut self) -> Result<u8, Stop>
-        ensures { Takes (λ n. n) (λ at bytes. reading.judged (λ major. major == 3) BadVersion at (reading.byte_at at bytes)) result self.old self.new }
-    {
-        let offset = self.at;
-        let major = self.byte()?;
-        judged(major, major == 3, offset, PexRule::BadVersion)
-    }
-
-    /// The minor version.
-    fn minor(&mut self) -> Result<u8, Stop>
-        ensures { Takes (λ n. n) (λ at bytes. reading.judged (λ minor. minor == 1 || minor == 2) BadVersion at (reading.byte_at at bytes)) result self.old self.new }
-    {
-        let offset = self.at;
-        let minor = self.byte()?;
-        judged(minor, minor == 1 || minor == 2, offset, PexRule::BadVersion)
-    }
-
-    /// The game's number.
-    fn game(&mut self) -> Result<u16, Stop>
-        ensures { Takes (λ n. n) (λ at bytes. reading.judged (λ game. game == 1) BadGame at (reading.number_at 2 at bytes)) result self.old self.new }
-    {
-        let offset = self.at;
-        let game = self.u16()?;
-        judged(game, game == 1, offset, PexRule::BadGame)
     }
 
     #[tactic(auto, unfolding(crate::specs::Reading::function_head_at))]
@@ -129,20 +101,16 @@ impl<'a> Cursor<'a> {
     pub(crate) fn property_head(&mut self, strings: u16) -> Result<PropertyHead, Stop>
         ensures { Takes (λ head. head) (reading.property_head_at strings) result self.old self.new }
     {
-        let name = self.reference(strings)?;
-        let kind = self.reference(strings)?;
-        let doc = self.reference(strings)?;
-        let flags = self.u32()?;
-        let bits = self.byte()?;
-        let variable = self.optional_reference(has_variable(bits), strings)?;
-        Ok(PropertyHead {
-            name,
-            kind,
-            doc,
-            flags,
-            bits,
-            variable,
-        })
+        let mut head = PropertyHead {
+            name: self.reference(strings)?,
+            kind: self.reference(strings)?,
+            doc: self.reference(strings)?,
+            flags: self.u32()?,
+            bits: self.byte()?,
+            variable: None,
+        };
+        head.variable = self.optional_reference(has_variable(head.bits), strings)?;
+        Ok(head)
     }
 
     /// A reference where one is asked for.

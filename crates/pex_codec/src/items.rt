@@ -143,12 +143,6 @@ impl<'a> Cursor<'a> {
         if end == at {
             return Ok(SizeForm::Counted);
         }
-        if end + 4 == at {
-            return Ok(SizeForm::Bare);
-        }
-        Err(Stop::Refused {
-            offset: size_at,
-            rule: PexRule::BadSize,
-        })
+        judged(SizeForm::Bare, end + 4 == at, size_at, PexRule::BadSize)
     }
 }

@@ -1,11 +1,12 @@
 //! The first fields of each part, and what they open.
 
-ghost use Rattle.std.specs.Prelude.{◌≡◌};
-ghost use Rattle.pex_codec.specs.Opening.{Opens, debug_count_at, state_count_at, task, times_of};
+ghost use Rattle.std.specs.Prelude.{◌≡◌, [], ◌∷◌};
+ghost use Rattle.pex_codec.specs.Opening.{Opens, OpensAs, debug_count_at, function_tasks, object_tasks, property_tasks, state_count_at, task, times_of};
 ghost use Rattle.pex_codec.specs.Taking.{Takes};
 ghost use Rattle.pex_codec.specs.declared.parts.Part.TheVariants as part;
 
 use crate::cursor::{Cursor, Stop};
+use crate::heads::{FunctionHead, LinesHead, ObjectHead, PropertyHead};
 use crate::parts::{NOTHING, Opened, Part, Task};
 use pex_values::{has_read, has_write};
 
@@ -14,128 +15,69 @@ pub(crate) fn open(part: Part, strings: u16, cursor: &mut Cursor<'_>) -> Result<
     ensures { Opens part strings result cursor.old cursor.new }
 {
     match part {
-        Part::Heading => heading(strings, cursor),
-        Part::Text => text(strings, cursor),
-        Part::Strings => string_table(strings, cursor),
-        Part::Debug => debug(strings, cursor),
-        Part::Lines => lines(strings, cursor),
-        Part::Line => line(strings, cursor),
-        Part::Flag => flag(strings, cursor),
-        Part::Object => object(strings, cursor),
-        Part::Variable => variable(strings, cursor),
-        Part::Property => property(strings, cursor),
-        Part::State => state(strings, cursor),
-        Part::Named => named(strings, cursor),
-        Part::Function => function(strings, cursor),
-        Part::Pair => pair(strings, cursor),
-        Part::Instruction => instruction(strings, cursor),
-        Part::Operand => operand(strings, cursor),
-        Part::Flags => flags(strings, cursor),
-        Part::Objects => objects(strings, cursor),
-        Part::Properties => properties(strings, cursor),
-        Part::States => states(strings, cursor),
-        Part::Pairs => pairs(strings, cursor),
-        Part::Code => code(strings, cursor),
-        Part::Size { size_at, size } => size_form(size_at, size, strings, cursor),
+        Part::Heading => then(strings, NOTHING, cursor.heading()),
+        Part::Text => then(strings, NOTHING, cursor.string()),
+        Part::Strings => string_table(cursor.u16()),
+        Part::Debug => list(strings, Part::Lines, debug_count(cursor)),
+        Part::Lines => lines(strings, cursor.lines_head(strings)),
+        Part::Line => then(strings, NOTHING, cursor.u16()),
+        Part::Flags => list(strings, Part::Flag, cursor.u16()),
+        Part::Flag => then(strings, NOTHING, cursor.flag(strings)),
+        Part::Objects => list(strings, Part::Object, cursor.u16()),
+        Part::Object => object(strings, cursor.object_head(strings)),
+        Part::Variable => then(strings, NOTHING, cursor.variable(strings)),
+        Part::Properties => list(strings, Part::Property, cursor.u16()),
+        Part::Property => property(strings, cursor.property_head(strings)),
+        Part::States => list(strings, Part::State, cursor.u16()),
+        Part::State => list(strings, Part::Named, state_count(strings, cursor)),
+        Part::Named => then(
+            strings,
+            Task::times(Part::Function, 1),
+            cursor.reference(strings),
+        ),
+        Part::Function => function(strings, cursor.function_head(strings)),
+        Part::Pairs => list(strings, Part::Pair, cursor.u16()),
+        Part::Pair => then(strings, NOTHING, cursor.pair(strings)),
+        Part::Code => list(strings, Part::Instruction, cursor.u16()),
+        Part::Instruction => row(strings, Part::Operand, cursor.fixed(strings)),
+        Part::Operand => then(strings, NOTHING, cursor.datum(strings)),
+        Part::Size { size_at, size } => then(strings, NOTHING, cursor.size_form(size_at, size)),
     }
 }
 
-fn heading(strings: u16, cursor: &mut Cursor<'_>) -> Result<Opened, Stop>
-    ensures { Opens part.Heading strings result cursor.old cursor.new }
+/// A task is to come behind what was taken.
+fn then<T: Drop>(strings: u16, task: Task, taken: Result<T, Stop>) -> Result<Opened, Stop>
+    ensures { OpensAs taken (λ _. task ∷ []) (λ _. strings) result }
 {
-    cursor.heading()?;
-    Ok(Opened::one(strings, Part::Operand, 0))
+    taken?;
+    Ok(Opened::three(strings, task, NOTHING, NOTHING))
 }
 
-fn text(strings: u16, cursor: &mut Cursor<'_>) -> Result<Opened, Stop>
-    ensures { Opens part.Text strings result cursor.old cursor.new }
+/// So many items are to come.
+fn list(strings: u16, item: Part, count: Result<u16, Stop>) -> Result<Opened, Stop>
+    ensures { OpensAs count (λ n. task item n ∷ []) (λ _. strings) result }
 {
-    cursor.string()?;
-    Ok(Opened::one(strings, Part::Operand, 0))
+    Ok(Opened::one(strings, item, u32::from(count?)))
 }
 
-fn line(strings: u16, cursor: &mut Cursor<'_>) -> Result<Opened, Stop>
-    ensures { Opens part.Line strings result cursor.old cursor.new }
+/// As `list`.
+fn row(strings: u16, item: Part, count: Result<u32, Stop>) -> Result<Opened, Stop>
+    ensures { OpensAs count (λ n. task item n ∷ []) (λ _. strings) result }
 {
-    cursor.u16()?;
-    Ok(Opened::one(strings, Part::Operand, 0))
+    Ok(Opened::one(strings, item, count?))
 }
 
-fn flag(strings: u16, cursor: &mut Cursor<'_>) -> Result<Opened, Stop>
-    ensures { Opens part.Flag strings result cursor.old cursor.new }
+fn lines(strings: u16, head: Result<LinesHead, Stop>) -> Result<Opened, Stop>
+    ensures { OpensAs head (λ h. task part.Line h.lines ∷ []) (λ _. strings) result }
 {
-    cursor.flag(strings)?;
-    Ok(Opened::one(strings, Part::Operand, 0))
-}
-
-fn variable(strings: u16, cursor: &mut Cursor<'_>) -> Result<Opened, Stop>
-    ensures { Opens part.Variable strings result cursor.old cursor.new }
-{
-    cursor.variable(strings)?;
-    Ok(Opened::one(strings, Part::Operand, 0))
-}
-
-fn pair(strings: u16, cursor: &mut Cursor<'_>) -> Result<Opened, Stop>
-    ensures { Opens part.Pair strings result cursor.old cursor.new }
-{
-    cursor.pair(strings)?;
-    Ok(Opened::one(strings, Part::Operand, 0))
-}
-
-fn operand(strings: u16, cursor: &mut Cursor<'_>) -> Result<Opened, Stop>
-    ensures { Opens part.Operand strings result cursor.old cursor.new }
-{
-    cursor.datum(strings)?;
-    Ok(Opened::one(strings, Part::Operand, 0))
-}
-
-fn flags(strings: u16, cursor: &mut Cursor<'_>) -> Result<Opened, Stop>
-    ensures { Opens part.Flags strings result cursor.old cursor.new }
-{
-    let count = cursor.u16()?;
-    Ok(Opened::one(strings, Part::Flag, u32::from(count)))
-}
-
-fn objects(strings: u16, cursor: &mut Cursor<'_>) -> Result<Opened, Stop>
-    ensures { Opens part.Objects strings result cursor.old cursor.new }
-{
-    let count = cursor.u16()?;
-    Ok(Opened::one(strings, Part::Object, u32::from(count)))
-}
-
-fn properties(strings: u16, cursor: &mut Cursor<'_>) -> Result<Opened, Stop>
-    ensures { Opens part.Properties strings result cursor.old cursor.new }
-{
-    let count = cursor.u16()?;
-    Ok(Opened::one(strings, Part::Property, u32::from(count)))
-}
-
-fn states(strings: u16, cursor: &mut Cursor<'_>) -> Result<Opened, Stop>
-    ensures { Opens part.States strings result cursor.old cursor.new }
-{
-    let count = cursor.u16()?;
-    Ok(Opened::one(strings, Part::State, u32::from(count)))
-}
-
-fn pairs(strings: u16, cursor: &mut Cursor<'_>) -> Result<Opened, Stop>
-    ensures { Opens part.Pairs strings result cursor.old cursor.new }
-{
-    let count = cursor.u16()?;
-    Ok(Opened::one(strings, Part::Pair, u32::from(count)))
-}
-
-fn code(strings: u16, cursor: &mut Cursor<'_>) -> Result<Opened, Stop>
-    ensures { Opens part.Code strings result cursor.old cursor.new }
-{
-    let count = cursor.u16()?;
-    Ok(Opened::one(strings, Part::Instruction, u32::from(count)))
+    Ok(Opened::one(strings, Part::Line, u32::from(head?.lines)))
 }
 
 /// The number of strings in the table is how many there are from here on.
-fn string_table(strings: u16, cursor: &mut Cursor<'_>) -> Result<Opened, Stop>
-    ensures { Opens part.Strings strings result cursor.old cursor.new }
+fn string_table(count: Result<u16, Stop>) -> Result<Opened, Stop>
+    ensures { OpensAs count (λ n. task part.Text n ∷ []) (λ n. n) result }
 {
-    let count = cursor.u16()?;
+    let count = count?;
     Ok(Opened::one(count, Part::Text, u32::from(count)))
 }
 
@@ -144,53 +86,11 @@ fn string_table(strings: u16, cursor: &mut Cursor<'_>) -> Result<Opened, Stop>
 fn debug_count(cursor: &mut Cursor<'_>) -> Result<u16, Stop>
     ensures { Takes (λ n. n) debug_count_at result cursor.old cursor.new }
 {
-    let flag = cursor.debug_flag()?;
-    if flag == 0 {
+    if cursor.debug_flag()? == 0 {
         return Ok(0);
     }
     cursor.u64()?;
     cursor.u16()
-}
-
-fn debug(strings: u16, cursor: &mut Cursor<'_>) -> Result<Opened, Stop>
-    ensures { Opens part.Debug strings result cursor.old cursor.new }
-{
-    let count = debug_count(cursor)?;
-    Ok(Opened::one(strings, Part::Lines, u32::from(count)))
-}
-
-fn lines(strings: u16, cursor: &mut Cursor<'_>) -> Result<Opened, Stop>
-    ensures { Opens part.Lines strings result cursor.old cursor.new }
-{
-    let head = cursor.lines_head(strings)?;
-    Ok(Opened::one(strings, Part::Line, u32::from(head.lines)))
-}
-
-fn object(strings: u16, cursor: &mut Cursor<'_>) -> Result<Opened, Stop>
-    ensures { Opens part.Object strings result cursor.old cursor.new }
-{
-    let head = cursor.object_head(strings)?;
-    Ok(Opened::object(strings, &head))
-}
-
-fn property(strings: u16, cursor: &mut Cursor<'_>) -> Result<Opened, Stop>
-    ensures { Opens part.Property strings result cursor.old cursor.new }
-{
-    let head = cursor.property_head(strings)?;
-    let read = function_where(has_read(head.bits));
-    let write = function_where(has_write(head.bits));
-    Ok(Opened::two(strings, read, write))
-}
-
-/// A function where it is asked for.
-fn function_where(asked: bool) -> Task
-    ensures { result ≡ task part.Function (times_of asked) }
-{
-    let left = if asked { 1 } else { 0 };
-    Task {
-        part: Part::Function,
-        left,
-    }
 }
 
 /// The name of a state, and of how many functions it is.
@@ -202,37 +102,45 @@ fn state_count(strings: u16, cursor: &mut Cursor<'_>) -> Result<u16, Stop>
     cursor.u16()
 }
 
-fn state(strings: u16, cursor: &mut Cursor<'_>) -> Result<Opened, Stop>
-    ensures { Opens part.State strings result cursor.old cursor.new }
+/// The variables, properties and states are to come, and whether the size is theirs.
+fn object(strings: u16, head: Result<ObjectHead, Stop>) -> Result<Opened, Stop>
+    ensures { OpensAs head object_tasks (λ _. strings) result }
 {
-    let count = state_count(strings, cursor)?;
-    Ok(Opened::one(strings, Part::Named, u32::from(count)))
+    let head = head?;
+    let ObjectHead { size_at, size, .. } = head;
+    Ok(Opened {
+        strings,
+        first: Task::times(Part::Variable, u32::from(head.variables)),
+        second: Task::times(Part::Properties, 1),
+        third: Task::times(Part::States, 1),
+        fourth: Task::times(Part::Size { size_at, size }, 1),
+    })
 }
 
-fn named(strings: u16, cursor: &mut Cursor<'_>) -> Result<Opened, Stop>
-    ensures { Opens part.Named strings result cursor.old cursor.new }
+/// The functions that the bits ask for are to come.
+fn property(strings: u16, head: Result<PropertyHead, Stop>) -> Result<Opened, Stop>
+    ensures { OpensAs head property_tasks (λ _. strings) result }
 {
-    cursor.reference(strings)?;
-    Ok(Opened::one(strings, Part::Function, 1))
+    let bits = head?.bits;
+    let read = function_where(has_read(bits));
+    let write = function_where(has_write(bits));
+    Ok(Opened::three(strings, read, write, NOTHING))
 }
 
-fn function(strings: u16, cursor: &mut Cursor<'_>) -> Result<Opened, Stop>
-    ensures { Opens part.Function strings result cursor.old cursor.new }
+/// A function where it is asked for.
+fn function_where(asked: bool) -> Task
+    ensures { result ≡ task part.Function (times_of asked) }
 {
-    let head = cursor.function_head(strings)?;
-    Ok(Opened::function(strings, &head))
+    let left = if asked { 1 } else { 0 };
+    Task::times(Part::Function, left)
 }
 
-fn instruction(strings: u16, cursor: &mut Cursor<'_>) -> Result<Opened, Stop>
-    ensures { Opens part.Instruction strings result cursor.old cursor.new }
+/// The parameters, locals and code are to come.
+fn function(strings: u16, head: Result<FunctionHead, Stop>) -> Result<Opened, Stop>
+    ensures { OpensAs head function_tasks (λ _. strings) result }
 {
-    let more = cursor.fixed(strings)?;
-    Ok(Opened::one(strings, Part::Operand, more))
-}
-
-fn size_form(size_at: u32, size: u32, strings: u16, cursor: &mut Cursor<'_>) -> Result<Opened, Stop>
-    ensures { Opens (part.Size size_at size) strings result cursor.old cursor.new }
-{
-    cursor.size_form(size_at, size)?;
-    Ok(Opened::one(strings, Part::Operand, 0))
+    let parameters = Task::times(Part::Pair, u32::from(head?.parameters));
+    let locals = Task::times(Part::Pairs, 1);
+    let code = Task::times(Part::Code, 1);
+    Ok(Opened::three(strings, parameters, locals, code))
 }

@@ -4,7 +4,7 @@ ghost use Rattle.pex_codec.specs.Opening.{fixed_at, fixed_with, Passes, PassesIf
 ghost use Rattle.pex_codec.specs.Scanning.{times_at};
 ghost use Rattle.pex_codec.specs.Taking.{Takes};
 ghost use Rattle.pex_codec.specs.declared.parts.Part.TheVariants as part;
-ghost use Rattle.std.specs.Prelude.{ℕ, Some};
+ghost use Rattle.std.specs.Prelude.{◌≡◌, ℕ, Some, false};
 
 use crate::cursor::{Cursor, Stop};
 
@@ -50,16 +50,14 @@ impl<'a> Cursor<'a> {
     fn passes_operand(&mut self, strings: u16) -> bool
         ensures { PassesIf result part.Operand strings self.old self.new }
     {
-        match self.datum(strings) {
-            Ok(_) => true,
-            Err(_) => false,
-        }
+        self.datum(strings).is_ok()
     }
 
     /// Whether a `nop` was passed.
     #[inline(always)]
     fn passes_nop(&mut self) -> bool
-        ensures { (strings : ℕ) → PassesIf result part.Instruction strings self.old self.new }
+        ensures passed { (strings : ℕ) → PassesIf result part.Instruction strings self.old self.new }
+        ensures other { result ≡ false → self.new ≡ self.old }
     {
         let Some((byte, rest)) = self.rest.split_first() else {
             return false;
@@ -77,6 +75,9 @@ impl<'a> Cursor<'a> {
     fn passes_instruction(&mut self, strings: u16) -> bool
         ensures { PassesIf result part.Instruction strings self.old self.new }
     {
+        if self.passes_nop() {
+            return true;
+        }
         match self.fixed(strings) {
             Ok(0) => true,
             _ => false,
@@ -100,27 +101,11 @@ pub(crate) fn pass_operands(strings: u16, count: u32, cursor: &mut Cursor<'_>) -
     left
 }
 
-/// Passes `nop`s, which stand in long rows, and says how many of so many instructions are left.
-fn pass_nops(count: u32, cursor: &mut Cursor<'_>) -> u32
-    ensures { (strings : ℕ) → Passes part.Instruction strings count cursor.old result cursor.new }
-{
-    let mut left = count;
-    'nops: while left > 0 {
-        let mut ahead = *cursor;
-        if !ahead.passes_nop() {
-            return left;
-        }
-        *cursor = ahead;
-        left -= 1;
-    }
-    left
-}
-
 /// Passes instructions while they are whole and have no operands more, and says how many of so many are left.
 pub(crate) fn pass_instructions(strings: u16, count: u32, cursor: &mut Cursor<'_>) -> u32
     ensures { Passes part.Instruction strings count cursor.old result cursor.new }
 {
-    let mut left = pass_nops(count, cursor);
+    let mut left = count;
     'instructions: while left > 0 {
         let mut ahead = *cursor;
         if !ahead.passes_instruction(strings) {

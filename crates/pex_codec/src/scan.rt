@@ -1,7 +1,7 @@
 //! Goes through a file without its values.
 
 ghost use Rattle.std.specs.Prelude.{◌≡◌, ◌<◌, Decides, IfOk, [], ◌∷◌, ◌++◌};
-ghost use Rattle.pex_codec.specs.Opening.{Passes, least_of, task, whole_file};
+ghost use Rattle.pex_codec.specs.Opening.{Passes, least_of, whole_file};
 ghost use Rattle.pex_codec.specs.ScanSteps.{work_of, IsStep, Steps, StepsIf, SameStack};
 ghost use Rattle.pex_codec.specs.Scans.{stack_of, ScansOn};
 ghost use Rattle.pex_codec.specs.declared.parts.Part.TheVariants as part;
@@ -55,12 +55,6 @@ fn put_opened(tasks: &mut Vec<Task>, rest: Task, opened: &Opened) -> Result<(), 
     put(tasks, opened.second)
 }
 
-fn once(part: Part) -> Task
-    ensures { result ≡ task part 1 }
-{
-    Task { part, left: 1 }
-}
-
 impl Scan {
     /// A whole file is to come.
     pub(crate) fn new(alloc: Global) -> Result<Scan, OutOfMemory>
@@ -68,18 +62,15 @@ impl Scan {
         ensures strings { IfOk result (λ s. s.strings ≡ 0) }
     {
         let below = vec![in alloc;
-            once(Part::Objects),
-            once(Part::Flags),
-            once(Part::Debug),
-            once(Part::Strings),
-            Task {
-                part: Part::Text,
-                left: 3,
-            },
+            Task::times(Part::Objects, 1),
+            Task::times(Part::Flags, 1),
+            Task::times(Part::Debug, 1),
+            Task::times(Part::Strings, 1),
+            Task::times(Part::Text, 3),
         ]?;
         Ok(Scan {
             strings: 0,
-            current: once(Part::Heading),
+            current: Task::times(Part::Heading, 1),
             below,
         })
     }
@@ -167,10 +158,7 @@ impl Scan {
         let mut ahead = *cursor;
         let Task { part, left } = self.current;
         let opened = open(part, self.strings, &mut ahead)?;
-        let rest = Task {
-            part,
-            left: left - 1,
-        };
+        let rest = Task::times(part, left - 1);
         put_opened(&mut self.below, rest, &opened)?;
         self.strings = opened.strings;
         self.current = opened.first;

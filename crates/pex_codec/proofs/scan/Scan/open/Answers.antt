@@ -8,4 +8,4 @@ returns-in_err-opened c = part_waits c.in_err-opened.field-0.0 c.from_residual.r
 pub returns : goal.returns
 returns c =
     open_step c.args.self.now (record { strings = c.in_ok-opened.opened.strings; current = c.in_ok-opened.opened.first; below = c.put_opened.new.tasks }) c.in_ok-opened.opened c.args.cursor.now c.open.new.cursor
-    c.requires.some c.requires.bytes c.in_ok-opened.ensures c.in_ok-put_opened.ensures refl refl
+    c.requires.some c.requires.bytes c.in_ok-opened.ensures (rw c.times-rest.ensures at c.in_ok-put_opened.ensures) refl refl
