@@ -27,13 +27,8 @@ fn fed(alloc: Global, bytes: &[u8]) -> Result<Decoder, PexFault>
     ensures { DecoderOf bytes.now result }
 {
     let mut decoder = Decoder::new(alloc)?;
-    match feed_all(&mut decoder, bytes) {
-        Ok(()) => Ok(decoder),
-        Err(fault) => {
-            drop(decoder);
-            Err(fault)
-        }
-    }
+    feed_all(&mut decoder, bytes)?;
+    Ok(decoder)
 }
 
 /// The value that the bytes spell. They are refused with the first rule that they break, as a `Decoder` refuses them.
