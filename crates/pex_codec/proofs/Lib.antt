@@ -9,6 +9,7 @@ pub mod FirstFields
 pub mod Found
 pub mod Lists
 pub mod Moves
+pub mod OneRefusal
 pub mod Opens
 pub mod Passing
 pub mod Pieces

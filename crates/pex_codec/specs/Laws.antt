@@ -6,6 +6,7 @@ use Rattle.pex_values.specs.Fit.{limit}
 use Rattle.pex_values.specs.Plain.{PlainPex, plain}
 use Rattle.pex_codec.specs.declared.faults.PexFault.{PexFault}
 use Rattle.pex_codec.specs.declared.faults.PexFault.TheVariants.{OutOfMemory}
+use Rattle.pex_codec.specs.declared.faults.PexRule.{PexRule}
 use Rattle.pex_codec.specs.declared.progress.Fed.{Fed}
 use Rattle.pex_codec.specs.declared.progress.Fed.TheVariants.{More, Done}
 use Rattle.pex_codec.specs.Decoding.{Progress}
@@ -43,3 +44,8 @@ EndsBehind count (Err fault) = fault ≡ OutOfMemory
 abbrev pub GivesBack : PlainPex → Result Pex PexFault → Type 0
 GivesBack v (Ok w) = plain w ≡ v
 GivesBack v (Err fault) = fault ≡ OutOfMemory
+
+-- the same rule at the same offset
+pub record SameRefusal (o p : ℕ) (a b : PexRule) : Type 0 where
+  pub offset : o ≡ p
+  pub rule : a ≡ b

@@ -28,6 +28,6 @@ mod whole_file;
 pub use decoder::Decoder;
 pub use encoding::encode;
 pub use faults::{EncodeFault, PexFault, PexRule};
-pub use laws::{encoded_is_decoded, one_spelling, pieces_add_up, reading_is_exact};
+pub use laws::{encoded_is_decoded, one_refusal, one_spelling, pieces_add_up, reading_is_exact};
 pub use progress::Fed;
 pub use whole_file::{decode, judge};
