@@ -7,6 +7,7 @@ ghost use Rattle.pex_codec.specs.declared.faults.PexRule.TheVariants.{BadMagic, 
 
 use crate::cursor::{Cursor, Stop, judged};
 use crate::faults::PexRule;
+use papy_base::Text;
 use pex_values::has_variable;
 
 /// The number that a file begins with.
@@ -61,6 +62,15 @@ pub(crate) struct LinesHead {
     pub function: u16,
     pub kind: u8,
     pub lines: u16,
+}
+
+/// The header's strings and the string table.
+#[derive(Drop)]
+pub(crate) struct Texts {
+    pub source: Text,
+    pub user: Text,
+    pub machine: Text,
+    pub strings: Vec<Text>,
 }
 
 impl<'a> Cursor<'a> {

@@ -2,13 +2,14 @@ ghost use Rattle.std.specs.Prelude.{◌≡◌, ◌≢◌, ℕ, ◌-◌, List, []
 ghost use Rattle.pex_values.specs.declared.values.Pex.{Pex};
 ghost use Rattle.pex_values.specs.Fit.{limit};
 ghost use Rattle.pex_values.specs.Plain.{PlainPex};
+ghost use Rattle.pex_codec.specs.declared.faults.PexRule.{PexRule};
 ghost use Rattle.pex_codec.specs.declared.faults.PexFault.{PexFault};
 ghost use Rattle.pex_codec.specs.declared.faults.PexFault.TheVariants.{OutOfMemory};
 ghost use Rattle.pex_codec.specs.declared.progress.Fed.{Fed};
 ghost use Rattle.pex_codec.specs.declared.progress.Fed.TheVariants.{More, Done};
 ghost use Rattle.pex_codec.specs.declared.progress.Standing.TheVariants as standing;
-ghost use Rattle.pex_codec.specs.Decoding.{reading, Progress, IsNew, FeedGives, EndGives};
-ghost use Rattle.pex_codec.specs.Laws.{AreBytes, SpellsFirst, counted_on, SameOutcome, EndsBehind, GivesBack};
+ghost use Rattle.pex_codec.specs.Decoding.{reading, Breaks, IsSpelling, Progress, IsNew, FeedGives, EndGives};
+ghost use Rattle.pex_codec.specs.Laws.{AreBytes, SpellsFirst, counted_on, SameOutcome, EndsBehind, GivesBack, SameRefusal};
 ghost use Rattle.pex_codec.specs.Reading.{Got};
 ghost use Rattle.pex_codec.specs.Spells.{Spells};
 
@@ -47,4 +48,10 @@ pub fn encoded_is_decoded()
         → Spells v bytes → IsNew new → FeedGives new bytes r fed → EndsBehind (length bytes) r }
     ensures ended { (result : Result Pex PexFault) (v : PlainPex) (bytes : List ℕ) (n : ℕ) (new fed : Progress)
         → Spells v bytes → IsNew new → FeedGives new bytes (Ok (Done n)) fed → EndGives fed result → GivesBack v result }
+{}
+
+/// Bytes break at most one rule, at one place, and none where they spell a value.
+pub fn one_refusal()
+    ensures one { (bytes : List ℕ) (o p : ℕ) (a b : PexRule) → Breaks bytes o a → Breaks bytes p b → SameRefusal o p a b }
+    ensures none { (bytes : List ℕ) (offset : ℕ) (rule : PexRule) → IsSpelling bytes → ¬ Breaks bytes offset rule }
 {}

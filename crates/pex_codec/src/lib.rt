@@ -22,7 +22,6 @@ mod rows;
 mod scan;
 mod scanned_bytes;
 mod spelled;
-mod texts;
 mod values;
 mod whole_file;
 

@@ -30,11 +30,7 @@ pub(crate) fn open(part: Part, strings: u16, cursor: &mut Cursor<'_>) -> Result<
         Part::Property => property(strings, cursor.property_head(strings)),
         Part::States => list(strings, Part::State, cursor.u16()),
         Part::State => list(strings, Part::Named, state_count(strings, cursor)),
-        Part::Named => then(
-            strings,
-            Task::times(Part::Function, 1),
-            cursor.reference(strings),
-        ),
+        Part::Named => then(strings, function_where(true), cursor.reference(strings)),
         Part::Function => function(strings, cursor.function_head(strings)),
         Part::Pairs => list(strings, Part::Pair, cursor.u16()),
         Part::Pair => then(strings, NOTHING, cursor.pair(strings)),

@@ -78,10 +78,7 @@ impl<'a> Cursor<'a> {
         if self.passes_nop() {
             return true;
         }
-        match self.fixed(strings) {
-            Ok(0) => true,
-            _ => false,
-        }
+        matches!(self.fixed(strings), Ok(0))
     }
 }
 

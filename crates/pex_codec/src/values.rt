@@ -8,8 +8,8 @@ ghost use Rattle.pex_codec.specs.Reading as reading;
 ghost use Rattle.pex_codec.specs.Taking.{Gives, Takes, plain_texts};
 
 use crate::cursor::{Cursor, Stop};
+use crate::heads::Texts;
 use crate::item_list::{Item, take_items, take_list};
-use crate::texts::Texts;
 use papy_base::Text;
 use pex_values::{Pex, PexDebug, PexLines};
 use std::alloc::Global;
