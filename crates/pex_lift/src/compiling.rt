@@ -1,6 +1,9 @@
 // Texts, compiled by the calls of the crates below.
-ghost use Rattle.std.specs.Prelude.{◌≡◌, ◌+◌, ◌^◌, ◌<◌, ◌≤◌, length, vec_len, IfOk, OnOk};
+ghost use Rattle.std.specs.Prelude.{◌≡◌, ◌+◌, ◌^◌, ◌<◌, ◌≤◌, All, length, vec_len, IfOk, OnOk};
 ghost use Rattle.script_lexer.specs.Lines.{IsUnbroken, Lexes, logical_lines, text_of};
+ghost use Rattle.script_lexer.specs.Spans.{LinesStand};
+ghost use Rattle.script_parser.specs.Faults.{IsNumberOf};
+ghost use Rattle.script_parser.specs.Lines.{lines_of};
 ghost use Rattle.script_parser.specs.Words.{CountsDifferent, words_of};
 ghost use Rattle.pex_lift.specs.Lifted.{AreLinked, CompileTo, HasCore, IsElaborated, IsEmitted, IsRead};
 ghost use Rattle.pex_alike.specs.SameCode.{SameEach};
@@ -22,6 +25,7 @@ fn lines_of(alloc: Global, text: &[u8]) -> Result<Lines, LiftFault>
     ensures cut { IfOk result (λ lines. Lexes text.now (logical_lines lines.lines.items) lines.last) }
     ensures unbroken { OnOk result (IsUnbroken (text_of text.now)) }
     ensures small { OnOk result (length text.now ≤ 1048576) }
+    ensures spelled { IfOk result (λ lines. LinesStand text.now 0 1 (logical_lines lines.lines.items)) }
 {
     match lex(alloc, text) {
         Ok(lines) => Ok(lines),
@@ -32,7 +36,8 @@ fn lines_of(alloc: Global, text: &[u8]) -> Result<Lines, LiftFault>
 
 fn script_of(alloc: Global, lines: &Lines) -> Result<Script, LiftFault>
     requires { lines.now.last + 1 < 2 ^ 32 }
-    ensures { IfOk result (λ script. CountsDifferent (words_of lines.now.lines.items) script.words) }
+    ensures words { IfOk result (λ script. CountsDifferent (words_of lines.now.lines.items) script.words) }
+    ensures declared { IfOk result (λ script. All (IsNumberOf lines.now.lines.items) (lines_of script)) }
 {
     match parse_script(alloc, lines) {
         Ok(script) => Ok(script),

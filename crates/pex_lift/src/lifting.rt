@@ -11,8 +11,8 @@ use pex_sources::sources;
 use pex_values::Pex;
 use std::alloc::Global;
 
-/// The most files of a set.
-const FILE_COUNT_LIMIT: usize = 256;
+/// More scripts than a set can have.
+const TOO_MANY: usize = 65_530;
 
 /// The source of each of these files, which are those of one set, at most 65,535, well shaped, fit and verified. The
 /// sources are compiled, and what they compile to has the same code as the files, one by one.
@@ -24,7 +24,7 @@ pub fn lift(alloc: Global, files: &Vec<Pex>) -> Result<Vec<Text>, LiftFault>
     ensures count { IfOk result (λ texts. vec_len texts ≡ vec_len files.now) }
     ensures lifted { IfOk result (λ texts. AreLifted (map plain files.now.items) texts.items) }
 {
-    if files.len() > FILE_COUNT_LIMIT {
+    if files.len() >= TOO_MANY {
         return Err(NOT_LIFTED);
     }
     let texts = sources(alloc, files)?;

@@ -1,0 +1,1 @@
+ScriptName B Extends A
