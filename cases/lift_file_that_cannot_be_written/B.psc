@@ -1,2 +1,2 @@
 ScriptName B
-Int Bs
+Int n

@@ -1,2 +1,2 @@
 ScriptName C
-Int Cs
+Int n

@@ -1,2 +1,2 @@
 ScriptName A
-Int As
+Int n

@@ -1,3 +1,3 @@
 ScriptName A
 
-Int As
+Int n

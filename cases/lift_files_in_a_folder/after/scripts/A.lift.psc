@@ -1,1 +1,3 @@
 ScriptName A
+
+Int n

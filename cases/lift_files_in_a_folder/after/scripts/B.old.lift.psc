@@ -1,1 +1,3 @@
 ScriptName B Extends A
+
+Int n
