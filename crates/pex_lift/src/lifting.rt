@@ -29,11 +29,9 @@ pub fn lift(alloc: Global, files: &Vec<Pex>) -> Result<Vec<Text>, LiftFault>
     }
     let texts = sources(alloc, files)?;
     let values = compiled(alloc, &texts)?;
-    if have_same_code(files, &values) {
-        Ok(texts)
-    } else {
-        Err(NOT_LIFTED)
-    }
+    let same = have_same_code(files, &values);
+    drop(values);
+    if same { Ok(texts) } else { Err(NOT_LIFTED) }
 }
 
 #[tactic(auto, unfolding(pex_alike::specs::SameCode::SameEach))]
