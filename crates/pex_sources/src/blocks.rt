@@ -53,16 +53,17 @@ pub(crate) fn read_body(source: Source<'_, '_>, first: usize) -> Result<Body, So
         end: count,
         statements: 0,
     };
+    let open = vec![in alloc; function]?;
     let mut blocks = Blocks {
         source,
         reader: Reader::new(source, first)?,
         lines: Vec::new(alloc),
-        open: vec![in alloc; function]?,
+        open,
         begun: false,
         back: None,
     };
     blocks.read()?;
-    blocks.finish()
+    Ok(blocks.into_body())
 }
 
 impl<'w, 'f> Blocks<'w, 'f> {
@@ -80,13 +81,21 @@ impl<'w, 'f> Blocks<'w, 'f> {
         for _ in 0..turns {
             match self.turn(at)? {
                 Some(next) => at = next,
-                None => return Ok(()),
+                None => return self.check_slots(),
             }
         }
         Err(NOT_FOUND)
     }
 
-    fn finish(self) -> Result<Body, SourceFault> {
+    fn check_slots(&self) -> Result<(), SourceFault> {
+        if self.reader.has_all_slots() {
+            Ok(())
+        } else {
+            Err(NOT_FOUND)
+        }
+    }
+
+    fn into_body(self) -> Body {
         let Blocks {
             source: _,
             reader,
@@ -95,13 +104,10 @@ impl<'w, 'f> Blocks<'w, 'f> {
             begun: _,
             back: _,
         } = self;
-        if !reader.has_all_slots() {
-            return Err(NOT_FOUND);
-        }
-        Ok(Body {
+        Body {
             lines,
-            trees: reader.trees,
-        })
+            trees: reader.into_trees(),
+        }
     }
 
     fn innermost(&self) -> Result<Block, SourceFault> {

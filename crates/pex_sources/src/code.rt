@@ -50,25 +50,34 @@ impl Code {
         function: &PexFunction,
     ) -> Result<Code, SourceFault> {
         let alloc = world.alloc;
-        let mut kinds = Vec::new(alloc);
-        let mut slots = HashMap::new(alloc);
-        add_slots(script, &function.parameters, &mut kinds, &mut slots)?;
-        add_slots(script, &function.locals, &mut kinds, &mut slots)?;
         let mut code = Code {
             steps: Vec::new(alloc),
             operands: Vec::new(alloc),
-            kinds,
+            kinds: Vec::new(alloc),
             parameters: function.parameters.len(),
         };
+        code.fill(world, script, function)?;
+        Ok(code)
+    }
+
+    fn fill(
+        &mut self,
+        world: &World<'_>,
+        script: &Script<'_>,
+        function: &PexFunction,
+    ) -> Result<(), SourceFault> {
+        let mut slots = HashMap::new(world.alloc);
+        add_slots(script, &function.parameters, &mut self.kinds, &mut slots)?;
+        add_slots(script, &function.locals, &mut self.kinds, &mut slots)?;
         let resolver = Resolver {
             world,
             script,
             slots: &slots,
         };
         for instruction in &function.code {
-            code.add(&resolver, instruction)?;
+            self.add(&resolver, instruction)?;
         }
-        Ok(code)
+        Ok(())
     }
 
     fn add(

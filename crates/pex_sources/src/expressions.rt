@@ -12,6 +12,7 @@ use crate::words::is_word;
 use crate::world::World;
 use papy_base::OutOfMemory;
 use pex_values::PexFunction;
+use std::alloc::Global;
 
 /// The levels of the grammar: a chain, a cast, a sign before a value, and below them the signs between two values.
 pub(crate) const CHAIN: u8 = 7;
@@ -80,19 +81,29 @@ impl<'w, 'f> Speaker<'w, 'f> {
         items: &mut Vec<Item<'w>>,
     ) -> Result<(), SourceFault> {
         match item {
-            Item::Node(number, level) => {
-                let mut parts = Vec::new(page.alloc);
-                self.expand(number, level, &mut parts)?;
-                for part in parts.iter().rev() {
-                    items.push(*part)?;
-                }
-            }
+            Item::Node(number, level) => self.put_parts(page.alloc, number, level, items)?,
             Item::Bytes(bytes) => page.put(bytes)?,
             Item::Text(text) => page.put_text(text)?,
             Item::Int(int) => page.put_int(int)?,
             Item::Slot(script, pair, place) => put_slot_name(
                 page, self.world, script, pair, place,
             )?,
+        }
+        Ok(())
+    }
+
+    // Puts the parts of an expression on top of the others, the first uppermost.
+    fn put_parts(
+        self,
+        alloc: Global,
+        number: usize,
+        level: u8,
+        items: &mut Vec<Item<'w>>,
+    ) -> Result<(), SourceFault> {
+        let mut parts = Vec::new(alloc);
+        self.expand(number, level, &mut parts)?;
+        for part in parts.iter().rev() {
+            items.push(*part)?;
         }
         Ok(())
     }

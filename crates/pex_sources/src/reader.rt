@@ -78,6 +78,21 @@ impl<'w, 'f> Reader<'w, 'f> {
         })
     }
 
+    /// The expressions that were read.
+    pub(crate) fn into_trees(self) -> Trees {
+        let Reader {
+            source: _,
+            trees,
+            temporaries: _,
+            pending: _,
+            held: _,
+            sides: _,
+            waiting: _,
+            fresh: _,
+        } = self;
+        trees
+    }
+
     /// Whether each slot was handed out.
     pub(crate) fn has_all_slots(&self) -> bool {
         self.temporaries.next() == self.source.code.kinds.len()
@@ -306,27 +321,45 @@ impl<'w, 'f> Reader<'w, 'f> {
         let source = step.first.saturating_add(1);
         let target = self.source.code.operand(step.first)?;
         let value = self.read(source, false)?;
-        if !self.is_temporary(target) {
-            self.check_kept(&[value])?;
-            self.clear()?;
-            self.give_back(source)?;
-            return Ok(Outcome::Done(Line::Set(target, value)));
+        if let Operand::Slot(slot) = target {
+            if self.temporaries.has(slot) {
+                return self.assign_temporary(at, step, slot, value);
+            }
         }
-        let Operand::Slot(slot) = target else {
-            return Err(NOT_FOUND);
-        };
-        if self.ends_side(slot, at) {
-            self.check_kept(&[value])?;
-            self.give_back(source)?;
-            self.put(slot, value)?;
-        } else if self.jumps_on(target, at) {
-            self.check_kept(&[value])?;
-            self.temporaries.take(self.source.code, slot)?;
-            self.give_back(source)?;
-            self.put(slot, value)?;
-        } else {
+        self.assign_variable(step, target, value)
+    }
+
+    // A variable gets a value, which ends a statement.
+    fn assign_variable(
+        &mut self,
+        step: Step,
+        target: Operand,
+        value: usize,
+    ) -> Result<Outcome, SourceFault> {
+        self.check_kept(&[value])?;
+        self.clear()?;
+        self.give_back(step.first.saturating_add(1))?;
+        Ok(Outcome::Done(Line::Set(target, value)))
+    }
+
+    // A temporary gets a value: a side of And or Or, or a variable that is kept.
+    fn assign_temporary(
+        &mut self,
+        at: usize,
+        step: Step,
+        slot: usize,
+        value: usize,
+    ) -> Result<Outcome, SourceFault> {
+        let is_right = self.ends_side(slot, at);
+        if !is_right && !self.jumps_on(Operand::Slot(slot), at) {
             return self.keep(at, step, slot, value);
         }
+        self.check_kept(&[value])?;
+        if !is_right {
+            self.temporaries.take(self.source.code, slot)?;
+        }
+        self.give_back(step.first.saturating_add(1))?;
+        self.put(slot, value)?;
         self.fresh = Some(slot);
         Ok(Outcome::Open)
     }
@@ -399,21 +432,38 @@ impl<'w, 'f> Reader<'w, 'f> {
         if !self.temporaries.has(slot) {
             return Err(NOT_FOUND);
         }
-        let reads = self.read_operands(step, target)?;
-        let mut nodes = Vec::new(self.source.alloc);
-        for read in &reads {
-            nodes.push(read.node)?;
-        }
-        let is_old = self.holds_any(&reads)?;
+        let mut reads = Vec::new(self.source.alloc);
+        let node = self.evaluate(at, step, (target, slot), &mut reads);
+        drop(reads);
+        self.store(target, node?)
+    }
+
+    // The expression of an instruction whose result goes to the target, an operand and its slot. Its operands are appended.
+    fn evaluate(
+        &mut self,
+        at: usize,
+        step: Step,
+        target: (usize, usize),
+        reads: &mut Vec<Read>,
+    ) -> Result<usize, SourceFault> {
+        self.read_operands(step, target.0, reads)?;
+        let is_old = self.holds_any(reads)?;
         if !is_old {
-            self.check_kept(&nodes)?;
+            self.check_reads(reads)?;
         }
-        self.temporaries.take(self.source.code, slot)?;
-        for read in &reads {
+        self.temporaries.take(self.source.code, target.1)?;
+        for read in reads.iter() {
             self.give_back(read.operand)?;
         }
-        let node = self.add_value(at, step, slot, &reads, is_old)?;
-        self.store(target, node)
+        self.add_value(at, step, target.1, reads, is_old)
+    }
+
+    fn check_reads(&self, reads: &[Read]) -> Result<(), SourceFault> {
+        let mut nodes = Vec::new(self.source.alloc);
+        for read in reads {
+            nodes.push(read.node)?;
+        }
+        self.check_kept(&nodes)
     }
 
     // Whether one of the operands is to be read again.
@@ -428,11 +478,26 @@ impl<'w, 'f> Reader<'w, 'f> {
         Ok(false)
     }
 
-    // The operands that an instruction reads, in the order in which they are evaluated.
-    fn read_operands(&mut self, step: Step, target: usize) -> Result<Vec<Read>, SourceFault> {
-        let alloc = self.source.alloc;
+    // Appends the operands that an instruction reads, in the order in which they are evaluated.
+    fn read_operands(
+        &mut self,
+        step: Step,
+        target: usize,
+        reads: &mut Vec<Read>,
+    ) -> Result<(), SourceFault> {
+        self.read_fixed(step, target, reads)?;
+        let mut arguments = Vec::new(self.source.alloc);
+        self.read_arguments(step, &mut arguments)?;
+        self.put_in_order(&arguments, reads)
+    }
+
+    fn read_fixed(
+        &mut self,
+        step: Step,
+        target: usize,
+        reads: &mut Vec<Read>,
+    ) -> Result<(), SourceFault> {
         let again = step.opcode == PROPGET || step.opcode == ARRAY_GETELEMENT;
-        let mut reads = Vec::new(alloc);
         for operand in step.first.saturating_add(names_of(step.opcode))..step.fixed_end {
             if operand != target {
                 let node = self.read(operand, again)?;
@@ -443,7 +508,14 @@ impl<'w, 'f> Reader<'w, 'f> {
                 })?;
             }
         }
-        let mut arguments = Vec::new(alloc);
+        Ok(())
+    }
+
+    fn read_arguments(
+        &mut self,
+        step: Step,
+        arguments: &mut Vec<Read>,
+    ) -> Result<(), SourceFault> {
         for (place, operand) in (step.fixed_end..step.end).enumerate() {
             let node = self.read(operand, false)?;
             arguments.push(Read {
@@ -452,8 +524,7 @@ impl<'w, 'f> Reader<'w, 'f> {
                 place,
             })?;
         }
-        self.put_in_order(&arguments, &mut reads)?;
-        Ok(reads)
+        Ok(())
     }
 
     // Appends arguments in the order of writing: those with code in the order of their code, then the others, so that a
@@ -464,15 +535,30 @@ impl<'w, 'f> Reader<'w, 'f> {
             return Ok(());
         }
         let mut coded = Vec::new(self.source.alloc);
+        self.add_coded(arguments, &mut coded)?;
+        coded.sort_by_key(|pair| pair.0)?;
+        for (_, argument) in &coded {
+            reads.push(*argument)?;
+        }
+        self.add_others(arguments, reads)
+    }
+
+    // The arguments with code, each with the place of its last instruction.
+    fn add_coded(
+        &self,
+        arguments: &[Read],
+        coded: &mut Vec<(usize, Read)>,
+    ) -> Result<(), SourceFault> {
         for argument in arguments {
             if let Some(at) = self.trees.node(argument.node)?.at {
                 coded.push((at, *argument))?;
             }
         }
-        coded.sort_by_key(|pair| pair.0)?;
-        for (_, argument) in &coded {
-            reads.push(*argument)?;
-        }
+        Ok(())
+    }
+
+    // The arguments without code.
+    fn add_others(&self, arguments: &[Read], reads: &mut Vec<Read>) -> Result<(), SourceFault> {
         for argument in arguments {
             if self.trees.node(argument.node)?.at.is_none() {
                 reads.push(*argument)?;
