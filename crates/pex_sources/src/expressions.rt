@@ -155,26 +155,36 @@ impl<'w, 'f> Speaker<'w, 'f> {
 
     fn bare(self, node: Node, items: &mut Vec<Item<'w>>) -> Result<(), SourceFault> {
         match node.form {
-            Form::Leaf(operand) => items.push(self.leaf(operand)?)?,
-            Form::Or => self.binary(node, b" || ", OR, items)?,
-            Form::And => self.binary(node, b" && ", AND, items)?,
-            Form::Apply(opcode) => self.operation(node, opcode, items)?,
-            Form::Cast => {
-                self.first(node, CHAIN, items)?;
-                items.push(Item::Bytes(b" as "))?;
-                items.push(self.named(node.kind.reference))?;
-            }
-            Form::NewArray(count) => self.new_array(node, count, items)?,
-            Form::Property(name) => {
-                self.first(node, CHAIN, items)?;
-                items.push(Item::Bytes(b"."))?;
-                items.push(self.named(name))?;
-            }
-            Form::Method(name) => self.method(node, name, items)?,
-            Form::ParentMethod(name) => self.parent_method(node, name, items)?,
-            Form::Static(script, name) => self.static_call(node, script, name, items)?,
-            Form::OldProperty(_, _) | Form::OldElement(_, _) => return Err(NOT_FOUND),
+            Form::Leaf(operand) => self.put_leaf(operand, items),
+            Form::Or => self.binary(node, b" || ", OR, items),
+            Form::And => self.binary(node, b" && ", AND, items),
+            Form::Apply(opcode) => self.operation(node, opcode, items),
+            Form::Cast => self.suffixed(node, b" as ", node.kind.reference, items),
+            Form::NewArray(count) => self.new_array(node, count, items),
+            Form::Property(name) => self.suffixed(node, b".", name, items),
+            Form::Method(name) => self.method(node, name, items),
+            Form::ParentMethod(name) => self.parent_method(node, name, items),
+            Form::Static(script, name) => self.static_call(node, script, name, items),
+            Form::OldProperty(_, _) | Form::OldElement(_, _) => Err(NOT_FOUND),
         }
+    }
+
+    fn put_leaf(self, operand: Operand, items: &mut Vec<Item<'w>>) -> Result<(), SourceFault> {
+        items.push(self.leaf(operand)?)?;
+        Ok(())
+    }
+
+    // The first operand, a sign and a name.
+    fn suffixed(
+        self,
+        node: Node,
+        sign: &'static [u8],
+        name: u16,
+        items: &mut Vec<Item<'w>>,
+    ) -> Result<(), SourceFault> {
+        self.first(node, CHAIN, items)?;
+        items.push(Item::Bytes(sign))?;
+        items.push(self.named(name))?;
         Ok(())
     }
 
