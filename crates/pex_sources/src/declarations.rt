@@ -37,7 +37,8 @@ struct Author<'a> {
     script: &'a Script<'a>,
 }
 
-/// The text of the script of this number, without indentation where it would be too long with it.
+/// The text of the script of this number, without indentation where it would be too long with it. `NotFound` comes where there is
+/// no such script, or where it has what no compiler writes.
 pub(crate) fn script_text(world: &World<'_>, number: usize) -> Result<Text, SourceFault> {
     let script = world.script(number)?;
     let author = Author {

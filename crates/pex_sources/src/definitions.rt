@@ -8,7 +8,7 @@ use crate::trees::Form;
 use std::alloc::Global;
 
 /// The body of a function. A file doesn't tell how many of its locals were locals of the source, so the numbers are tried in
-/// turn, the least first: it has the fewest lines.
+/// turn, the least first: it has the fewest lines. `NotFound` comes where none of them gives a body.
 pub(crate) fn body_of(source: Source<'_, '_>) -> Result<Body, SourceFault> {
     let most = source
         .uses

@@ -8,6 +8,7 @@ use pex_values::{Pex, PexFunction, PexProperty};
 use std::alloc::Global;
 use std::collections::{HashMap, HashSet};
 
+/// The scripts and their names.
 #[derive(Drop)]
 pub(crate) struct World<'a> {
     pub alloc: Global,
@@ -24,7 +25,7 @@ pub(crate) struct World<'a> {
 }
 
 impl<'a> World<'a> {
-    /// The scripts of these files, each of which has one, behind those of the prelude.
+    /// The scripts of these files behind those of the prelude. `NotFound` comes where a file hasn't one script.
     pub(crate) fn new(
         alloc: Global,
         prelude: &'a Prelude,
@@ -50,7 +51,7 @@ impl<'a> World<'a> {
         })
     }
 
-    /// The script of this number.
+    /// The script of this number, or `NotFound`.
     pub(crate) fn script(&self, number: usize) -> Result<&Script<'a>, SourceFault> {
         match self.scripts.get(number) {
             Some(script) => Ok(script),
@@ -144,7 +145,7 @@ impl<'a> World<'a> {
         false
     }
 
-    /// The type of the elements of an array type.
+    /// The type of the elements of an array type. `NotFound` comes for every other type.
     pub(crate) fn element(&self, kind: usize) -> Result<usize, SourceFault> {
         let Some(element) = self.table.name(kind).strip_suffix(b"[]") else {
             return Err(NOT_FOUND);
