@@ -31,21 +31,19 @@ impl<'a> World<'a> {
         prelude: &'a Prelude,
         files: &'a [Pex],
     ) -> Result<World<'a>, SourceFault> {
+        let infix = free_infix(alloc, files)?;
         let mut table = NameTable::new(alloc)?;
         let words = Words::of(alloc, &mut table)?;
-        let mut scripts = Vec::new(alloc);
-        for object in &prelude.file.objects {
-            scripts.push(Script::new(alloc, &mut table, &prelude.file, object)?)?;
-        }
-        add_files(alloc, &mut table, files, &mut scripts)?;
+        let scripts = all_scripts(alloc, &mut table, prelude, files)?;
         let taken = taken_names(alloc, &mut table, &scripts)?;
+        let by_name = scripts_by_name(alloc, &scripts)?;
         Ok(World {
             alloc,
             words,
-            infix: free_infix(alloc, files)?,
-            by_name: scripts_by_name(alloc, &scripts)?,
             scripts,
+            infix,
             table,
+            by_name,
             taken,
             members: &prelude.members,
         })
@@ -197,6 +195,21 @@ impl<'a> World<'a> {
         }
         None
     }
+}
+
+// The scripts of the prelude, and behind them those of the files.
+fn all_scripts<'a>(
+    alloc: Global,
+    table: &mut NameTable,
+    prelude: &'a Prelude,
+    files: &'a [Pex],
+) -> Result<Vec<Script<'a>>, SourceFault> {
+    let mut scripts = Vec::new(alloc);
+    for object in &prelude.file.objects {
+        scripts.push(Script::new(alloc, table, &prelude.file, object)?)?;
+    }
+    add_files(alloc, table, files, &mut scripts)?;
+    Ok(scripts)
 }
 
 // Adds the script of each file.
