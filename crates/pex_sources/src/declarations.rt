@@ -1,4 +1,5 @@
 // The text of a script: its heading, variables, properties, functions and states.
+use crate::blocks::Body;
 use crate::code::Code;
 use crate::definitions::body_of;
 use crate::expressions::{Speaker, put_slot_name};
@@ -37,7 +38,8 @@ struct Author<'a> {
     script: &'a Script<'a>,
 }
 
-/// The text of the script of this number, without indentation where it would be too long with it.
+/// The text of the script of this number, without indentation where it would be too long with it. `NotFound` comes where there is
+/// no such script, or where it has what no compiler writes.
 pub(crate) fn script_text(world: &World<'_>, number: usize) -> Result<Text, SourceFault> {
     let script = world.script(number)?;
     let author = Author {
@@ -62,16 +64,21 @@ fn fits(bytes: &[u8]) -> bool {
 impl<'a> Author<'a> {
     fn bytes(self, is_indented: bool) -> Result<Vec<u8>, SourceFault> {
         let mut page = Page::new(self.world.alloc, is_indented);
-        self.put_heading(&mut page)?;
-        put_imports(&mut page, self.world, self.script)?;
+        self.put_script(&mut page)?;
+        Ok(page.bytes)
+    }
+
+    fn put_script(self, page: &mut Page) -> Result<(), SourceFault> {
+        self.put_heading(page)?;
+        put_imports(page, self.world, self.script)?;
         page.blank()?;
-        self.put_fields(&mut page)?;
+        self.put_fields(page)?;
         let mut is_first = true;
         for state in &self.script.object.states {
-            self.put_state(&mut page, state, is_first)?;
+            self.put_state(page, state, is_first)?;
             is_first = false;
         }
-        Ok(page.bytes)
+        Ok(())
     }
 
     fn put_heading(self, page: &mut Page) -> Result<(), SourceFault> {
@@ -275,21 +282,30 @@ impl<'a> Author<'a> {
         is_empty_state: bool,
     ) -> Result<(), SourceFault> {
         let has_parent = !self.script.text(self.script.object.parent).is_empty();
-        let mut count = functions.len();
-        if is_empty_state && !has_parent {
-            for (name, function) in functions.iter().rev() {
-                if !self.is_generated(*name, function) {
-                    break;
-                }
-                count = count.saturating_sub(1);
-            }
-        }
+        let generated = if is_empty_state && !has_parent {
+            self.generated_count(functions)
+        } else {
+            0
+        };
+        let count = functions.len().saturating_sub(generated);
         for (place, (name, function)) in functions.iter().enumerate() {
             if place < count {
                 self.put_function(page, self.script.text(*name), function)?;
             }
         }
         Ok(())
+    }
+
+    // How many functions stand at the end that a compiler adds.
+    fn generated_count(self, functions: &[(u16, PexFunction)]) -> usize {
+        let mut count = 0usize;
+        for (name, function) in functions.iter().rev() {
+            if !self.is_generated(*name, function) {
+                return count;
+            }
+            count = count.saturating_add(1);
+        }
+        count
     }
 
     // Whether a compiler adds this member to a script without parent.
@@ -370,18 +386,10 @@ impl<'a> Author<'a> {
     }
 
     fn put_body(self, page: &mut Page, function: &'a PexFunction) -> Result<(), SourceFault> {
-        let world = self.world;
-        let code = Code::of(world, self.script, function)?;
-        let uses = Uses::of(world.alloc, &code)?;
-        let body = body_of(Source {
-            alloc: world.alloc,
-            world,
-            script: self.script,
-            code: &code,
-            uses: &uses,
-        })?;
+        let code = Code::of(self.world, self.script, function)?;
+        let body = self.body(&code)?;
         let speaker = Speaker {
-            world,
+            world: self.world,
             number: self.number,
             script: self.script,
             function,
@@ -389,6 +397,18 @@ impl<'a> Author<'a> {
             trees: &body.trees,
         };
         speaker.put_lines(page, &body.lines)
+    }
+
+    fn body(self, code: &Code) -> Result<Body, SourceFault> {
+        let alloc = self.world.alloc;
+        let uses = Uses::of(alloc, code)?;
+        body_of(Source {
+            alloc,
+            world: self.world,
+            script: self.script,
+            code,
+            uses: &uses,
+        })
     }
 }
 

@@ -8,7 +8,7 @@ use crate::trees::Form;
 use std::alloc::Global;
 
 /// The body of a function. A file doesn't tell how many of its locals were locals of the source, so the numbers are tried in
-/// turn, the least first: it has the fewest lines.
+/// turn, the least first: it has the fewest lines. `NotFound` comes where none of them gives a body.
 pub(crate) fn body_of(source: Source<'_, '_>) -> Result<Body, SourceFault> {
     let most = source
         .uses
@@ -52,17 +52,7 @@ fn define(alloc: Global, code: &Code, first: usize, body: &mut Body) -> Result<(
         seen: vec![in alloc; false; code.kinds.len()]?,
         open: Vec::new(alloc),
     };
-    let mut from = 0usize;
-    for place in 0..body.lines.len() {
-        let Some(numbered) = body.lines.get(place).copied() else {
-            return Err(NOT_FOUND);
-        };
-        let line = definitions.before(numbered.line)?;
-        definitions.check_uses(body, from, numbered.nodes)?;
-        definitions.behind(line)?;
-        set_line(body, place, line);
-        from = numbered.nodes;
-    }
+    definitions.mark_lines(body)?;
     if definitions.next == first {
         Ok(())
     } else {
@@ -77,6 +67,21 @@ fn set_line(body: &mut Body, place: usize, line: Line) {
 }
 
 impl Definitions {
+    fn mark_lines(&mut self, body: &mut Body) -> Result<(), SourceFault> {
+        let mut from = 0usize;
+        for place in 0..body.lines.len() {
+            let Some(numbered) = body.lines.get(place).copied() else {
+                return Err(NOT_FOUND);
+            };
+            let line = self.before(numbered.line)?;
+            self.check_uses(body, from, numbered.nodes)?;
+            self.behind(line)?;
+            set_line(body, place, line);
+            from = numbered.nodes;
+        }
+        Ok(())
+    }
+
     // Whether a slot is a local of the source that may not be used yet.
     fn is_hidden(&self, slot: usize) -> bool {
         if slot < self.parameters || slot >= self.first {

@@ -2,7 +2,8 @@
 use papy_base::OutOfMemory;
 use std::alloc::Global;
 
-/// The bytes so far. Where lines are indented, documentation stands on lines of its own.
+/// The bytes so far. Where lines are indented, documentation stands on lines of its own. What appends fails where no memory is
+/// found, and then part of its bytes may stand there.
 #[derive(Drop)]
 pub(crate) struct Page {
     pub alloc: Global,
@@ -17,6 +18,7 @@ pub(crate) struct Page {
 const INDENT: &[u8] = b"    ";
 
 impl Page {
+    /// A page without bytes.
     pub(crate) fn new(alloc: Global, is_indented: bool) -> Page {
         Page {
             alloc,

@@ -27,7 +27,7 @@ pub(crate) struct Script<'a> {
 }
 
 impl<'a> Script<'a> {
-    /// The script of an object of the file.
+    /// The script of an object of the file, whose names get numbers in the table.
     pub(crate) fn new(
         alloc: Global,
         table: &mut NameTable,
@@ -50,7 +50,7 @@ impl<'a> Script<'a> {
         })
     }
 
-    /// The string of a reference.
+    /// The string of a reference, and an empty one where the file has none.
     pub(crate) fn text(&self, reference: u16) -> &'a [u8] {
         text_at(self.strings, reference)
     }
@@ -86,7 +86,7 @@ impl<'a> Script<'a> {
         self.variables.get(&name).copied()
     }
 
-    /// The variable at a place.
+    /// The variable at a place, or `NotFound`.
     pub(crate) fn variable(&self, place: usize) -> Result<&'a PexVariable, SourceFault> {
         match self.object.variables.get(place) {
             Some(variable) => Ok(variable),

@@ -65,6 +65,7 @@ pub(crate) struct Part {
     pub place: usize,
 }
 
+/// The expressions of a function, each behind its operands.
 #[derive(Drop)]
 pub(crate) struct Trees {
     nodes: Vec<Node>,
@@ -72,6 +73,7 @@ pub(crate) struct Trees {
 }
 
 impl Trees {
+    /// No expressions.
     pub(crate) fn new(alloc: Global) -> Trees {
         Trees {
             nodes: Vec::new(alloc),
@@ -89,6 +91,7 @@ impl Trees {
         self.parts.len()
     }
 
+    /// The expression of this number, or `NotFound`.
     pub(crate) fn node(&self, number: usize) -> Result<Node, SourceFault> {
         match self.nodes.get(number) {
             Some(node) => Ok(*node),
@@ -96,7 +99,7 @@ impl Trees {
         }
     }
 
-    /// The operands of an expression.
+    /// The operands of an expression of these. `NotFound` comes where it has operands that aren't there.
     pub(crate) fn parts(&self, node: Node) -> Result<&[Part], SourceFault> {
         match self.parts.get(node.first..node.end) {
             Some(parts) => Ok(parts),
@@ -104,7 +107,7 @@ impl Trees {
         }
     }
 
-    /// The number of an operand.
+    /// The number of the operand at a place, or `NotFound`.
     pub(crate) fn part(&self, node: Node, place: usize) -> Result<usize, SourceFault> {
         match self.parts(node)?.get(place) {
             Some(part) => Ok(part.node),
@@ -112,7 +115,7 @@ impl Trees {
         }
     }
 
-    /// The two operands of an operation.
+    /// The two operands of an operation. `NotFound` comes where it hasn't two.
     pub(crate) fn pair(&self, node: Node) -> Result<(usize, usize), SourceFault> {
         match self.parts(node)? {
             [left, right] => Ok((left.node, right.node)),
@@ -120,7 +123,7 @@ impl Trees {
         }
     }
 
-    /// Adds an expression without operands, whose code is the instruction `at`, if any.
+    /// Adds an expression without operands, whose code is the instruction `at`, if any, and gives its number.
     pub(crate) fn add_leaf(
         &mut self,
         form: Form,
@@ -138,7 +141,8 @@ impl Trees {
         })
     }
 
-    /// Adds an expression, whose last instruction stands `at`, and of which none but its operands' stands before `from`.
+    /// Adds an expression, whose last instruction stands `at`, and of which none but its operands' stands before `from`. Gives its
+    /// number, or `NotFound` where an operand is no expression of these.
     pub(crate) fn add(
         &mut self,
         form: Form,

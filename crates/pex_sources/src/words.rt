@@ -18,6 +18,7 @@ pub(crate) struct Words {
 }
 
 impl Words {
+    /// The numbers that these words have in the table, in which they get one where they have none.
     pub(crate) fn of(alloc: Global, table: &mut NameTable) -> Result<Words, OutOfMemory> {
         Ok(Words {
             int_type: table.number(alloc, b"int")?,

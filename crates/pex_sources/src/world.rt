@@ -8,6 +8,7 @@ use pex_values::{Pex, PexFunction, PexProperty};
 use std::alloc::Global;
 use std::collections::{HashMap, HashSet};
 
+/// The scripts and their names.
 #[derive(Drop)]
 pub(crate) struct World<'a> {
     pub alloc: Global,
@@ -24,33 +25,31 @@ pub(crate) struct World<'a> {
 }
 
 impl<'a> World<'a> {
-    /// The scripts of these files, each of which has one, behind those of the prelude.
+    /// The scripts of these files behind those of the prelude. `NotFound` comes where a file hasn't one script.
     pub(crate) fn new(
         alloc: Global,
         prelude: &'a Prelude,
         files: &'a [Pex],
     ) -> Result<World<'a>, SourceFault> {
+        let infix = free_infix(alloc, files)?;
         let mut table = NameTable::new(alloc)?;
         let words = Words::of(alloc, &mut table)?;
-        let mut scripts = Vec::new(alloc);
-        for object in &prelude.file.objects {
-            scripts.push(Script::new(alloc, &mut table, &prelude.file, object)?)?;
-        }
-        add_files(alloc, &mut table, files, &mut scripts)?;
+        let scripts = all_scripts(alloc, &mut table, prelude, files)?;
         let taken = taken_names(alloc, &mut table, &scripts)?;
+        let by_name = scripts_by_name(alloc, &scripts)?;
         Ok(World {
             alloc,
             words,
-            infix: free_infix(alloc, files)?,
-            by_name: scripts_by_name(alloc, &scripts)?,
             scripts,
+            infix,
             table,
+            by_name,
             taken,
             members: &prelude.members,
         })
     }
 
-    /// The script of this number.
+    /// The script of this number, or `NotFound`.
     pub(crate) fn script(&self, number: usize) -> Result<&Script<'a>, SourceFault> {
         match self.scripts.get(number) {
             Some(script) => Ok(script),
@@ -144,7 +143,7 @@ impl<'a> World<'a> {
         false
     }
 
-    /// The type of the elements of an array type.
+    /// The type of the elements of an array type. `NotFound` comes for every other type.
     pub(crate) fn element(&self, kind: usize) -> Result<usize, SourceFault> {
         let Some(element) = self.table.name(kind).strip_suffix(b"[]") else {
             return Err(NOT_FOUND);
@@ -196,6 +195,21 @@ impl<'a> World<'a> {
         }
         None
     }
+}
+
+// The scripts of the prelude, and behind them those of the files.
+fn all_scripts<'a>(
+    alloc: Global,
+    table: &mut NameTable,
+    prelude: &'a Prelude,
+    files: &'a [Pex],
+) -> Result<Vec<Script<'a>>, SourceFault> {
+    let mut scripts = Vec::new(alloc);
+    for object in &prelude.file.objects {
+        scripts.push(Script::new(alloc, table, &prelude.file, object)?)?;
+    }
+    add_files(alloc, table, files, &mut scripts)?;
+    Ok(scripts)
 }
 
 // Adds the script of each file.
