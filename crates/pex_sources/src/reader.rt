@@ -511,11 +511,7 @@ impl<'w, 'f> Reader<'w, 'f> {
         Ok(())
     }
 
-    fn read_arguments(
-        &mut self,
-        step: Step,
-        arguments: &mut Vec<Read>,
-    ) -> Result<(), SourceFault> {
+    fn read_arguments(&mut self, step: Step, arguments: &mut Vec<Read>) -> Result<(), SourceFault> {
         for (place, operand) in (step.fixed_end..step.end).enumerate() {
             let node = self.read(operand, false)?;
             arguments.push(Read {
