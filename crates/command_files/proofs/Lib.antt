@@ -3,4 +3,5 @@ pub mod HeldScripts
 pub mod PexCounting
 pub mod PexRead
 pub mod ScriptFaults
+pub mod SourceSets
 pub mod TextRead
