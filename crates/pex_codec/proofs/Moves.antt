@@ -251,9 +251,3 @@ heading_moves at bytes =
     (λ major at2 rest2. moves_then 0 at2 rest2 (judged _ _ at2 (byte_at at2 rest2)) _ (moves_judged _ _ at2 0 at2 rest2 (byte_at at2 rest2) (byte_0 at2 rest2))
     (λ minor at3 rest3. moves_then 0 at3 rest3 (judged _ _ at3 (number_at 2 at3 rest3)) _ (moves_judged _ _ at3 0 at3 rest3 (number_at 2 at3 rest3) (number_0 2 at3 rest3))
     (λ game at4 rest4. moves_as _ 0 at4 rest4 (number_at 8 at4 rest4) (number_0 8 at4 rest4)))))
-
-pub size_moves : (size_at size at : ℕ) (bytes : List ℕ) → Moves 0 (size_form_at size_at size at bytes) at bytes
-size_moves size_at size at bytes =
-    one_of {A = SizeForm} (size_at + size == at) (Got Counted at bytes) (if size_at + 4 + size == at then Got Bare at bytes else Refused size_at BadSize) 0 at bytes
-    (stays at bytes)
-    (one_of {A = SizeForm} (size_at + 4 + size == at) (Got Bare at bytes) (Refused size_at BadSize) 0 at bytes (stays at bytes) tt)

@@ -20,7 +20,7 @@ use Rattle.pex_codec.specs.ScanSteps.{SameStack, some_left, work_of, IsStep, Ste
 use Rattle.pex_codec.specs.Scans.{left_at, Finishes, Waits, ScansOn}
 use Rattle.pex_codec.specs.declared.scan.Scan.{Scan}
 use Rattle.pex_codec.specs.Taking.{Stops}
-use Rattle.pex_codec.proofs.Tasks.{then_next, then_then, tasks_append, tasks_none}
+use Rattle.pex_codec.proofs.Tasks.{then_next, then_then, tasks_append}
 use Rattle.pex_codec.proofs.Passing.{Moved-on}
 use Rattle.pex_codec.proofs.FirstFields.{stops_behind, whole_opens, extended}
 use Rattle.pex_codec.proofs.Stable.{size_form_stable}
@@ -252,12 +252,6 @@ pub record CameTo (old : Scan) (from : Cursor) (new : Scan) (to : Cursor) : Type
 
 pub came_nowhere : (old : Scan) (from : Cursor) → CameTo old from old from
 came_nowhere old from = record { follows = λ x. refl; moved = still from }
-
-pub came_further : (old : Scan) (from : Cursor) (new : Scan) (to : Cursor) (next : Scan) (end : Cursor) → CameTo old from new to → IsStep new to next end → CameTo old from next end
-came_further old from new to next end came step = record {
-  follows = λ x. came.follows x ∙ step.same x;
-  moved = Moved-on 0 0 from.at from.rest.now to.at to.rest.now end.at end.rest.now came.moved step.moved;
-}
 
 here : (old : Scan) (from : Cursor) (new : Scan) (to : Cursor) → CameTo old from new to → left_at old from.at from.rest.now ≡ left_at new to.at to.rest.now
 here old from new to came =

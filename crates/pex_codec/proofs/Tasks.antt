@@ -44,10 +44,6 @@ tasks_append (x ∷ xs) ys strings at bytes =
     ap (λ (r : Reading ℕ). then_read r (λ strings1 at1 rest1. times_at x.part x.left strings1 at1 rest1)) (tasks_append xs ys strings at bytes)
     ∙ then_then (tasks_at ys strings at bytes) (tasks_at xs) (λ strings1 at1 rest1. times_at x.part x.left strings1 at1 rest1)
 
--- a task of which nothing is left
-pub tasks_none : (part : Part) (xs : List Task) (strings at : ℕ) (bytes : List ℕ) → tasks_at (task part 0 ∷ xs) strings at bytes ≡ tasks_at xs strings at bytes
-tasks_none part xs strings at bytes = then_got (tasks_at xs strings at bytes)
-
 pub times_once : (part : Part) (strings at : ℕ) (bytes : List ℕ) → times_at part 1 strings at bytes ≡ part_at part strings at bytes
 times_once part strings at bytes = then_got (part_at part strings at bytes)
 

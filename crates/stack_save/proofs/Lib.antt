@@ -5,4 +5,3 @@ pub mod NumberLemmas
 pub mod Complete
 pub mod HeldLemmas
 pub mod StateLemmas
-pub mod FileLemmas
