@@ -3,7 +3,6 @@
 ghost use Rattle.std.specs.Prelude.{IfOk};
 ghost use Rattle.pex_codec.specs.Decoding.{IsNew, FeedGives, EndGives, FinishGives};
 
-use crate::cursor::Stop;
 use crate::faults::{PexFault, PexRule};
 use crate::progress::{Fed, Standing};
 use crate::scanned_bytes::ScannedBytes;
@@ -79,9 +78,8 @@ impl Decoder {
         self.finish()?;
         match pex(self.alloc, &self.taken.bytes) {
             Ok(value) => Ok(value),
-            Err(Stop::OutOfMemory) => Err(PexFault::OutOfMemory),
-            // Bytes that spell a value are read.
-            Err(Stop::Short | Stop::Refused { .. }) => Err(PexFault::OutOfMemory),
+            // Bytes that spell a value are read, so only memory was wanting.
+            Err(_) => Err(PexFault::OutOfMemory),
         }
     }
 

@@ -31,7 +31,12 @@ fn fed(alloc: Global, bytes: &[u8]) -> Result<Decoder, PexFault>
     Ok(decoder)
 }
 
-/// The value that the bytes spell. They are refused with the first rule that they break, as a `Decoder` refuses them.
+/// The value that all of the bytes spell.
+///
+/// # Errors
+///
+/// `Broken` has the first rule that the bytes break, and its offset, as a `Decoder` tells them: `Truncated` where they end before a
+/// value does, `Trailing` where some follow one. `OutOfMemory` comes where no memory was found.
 pub fn decode(alloc: Global, bytes: &[u8]) -> Result<Pex, PexFault>
     ensures { Decodes bytes.now result }
 {
