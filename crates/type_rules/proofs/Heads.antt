@@ -1,8 +1,11 @@
 -- The heads of a set's scripts, and how many functions their empty states have.
-use Rattle.std.proofs.Common.{◌≡◌, ◌+◌, ◌<◌, ℕ, List, [], ◌∷◌, ◌++◌, length, map, take, refl, sym, ap, ◌∙◌, arith, slice_index_or, subst}
-use Rattle.std.specs.List.{All}
-use Rattle.std.proofs.lemmas.List.{length-map, map-append, take_more}
-use Rattle.std.proofs.lemmas.List.Elements.{All-push, All-same}
+use Rattle.std.proofs.Common.{◌≡◌, ◌+◌, ◌<◌, ℕ, Bool, true, false, List, [], ◌∷◌, ◌++◌, length, map, take, filter, refl, sym, ap, ◌∙◌, arith, slice_index_or, subst}
+use Rattle.std.specs.List.{All, last_or}
+use Rattle.std.specs.Prelude.{Option, None, Some}
+use Rattle.std.proofs.lemmas.List.{append-nil, length-map, map-append, take_more}
+use Rattle.std.proofs.lemmas.List.Elements.{All-push, All-same, filter-append}
+use Rattle.script_linker.proofs.GeneratedLemmas.{Pairwise-append}
+use Rattle.script_linker.specs.Generated.{Pairwise}
 use Rattle.core_tree.specs.declared.script.CoreScript.{CoreScript}
 use Rattle.core_tree.specs.declared.script.CoreState.{CoreState}
 use Rattle.core_tree.specs.InRange.{ScriptInRange}
@@ -13,23 +16,28 @@ use Rattle.script_parser.specs.declared.script.State.{State}
 use Rattle.type_scope.specs.Types.{function_count, function_counts}
 use Rattle.type_rules.specs.Heads.{ScriptHead, StateHead, core_function_head, core_script_head, core_state_head, function_head, script_head, state_head}
 
--- ---- one script more
+-- ---- one thing more
 
-heads-of_more : (set : List SourceFile) (n : ℕ) (head : ScriptHead) → n < length set → ((file : SourceFile) → head ≡ script_head (slice_index_or set n file)) →
-    map script_head (take (n + 1) set) ≡ map script_head (take n set) ++ head ∷ []
-heads-of_more [] n head within is = absurd (omega arith)
-heads-of_more (first ∷ rest) n head within is =
-    ap (map script_head) (take_more (first ∷ rest) n first within)
-    ∙ map-append script_head (take n (first ∷ rest)) (slice_index_or (first ∷ rest) n first ∷ [])
-    ∙ ap (λ (h : ScriptHead). map script_head (take n (first ∷ rest)) ++ h ∷ []) (sym (is first))
+-- heads of things in order, where one more is made of the next
+pub heads-push : {X Y H : Type 0} (core : Y → H) (head : X → H) (xs : List X) (n : ℕ) (found all : List Y) (made : Y) → all ≡ found ++ made ∷ [] → map core found ≡ map head (take n xs) → n < length xs →
+    ((x : X) → core made ≡ head (slice_index_or xs n x)) → map core all ≡ map head (take (n + 1) xs)
+heads-push core head [] n found all made pushed so_far within is = absurd (omega arith)
+heads-push {X} {Y} {H} core head (first ∷ rest) n found all made pushed so_far within is =
+    ap (map core) pushed
+    ∙ map-append core found (made ∷ [])
+    ∙ ap (λ (heads : List H). heads ++ core made ∷ []) so_far
+    ∙ ap (λ (h : H). map head (take n (first ∷ rest)) ++ h ∷ []) (is first)
+    ∙ sym (map-append head (take n (first ∷ rest)) (slice_index_or (first ∷ rest) n first ∷ []))
+    ∙ ap (map head) (sym (take_more (first ∷ rest) n first within))
 
-pub heads-push : (set : List SourceFile) (n : ℕ) (scripts all : List CoreScript) (made : CoreScript) → all ≡ scripts ++ made ∷ [] → map core_script_head scripts ≡ map script_head (take n set) → n < length set →
-    ((file : SourceFile) → core_script_head made ≡ script_head (slice_index_or set n file)) → map core_script_head all ≡ map script_head (take (n + 1) set)
-heads-push set n scripts all made pushed so_far within is =
-    ap (map core_script_head) pushed
-    ∙ map-append core_script_head scripts (made ∷ [])
-    ∙ ap (λ (heads : List ScriptHead). heads ++ core_script_head made ∷ []) so_far
-    ∙ sym (heads-of_more set n (core_script_head made) within is)
+-- pairs in order, where the next thing of the first list has one more beside it
+pub pairs-push : {X Y : Type 0} (R : X → Y → Type 0) (xs : List X) (n : ℕ) (found all : List Y) (made : Y) → all ≡ found ++ made ∷ [] → Pairwise R (take n xs) found → n < length xs →
+    ((x : X) → R (slice_index_or xs n x) made) → Pairwise R (take (n + 1) xs) all
+pairs-push R [] n found all made pushed so_far within is = absurd (omega arith)
+pairs-push {X} {Y} R (first ∷ rest) n found all made pushed so_far within is =
+    let both = Pairwise-append R (take n (first ∷ rest)) found (slice_index_or (first ∷ rest) n first ∷ []) (made ∷ []) so_far (is first, tt) in
+    let behind = subst (λ (ys : List Y). Pairwise R (take n (first ∷ rest) ++ slice_index_or (first ∷ rest) n first ∷ []) ys) (sym pushed) both in
+    subst (λ (xs : List X). Pairwise R xs all) (sym (take_more (first ∷ rest) n first within)) behind
 
 pub scripts-push : (functions : List ℕ) (scripts all : List CoreScript) (made : CoreScript) → all ≡ scripts ++ made ∷ [] → All (ScriptInRange functions) (map script_of scripts) →
     ScriptInRange functions (script_of made) → All (ScriptInRange functions) (map script_of all)
@@ -54,39 +62,59 @@ counts-core (script ∷ rest) =
     ap (λ (n : ℕ). n ∷ map (λ (h : ScriptHead). first_count h.states) (map core_script_head rest)) (first_count-core script.states.items)
     ∙ ap (λ (ns : List ℕ). length (empty_functions (script_of script)) ∷ ns) (counts-core rest)
 
-counts-files : (files : List SourceFile) → map (λ (h : ScriptHead). first_count h.states) (map script_head files) ≡ function_counts files
+counts-files : (set files : List SourceFile) → map (λ (h : ScriptHead). first_count h.states) (map (script_head set) files) ≡ function_counts files
 unfolding first_count
-counts-files [] = refl
-counts-files (file ∷ rest) =
-    ap (λ (n : ℕ). n ∷ map (λ (h : ScriptHead). first_count h.states) (map script_head rest)) (length-map file.script.functions.items function_head)
-    ∙ ap (λ (ns : List ℕ). function_count file ∷ ns) (counts-files rest)
+counts-files set [] = refl
+counts-files set (file ∷ rest) =
+    ap (λ (n : ℕ). n ∷ map (λ (h : ScriptHead). first_count h.states) (map (script_head set) rest)) (length-map file.script.functions.items (function_head set))
+    ∙ ap (λ (ns : List ℕ). function_count file ∷ ns) (counts-files set rest)
 
-same_counts : (files : List SourceFile) (scripts : List CoreScript) → map core_script_head scripts ≡ map script_head files → function_counts files ≡ core_counts (map script_of scripts)
-same_counts files scripts heads =
-    sym (counts-files files)
+same_counts : (set files : List SourceFile) (scripts : List CoreScript) → map core_script_head scripts ≡ map (script_head set) files → function_counts files ≡ core_counts (map script_of scripts)
+same_counts set files scripts heads =
+    sym (counts-files set files)
     ∙ ap (map (λ (h : ScriptHead). first_count h.states)) (sym heads)
     ∙ counts-core scripts
 
-pub set-in_range : (files : List SourceFile) (scripts : List CoreScript) → map core_script_head scripts ≡ map script_head files → All (ScriptInRange (function_counts files)) (map script_of scripts) →
+pub set-in_range : (set files : List SourceFile) (scripts : List CoreScript) → map core_script_head scripts ≡ map (script_head set) files → All (ScriptInRange (function_counts files)) (map script_of scripts) →
     All (ScriptInRange (core_counts (map script_of scripts))) (map script_of scripts)
-set-in_range files scripts heads all =
-    subst (λ (functions : List ℕ). All (ScriptInRange functions) (map script_of scripts)) (same_counts files scripts heads) all
+set-in_range set files scripts heads all =
+    subst (λ (functions : List ℕ). All (ScriptInRange functions) (map script_of scripts)) (same_counts set files scripts heads) all
 
 -- ---- one state more
 
-heads-of_states : (states : List State) (n : ℕ) (state : State) → n < length states → state ≡ slice_index_or states n state →
-    map state_head (take (n + 1) states) ≡ map state_head (take n states) ++ state_head state ∷ []
-heads-of_states states n state within is =
-    ap (map state_head) (take_more states n state within)
-    ∙ map-append state_head (take n states) (slice_index_or states n state ∷ [])
-    ∙ ap (λ (s : State). map state_head (take n states) ++ state_head s ∷ []) (sym is)
-
-pub states-push : (states : List State) (n : ℕ) (first : StateHead) (found all : List CoreState) (made : CoreState) (state : State) → all ≡ found ++ made ∷ [] →
-    map core_state_head found ≡ first ∷ map state_head (take n states) → n < length states → state ≡ slice_index_or states n state → core_state_head made ≡ state_head state →
-    map core_state_head all ≡ first ∷ map state_head (take (n + 1) states)
-states-push states n first found all made state pushed so_far within is made_is =
+-- the same behind the head of the empty state
+pub states-push : (set : List SourceFile) (states : List State) (n : ℕ) (first : StateHead) (found all : List CoreState) (made : CoreState) (state : State) → all ≡ found ++ made ∷ [] →
+    map core_state_head found ≡ first ∷ map (state_head set) (take n states) → n < length states → state ≡ slice_index_or states n state → core_state_head made ≡ state_head set state →
+    map core_state_head all ≡ first ∷ map (state_head set) (take (n + 1) states)
+states-push set states n first found all made state pushed so_far within is made_is =
+    let next : map (state_head set) (take (n + 1) states) ≡ map (state_head set) (take n states) ++ state_head set state ∷ [] =
+    ap (map (state_head set)) (take_more states n state within)
+    ∙ map-append (state_head set) (take n states) (slice_index_or states n state ∷ [])
+    ∙ ap (λ (s : State). map (state_head set) (take n states) ++ state_head set s ∷ []) (sym is) in
     ap (map core_state_head) pushed
     ∙ map-append core_state_head found (made ∷ [])
     ∙ ap (λ (heads : List StateHead). heads ++ core_state_head made ∷ []) so_far
-    ∙ ap (λ (head : StateHead). first ∷ (map state_head (take n states) ++ head ∷ [])) made_is
-    ∙ ap (λ (heads : List StateHead). first ∷ heads) (sym (heads-of_states states n state within is))
+    ∙ ap (λ (head : StateHead). first ∷ (map (state_head set) (take n states) ++ head ∷ [])) made_is
+    ∙ ap (λ (heads : List StateHead). first ∷ heads) (sym next)
+
+-- ---- the last thing of a kind
+
+last-append : {X : Type 0} (found : Option X) (xs : List X) (x : X) → last_or found (xs ++ x ∷ []) ≡ Some x
+last-append found [] x = refl
+last-append found (y ∷ ys) x = last-append (Some y) ys x
+
+-- the last of the things that the test picks, where the next is one of them
+pub last-more : {X : Type 0} (p : X → Bool) (xs : List X) (n : ℕ) (x : X) → n < length xs → x ≡ slice_index_or xs n x → p x ≡ true → last_or None (filter p (take (n + 1) xs)) ≡ Some x
+last-more {X} p xs n x within is picked =
+    ap (λ (ys : List X). last_or None (filter p ys)) (take_more xs n x within)
+    ∙ ap (λ (y : X). last_or None (filter p (take n xs ++ y ∷ []))) (sym is)
+    ∙ ap (last_or None) (filter-append p (take n xs) (x ∷ []))
+    ∙ rw picked (last-append None (filter p (take n xs)) x)
+
+-- where it is none of them
+pub last-same : {X : Type 0} (p : X → Bool) (xs : List X) (n : ℕ) (x : X) → n < length xs → x ≡ slice_index_or xs n x → p x ≡ false → last_or None (filter p (take (n + 1) xs)) ≡ last_or None (filter p (take n xs))
+last-same {X} p xs n x within is left =
+    ap (λ (ys : List X). last_or None (filter p ys)) (take_more xs n x within)
+    ∙ ap (λ (y : X). last_or None (filter p (take n xs ++ y ∷ []))) (sym is)
+    ∙ ap (last_or None) (filter-append p (take n xs) (x ∷ []))
+    ∙ rw left (ap (last_or None) (append-nil (filter p (take n xs))))

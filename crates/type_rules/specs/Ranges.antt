@@ -7,6 +7,7 @@ use Rattle.core_tree.specs.declared.script.CoreProperty.{CoreProperty}
 use Rattle.core_tree.specs.declared.script.CoreState.{CoreState}
 use Rattle.core_tree.specs.InRange.{FunctionInRange, PropertyInRange, ResultInRange, StateInRange}
 use Rattle.core_tree.specs.Set.{function_of, property_of, state_of}
+use Rattle.script_linker.specs.declared.set.SourceFile.{SourceFile}
 use Rattle.type_scope.specs.Types.{function_counts}
 use Rattle.expression_rules.specs.declared.scope.Scope.{Scope}
 use Rattle.expression_rules.specs.Scopes.{ScopeInRange}
@@ -15,6 +16,10 @@ use Rattle.type_rules.specs.declared.statements.Promise.TheVariants.{Nothing, Va
 use Rattle.type_rules.specs.declared.work.Work.{Work}
 
 -- ---- functions
+-- the scripts of the set of a scope
+abbrev pub scope_set : Scope → List SourceFile
+scope_set scope = scope.catalog.now.set.now
+
 -- a type, and where it isn't known some type
 abbrev pub known : Option CoreType → CoreType
 known None = kinds.Int
@@ -37,6 +42,10 @@ pub record Grows (before after : Scope) : Type 0 where
   pub in_range : ScopeInRange before → ScopeInRange after
 
 -- ---- scripts
+-- the scripts of the set
+abbrev pub set_of : Work → List SourceFile
+set_of work = work.catalog.now.set.now
+
 -- the number of functions of the empty state of each script of the set, and that of the script's variables
 abbrev pub functions_of : Work → List ℕ
 functions_of work = function_counts work.catalog.now.set.now
