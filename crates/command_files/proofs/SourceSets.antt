@@ -1,12 +1,14 @@
 -- Which rule a set of scripts breaks, said of the texts of its scripts.
-use Rattle.std.proofs.Common.{arith, ◌≡◌, inr, ℕ, suc, ◌+◌, ◌<◌, List, [], ◌∷◌, ◌++◌, length, take, map, refl, sym, ap, ◌∙◌, subst, slice_index_or, All}
+use Rattle.std.proofs.Common.{arith, ◌≡◌, inr, ℕ, zero, suc, ◌+◌, ◌<◌, ◌≤◌, List, [], ◌∷◌, ◌++◌, length, take, map, refl, sym, ap, ◌∙◌, subst, slice_index_or, All}
 use Rattle.std.specs.Prelude.{Option, None, Some, IfSome}
 use Rattle.std.specs.List.{Contains}
-use Rattle.std.proofs.lemmas.List.{map-append, take_more}
-use Rattle.std.proofs.lemmas.List.Elements.{All-contains, All-weaker}
+use Rattle.std.proofs.lemmas.List.{length-map, map-append, take_all, take_more}
+use Rattle.std.proofs.lemmas.List.Elements.{All-cons, All-contains, All-nil, All-weaker}
+use Rattle.core_tree.specs.declared.script.CoreScript.{CoreScript}
 use Rattle.papy_io.specs.Files.{Files, told_bytes}
 use Rattle.script_lexer.specs.Lines.{Lexes, logical_lines}
 use Rattle.script_lexer.specs.declared.line.Lines.{Lines}
+use Rattle.script_linker.proofs.GeneratedLemmas.{Pairwise-append}
 use Rattle.script_linker.specs.Generated.{Pairwise}
 use Rattle.script_linker.specs.Link.{IsFaultOf}
 use Rattle.script_linker.specs.declared.fault.LinkFault.{LinkFault}
@@ -16,6 +18,7 @@ use Rattle.script_parser.specs.Faults.{IsNumberOf}
 use Rattle.script_parser.specs.Lines.{lines_of}
 use Rattle.script_parser.specs.declared.script.Script.{Script}
 use Rattle.type_rules.specs.Faults.{IsFaultBelow}
+use Rattle.type_rules.specs.Heads.{core_script_head, script_head}
 use Rattle.type_rules.specs.declared.fault.TypeFault.{TypeFault}
 use Rattle.type_rules.specs.declared.fault.TypeFault.TheVariants as typing
 use Rattle.command_files.specs.declared.ending.Ending.{Ending}
@@ -40,6 +43,12 @@ types_refuse sources count (typing.Broken file line rule) counted below =
     record { at = file; line = line; word_is = omega arith; within = omega arith; place_is = refl; broken = tt }
 types_refuse sources count typing.OutOfMemory counted below = tt
 
+-- ---- an elaborated set
+
+-- as many scripts as were linked
+pub as_many : (set : List SourceFile) (scripts : List CoreScript) → map core_script_head scripts ≡ map (script_head set) set → length scripts ≡ length set
+as_many set scripts heads = sym (length-map scripts core_script_head) ∙ ap length heads ∙ length-map set (script_head set)
+
 -- ---- the texts of scripts
 
 -- what a script declares stands on lines of its text
@@ -53,15 +62,15 @@ pub paired-at : {X Y : Type 0} (R : X → Y → Type 0) (xs : List X) (ys : List
 paired-at R [] [] n x within pairs = absurd (omega (arith, within))
 paired-at R [] (y ∷ ys) n x within pairs = absurd pairs
 paired-at R (z ∷ xs) [] n x within pairs = absurd pairs
-paired-at R (z ∷ xs) (y ∷ ys) 0 x within pairs = (y, pairs.0, refl)
+paired-at R (z ∷ xs) (y ∷ ys) zero x within pairs = (y, pairs.0, refl)
 paired-at R (z ∷ xs) (y ∷ ys) (suc n) x within pairs = paired-at R xs ys n x (omega (arith, within)) pairs.1
 
 -- what holds of each pair's first thing
 all-first : {X Y : Type 0} (R : X → Y → Type 0) (P : X → Type 0) → ((x : X) (y : Y) → R x y → P x) → (xs : List X) (ys : List Y) → Pairwise R xs ys → All P xs
-all-first R P first [] [] pairs = tt
+all-first R P first [] [] pairs = All-nil P
 all-first R P first [] (y ∷ ys) pairs = absurd pairs
 all-first R P first (x ∷ xs) [] pairs = absurd pairs
-all-first R P first (x ∷ xs) (y ∷ ys) pairs = (first x y pairs.0, all-first R P first xs ys pairs.1)
+all-first R P first (x ∷ xs) (y ∷ ys) pairs = All-cons P x xs (first x y pairs.0) (all-first R P first xs ys pairs.1)
 
 -- a rule that is broken on lines of one kind, where these are lines of another
 breaks_on : (A B : ℕ → Type 0) → ((line : ℕ) → A line → B line) → (line : ℕ) (rule : Rule) → BreaksSet A line rule → BreaksSet B line rule
@@ -137,3 +146,10 @@ texts_more texts place script within is =
     ap (map text_of) (take_more texts place script within)
     ∙ map-append text_of (take place texts) (slice_index_or texts place script ∷ [])
     ∙ ap (λ s. map text_of (take place texts) ++ text_of s ∷ []) (sym is)
+
+pub texts_grow : (texts : List (List ℕ)) (sources : List SourceFile) (text : List ℕ) (source : SourceFile) → AreScriptsOf texts sources → IsScriptOf text source.script → AreScriptsOf (texts ++ text ∷ []) (sources ++ source ∷ [])
+texts_grow texts sources text source are is = Pairwise-append IsSourceOf texts sources (text ∷ []) (source ∷ []) are (is, tt)
+
+-- a script of each text, where none is left
+pub texts_all : (texts : List NamedText) (place : ℕ) (sources : List SourceFile) → length texts ≤ place → AreScriptsOf (map text_of (take place texts)) sources → AreScriptsOf (map text_of texts) sources
+texts_all texts place sources past are = subst (λ (all : List NamedText). AreScriptsOf (map text_of all) sources) (take_all place texts past) are
