@@ -7,7 +7,9 @@ use Rattle.std.specs.Prelude.{Option, None, Some, IfSome}
 use Rattle.papy_io.specs.Files.{Files, told_bytes}
 use Rattle.std.proofs.lemmas.List.Elements.{All-push}
 use Rattle.command_files.specs.Held.{Hold, IsHeld, AreHeld}
-use Rattle.command_files.specs.Scripts.{HoldScripts, HoldsScript}
+use Rattle.script_linker.proofs.GeneratedLemmas.{Pairwise-append}
+use Rattle.script_linker.specs.declared.set.SourceFile.{SourceFile}
+use Rattle.command_files.specs.Scripts.{HoldScripts, HoldSources, HoldsScript, HoldsSource}
 
 hold-more : (files : Files) (names contents : List (List ℕ)) (name bytes : List ℕ) → Hold files names contents → told_bytes (Some files) name ≡ Some bytes →
     Hold files (names ++ name ∷ []) (contents ++ bytes ∷ [])
@@ -26,6 +28,12 @@ pub scripts-more : (holds : Option Files) (names : List (List ℕ)) (name : List
     IfSome holds (HoldScripts (names ++ name ∷ []))
 scripts-more None names name are is = tt
 scripts-more (Some files) names name are is = All-push (λ n. HoldsScript n files) names name are is
+
+-- the same of names that hold texts of scripts
+pub sources-more : (holds : Option Files) (names : List (List ℕ)) (sources : List SourceFile) (name : List ℕ) (source : SourceFile) → IfSome holds (λ files. HoldSources files names sources) → IfSome holds (λ files. HoldsSource files name source) →
+    IfSome holds (λ files. HoldSources files (names ++ name ∷ []) (sources ++ source ∷ []))
+sources-more None names sources name source are is = tt
+sources-more (Some files) names sources name source are is = Pairwise-append (HoldsSource files) names sources (name ∷ []) (source ∷ []) are (is, tt)
 
 -- the names of one script more
 pub names-more : (scripts : List (String Global)) (place : ℕ) (script : String Global) → place < length scripts → script ≡ slice_index_or scripts place script →

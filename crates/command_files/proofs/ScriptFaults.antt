@@ -1,5 +1,5 @@
 -- Which rule a script breaks, and where, by what the layers answered.
-use Rattle.std.proofs.Common.{arith, ◌≡◌, ◌∙◌, inl, ℕ, suc, ◌+◌, ◌<◌, ◌≤◌, ◌^◌, ◌==◌, Bool, true, false, List, [], ◌∷◌, length, take, map, refl, sym, ap, subst, slice_index_or, String, Global, length-drop}
+use Rattle.std.proofs.Common.{arith, ◌≡◌, ◌∙◌, inl, ℕ, All, suc, ◌+◌, ◌<◌, ◌≤◌, ◌^◌, ◌==◌, Bool, true, false, List, [], ◌∷◌, length, take, map, refl, sym, ap, subst, slice_index_or, String, Global, length-drop}
 use Rattle.std.specs.Prelude.{Option, None, Some, Result, Ok, Err, IfSome, if◌then◌else◌}
 use Rattle.std.specs.String.{string_bytes}
 use Rattle.std.specs.declared.vec.Vec.{Vec}
@@ -16,7 +16,7 @@ use Rattle.command_files.specs.declared.refusal.Rule.{Rule}
 use Rattle.command_files.specs.declared.refusal.Rule.TheVariants.{Lexical}
 use Rattle.command_files.specs.Ending.{IsWordBelow, MissesScript, word_at}
 use Rattle.command_files.specs.FileFault.{MissesFile, ending_at}
-use Rattle.command_files.specs.Scripts.{EndsOnScripts, HoldScripts, HoldsRefused, HoldsScript, ParsesScript, ReadsScript, RefusesScript}
+use Rattle.command_files.specs.Scripts.{EndsOnScripts, HoldScripts, HoldsRefused, HoldsScript, HoldsSource, KeepsForm, ParsesSource, ReadsScript, RefusesScript}
 use Rattle.command_files.specs.SourceTexts.{EndsOnTexts, text_of as bytes_in}
 use Rattle.command_files.specs.declared.source_texts.NamedText.{NamedText}
 use Rattle.command_files.specs.TextFile.{ReadsText}
@@ -51,23 +51,27 @@ abbrev pub ReadsSource : Option Files → List ℕ → Result (Vec ℕ Global) F
 ReadsSource holds name result = ReadsText holds name 1048576 (Line 0) (Lexical TooLarge) result
 
 -- a text that was not read, or is too large
-pub script_unread : (holds : Option Files) (name : List ℕ) (fault : FileFault) → ReadsSource holds name (Err fault) → ReadsScript {T = SourceFile} holds name (Err fault)
+pub script_unread : (holds : Option Files) (name : List ℕ) (fault : FileFault) → ReadsSource holds name (Err fault) → ReadsScript holds name (Err fault)
 script_unread None name fault read = tt
 script_unread (Some files) name (Refused place rule) (bytes, held, past, place_is, rule_is) = (bytes, held, too-large-breaks bytes place rule past place_is rule_is)
 script_unread (Some files) name ReadFault read = tt
 script_unread (Some files) name OutOfMemory read = tt
 
 -- a text that was read, and parsed or refused
-pub script_parsed : (holds : Option Files) (name : List ℕ) (text : Vec ℕ Global) (result : Result SourceFile FileFault) → ReadsSource holds name (Ok text) → ParsesScript text.items result → ReadsScript holds name result
+pub script_parsed : (holds : Option Files) (name : List ℕ) (text : Vec ℕ Global) (result : Result SourceFile FileFault) → ReadsSource holds name (Ok text) → ParsesSource text.items result → ReadsScript holds name result
 script_parsed None name text result read parses = tt
 script_parsed (Some files) name text (Ok file) read parses = (text.items, read.1, parses)
 script_parsed (Some files) name text (Err (Refused place rule)) read parses = (text.items, read.1, parses)
 script_parsed (Some files) name text (Err OutOfMemory) read parses = tt
 script_parsed (Some files) name text (Err ReadFault) read parses = absurd parses
 
-pub script_is_held : (holds : Option Files) (name : List ℕ) (file : SourceFile) → ReadsScript {T = SourceFile} holds name (Ok file) → IfSome holds (HoldsScript name)
+pub source_is_held : (holds : Option Files) (name : List ℕ) (file : SourceFile) → ReadsScript holds name (Ok file) → IfSome holds (λ files. HoldsSource files name file)
+source_is_held None name file read = tt
+source_is_held (Some files) name file read = read
+
+pub script_is_held : (holds : Option Files) (name : List ℕ) (file : SourceFile) → IfSome holds (λ files. HoldsSource files name file) → IfSome holds (HoldsScript name)
 script_is_held None name file read = tt
-script_is_held (Some files) name file read = read
+script_is_held (Some files) name file (text, held, is) = (text, held, is.form)
 
 -- ---- several files
 
@@ -78,7 +82,7 @@ named scripts place script within is = get_or-map string_bytes scripts place scr
 
 -- the scripts before this one keep their lexical form, and this one isn't accepted
 pub script_ends : (holds : Option Files) (scripts : List (String Global)) (place : ℕ) (script : String Global) (fault : FileFault) → place < length scripts → script ≡ slice_index_or scripts place script →
-    IfSome holds (HoldScripts (map string_bytes (take place scripts))) → ReadsScript {T = SourceFile} holds (string_bytes script) (Err fault) →
+    IfSome holds (HoldScripts (map string_bytes (take place scripts))) → ReadsScript holds (string_bytes script) (Err fault) →
     EndsOnScripts (map string_bytes scripts) holds (ending_at (place + 1) fault)
 script_ends holds scripts place script ReadFault within is earlier read = tt
 script_ends holds scripts place script OutOfMemory within is earlier read = tt
@@ -103,17 +107,13 @@ script_word count place ReadFault within = omega arith
 script_word count place OutOfMemory within = tt
 script_word count place (Refused p rule) within = omega arith
 
--- ---- a set
+-- ---- several texts
 
--- a text of a list that is in memory breaks a rule
-pub text_ends : (T : Type 0) (texts : List NamedText) (place : ℕ) (bytes : List ℕ) (fault : FileFault) → place < length texts →
-    slice_index_or (map bytes_in texts) place [] ≡ bytes → ParsesScript {T = T} bytes (Err fault) → EndsOnTexts (map bytes_in texts) (ending_at (place + 1) fault)
-text_ends T texts place bytes (Refused found rule) within is broken =
+-- the texts before this one keep their lexical form, and this one breaks a rule
+pub text_ends : (texts : List NamedText) (place : ℕ) (bytes : List ℕ) (fault : FileFault) → place < length texts →
+    slice_index_or (map bytes_in texts) place [] ≡ bytes → All KeepsForm (take place (map bytes_in texts)) → ParsesSource bytes (Err fault) → EndsOnTexts (map bytes_in texts) (ending_at (place + 1) fault)
+text_ends texts place bytes (Refused found rule) within is before broken =
     let counted : length (map bytes_in texts) ≡ length texts = length-map texts bytes_in in
-    inl record { at = place; word_is = omega arith; within = omega arith; refused = subst (λ text. RefusesScript text found rule) (sym is) broken }
-text_ends T texts place bytes OutOfMemory within is broken = tt
-text_ends T texts place bytes ReadFault within is broken = absurd broken
-
--- ---- the answers of the two judges of a set
-
--- ---- an accepted set
+    inl (record { at = place; word_is = omega arith; within = omega arith; earlier = before; refused = subst (λ text. RefusesScript text found rule) (sym is) broken })
+text_ends texts place bytes OutOfMemory within is before broken = tt
+text_ends texts place bytes ReadFault within is before broken = absurd broken

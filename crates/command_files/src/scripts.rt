@@ -1,10 +1,10 @@
 //! The scripts that a command names: read, cut into lines, parsed, linked into a set, and elaborated.
-ghost use Rattle.std.specs.Prelude.{◌≡◌, ◌≢◌, ◌+◌, ◌^◌, ◌<◌, ◌≤◌, length, map, vec_len, IfErr, IfOk, OnErr};
+ghost use Rattle.std.specs.Prelude.{◌≡◌, ◌≢◌, ◌+◌, ◌^◌, ◌<◌, ◌≤◌, length, map, vec_len, IfErr, IfOk, IfSome, OnErr};
 ghost use Rattle.std.specs.String.{string_bytes};
 ghost use Rattle.papy_io.specs.Activity.{Idle};
 ghost use Rattle.command_files.specs.Ending.{IsWordBelow, MissesScript};
 ghost use Rattle.command_files.specs.FileFault.{CountsFile, MissesFile};
-ghost use Rattle.command_files.specs.Scripts.{Accepts, CountsScripts, CutsLines, EndsOnSet, ParsesScript, ReadsScript, link_ending, type_ending};
+ghost use Rattle.command_files.specs.Scripts.{Accepts, CountsScripts, CutsLines, EndsOnSet, HoldSources, ParsesScript, ParsesSource, ReadsScript, link_ending, type_ending};
 ghost use Rattle.command_files.specs.TextFile.{ReadsText};
 ghost use Rattle.script_lexer.specs.declared.fault.LexRule.TheVariants as LexRule;
 ghost use Rattle.command_files.specs.declared.refusal.Place.TheVariants as Place;
@@ -61,7 +61,7 @@ fn script_of(alloc: Global, text: &[u8]) -> Result<Script, FileFault>
 /// The script that a file of this name holds. The first rule that breaks its lexical form is told,
 /// and where none does the first that breaks its lines and blocks.
 pub(crate) fn source_of(alloc: Global, name: &[u8], text: &[u8]) -> Result<SourceFile, FileFault>
-    ensures { ParsesScript text.now result }
+    ensures { ParsesSource text.now result }
 {
     let name = match Text::try_from_bytes(alloc, name) {
         Ok(name) => name,
@@ -124,6 +124,7 @@ fn read_sources<D: Desk>(
     ensures never_usage { IfErr result (λ ending. ending ≢ Ending.Usage) }
     ensures word { IfErr result (IsWordBelow (length scripts.now + 1)) }
     ensures each { IfOk result (λ files. vec_len files ≡ length scripts.now) }
+    ensures read { IfOk result (λ sources. IfSome (D.holds desk.old) (λ files. HoldSources files (map string_bytes scripts.now) sources.items)) }
     ensures ends { Accepts (map string_bytes scripts.now) (D.holds desk.old) result }
 {
     let mut files = Vec::new(alloc);
@@ -177,7 +178,7 @@ fn type_ending(fault: TypeFault) -> Ending
 /// Links the files and elaborates their set. The rules of sets stand before those of types and names.
 pub(crate) fn core_set(alloc: Global, files: Vec<SourceFile>) -> Result<CoreSet, Ending>
     requires { vec_len files < 65530 }
-    ensures ends { IfErr result (EndsOnSet (vec_len files)) }
+    ensures ends { IfErr result (EndsOnSet files.items) }
     ensures scripts { IfOk result (λ set. vec_len set.scripts ≡ vec_len files + 6) }
 {
     let set = match link(alloc, files) {

@@ -1,6 +1,6 @@
 //! Scripts whose texts a caller has in memory.
-ghost use Rattle.std.specs.Prelude.{◌≡◌, ◌+◌, ◌≤◌, length, map, vec_len, IfErr, IfOk};
-ghost use Rattle.command_files.specs.SourceTexts.{EndsOnTexts, text_of};
+ghost use Rattle.std.specs.Prelude.{◌≡◌, ◌+◌, ◌≤◌, length, map, vec_len, IfOk};
+ghost use Rattle.command_files.specs.SourceTexts.{AcceptsTexts, AreScriptsOf, text_of};
 
 use crate::ending::Ending;
 use crate::scripts::{core_set, source_of};
@@ -21,7 +21,8 @@ pub struct NamedText {
 /// The script of each text, up to the first that breaks a rule.
 fn sources_of(alloc: Global, texts: &[NamedText]) -> Result<Vec<SourceFile>, Ending>
     ensures each { IfOk result (λ files. vec_len files ≡ length texts.now) }
-    ensures ends { IfErr result (EndsOnTexts (map text_of texts.now)) }
+    ensures read { IfOk result (λ files. AreScriptsOf (map text_of texts.now) files.items) }
+    ensures ends { AcceptsTexts (map text_of texts.now) result }
 {
     let mut files = Vec::new(alloc);
     for (place, script) in texts.iter().enumerate() {
@@ -51,7 +52,7 @@ fn sources_of(alloc: Global, texts: &[NamedText]) -> Result<Vec<SourceFile>, End
 /// no memory is found.
 pub fn accept_texts(alloc: Global, texts: &[NamedText]) -> Result<CoreSet, Ending>
     requires { length texts.now ≤ 256 }
-    ensures ends { IfErr result (EndsOnTexts (map text_of texts.now)) }
+    ensures ends { AcceptsTexts (map text_of texts.now) result }
     ensures scripts { IfOk result (λ set. vec_len set.scripts ≡ length texts.now + 6) }
 {
     let files = match sources_of(alloc, texts) {

@@ -1,92 +1,137 @@
--- The heads of a set's scripts, and how many functions their empty states have.
-use Rattle.std.proofs.Common.{◌≡◌, ◌+◌, ◌<◌, ℕ, List, [], ◌∷◌, ◌++◌, length, map, take, refl, sym, ap, ◌∙◌, arith, slice_index_or, subst}
-use Rattle.std.specs.List.{All}
-use Rattle.std.proofs.lemmas.List.{length-map, map-append, take_more}
-use Rattle.std.proofs.lemmas.List.Elements.{All-push, All-same}
+-- The heads of a set's scripts, and the functions of their empty states.
+use Rattle.std.proofs.Common.{◌≡◌, ◌+◌, ◌<◌, ℕ, Bool, true, false, List, [], ◌∷◌, ◌++◌, length, map, take, filter, refl, sym, ap, ◌∙◌, arith, slice_index_or, subst}
+use Rattle.std.specs.List.{All, last_or}
+use Rattle.std.specs.Prelude.{Option, None, Some}
+use Rattle.std.proofs.lemmas.List.{append-nil, length-map, map-append, take_more}
+use Rattle.std.proofs.lemmas.List.Elements.{All-push, All-same, filter-append}
+use Rattle.script_linker.proofs.GeneratedLemmas.{Pairwise-append}
+use Rattle.script_linker.specs.Generated.{Pairwise}
+use Rattle.core_tree.specs.declared.script.CoreFunction.{CoreFunction}
 use Rattle.core_tree.specs.declared.script.CoreScript.{CoreScript}
 use Rattle.core_tree.specs.declared.script.CoreState.{CoreState}
-use Rattle.core_tree.specs.InRange.{ScriptInRange}
-use Rattle.core_tree.specs.InRange.{function_counts as core_counts}
+use Rattle.core_tree.specs.InRange.{ScriptInRange, Signature, Signatures}
+use Rattle.core_tree.specs.InRange.{signature_of as core_signature, signatures as core_signatures}
 use Rattle.core_tree.specs.Set.{empty_functions, empty_functions_of, function_of, script_of, state_of}
 use Rattle.script_linker.specs.declared.set.SourceFile.{SourceFile}
+use Rattle.script_parser.specs.declared.script.Function.{Function}
 use Rattle.script_parser.specs.declared.script.State.{State}
-use Rattle.type_scope.specs.Types.{function_count, function_counts}
-use Rattle.type_rules.specs.Heads.{ScriptHead, StateHead, core_function_head, core_script_head, core_state_head, function_head, script_head, state_head}
+use Rattle.type_scope.specs.Types.{file_signatures, signature_of, signatures}
+use Rattle.type_rules.specs.Heads.{FunctionHead, ScriptHead, StateHead, core_function_head, core_script_head, core_state_head, function_head, parameter_type, script_head, state_head}
 
--- ---- one script more
+-- ---- one thing more
 
-heads-of_more : (set : List SourceFile) (n : ℕ) (head : ScriptHead) → n < length set → ((file : SourceFile) → head ≡ script_head (slice_index_or set n file)) →
-    map script_head (take (n + 1) set) ≡ map script_head (take n set) ++ head ∷ []
-heads-of_more [] n head within is = absurd (omega arith)
-heads-of_more (first ∷ rest) n head within is =
-    ap (map script_head) (take_more (first ∷ rest) n first within)
-    ∙ map-append script_head (take n (first ∷ rest)) (slice_index_or (first ∷ rest) n first ∷ [])
-    ∙ ap (λ (h : ScriptHead). map script_head (take n (first ∷ rest)) ++ h ∷ []) (sym (is first))
+-- heads of things in order, where one more is made of the next
+pub heads-push : {X Y H : Type 0} (core : Y → H) (head : X → H) (xs : List X) (n : ℕ) (found all : List Y) (made : Y) → all ≡ found ++ made ∷ [] → map core found ≡ map head (take n xs) → n < length xs →
+    ((x : X) → core made ≡ head (slice_index_or xs n x)) → map core all ≡ map head (take (n + 1) xs)
+heads-push core head [] n found all made pushed so_far within is = absurd (omega arith)
+heads-push {X} {Y} {H} core head (first ∷ rest) n found all made pushed so_far within is =
+    ap (map core) pushed
+    ∙ map-append core found (made ∷ [])
+    ∙ ap (λ (heads : List H). heads ++ core made ∷ []) so_far
+    ∙ ap (λ (h : H). map head (take n (first ∷ rest)) ++ h ∷ []) (is first)
+    ∙ sym (map-append head (take n (first ∷ rest)) (slice_index_or (first ∷ rest) n first ∷ []))
+    ∙ ap (map head) (sym (take_more (first ∷ rest) n first within))
 
-pub heads-push : (set : List SourceFile) (n : ℕ) (scripts all : List CoreScript) (made : CoreScript) → all ≡ scripts ++ made ∷ [] → map core_script_head scripts ≡ map script_head (take n set) → n < length set →
-    ((file : SourceFile) → core_script_head made ≡ script_head (slice_index_or set n file)) → map core_script_head all ≡ map script_head (take (n + 1) set)
-heads-push set n scripts all made pushed so_far within is =
-    ap (map core_script_head) pushed
-    ∙ map-append core_script_head scripts (made ∷ [])
-    ∙ ap (λ (heads : List ScriptHead). heads ++ core_script_head made ∷ []) so_far
-    ∙ sym (heads-of_more set n (core_script_head made) within is)
+-- pairs in order, where the next thing of the first list has one more beside it
+pub pairs-push : {X Y : Type 0} (R : X → Y → Type 0) (xs : List X) (n : ℕ) (found all : List Y) (made : Y) → all ≡ found ++ made ∷ [] → Pairwise R (take n xs) found → n < length xs →
+    ((x : X) → R (slice_index_or xs n x) made) → Pairwise R (take (n + 1) xs) all
+pairs-push R [] n found all made pushed so_far within is = absurd (omega arith)
+pairs-push {X} {Y} R (first ∷ rest) n found all made pushed so_far within is =
+    let both = Pairwise-append R (take n (first ∷ rest)) found (slice_index_or (first ∷ rest) n first ∷ []) (made ∷ []) so_far (is first, tt) in
+    let behind = subst (λ (ys : List Y). Pairwise R (take n (first ∷ rest) ++ slice_index_or (first ∷ rest) n first ∷ []) ys) (sym pushed) both in
+    subst (λ (xs : List X). Pairwise R xs all) (sym (take_more (first ∷ rest) n first within)) behind
 
-pub scripts-push : (functions : List ℕ) (scripts all : List CoreScript) (made : CoreScript) → all ≡ scripts ++ made ∷ [] → All (ScriptInRange functions) (map script_of scripts) →
+pub scripts-push : (functions : Signatures) (scripts all : List CoreScript) (made : CoreScript) → all ≡ scripts ++ made ∷ [] → All (ScriptInRange functions) (map script_of scripts) →
     ScriptInRange functions (script_of made) → All (ScriptInRange functions) (map script_of all)
 scripts-push functions scripts all made pushed so_far here =
     All-same (ScriptInRange functions) (map script_of all) (map script_of scripts ++ script_of made ∷ []) (ap (map script_of) pushed ∙ map-append script_of scripts (made ∷ []))
     (All-push (ScriptInRange functions) (map script_of scripts) (script_of made) so_far here)
 
--- ---- how many functions the empty state has
+-- ---- the functions that the empty state has
 
-first_count : List StateHead → ℕ
-first_count [] = 0
-first_count (empty ∷ named) = length empty.functions
+head_signature : FunctionHead → Signature
+head_signature head = record { name = head.name; parameters = length head.parameters }
 
-first_count-core : (states : List CoreState) → first_count (map core_state_head states) ≡ length (empty_functions_of (map state_of states))
-unfolding first_count
-first_count-core [] = refl
-first_count-core (empty ∷ named) = length-map empty.functions.items core_function_head ∙ sym (length-map empty.functions.items function_of)
+first_signatures : List StateHead → List Signature
+first_signatures [] = []
+first_signatures (empty ∷ named) = map head_signature empty.functions
 
-counts-core : (scripts : List CoreScript) → map (λ (h : ScriptHead). first_count h.states) (map core_script_head scripts) ≡ core_counts (map script_of scripts)
-counts-core [] = refl
-counts-core (script ∷ rest) =
-    ap (λ (n : ℕ). n ∷ map (λ (h : ScriptHead). first_count h.states) (map core_script_head rest)) (first_count-core script.states.items)
-    ∙ ap (λ (ns : List ℕ). length (empty_functions (script_of script)) ∷ ns) (counts-core rest)
+functions-core : (functions : List CoreFunction) → map head_signature (map core_function_head functions) ≡ map core_signature (map function_of functions)
+unfolding head_signature
+functions-core [] = refl
+functions-core (f ∷ rest) = ap (λ (ss : List Signature). core_signature (function_of f) ∷ ss) (functions-core rest)
 
-counts-files : (files : List SourceFile) → map (λ (h : ScriptHead). first_count h.states) (map script_head files) ≡ function_counts files
-unfolding first_count
-counts-files [] = refl
-counts-files (file ∷ rest) =
-    ap (λ (n : ℕ). n ∷ map (λ (h : ScriptHead). first_count h.states) (map script_head rest)) (length-map file.script.functions.items function_head)
-    ∙ ap (λ (ns : List ℕ). function_count file ∷ ns) (counts-files rest)
+functions-files : (set : List SourceFile) (functions : List Function) → map head_signature (map (function_head set) functions) ≡ map (λ f. signature_of f.heading) functions
+unfolding head_signature
+functions-files set [] = refl
+functions-files set (f ∷ rest) =
+    ap (λ (n : ℕ). record { name = f.heading.name; parameters = n } ∷ map head_signature (map (function_head set) rest)) (length-map f.heading.parameters.items (parameter_type set))
+    ∙ ap (λ (ss : List Signature). signature_of f.heading ∷ ss) (functions-files set rest)
 
-same_counts : (files : List SourceFile) (scripts : List CoreScript) → map core_script_head scripts ≡ map script_head files → function_counts files ≡ core_counts (map script_of scripts)
-same_counts files scripts heads =
-    sym (counts-files files)
-    ∙ ap (map (λ (h : ScriptHead). first_count h.states)) (sym heads)
-    ∙ counts-core scripts
+first-core : (states : List CoreState) → first_signatures (map core_state_head states) ≡ map core_signature (empty_functions_of (map state_of states))
+unfolding first_signatures
+first-core [] = refl
+first-core (empty ∷ named) = functions-core empty.functions.items
 
-pub set-in_range : (files : List SourceFile) (scripts : List CoreScript) → map core_script_head scripts ≡ map script_head files → All (ScriptInRange (function_counts files)) (map script_of scripts) →
-    All (ScriptInRange (core_counts (map script_of scripts))) (map script_of scripts)
-set-in_range files scripts heads all =
-    subst (λ (functions : List ℕ). All (ScriptInRange functions) (map script_of scripts)) (same_counts files scripts heads) all
+scripts-core : (scripts : List CoreScript) → map (λ (h : ScriptHead). first_signatures h.states) (map core_script_head scripts) ≡ core_signatures (map script_of scripts)
+scripts-core [] = refl
+scripts-core (script ∷ rest) =
+    ap (λ (ss : List Signature). ss ∷ map (λ (h : ScriptHead). first_signatures h.states) (map core_script_head rest)) (first-core script.states.items)
+    ∙ ap (λ (sss : Signatures). map core_signature (empty_functions (script_of script)) ∷ sss) (scripts-core rest)
+
+scripts-files : (set files : List SourceFile) → map (λ (h : ScriptHead). first_signatures h.states) (map (script_head set) files) ≡ signatures files
+unfolding first_signatures
+scripts-files set [] = refl
+scripts-files set (file ∷ rest) =
+    ap (λ (ss : List Signature). ss ∷ map (λ (h : ScriptHead). first_signatures h.states) (map (script_head set) rest)) (functions-files set file.script.functions.items)
+    ∙ ap (λ (sss : Signatures). file_signatures file ∷ sss) (scripts-files set rest)
+
+same_signatures : (set files : List SourceFile) (scripts : List CoreScript) → map core_script_head scripts ≡ map (script_head set) files → signatures files ≡ core_signatures (map script_of scripts)
+same_signatures set files scripts heads =
+    sym (scripts-files set files)
+    ∙ ap (map (λ (h : ScriptHead). first_signatures h.states)) (sym heads)
+    ∙ scripts-core scripts
+
+pub set-in_range : (set files : List SourceFile) (scripts : List CoreScript) → map core_script_head scripts ≡ map (script_head set) files → All (ScriptInRange (signatures files)) (map script_of scripts) →
+    All (ScriptInRange (core_signatures (map script_of scripts))) (map script_of scripts)
+set-in_range set files scripts heads all =
+    subst (λ (functions : Signatures). All (ScriptInRange functions) (map script_of scripts)) (same_signatures set files scripts heads) all
 
 -- ---- one state more
 
-heads-of_states : (states : List State) (n : ℕ) (state : State) → n < length states → state ≡ slice_index_or states n state →
-    map state_head (take (n + 1) states) ≡ map state_head (take n states) ++ state_head state ∷ []
-heads-of_states states n state within is =
-    ap (map state_head) (take_more states n state within)
-    ∙ map-append state_head (take n states) (slice_index_or states n state ∷ [])
-    ∙ ap (λ (s : State). map state_head (take n states) ++ state_head s ∷ []) (sym is)
-
-pub states-push : (states : List State) (n : ℕ) (first : StateHead) (found all : List CoreState) (made : CoreState) (state : State) → all ≡ found ++ made ∷ [] →
-    map core_state_head found ≡ first ∷ map state_head (take n states) → n < length states → state ≡ slice_index_or states n state → core_state_head made ≡ state_head state →
-    map core_state_head all ≡ first ∷ map state_head (take (n + 1) states)
-states-push states n first found all made state pushed so_far within is made_is =
+-- the same behind the head of the empty state
+pub states-push : (set : List SourceFile) (states : List State) (n : ℕ) (first : StateHead) (found all : List CoreState) (made : CoreState) (state : State) → all ≡ found ++ made ∷ [] →
+    map core_state_head found ≡ first ∷ map (state_head set) (take n states) → n < length states → state ≡ slice_index_or states n state → core_state_head made ≡ state_head set state →
+    map core_state_head all ≡ first ∷ map (state_head set) (take (n + 1) states)
+states-push set states n first found all made state pushed so_far within is made_is =
+    let next : map (state_head set) (take (n + 1) states) ≡ map (state_head set) (take n states) ++ state_head set state ∷ [] =
+    ap (map (state_head set)) (take_more states n state within)
+    ∙ map-append (state_head set) (take n states) (slice_index_or states n state ∷ [])
+    ∙ ap (λ (s : State). map (state_head set) (take n states) ++ state_head set s ∷ []) (sym is) in
     ap (map core_state_head) pushed
     ∙ map-append core_state_head found (made ∷ [])
     ∙ ap (λ (heads : List StateHead). heads ++ core_state_head made ∷ []) so_far
-    ∙ ap (λ (head : StateHead). first ∷ (map state_head (take n states) ++ head ∷ [])) made_is
-    ∙ ap (λ (heads : List StateHead). first ∷ heads) (sym (heads-of_states states n state within is))
+    ∙ ap (λ (head : StateHead). first ∷ (map (state_head set) (take n states) ++ head ∷ [])) made_is
+    ∙ ap (λ (heads : List StateHead). first ∷ heads) (sym next)
+
+-- ---- the last thing of a kind
+
+last-append : {X : Type 0} (found : Option X) (xs : List X) (x : X) → last_or found (xs ++ x ∷ []) ≡ Some x
+last-append found [] x = refl
+last-append found (y ∷ ys) x = last-append (Some y) ys x
+
+-- the last of the things that the test picks, where the next is one of them
+pub last-more : {X : Type 0} (p : X → Bool) (xs : List X) (n : ℕ) (x : X) → n < length xs → x ≡ slice_index_or xs n x → p x ≡ true → last_or None (filter p (take (n + 1) xs)) ≡ Some x
+last-more {X} p xs n x within is picked =
+    ap (λ (ys : List X). last_or None (filter p ys)) (take_more xs n x within)
+    ∙ ap (λ (y : X). last_or None (filter p (take n xs ++ y ∷ []))) (sym is)
+    ∙ ap (last_or None) (filter-append p (take n xs) (x ∷ []))
+    ∙ rw picked (last-append None (filter p (take n xs)) x)
+
+-- where it is none of them
+pub last-same : {X : Type 0} (p : X → Bool) (xs : List X) (n : ℕ) (x : X) → n < length xs → x ≡ slice_index_or xs n x → p x ≡ false → last_or None (filter p (take (n + 1) xs)) ≡ last_or None (filter p (take n xs))
+last-same {X} p xs n x within is left =
+    ap (λ (ys : List X). last_or None (filter p ys)) (take_more xs n x within)
+    ∙ ap (λ (y : X). last_or None (filter p (take n xs ++ y ∷ []))) (sym is)
+    ∙ ap (last_or None) (filter-append p (take n xs) (x ∷ []))
+    ∙ rw left (ap (last_or None) (append-nil (filter p (take n xs))))

@@ -3,3 +3,4 @@ pub mod MemberRanges
 pub mod Scopes
 pub mod Trees
 pub mod Types
+pub mod Variables

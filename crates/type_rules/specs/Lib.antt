@@ -2,3 +2,4 @@ pub mod Faults
 pub mod Heads
 pub mod Members
 pub mod Ranges
+pub mod Variables

@@ -2,6 +2,7 @@ ghost use Rattle.std.specs.Prelude.{◌≡◌, length, map, IfErr, IfOk};
 ghost use Rattle.core_tree.specs.InRange.{InRange};
 ghost use Rattle.type_rules.specs.Faults.{IsFaultBelow};
 ghost use Rattle.type_rules.specs.Heads.{core_script_head, script_head};
+ghost use Rattle.type_rules.specs.Variables.{HaveVariables};
 
 use crate::fault::TypeFault;
 use crate::first_faults::FirstFaults;
@@ -18,7 +19,8 @@ use type_scope::Catalog;
 /// rules' numbers; K15 only where no other rule is broken in the set.
 pub fn elaborate(alloc: Global, set: &ScriptSet) -> Result<CoreSet, TypeFault>
     ensures in_range { IfOk result InRange }
-    ensures heads { IfOk result (λ made. map core_script_head made.scripts.items ≡ map script_head set.now) }
+    ensures heads { IfOk result (λ made. map core_script_head made.scripts.items ≡ map (script_head set.now) set.now) }
+    ensures variables { IfOk result (λ made. HaveVariables set.now made.scripts.items) }
     ensures broken { IfErr result (IsFaultBelow (length set.now)) }
 {
     let catalog = Catalog::new(alloc, set)?;

@@ -1,11 +1,12 @@
 // Functions, with their parameters and statements judged.
-ghost use Rattle.std.specs.Prelude.{◌≡◌, All, map, IfOk, OnOk};
-ghost use Rattle.core_tree.specs.InRange.{BlockInRange, FunctionInRange};
+ghost use Rattle.std.specs.Prelude.{◌≡◌, ◌≤◌, ◌++◌, All, List, map, option_map, vec_len, IfOk, OnOk};
+ghost use Rattle.core_tree.specs.InRange.{BlockInRange, FunctionInRange, TypeInRange};
 ghost use Rattle.core_tree.specs.Set.{function_of};
 ghost use Rattle.core_tree.specs.Tree.{block_of};
 ghost use Rattle.expression_rules.specs.Scopes.{Keeps, ScopeInRange, scope_bounds};
-ghost use Rattle.type_rules.specs.Ranges.{CoreFunctionInRange, Grows, KeepsScript, PromiseInRange, WorkInRange, known, promised};
-ghost use Rattle.type_rules.specs.Heads.{core_function_head, function_head};
+ghost use Rattle.type_rules.specs.Ranges.{CoreFunctionInRange, Grows, KeepsScript, PromiseInRange, WorkInRange, known, promised, scope_set, set_of};
+ghost use Rattle.script_linker.specs.declared.set.SourceFile.{SourceFile};
+ghost use Rattle.type_rules.specs.Heads.{core_function_head, function_head, parameter_type, type_in};
 
 use crate::sizes::function_size;
 use crate::statements::{BLOCK_LIMIT, Promise, core_block};
@@ -23,7 +24,7 @@ pub(crate) fn core_functions(
     work: &mut Work<'_>,
     functions: &[Function],
 ) -> Result<Vec<CoreFunction>, OutOfMemory>
-    ensures heads { IfOk result (λ found. map core_function_head found.items ≡ map function_head functions.now) }
+    ensures heads { IfOk result (λ found. map core_function_head found.items ≡ map (function_head (set_of work.old)) functions.now) }
     ensures kept { OnOk result (KeepsScript work.old work.new) }
     ensures in_range { WorkInRange work.old → IfOk result (λ found. All (CoreFunctionInRange work.old) found.items) }
 {
@@ -39,7 +40,7 @@ pub(crate) fn core_function(
     work: &mut Work<'_>,
     function: &Function,
 ) -> Result<CoreFunction, OutOfMemory>
-    ensures head { IfOk result (λ made. core_function_head made ≡ function_head function.now) }
+    ensures head { IfOk result (λ made. core_function_head made ≡ function_head (set_of work.old) function.now) }
     ensures kept { OnOk result (KeepsScript work.old work.new) }
     ensures in_range { WorkInRange work.old → IfOk result (CoreFunctionInRange work.old) }
 {
@@ -47,14 +48,16 @@ pub(crate) fn core_function(
     let mut scope = work.open_scope(heading.is_global, function.line);
     let promise = promise_of(&mut scope, &heading.result)?;
     add_parameters(&mut scope, heading.parameters.as_slice())?;
+    let parameters = known_types(scope.catalog.alloc, scope.locals.kinds.as_slice())?;
     let body = core_body(&mut scope, &function.body, promise)?;
-    let made = assemble(scope.catalog.alloc, function, &scope, promise, body)?;
+    let made = assemble(function, &scope, promise, parameters, body)?;
     let size = function_size(&made);
     work.close_scope(scope.into_notes(), function.line, size);
     Ok(made)
 }
 
 fn promise_of(scope: &mut Scope<'_>, result_type: &Option<TypeName>) -> Result<Promise, OutOfMemory>
+    ensures promised { IfOk result (λ promise. promised promise ≡ option_map (type_in (scope_set scope.old)) result_type.now) }
     ensures kept { Keeps scope.old scope.new }
     ensures in_range { IfOk result (PromiseInRange (scope_bounds scope.old).functions) }
 {
@@ -66,7 +69,8 @@ fn promise_of(scope: &mut Scope<'_>, result_type: &Option<TypeName>) -> Result<P
 
 // A default that doesn't convert to its parameter's type by itself breaks K6.
 fn add_parameters(scope: &mut Scope<'_>, parameters: &[Parameter]) -> Result<(), OutOfMemory>
-    ensures { OnOk result (Grows scope.old scope.new) }
+    ensures grows { OnOk result (Grows scope.old scope.new) }
+    ensures added { OnOk result (map known scope.new.locals.kinds.items ≡ map known scope.old.locals.kinds.items ++ map (parameter_type (scope_set scope.old)) parameters.now) }
 {
     for parameter in parameters {
         let kind = scope.kind_named(&parameter.kind)?;
@@ -97,23 +101,27 @@ fn core_body(
     }
 }
 
+// The types behind those of the parameters are those of the locals.
 fn assemble(
-    alloc: Global,
     function: &Function,
     scope: &Scope<'_>,
     promise: Promise,
+    parameters: Vec<CoreType>,
     body: Vec<CoreLine>,
 ) -> Result<CoreFunction, OutOfMemory>
-    ensures in_range { ScopeInRange scope.now → PromiseInRange (scope_bounds scope.now).functions promise → BlockInRange (scope_bounds scope.now) (block_of body.items) →
+    ensures in_range { ScopeInRange scope.now → vec_len parameters ≤ vec_len scope.now.locals.kinds → All (TypeInRange (scope_bounds scope.now).functions) parameters.items →
+        PromiseInRange (scope_bounds scope.now).functions promise → BlockInRange (scope_bounds scope.now) (block_of body.items) →
         IfOk result (λ made. FunctionInRange (scope_bounds scope.now).functions (scope_bounds scope.now).variables (function_of made)) }
-    ensures head { IfOk result (λ made. core_function_head made ≡ function_head function.now) }
+    ensures head { (set : List SourceFile) → parameters.items ≡ map (parameter_type set) function.now.heading.parameters.items →
+        promised promise ≡ option_map (type_in set) function.now.heading.result → IfOk result (λ made. core_function_head made ≡ function_head set function.now) }
 {
+    let alloc = scope.catalog.alloc;
     let heading = &function.heading;
     let kinds = scope.locals.kinds.as_slice();
-    let (parameters, locals) = kinds.split_at(heading.parameters.len().min(kinds.len()));
+    let (_, locals) = kinds.split_at(parameters.len().min(kinds.len()));
     Ok(CoreFunction {
         name: heading.name.try_clone(alloc)?,
-        parameters: known_types(alloc, parameters)?,
+        parameters,
         locals: known_types(alloc, locals)?,
         result: result_of(promise),
         is_global: heading.is_global,

@@ -1,9 +1,10 @@
 // The properties and the states of a script.
-ghost use Rattle.std.specs.Prelude.{◌≡◌, ◌<◌, All, map, IfOk, OnOk, vec_len};
+ghost use Rattle.std.specs.Prelude.{◌≡◌, ◌<◌, All, map, option_map, IfOk, OnOk, vec_len};
 ghost use Rattle.core_tree.specs.InRange.{AccessInRange, ResultInRange};
 ghost use Rattle.core_tree.specs.Set.{access_of};
-ghost use Rattle.type_rules.specs.Ranges.{CoreFunctionInRange, CorePropertyInRange, CoreStateInRange, KeepsScript, WorkInRange, functions_of, variables_of};
-ghost use Rattle.type_rules.specs.Heads.{auto_state_of, core_property_head, core_state_head, function_head, property_head, state_heads};
+ghost use Rattle.type_rules.specs.Ranges.{CoreFunctionInRange, CorePropertyInRange, CoreStateInRange, KeepsScript, WorkInRange, functions_of, known, set_of, variables_of};
+ghost use Rattle.type_rules.specs.Heads.{access_head, auto_state_of, constant_get, core_access_head, core_function_head, core_property_head, core_state_head, function_head, getter, property_head, setter, state_heads};
+ghost use Rattle.type_rules.specs.Heads.AccessHead.{ByFunctions};
 
 use crate::functions::{clone_text, core_function, core_functions};
 use crate::variables::{constant_value, known};
@@ -26,7 +27,7 @@ pub(crate) fn core_properties(
     work: &mut Work<'_>,
     properties: &[Property],
 ) -> Result<Vec<CoreProperty>, OutOfMemory>
-    ensures heads { IfOk result (λ found. map core_property_head found.items ≡ map property_head properties.now) }
+    ensures heads { IfOk result (λ found. map core_property_head found.items ≡ map (property_head (set_of work.old)) properties.now) }
     ensures kept { OnOk result (KeepsScript work.old work.new) }
     ensures in_range { WorkInRange work.old → IfOk result (λ found. All (CorePropertyInRange work.old) found.items) }
 {
@@ -42,21 +43,14 @@ fn core_property(
     place: usize,
     property: &Property,
 ) -> Result<CoreProperty, OutOfMemory>
-    ensures head { IfOk result (λ made. core_property_head made ≡ property_head property.now) }
+    ensures head { IfOk result (λ made. core_property_head made ≡ property_head (set_of work.old) property.now) }
     ensures kept { OnOk result (KeepsScript work.old work.new) }
     ensures in_range { WorkInRange work.old → IfOk result (CorePropertyInRange work.old) }
 {
     let name = property.name.try_clone(work.alloc())?;
     let doc = clone_text(work.alloc(), &property.doc)?;
     let kind = work.kind_at(property.line, &property.kind)?;
-    let access = match &property.form {
-        PropertyForm::Auto(_) => CoreAccess::Auto(auto_variable(work.layout, place)?),
-        PropertyForm::ReadOnly(constant) => {
-            let get = constant_get(work, property.line, constant, kind)?;
-            CoreAccess::Full(Some(get), None)
-        }
-        PropertyForm::Full(functions) => full_access(work, functions.as_slice())?,
-    };
+    let access = core_access(work, place, property, kind)?;
     Ok(CoreProperty {
         name,
         kind: known(kind),
@@ -64,6 +58,28 @@ fn core_property(
         doc,
         flags: property.flags,
     })
+}
+
+// How a property of this type is read and written.
+fn core_access(
+    work: &mut Work<'_>,
+    place: usize,
+    property: &Property,
+    kind: Option<CoreType>,
+) -> Result<CoreAccess, OutOfMemory>
+    ensures head { IfOk result (λ access. core_access_head access ≡ access_head (set_of work.old) (known kind) property.now.line property.now.form) }
+    ensures kept { OnOk result (KeepsScript work.old work.new) }
+    ensures in_range { WorkInRange work.old → ResultInRange (functions_of work.old) kind →
+        IfOk result (λ access. AccessInRange (functions_of work.old) (variables_of work.old) (access_of access)) }
+{
+    match &property.form {
+        PropertyForm::Auto(_) => Ok(CoreAccess::Auto(auto_variable(work.layout, place)?)),
+        PropertyForm::ReadOnly(constant) => {
+            let get = constant_get(work, property.line, constant, kind)?;
+            Ok(CoreAccess::Full(Some(get), None))
+        }
+        PropertyForm::Full(functions) => full_access(work, functions.as_slice()),
+    }
 }
 
 // The variable of the Auto property at this place. Its layout has one for each such property.
@@ -86,6 +102,7 @@ fn constant_get(
     constant: &Constant,
     kind: Option<CoreType>,
 ) -> Result<CoreFunction, OutOfMemory>
+    ensures head { IfOk result (λ made. core_function_head made ≡ constant_get (known kind) line) }
     ensures kept { OnOk result (KeepsScript work.old work.new) }
     ensures in_range { ResultInRange (functions_of work.old) kind → IfOk result (CoreFunctionInRange work.old) }
 {
@@ -113,6 +130,8 @@ fn constant_get(
 
 // The functions of a full property are at most one Get and one Set.
 fn full_access(work: &mut Work<'_>, functions: &[Function]) -> Result<CoreAccess, OutOfMemory>
+    ensures head { IfOk result (λ access. core_access_head access
+        ≡ ByFunctions (option_map (function_head (set_of work.old)) (getter functions.now)) (option_map (function_head (set_of work.old)) (setter functions.now))) }
     ensures kept { OnOk result (KeepsScript work.old work.new) }
     ensures in_range { WorkInRange work.old → IfOk result (λ access. AccessInRange (functions_of work.old) (variables_of work.old) (access_of access)) }
 {
@@ -134,7 +153,7 @@ pub(crate) fn core_states(
     work: &mut Work<'_>,
     script: &Script,
 ) -> Result<Vec<CoreState>, OutOfMemory>
-    ensures heads { IfOk result (λ found. map core_state_head found.items ≡ state_heads script.now) }
+    ensures heads { IfOk result (λ found. map core_state_head found.items ≡ state_heads (set_of work.old) script.now) }
     ensures kept { OnOk result (KeepsScript work.old work.new) }
     ensures in_range { WorkInRange work.old → IfOk result (λ found. All (CoreStateInRange work.old) found.items) }
 {
@@ -154,7 +173,7 @@ fn core_state(
     name: Name,
     functions: &[Function],
 ) -> Result<CoreState, OutOfMemory>
-    ensures head { IfOk result (λ made. core_state_head made ≡ record { name = name; functions = map function_head functions.now }) }
+    ensures head { IfOk result (λ made. core_state_head made ≡ record { name = name; functions = map (function_head (set_of work.old)) functions.now }) }
     ensures kept { OnOk result (KeepsScript work.old work.new) }
     ensures in_range { WorkInRange work.old → IfOk result (CoreStateInRange work.old) }
 {

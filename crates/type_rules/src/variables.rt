@@ -1,7 +1,9 @@
 // The variables of a script, and the values with which they and its properties begin.
-ghost use Rattle.std.specs.Prelude.{◌≡◌, All, IfOk, vec_len};
+ghost use Rattle.std.specs.Prelude.{◌≡◌, ◌++◌, All, codes, map, IfOk, vec_len};
 ghost use Rattle.core_tree.specs.InRange.{LiteralInRange, VariableInRange};
-ghost use Rattle.type_rules.specs.Ranges.{KeepsScript, functions_of, known, variables_of};
+ghost use Rattle.type_rules.specs.Ranges.{KeepsScript, functions_of, known, set_of, variables_of};
+ghost use Rattle.type_rules.specs.Variables.{core_variable_head, variable_head};
+ghost use Rattle.type_scope.specs.Sources.{declaration, of_property, of_variable};
 
 use crate::work::Work;
 use core_tree::{CoreType, CoreVariable, Value};
@@ -15,6 +17,7 @@ use type_scope::{Kind, Source};
 /// The variables of the script, those of its Auto properties among them, in order of line.
 pub(crate) fn core_variables(work: &mut Work<'_>) -> Result<Vec<CoreVariable>, OutOfMemory>
     ensures kept { KeepsScript work.old work.new }
+    ensures heads { IfOk result (λ found. map core_variable_head found.items ≡ map (variable_head (set_of work.old)) (map declaration work.old.layout.now.sources.items)) }
     ensures count { IfOk result (λ found. vec_len found ≡ variables_of work.old) }
     ensures in_range { IfOk result (λ found. All (VariableInRange (functions_of work.old)) found.items) }
 {
@@ -32,6 +35,7 @@ pub(crate) fn core_variables(work: &mut Work<'_>) -> Result<Vec<CoreVariable>, O
 
 fn declared_variable(work: &mut Work<'_>, variable: &Variable) -> Result<CoreVariable, OutOfMemory>
     ensures kept { KeepsScript work.old work.new }
+    ensures head { IfOk result (λ made. core_variable_head made ≡ variable_head (set_of work.old) (of_variable variable.now)) }
     ensures in_range { IfOk result (VariableInRange (functions_of work.old)) }
 {
     let kind = work.kind_at(variable.line, &variable.kind)?;
@@ -46,6 +50,7 @@ fn declared_variable(work: &mut Work<'_>, variable: &Variable) -> Result<CoreVar
 // The variable in which an Auto property keeps its value.
 fn property_variable(work: &mut Work<'_>, property: &Property) -> Result<CoreVariable, OutOfMemory>
     ensures kept { KeepsScript work.old work.new }
+    ensures head { IfOk result (λ made. core_variable_head made ≡ variable_head (set_of work.old) (of_property property.now)) }
     ensures in_range { IfOk result (VariableInRange (functions_of work.old)) }
 {
     let kind = work.kind_at(property.line, &property.kind)?;
@@ -72,7 +77,9 @@ fn property_value(
 }
 
 // The name of the variable of the Auto property of this name.
-fn variable_name(alloc: Global, property: &Name) -> Result<Name, OutOfMemory> {
+fn variable_name(alloc: Global, property: &Name) -> Result<Name, OutOfMemory>
+    ensures { IfOk result (λ name. name ≡ codes "::" ++ property.now ++ codes "_var") }
+{
     let mut bytes = b"::".to_vec(alloc)?;
     bytes.extend_from_slice(property.as_bytes())?;
     bytes.extend_from_slice(b"_var")?;

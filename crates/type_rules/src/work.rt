@@ -2,7 +2,8 @@
 ghost use Rattle.std.specs.Prelude.{◌≡◌, [], IfNone, IfOk, IfSome, IsSome};
 ghost use Rattle.core_tree.specs.InRange.{ResultInRange};
 ghost use Rattle.expression_rules.specs.Rules.{IsFirst};
-ghost use Rattle.type_rules.specs.Ranges.{KeepsScript, functions_of};
+ghost use Rattle.type_rules.specs.Ranges.{KeepsScript, functions_of, set_of};
+ghost use Rattle.type_scope.specs.Types.{type_named};
 
 use crate::first_faults::ScriptFaults;
 use crate::sizes::Sizes;
@@ -68,6 +69,7 @@ impl<'a> Work<'a> {
         line: u16,
         name: &TypeName,
     ) -> Result<Option<CoreType>, OutOfMemory>
+        ensures found { IfOk result (λ found. found ≡ type_named (set_of self.old) name.now) }
         ensures kept { KeepsScript self.old self.new }
         ensures in_range { IfOk result (ResultInRange (functions_of self.old)) }
         ensures noted { IfOk result (λ found. IfNone found (IsSome self.new.notes.first)) }

@@ -2,7 +2,7 @@ use Rattle.std.proofs.Common.{◌≡◌, map, take, vec_len}
 use Rattle.std.specs.Prelude.{IfSome}
 use Rattle.std.specs.String.{string_bytes}
 use Rattle.papy_io.specs.Activity.{Idle}
-use Rattle.command_files.specs.Scripts.{HoldScripts}
+use Rattle.command_files.specs.Scripts.{HoldScripts, HoldSources}
 use Rattle.command_files.proofs.scripts.read_sources.Given as goal
 
 -- the scripts so far are held, and keep their lexical form
@@ -14,4 +14,5 @@ invariant-loop-place g l = record {
   read_faults : g.D.Desk.read_faults l.desk ≡ g.D.Desk.read_faults l.fn.desk;
   each : vec_len l.files ≡ l.place;
   held : IfSome (g.D.Desk.holds l.fn.desk) (HoldScripts (map string_bytes (take l.place l.scripts)));
+  read : IfSome (g.D.Desk.holds l.fn.desk) (λ files. HoldSources files (map string_bytes (take l.place l.scripts)) l.files.items);
 }

@@ -1,5 +1,9 @@
 use Rattle.std.proofs.Common.{refl}
+use Rattle.command_files.proofs.SourceSets.{declared_begins}
 use Rattle.command_files.proofs.scripts.script_of.Goals as goal
+
+pub returns-in-Ok-parse_script : goal.returns-in-Ok-parse_script
+returns-in-Ok-parse_script c = declared_begins c.args.text.now c.in-Ok.lines c.in-Ok-parse_script.script c.in-Ok.ensures.cut.0 c.in-Ok.ensures.cut.1 c.in-Ok-parse_script.ensures.lines
 
 pub returns-in-Err-Broken : goal.returns-in-Err-Broken
 returns-in-Err-Broken c =

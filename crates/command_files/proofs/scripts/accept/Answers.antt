@@ -1,0 +1,12 @@
+use Rattle.std.proofs.Common.{◌≡◌, arith, length, map}
+use Rattle.std.proofs.lemmas.List.{length-map}
+use Rattle.std.specs.String.{string_bytes}
+use Rattle.command_files.proofs.SourceSets.{set_ends}
+use Rattle.command_files.proofs.scripts.accept.Goals as goal
+
+pub returns-in-Err-core_set-clause-ends : goal.returns-in-Err-core_set-clause-ends
+returns-in-Err-core_set-clause-ends g c =
+    let files = c.in-Ok.files in
+    let names = map string_bytes c.args.scripts.now in
+    let same : length files.items ≡ length names = omega (arith, c.in-Ok.ensures.each, files.ok.0, length-map c.args.scripts.now string_bytes) in
+    set_ends (g.D.Desk.holds c.args.desk.now) names files.items c.in-Err-core_set.ending same c.in-Ok.ensures.ends c.in-Ok.ensures.read c.in-Err-core_set.ensures.ends
