@@ -19,7 +19,7 @@ use Rattle.command_files.specs.declared.file_fault.FileFault.TheVariants.{ReadFa
 use Rattle.command_files.specs.declared.refusal.Place.{Place}
 use Rattle.command_files.specs.declared.refusal.Place.TheVariants.{Line}
 use Rattle.command_files.specs.declared.refusal.Rule.{Rule}
-use Rattle.command_files.specs.declared.refusal.Rule.TheVariants.{Pex, Listing, Lexical, Grammar, Link, Typing, Scene, Verification, Held, Journal}
+use Rattle.command_files.specs.declared.refusal.Rule.TheVariants.{Pex, Listing, Lexical, Grammar, Link, Typing, Scene, Verification, Held, Journal, Lifting}
 use Rattle.command_files.specs.Ending.{CountsReads, word_at}
 
 -- at most 1 MiB, and no rule of a script's lexical form is broken
@@ -62,6 +62,7 @@ RefusesScript text place (Scene rule) = ⊥
 RefusesScript text place (Verification rule) = ⊥
 RefusesScript text place (Held rule) = ⊥
 RefusesScript text place (Journal rule) = ⊥
+RefusesScript text place (Lifting rule) = ⊥
 
 -- lines, or the rule that the text breaks
 abbrev pub CutsLines : List ℕ → Result Lines FileFault → Type 0
@@ -108,6 +109,7 @@ IsRuleOfSets (Scene rule) = ⊥
 IsRuleOfSets (Verification rule) = ⊥
 IsRuleOfSets (Held rule) = ⊥
 IsRuleOfSets (Journal rule) = ⊥
+IsRuleOfSets (Lifting rule) = ⊥
 
 -- a rule of sets of so many scripts is broken in one of them
 pub record RefusesSet (count word : ℕ) (place : Place) (rule : Rule) : Type 0 where

@@ -53,12 +53,15 @@ pub record BreaksTogether (first count word : ℕ) (place : Place) (rule : Rule)
   pub place_is : place ≡ Member object member instruction
   pub rule_is : rule ≡ Verification broken
 
--- the scene is refused, or one of the files, by itself or among the others, all of which are held
+-- one of the files is refused, by itself or among the others, all of which are held
+abbrev pub RefusesSet : ℕ → List (List ℕ) → Files → ℕ → Place → Rule → Type 0
+RefusesSet first names files word place rule =
+    RefusesValue first names files word place rule ⊎ (BreaksTogether first (length names) word place rule × AreHeld names files)
+
+-- the scene is refused, or one of the files
 abbrev pub RefusesProgram : ℕ → ℕ → List (List ℕ) → Files → ℕ → Place → Rule → Type 0
 RefusesProgram named first words files word place rule = IsHeld (scene_of named words) files
-    × (RefusesScene named word place rule
-    ⊎ RefusesValue first (files_from first words) files word place rule
-    ⊎ (BreaksTogether first (length (files_from first words)) word place rule × AreHeld (files_from first words) files))
+    × (RefusesScene named word place rule ⊎ RefusesSet first (files_from first words) files word place rule)
 
 -- how a command ends early of whose refusals this holds
 abbrev pub EndsOn : (ℕ → Place → Rule → Type 0) → Ending → Type 0
@@ -78,6 +81,10 @@ EndsRead _ = Unit {0}
 -- what reading these files answers early
 abbrev pub EndsOnValues : ℕ → List (List ℕ) → Option Files → Ending → Type 0
 EndsOnValues first names holds ending = EndsOn (λ word place rule. IfSome holds (λ files. RefusesValue first names files word place rule)) ending
+
+-- what reading and verifying these files answers early
+abbrev pub EndsOnSet : ℕ → List (List ℕ) → Option Files → Ending → Type 0
+EndsOnSet first names holds ending = EndsOn (λ word place rule. IfSome holds (λ files. RefusesSet first names files word place rule)) ending
 
 -- what verifying so many files answers early
 abbrev pub EndsTogether : ℕ → ℕ → Ending → Type 0
