@@ -25,7 +25,7 @@ use Rattle.command_files.specs.PexFile.{ReadsKept, ReadsPex}
 use Rattle.command_files.specs.SceneFile.{ReadsKeptScene}
 use Rattle.command_files.specs.Scripts.{CountsScripts}
 use Rattle.command_files.proofs.HeldScripts.{held-more}
-use Rattle.run_commands.specs.Program.{AreKept, AreSmall, BreaksTogether, EndsOnProgram, EndsOnSet, EndsOnValues, EndsTogether, IsHeldProgram, MissesRead, MissesValue, ReadsValue, Verifies, files_from, scene_of}
+use Rattle.run_commands.specs.Program.{AreKept, AreSmall, AreSpelled, BreaksTogether, EndsOnProgram, EndsOnSet, EndsOnValues, EndsTogether, IsHeldProgram, IsSpelled, MissesRead, MissesValue, ReadsValue, Verifies, files_from, scene_of}
 use Rattle.run_commands.specs.declared.program.Program.{Program}
 
 -- ---- one file
@@ -53,6 +53,16 @@ part_unread None name fault read = tt
 part_unread (Some files) name (file.Refused place rule) read = read
 part_unread (Some files) name file.ReadFault read = tt
 part_unread (Some files) name file.OutOfMemory read = tt
+
+-- the bytes spell the value, whether they were kept or not
+pub kept_spelled : (holds : Option Files) (name : List ℕ) (result : Result KeptPex FileFault) → ReadsKept holds name result → IfOk result (λ found. IfSome holds (IsSpelled name found.value))
+kept_spelled None name (Ok found) read = tt
+kept_spelled (Some files) name (Ok found) (bytes, held, kept) = (bytes, held, kept.spelled)
+kept_spelled holds name (Err fault) read = tt
+
+pub part_spelled : (holds : Option Files) (name : List ℕ) (found : PexFile) → ReadsPex holds name (Ok found) → IfSome holds (IsSpelled name found.value)
+part_spelled None name found read = tt
+part_spelled (Some files) name found (bytes, held, read) = (bytes, held, read.spelled)
 
 -- ---- one file after another
 
@@ -115,6 +125,17 @@ kept_more true (Some files) names kept name found are read =
     let each : map bytes_of (kept ++ found.bytes ∷ []) ≡ map bytes_of kept ++ found.bytes.items ∷ [] = map-append bytes_of kept (found.bytes ∷ []) in
     subst (λ contents. Hold files (names ++ name ∷ []) contents) (sym each) (hold-more files names (map bytes_of kept) name found.bytes.items are read)
 kept_more false (Some files) names kept name found are read = held-more (Some files) names name are read
+
+spell-more : (files : Files) (names : List (List ℕ)) (values : List Pex) (name : List ℕ) (value : Pex) → AreSpelled names values files → IsSpelled name value files → AreSpelled (names ++ name ∷ []) (values ++ value ∷ []) files
+spell-more files [] [] name value are is = (is, tt)
+spell-more files [] (v ∷ values) name value are is = absurd are
+spell-more files (n ∷ names) [] name value are is = absurd are
+spell-more files (n ∷ names) (v ∷ values) name value are is = (are.0, spell-more files names values name value are.1 is)
+
+pub spelled_more : (holds : Option Files) (names : List (List ℕ)) (values : List Pex) (name : List ℕ) (value : Pex) → IfSome holds (AreSpelled names values) → IfSome holds (IsSpelled name value) →
+    IfSome holds (AreSpelled (names ++ name ∷ []) (values ++ value ∷ []))
+spelled_more None names values name value are is = tt
+spelled_more (Some files) names values name value are is = spell-more files names values name value are is
 
 -- the files whether their bytes were kept or not
 pub kept_are_held : (keep : Bool) (holds : Option Files) (names : List (List ℕ)) (kept : List (Vec ℕ Global)) → IfSome holds (AreKept keep names kept) → IfSome holds (AreHeld names)

@@ -1,10 +1,13 @@
 -- What reading and verifying a scene and compiled files gives. Words are counted from the command's own, which is 0: the scene's is `named`,
 -- and those from `first` on name the compiled files.
-use Rattle.std.specs.Prelude.{◌≡◌, ◌⊎◌, ℕ, suc, ◌+◌, ◌-◌, ◌<◌, ◌≤◌, ◌^◌, Bool, true, false, List, drop, length, map, Option, None, Some, Result, Ok, Err, IfSome}
+use Rattle.std.specs.Prelude.{◌≡◌, ◌⊎◌, ℕ, suc, ◌+◌, ◌-◌, ◌<◌, ◌≤◌, ◌^◌, Bool, true, false, List, [], ◌∷◌, drop, length, map, Option, None, Some, Result, Ok, Err, IfSome}
 use Rattle.std.specs.List.{AllByRecursion}
 use Rattle.std.specs.declared.alloc.Global.{Global}
 use Rattle.std.specs.declared.vec.Vec.{Vec}
 use Rattle.papy_io.specs.Files.{Files, told_bytes}
+use Rattle.pex_codec.specs.Spells.{Spells}
+use Rattle.pex_values.specs.Plain.{plain}
+use Rattle.pex_values.specs.declared.values.Pex.{Pex}
 use Rattle.pex_verify.specs.declared.fault.VerifyRule.{VerifyRule}
 use Rattle.command_files.specs.declared.ending.Ending.{Ending}
 use Rattle.command_files.specs.declared.ending.Ending.TheVariants.{Done, OutOfMemory, Usage, ReadFault, WriteFault, Refused, NotBuilt}
@@ -105,6 +108,10 @@ abbrev pub IsKept : Bool → List ℕ → Vec ℕ Global → Files → Type 0
 IsKept true name bytes files = told_bytes (Some files) name ≡ Some bytes.items
 IsKept false name bytes files = IsHeld name files
 
+-- the name is held, with bytes that spell the value
+abbrev pub IsSpelled : List ℕ → Pex → Files → Type 0
+IsSpelled name value files = (bytes : List ℕ) × (told_bytes (Some files) name ≡ Some bytes) × Spells (plain value) bytes
+
 -- what reading one file gives
 abbrev pub ReadsValue : Bool → Option Files → List ℕ → Result KeptPex FileFault → Type 0
 ReadsValue keep None name result = Unit {0}
@@ -117,6 +124,13 @@ ReadsValue keep (Some files) name (Err file.OutOfMemory) = Unit {0}
 abbrev pub AreKept : Bool → List (List ℕ) → List (Vec ℕ Global) → Files → Type 0
 AreKept true names kept files = Hold files names (map bytes_of kept)
 AreKept false names kept files = AreHeld names files
+
+-- each of these names is held, with bytes that spell the value in its place
+abbrev pub AreSpelled : List (List ℕ) → List Pex → Files → Type 0
+AreSpelled [] [] files = Unit {0}
+AreSpelled [] (value ∷ values) files = ⊥
+AreSpelled (name ∷ names) [] files = ⊥
+AreSpelled (name ∷ names) (value ∷ values) files = IsSpelled name value files × AreSpelled names values files
 
 -- the scene is held with its text, and each compiled file
 pub record IsHeldProgram (named first : ℕ) (keep : Bool) (words : List (List ℕ)) (program : Program) (files : Files) : Type 0 where

@@ -8,7 +8,7 @@ ghost use Rattle.command_files.specs.Ending.{IsWordBelow, MissesScript};
 ghost use Rattle.command_files.specs.Held.{AreHeld};
 ghost use Rattle.command_files.specs.FileFault.{CountsFile, MissesFile};
 ghost use Rattle.command_files.specs.Scripts.{CountsScripts};
-ghost use Rattle.run_commands.specs.Program.{AreKept, AreSmall, EndsOnProgram, EndsOnSet, EndsOnValues, EndsTogether, IsHeldProgram, MissesRead, MissesValue, ReadsValue, Verifies};
+ghost use Rattle.run_commands.specs.Program.{AreKept, AreSmall, AreSpelled, EndsOnProgram, EndsOnSet, EndsOnValues, EndsTogether, IsHeldProgram, IsSpelled, MissesRead, MissesValue, ReadsValue, Verifies};
 
 use command_files::{
     Ending, FileFault, KeptPex, KeptScene, Place, Rule, load_kept_scene, read_kept_pex, read_pex,
@@ -56,6 +56,7 @@ fn read_value<D: Desk>(
     ensures valid { IfOk result (λ file. IsFile file.value) }
     ensures small { IfOk result (λ file. vec_len file.bytes ≤ 16777216) }
     ensures read { ReadsValue keep (D.holds desk.old) name.now result }
+    ensures spelled { IfOk result (λ file. IfSome (D.holds desk.old) (IsSpelled name.now file.value)) }
 {
     if keep {
         return read_kept_pex(alloc, desk, name);
@@ -102,6 +103,7 @@ fn read_values<D: Desk>(
     ensures valid { IfOk result (λ files. All IsFile files.values.items) }
     ensures small { IfOk result (λ files. AreSmall files.kept.items) }
     ensures kept { IfOk result (λ files. IfSome (D.holds desk.old) (AreKept keep (map string_bytes names.now) files.kept.items)) }
+    ensures spelled { IfOk result (λ files. IfSome (D.holds desk.old) (AreSpelled (map string_bytes names.now) files.values.items)) }
 {
     let mut files = ReadFiles {
         values: Vec::new(alloc),
@@ -182,7 +184,8 @@ fn judge_values(alloc: Global, values: &[Pex], first: usize) -> Result<(), Endin
 }
 
 /// Reads compiled files in order, up to the first that isn't read or breaks a rule, and judges them together. Nothing is
-/// made of them that could run. The first name is the word behind the command's own.
+/// made of them that could run. The values are those that the files spell, one by one. The first name is the word behind the
+/// command's own.
 pub fn read_set<D: Desk>(alloc: Global, names: &[String], desk: &mut D) -> Result<Vec<Pex>, Ending>
     requires idle { D.busy desk.old ≡ Idle }
     requires some { 0 < length names.now }
@@ -197,6 +200,7 @@ pub fn read_set<D: Desk>(alloc: Global, names: &[String], desk: &mut D) -> Resul
     ensures count { IfOk result (λ values. vec_len values ≡ length names.now) }
     ensures valid { IfOk result (λ values. All IsFile values.items) }
     ensures held { IfOk result (λ _. IfSome (D.holds desk.old) (AreHeld (map string_bytes names.now))) }
+    ensures spelled { IfOk result (λ values. IfSome (D.holds desk.old) (AreSpelled (map string_bytes names.now) values.items)) }
 {
     let files = match read_values(alloc, names, 1, desk, false) {
         Ok(files) => files,
