@@ -1,24 +1,21 @@
 -- How `lift` ends.
 use Rattle.std.proofs.Common.{◌≡◌, ◌≢◌, ◌<◌, ◌∙◌, arith, inl, inr, ℕ, List, refl, map, length, subst, ◌+◌}
-use Rattle.std.specs.Prelude.{Option, None, Some, Ok, Err, IfSome, All, codes}
+use Rattle.std.specs.Prelude.{Option, None, Some, Ok, Err, IfSome, All}
 use Rattle.std.proofs.lemmas.List.{length-map}
 use Rattle.std.specs.declared.alloc.Global.{Global}
 use Rattle.std.specs.declared.vec.Vec.{Vec}
-use Rattle.papy_io.specs.declared.fault.IoFault.{IoFault}
-use Rattle.papy_io.specs.declared.fault.IoFault.TheVariants as io
 use Rattle.papy_io.specs.Files.{Files}
 use Rattle.pex_values.specs.Plain.{PlainPex, plain}
 use Rattle.pex_values.specs.declared.values.Pex.{Pex}
 use Rattle.pex_verify.specs.Files.{IsFile}
 use Rattle.command_files.specs.declared.ending.Ending.{Ending}
 use Rattle.command_files.specs.declared.ending.Ending.TheVariants.{Done, OutOfMemory, Usage, ReadFault, WriteFault, Refused, NotBuilt}
-use Rattle.command_files.specs.Ending.{CountsReads, CountsWrites, IsWordBelow, MissesScript, write_ending}
+use Rattle.command_files.specs.Ending.{CountsReads, CountsWrites, IsWordBelow, MissesScript}
 use Rattle.command_files.specs.Held.{AreHeld}
 use Rattle.command_files.specs.Outputs.{EndsUnprinted}
-use Rattle.run_commands.specs.Program.{EndsOnSet}
+use Rattle.run_commands.specs.Program.{AreSpelled, EndsOnSet}
 use Rattle.papyrus_cmd.specs.Answers.{LiftAnswersTo}
 use Rattle.papyrus_cmd.specs.Lift.{HaveSources, LiftLeaves, Lifts}
-use Rattle.papyrus_cmd.specs.Written.{WritesEach}
 
 -- an ending before any file is written
 abbrev IsEarly : Ending → Type 0
@@ -122,16 +119,13 @@ unlifted_reads files NotBuilt before now lifts same = same
 
 -- ---- sources
 
-pub have_sources : (names : List (List ℕ)) (values : List Pex) (texts : Vec (List ℕ) Global) → All IsFile values → length values ≡ length names → Lifts (map plain values) (Ok texts) → HaveSources names texts.items
-have_sources names values texts valid counted lifts = record {
+pub have_sources : (names : List (List ℕ)) (holds : Option Files) (values : List Pex) (texts : Vec (List ℕ) Global) → All IsFile values → IfSome holds (AreSpelled names values) → length values ≡ length names → Lifts (map plain values) (Ok texts) →
+    HaveSources names holds texts.items
+have_sources names holds values texts valid spelled counted lifts = record {
   values = values;
   valid = valid;
+  spelled = spelled;
   value_each = counted;
   one_each = lifts.1 ∙ length-map values plain ∙ counted;
   lifted = lifts.0;
 }
-
--- on files that were not all written
-pub cut_leaves : (T : Type 0) (names texts : List (List ℕ)) (fault : IoFault) (old new : Option Files) → HaveSources names texts → WritesEach {T = T} (codes ".lift.psc") names texts (Err fault) old new → LiftLeaves names (write_ending fault) old new
-cut_leaves T names texts io.Failed old new have writes = inr (texts, have, writes)
-cut_leaves T names texts io.OutOfMemory old new have writes = inr (texts, have, writes)

@@ -1,5 +1,5 @@
 -- What `lift` gives and leaves.
-use Rattle.std.specs.Prelude.{◌≡◌, ◌⊎◌, ℕ, List, All, codes, length, map, Option, Result, Ok, Err}
+use Rattle.std.specs.Prelude.{◌≡◌, ◌⊎◌, ℕ, List, All, codes, length, map, Option, Result, Ok, Err, IfSome}
 use Rattle.std.specs.declared.alloc.Global.{Global}
 use Rattle.std.specs.declared.vec.Vec.{Vec}
 use Rattle.papy_io.specs.Files.{Files}
@@ -15,7 +15,7 @@ use Rattle.command_files.specs.declared.refusal.Place.TheVariants.{Whole}
 use Rattle.command_files.specs.declared.refusal.Rule.{Rule}
 use Rattle.command_files.specs.declared.refusal.Rule.TheVariants.{Lifting}
 use Rattle.command_files.specs.Held.{AreHeld}
-use Rattle.run_commands.specs.Program.{RefusesSet}
+use Rattle.run_commands.specs.Program.{AreSpelled, RefusesSet}
 use Rattle.papyrus_cmd.specs.Written.{Written, WritesSome}
 
 -- no sources were found, which is told of the first file
@@ -41,20 +41,21 @@ abbrev pub RefusesLifted : List (List ℕ) → Files → ℕ → Place → Rule 
 RefusesLifted names files word place rule =
     RefusesSet 1 names files word place rule ⊎ (IsNotLifted word place rule × AreHeld names files)
 
--- a source for each compiled file, and as a set they compile to the code of the files' values, one by one
-pub record HaveSources (names texts : List (List ℕ)) : Type 0 where
+-- a source for each compiled file, and as a set they compile to the code of the values that the files spell, one by one
+pub record HaveSources (names : List (List ℕ)) (holds : Option Files) (texts : List (List ℕ)) : Type 0 where
   pub values : List Pex
   pub valid : All IsFile values
+  pub spelled : IfSome holds (AreSpelled names values)
   pub value_each : length values ≡ length names
   pub one_each : length texts ≡ length names
   pub lifted : AreLifted (map plain values) texts
 
 abbrev pub LiftsAll : List (List ℕ) → Option Files → Option Files → Type 0
-LiftsAll names old new = (texts : List (List ℕ)) × HaveSources names texts × Written (codes ".lift.psc") (length names) names texts old new
+LiftsAll names old new = (texts : List (List ℕ)) × HaveSources names old texts × Written (codes ".lift.psc") (length names) names texts old new
 
 -- the same where a write failed or found no memory, or where none began
 abbrev pub MayLift : List (List ℕ) → Option Files → Option Files → Type 0
-MayLift names old new = (new ≡ old) ⊎ ((texts : List (List ℕ)) × HaveSources names texts × WritesSome (codes ".lift.psc") names texts old new)
+MayLift names old new = (new ≡ old) ⊎ ((texts : List (List ℕ)) × HaveSources names old texts × WritesSome (codes ".lift.psc") names texts old new)
 
 -- what the files are by the way that `lift` ended
 abbrev pub LiftLeaves : List (List ℕ) → Ending → Option Files → Option Files → Type 0
