@@ -46,7 +46,7 @@ A file NAME.rows here has cases of one line each, which differ in little and are
 A row is its fields with ` | ` between them, `  =>  `, the status, a blank, and without its last line feed all that is written to
 standard output where the status is 0, and else to standard error; the other of them has nothing. Each field is used, but for empty
 ones. In fields, answers, words and [out] `\\n`, `\\r`, `\\t`, `\\\\`, `\\|` and `\\xNN` are escapes, and `\\{ab\\n*300}` is a text 300 times. Files are
-there afterwards as they were before, but for those that `compile`, `asm`, `upgrade`, `journal` and `hold` write where they end with 0.
+there afterwards as they were before, but for those that `compile`, `asm`, `lift`, `upgrade`, `journal` and `hold` write where they end with 0.
 
   run.py            every case
   run.py NAME..     these cases: NAME of a folder or of a file of rows, NAME:LINE of a row
@@ -71,7 +71,7 @@ LAST_BUILT = max(BUILT / "papyrus", BUILT / "unproved" / "papyrus", key=lambda p
 PROGRAM = pathlib.Path(os.environ.get("PAPYRUS_PROGRAM") or LAST_BUILT).resolve()
 EXPECTED = {"args", "status", "out", "notes", "after", "listed", "made", "judge", "closed", "room", "memory", "generate", "earlier"}
 SECONDS = 60
-WRITING = {"compile", "asm", "upgrade", "journal", "hold"}
+WRITING = {"compile", "asm", "lift", "upgrade", "journal", "hold"}
 LIMITS = {"room": "RLIMIT_FSIZE", "memory": "RLIMIT_DATA"}
 # Runs the words behind the first two, with the limit that these give.
 WITH_LIMIT = """import os, resource, sys

@@ -15,6 +15,8 @@ use Rattle.pex_listing.specs.declared.faults.ListingRule.{ListingRule}
 use Rattle.pex_listing.specs.declared.faults.ListingRule.TheVariants as listing
 use Rattle.pex_verify.specs.declared.fault.VerifyRule.{VerifyRule}
 use Rattle.pex_verify.specs.declared.fault.VerifyRule.TheVariants as verify
+use Rattle.pex_lift.specs.declared.fault.LiftRule.{LiftRule}
+use Rattle.pex_lift.specs.declared.fault.LiftRule.TheVariants as lift
 use Rattle.run_replay.specs.declared.fault.JournalRule.{JournalRule}
 use Rattle.run_replay.specs.declared.fault.JournalRule.TheVariants as journal
 use Rattle.scene_reader.specs.declared.fault.SceneRule.{SceneRule}
@@ -24,7 +26,7 @@ use Rattle.stack_save.specs.declared.fault.HeldRule.TheVariants as held
 use Rattle.command_files.specs.declared.refusal.Place.{Place}
 use Rattle.command_files.specs.declared.refusal.Place.TheVariants.{Offset, Line, Whole, Member}
 use Rattle.command_files.specs.declared.refusal.Rule.{Rule}
-use Rattle.command_files.specs.declared.refusal.Rule.TheVariants.{Pex, Listing, Lexical, Grammar, Link, Typing, Scene, Verification, Held, Journal}
+use Rattle.command_files.specs.declared.refusal.Rule.TheVariants.{Pex, Listing, Lexical, Grammar, Link, Typing, Scene, Verification, Held, Journal, Lifting}
 
 -- the code and the name of each rule
 abbrev pub pex_rule_text : PexRule → List ℕ
@@ -136,6 +138,9 @@ abbrev pub journal_rule_text : JournalRule → List ℕ
 journal_rule_text journal.BadLine = codes "J1 BadLine"
 journal_rule_text journal.BadMove = codes "J2 BadMove"
 
+abbrev pub lift_rule_text : LiftRule → List ℕ
+lift_rule_text lift.NotLifted = codes "U1 NotLifted"
+
 abbrev pub rule_text : Rule → List ℕ
 rule_text (Pex rule) = pex_rule_text rule
 rule_text (Listing rule) = listing_rule_text rule
@@ -147,6 +152,7 @@ rule_text (Scene rule) = scene_rule_text rule
 rule_text (Verification rule) = verify_rule_text rule
 rule_text (Held rule) = held_rule_text rule
 rule_text (Journal rule) = journal_rule_text rule
+rule_text (Lifting rule) = lift_rule_text rule
 
 -- the status of a command that refuses a file by the rule
 abbrev pub rule_status : Rule → ℕ
@@ -160,6 +166,7 @@ rule_status (Scene rule) = 7
 rule_status (Verification rule) = 9
 rule_status (Held rule) = 11
 rule_status (Journal rule) = 12
+rule_status (Lifting rule) = 13
 
 -- the member of an object, where there is one
 abbrev pub member_text : Option (List ℕ) → List ℕ

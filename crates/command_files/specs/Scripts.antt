@@ -23,7 +23,7 @@ use Rattle.command_files.specs.declared.file_fault.FileFault.TheVariants.{ReadFa
 use Rattle.command_files.specs.declared.refusal.Place.{Place}
 use Rattle.command_files.specs.declared.refusal.Place.TheVariants.{Line}
 use Rattle.command_files.specs.declared.refusal.Rule.{Rule}
-use Rattle.command_files.specs.declared.refusal.Rule.TheVariants.{Pex, Listing, Lexical, Grammar, Link, Typing, Scene, Verification, Held, Journal}
+use Rattle.command_files.specs.declared.refusal.Rule.TheVariants.{Pex, Listing, Lexical, Grammar, Link, Typing, Scene, Verification, Held, Journal, Lifting}
 use Rattle.command_files.specs.Ending.{CountsReads, word_at}
 
 -- at most 1 MiB, and no rule of a script's lexical form is broken
@@ -77,6 +77,7 @@ RefusesScript text place (Scene rule) = ⊥
 RefusesScript text place (Verification rule) = ⊥
 RefusesScript text place (Held rule) = ⊥
 RefusesScript text place (Journal rule) = ⊥
+RefusesScript text place (Lifting rule) = ⊥
 
 -- lines, or the rule that the text breaks
 abbrev pub CutsLines : List ℕ → Result Lines FileFault → Type 0
@@ -139,6 +140,7 @@ BreaksSet IsLine line (Scene rule) = ⊥
 BreaksSet IsLine line (Verification rule) = ⊥
 BreaksSet IsLine line (Held rule) = ⊥
 BreaksSet IsLine line (Journal rule) = ⊥
+BreaksSet IsLine line (Lifting rule) = ⊥
 
 -- one of so many scripts breaks a rule of sets, and the lines of what the script of a number declares are such ones
 pub record RefusesSet (count : ℕ) (IsLineIn : ℕ → ℕ → Type 0) (word : ℕ) (place : Place) (rule : Rule) : Type 0 where

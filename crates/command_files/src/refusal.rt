@@ -1,11 +1,12 @@
 //! Which rule a file breaks, and the line that tells it.
 ghost use Rattle.std.specs.Prelude.{◌≡◌, ◌++◌, IfOk, codes};
 ghost use Rattle.std.specs.Fmt.{decimal};
-ghost use Rattle.command_files.specs.Refusal.{at_text, held_rule_text, journal_rule_text, lex_rule_text, line_rule_text, listing_rule_text, link_rule_text, member_text, pex_rule_text, place_text, refusal_line, rule_status, rule_text, scene_rule_text, type_rule_text, verify_rule_text};
+ghost use Rattle.command_files.specs.Refusal.{at_text, held_rule_text, journal_rule_text, lex_rule_text, lift_rule_text, line_rule_text, listing_rule_text, link_rule_text, member_text, pex_rule_text, place_text, refusal_line, rule_status, rule_text, scene_rule_text, type_rule_text, verify_rule_text};
 
 use line_parser::LineRule;
 use papy_base::{OutOfMemory, Text};
 use pex_codec::PexRule;
+use pex_lift::LiftRule;
 use pex_listing::ListingRule;
 use pex_verify::VerifyRule;
 use run_replay::JournalRule;
@@ -60,6 +61,8 @@ pub enum Rule {
     Held(HeldRule),
     /// One of the rules of journals.
     Journal(JournalRule),
+    /// The rule of lifting.
+    Lifting(LiftRule),
 }
 
 impl Rule {
@@ -75,6 +78,7 @@ impl Rule {
             Rule::Verification(_) => 9,
             Rule::Held(_) => 11,
             Rule::Journal(_) => 12,
+            Rule::Lifting(_) => 13,
         }
     }
 
@@ -93,6 +97,7 @@ impl Rule {
             Rule::Verification(rule) => verify_rule_text(rule),
             Rule::Held(rule) => held_rule_text(rule),
             Rule::Journal(rule) => journal_rule_text(rule),
+            Rule::Lifting(rule) => lift_rule_text(rule),
         }
     }
 }
@@ -253,6 +258,14 @@ fn journal_rule_text(rule: JournalRule) -> &'static [u8]
     match rule {
         JournalRule::BadLine => b"J1 BadLine",
         JournalRule::BadMove => b"J2 BadMove",
+    }
+}
+
+fn lift_rule_text(rule: LiftRule) -> &'static [u8]
+    ensures { result.now ≡ lift_rule_text rule }
+{
+    match rule {
+        LiftRule::NotLifted => b"U1 NotLifted",
     }
 }
 

@@ -1,6 +1,6 @@
 -- How `compile` ends.
 use Rattle.std.proofs.Common.{◌≡◌, ◌∙◌, inr, ℕ, List, ap, sym, map, length, String, Global}
-use Rattle.std.specs.Prelude.{Option, Err}
+use Rattle.std.specs.Prelude.{Option, Err, codes}
 use Rattle.std.specs.String.{string_bytes}
 use Rattle.std.proofs.lemmas.List.{length-map}
 use Rattle.papy_io.specs.declared.fault.IoFault.{IoFault}
@@ -21,6 +21,6 @@ have_files count scripts set counted has = record {
 }
 
 -- on files that were not all written
-pub cut_leaves : (T : Type 0) (names files : List (List ℕ)) (fault : IoFault) (old new : Option Files) → HaveFiles names files → WritesEach {T = T} names files (Err fault) old new → CompileLeaves names (write_ending fault) old new
+pub cut_leaves : (T : Type 0) (names files : List (List ℕ)) (fault : IoFault) (old new : Option Files) → HaveFiles names files → WritesEach {T = T} (codes ".pex") names files (Err fault) old new → CompileLeaves names (write_ending fault) old new
 cut_leaves T names files io.Failed old new have writes = inr (files, have, writes)
 cut_leaves T names files io.OutOfMemory old new have writes = inr (files, have, writes)

@@ -1,6 +1,7 @@
 pub mod Assembled
 pub mod Compiling
 pub mod CutShort
+pub mod Lifting
 pub mod NotedLines
 pub mod OutputsOf
 pub mod PartOutput

@@ -8,7 +8,7 @@ use Rattle.papy_io.specs.Sink.{Appended}
 use Rattle.papyrus_cmd.specs.declared.command.Command.{Command}
 use Rattle.papyrus_cmd.specs.declared.command.Command.TheVariants as command
 use Rattle.papyrus_cmd.specs.declared.command.FileCommand.{FileCommand}
-use Rattle.papyrus_cmd.specs.declared.command.FileCommand.TheVariants.{Compile, Check, Show, Asm, Upgrade, Waits}
+use Rattle.papyrus_cmd.specs.declared.command.FileCommand.TheVariants.{Compile, Check, Show, Asm, Upgrade, Waits, Lift}
 use Rattle.papyrus_cmd.specs.declared.command.PlayCommand.{PlayCommand}
 use Rattle.papyrus_cmd.specs.declared.command.PlayCommand.TheVariants.{Once, Run, Exec, Journal, Hold, Resume, Sample}
 use Rattle.run_commands.specs.Hold.{HoldLeaves, MayWriteHeld}
@@ -23,6 +23,7 @@ use Rattle.papyrus_cmd.specs.Answers.{Answers}
 use Rattle.papyrus_cmd.specs.Asm.{AsmLeaves, MayWrite}
 use Rattle.papyrus_cmd.specs.Command.{command_of}
 use Rattle.papyrus_cmd.specs.Compile.{CompileLeaves, MayCompile}
+use Rattle.papyrus_cmd.specs.Lift.{LiftLeaves, MayLift}
 use Rattle.papyrus_cmd.specs.Upgrade.{MayUpgrade, UpgradeLeaves}
 use Rattle.command_files.specs.Ending.{CountsBoth, CountsReads, word_at}
 use Rattle.papyrus_cmd.specs.Missed.{MissesWord}
@@ -72,6 +73,7 @@ above-four (rules.Scene rule) = omega arith
 above-four (rules.Verification rule) = omega arith
 above-four (rules.Held rule) = omega arith
 above-four (rules.Journal rule) = omega arith
+above-four (rules.Lifting rule) = omega arith
 
 not-three : (rule : Rule) → rule_status rule ≢ 3
 not-three rule = λ is. absurd (let above = above-four rule in omega arith)
@@ -165,6 +167,8 @@ unread-work Upgrade names words ending status old new notes notes' f f' told thr
     unread-left (λ e. UpgradeLeaves (word_at names 1) e old new) (new ≡ old) (λ word same. same) (λ word place rule same. same) (λ none. absurd none) (λ none. absurd none) words ending status notes notes' f f' told three leaves
 unread-work Compile names words ending status old new notes notes' f f' told three leaves =
     unread-left (λ e. CompileLeaves names e old new) (new ≡ old) (λ word same. same) (λ word place rule same. same) (λ none. absurd none) (λ same. same) words ending status notes notes' f f' told three leaves
+unread-work Lift names words ending status old new notes notes' f f' told three leaves =
+    unread-left (λ e. LiftLeaves names e old new) (new ≡ old) (λ word same. same) (λ word place rule same. same) (λ none. absurd none) (λ none. absurd none) words ending status notes notes' f f' told three leaves
 unread-work Check names words ending status old new notes notes' f f' told three leaves = leaves
 unread-work Show names words ending status old new notes notes' f f' told three leaves = leaves
 unread-work Waits names words ending status old new notes notes' f f' told three leaves = leaves
@@ -203,6 +207,7 @@ work-kept Waits names ending old new leaves none = leaves
 work-kept Asm names ending old new leaves none = absurd (cc)
 work-kept Upgrade names ending old new leaves none = absurd (cc)
 work-kept Compile names ending old new leaves none = absurd (cc)
+work-kept Lift names ending old new leaves none = absurd (cc)
 
 play-kept : (work : PlayCommand) (names : List (List ℕ)) (ending : Ending) (out out' : Option (List ℕ)) (old new : Option Files) → PlayCommandLeaves work names ending out out' old new → play_command_writes work ≡ false → new ≡ old
 play-kept Once names ending out out' old new leaves none = leaves
@@ -243,6 +248,8 @@ cut-work Upgrade names words ending status old new notes notes' f f' told cut le
     cut-left (λ e. UpgradeLeaves (word_at names 1) e old new) (MayUpgrade (word_at names 1) old new) (λ may. may) (λ may. may) (λ none. absurd none) (λ none. absurd none) (λ word same. inl same) (λ word place rule same. inl same) words ending status notes notes' f f' told cut leaves
 cut-work Compile names words ending status old new notes notes' f f' told cut leaves =
     cut-left (λ e. CompileLeaves names e old new) (MayCompile names old new) (λ may. may) (λ may. may) (λ none. absurd none) (λ same. inl same) (λ word same. inl same) (λ word place rule same. inl same) words ending status notes notes' f f' told cut leaves
+cut-work Lift names words ending status old new notes notes' f f' told cut leaves =
+    cut-left (λ e. LiftLeaves names e old new) (MayLift names old new) (λ may. may) (λ may. may) (λ none. absurd none) (λ none. absurd none) (λ word same. inl same) (λ word place rule same. inl same) words ending status notes notes' f f' told cut leaves
 cut-work Check names words ending status old new notes notes' f f' told cut leaves = leaves
 cut-work Show names words ending status old new notes notes' f f' told cut leaves = leaves
 cut-work Waits names words ending status old new notes notes' f f' told cut leaves = leaves

@@ -10,13 +10,13 @@ use Rattle.std.proofs.lemmas.List.{length-map}
 use Rattle.papyrus_cmd.specs.declared.command.Command.{Command}
 use Rattle.papyrus_cmd.specs.declared.command.Command.TheVariants.{Help, Version, Files, Play}
 use Rattle.papyrus_cmd.specs.declared.command.FileCommand.{FileCommand}
-use Rattle.papyrus_cmd.specs.declared.command.FileCommand.TheVariants.{Compile, Check, Show, Asm, Upgrade, Waits}
+use Rattle.papyrus_cmd.specs.declared.command.FileCommand.TheVariants.{Compile, Check, Show, Asm, Upgrade, Waits, Lift}
 use Rattle.papyrus_cmd.specs.declared.command.PlayCommand.{PlayCommand}
 use Rattle.papyrus_cmd.specs.declared.command.PlayCommand.TheVariants.{Once, Run, Exec, Journal, Hold, Resume, Sample}
 use Rattle.command_files.specs.declared.ending.Ending.{Ending}
 use Rattle.command_files.specs.declared.ending.Ending.TheVariants.{Done, OutOfMemory, Usage, ReadFault, WriteFault, Refused, NotBuilt}
 use Rattle.command_files.specs.Ending.{MissesScript, word_at}
-use Rattle.papyrus_cmd.specs.Command.{are_file_words, are_pex_words, are_script_words, begins_above_zero, command_of, counted_number, either_command, file_command, files_of, files_played, files_read, files_used, hold_command, hold_of, is_file_word, is_script_word, play_command, read_on, resume_command, resume_of, sample_command, stand_behind_file, turn_count, without_second}
+use Rattle.papyrus_cmd.specs.Command.{are_file_words, are_named, are_pex_words, are_script_words, begins_above_zero, command_of, counted_number, either_command, file_command, files_of, files_played, files_read, files_used, hold_command, hold_of, is_file_word, is_named, play_command, read_on, resume_command, resume_of, sample_command, stand_behind_file, turn_count, without_second}
 use Rattle.papyrus_cmd.specs.Dispatch.{IsBetween, SuitsFiles, SuitsPlay}
 use Rattle.run_commands.specs.Program.{MissesRead}
 use Rattle.papyrus_cmd.specs.Missed.{MissesPlayed, MissesWord}
@@ -40,8 +40,11 @@ limited size all is =
     let few : nat_le size 256 ≡ true = first-true (nat_le size 256) all (both-true (nat_lt 0 size) (nat_le size 256 && all) is) in
     record { some = grind (arith, nat_tests); few = grind (arith, nat_tests) }
 
+named-words : (ending : List ℕ) (words : List (List ℕ)) → are_named ending words ≡ true → IsBetween 1 256 (length words)
+named-words ending words is = limited (length words) (list_all (is_named ending) words) is
+
 script-words : (words : List (List ℕ)) → are_script_words words ≡ true → IsBetween 1 256 (length words)
-script-words words is = limited (length words) (list_all is_script_word words) is
+script-words words is = named-words (codes ".psc") words is
 
 pex-words : (words : List (List ℕ)) → are_pex_words words ≡ true → IsBetween 1 256 (length words)
 pex-words words is = limited (length words) (list_all is_file_word words) is
@@ -145,25 +148,27 @@ play-suits name words command is =
     (λ b. two-files words (both-true (bytes_eq name (codes "journal")) (stand_behind_file (stand_behind_file are_pex_words) words) b))
     (hold-words words command) (resume-words words command) (sample-words words command (length words)) is
 
-files-found : (b1 b2 b3 b4 b5 b6 : Bool) (command : FileCommand) (count : ℕ) → (b1 ≡ true → SuitsFiles Compile count) → (b2 ≡ true → SuitsFiles Check count) → (b3 ≡ true → SuitsFiles Show count) → (b4 ≡ true → SuitsFiles Asm count) → (b5 ≡ true → SuitsFiles Upgrade count) → (b6 ≡ true → SuitsFiles Waits count) →
-    (if b1 then Some Compile else if b2 then Some Check else if b3 then Some Show else if b4 then Some Asm else if b5 then Some Upgrade else if b6 then Some Waits else None) ≡ Some command → SuitsFiles command count
-files-found true b2 b3 b4 b5 b6 command count compile check show asm upgrade waits is = let e : Compile ≡ command = cc in subst (λ c. SuitsFiles c count) e (compile refl)
-files-found false true b3 b4 b5 b6 command count compile check show asm upgrade waits is = let e : Check ≡ command = cc in subst (λ c. SuitsFiles c count) e (check refl)
-files-found false false true b4 b5 b6 command count compile check show asm upgrade waits is = let e : Show ≡ command = cc in subst (λ c. SuitsFiles c count) e (show refl)
-files-found false false false true b5 b6 command count compile check show asm upgrade waits is = let e : Asm ≡ command = cc in subst (λ c. SuitsFiles c count) e (asm refl)
-files-found false false false false true b6 command count compile check show asm upgrade waits is = let e : Upgrade ≡ command = cc in subst (λ c. SuitsFiles c count) e (upgrade refl)
-files-found false false false false false true command count compile check show asm upgrade waits is = let e : Waits ≡ command = cc in subst (λ c. SuitsFiles c count) e (waits refl)
-files-found false false false false false false command count compile check show asm upgrade waits is = absurd (cc)
+files-found : (b1 b2 b3 b4 b5 b6 b7 : Bool) (command : FileCommand) (count : ℕ) → (b1 ≡ true → SuitsFiles Compile count) → (b2 ≡ true → SuitsFiles Check count) → (b3 ≡ true → SuitsFiles Show count) → (b4 ≡ true → SuitsFiles Asm count) → (b5 ≡ true → SuitsFiles Upgrade count) → (b6 ≡ true → SuitsFiles Waits count) → (b7 ≡ true → SuitsFiles Lift count) →
+    (if b1 then Some Compile else if b2 then Some Check else if b3 then Some Show else if b4 then Some Asm else if b5 then Some Upgrade else if b6 then Some Waits else if b7 then Some Lift else None) ≡ Some command → SuitsFiles command count
+files-found true b2 b3 b4 b5 b6 b7 command count compile check show asm upgrade waits lift is = let e : Compile ≡ command = cc in subst (λ c. SuitsFiles c count) e (compile refl)
+files-found false true b3 b4 b5 b6 b7 command count compile check show asm upgrade waits lift is = let e : Check ≡ command = cc in subst (λ c. SuitsFiles c count) e (check refl)
+files-found false false true b4 b5 b6 b7 command count compile check show asm upgrade waits lift is = let e : Show ≡ command = cc in subst (λ c. SuitsFiles c count) e (show refl)
+files-found false false false true b5 b6 b7 command count compile check show asm upgrade waits lift is = let e : Asm ≡ command = cc in subst (λ c. SuitsFiles c count) e (asm refl)
+files-found false false false false true b6 b7 command count compile check show asm upgrade waits lift is = let e : Upgrade ≡ command = cc in subst (λ c. SuitsFiles c count) e (upgrade refl)
+files-found false false false false false true b7 command count compile check show asm upgrade waits lift is = let e : Waits ≡ command = cc in subst (λ c. SuitsFiles c count) e (waits refl)
+files-found false false false false false false true command count compile check show asm upgrade waits lift is = let e : Lift ≡ command = cc in subst (λ c. SuitsFiles c count) e (lift refl)
+files-found false false false false false false false command count compile check show asm upgrade waits lift is = absurd (cc)
 
 files-suit : (name : List ℕ) (words : List (List ℕ)) (command : FileCommand) → file_command name words ≡ Some command → SuitsFiles command (length words)
 files-suit name words command is =
-    files-found (bytes_eq name (codes "compile") && are_script_words words) (bytes_eq name (codes "check") && are_file_words 1 words) (bytes_eq name (codes "show") && are_file_words 1 words) (bytes_eq name (codes "asm") && are_file_words 2 words) (bytes_eq name (codes "upgrade") && are_file_words 2 words) (bytes_eq name (codes "waits") && are_file_words 1 words) command (length words)
+    files-found (bytes_eq name (codes "compile") && are_script_words words) (bytes_eq name (codes "check") && are_file_words 1 words) (bytes_eq name (codes "show") && are_file_words 1 words) (bytes_eq name (codes "asm") && are_file_words 2 words) (bytes_eq name (codes "upgrade") && are_file_words 2 words) (bytes_eq name (codes "waits") && are_file_words 1 words) (bytes_eq name (codes "lift") && are_named (codes ".pex") words) command (length words)
     (λ b. script-words words (both-true (bytes_eq name (codes "compile")) (are_script_words words) b))
     (λ b. file-words 1 words (both-true (bytes_eq name (codes "check")) (are_file_words 1 words) b))
     (λ b. file-words 1 words (both-true (bytes_eq name (codes "show")) (are_file_words 1 words) b))
     (λ b. file-words 2 words (both-true (bytes_eq name (codes "asm")) (are_file_words 2 words) b))
     (λ b. file-words 2 words (both-true (bytes_eq name (codes "upgrade")) (are_file_words 2 words) b))
-    (λ b. file-words 1 words (both-true (bytes_eq name (codes "waits")) (are_file_words 1 words) b)) is
+    (λ b. file-words 1 words (both-true (bytes_eq name (codes "waits")) (are_file_words 1 words) b))
+    (λ b. named-words (codes ".pex") words (both-true (bytes_eq name (codes "lift")) (are_named (codes ".pex") words) b)) is
 
 either-play : (play : Option PlayCommand) (files : Option FileCommand) (command : PlayCommand) → either_command play files ≡ Some (Play command) → play ≡ Some command
 either-play (Some play) files command is = let e : play ≡ command = cc in ap Some e
@@ -257,6 +262,7 @@ used-first Show names = (length names, whole names)
 used-first Asm names = (1, refl)
 used-first Upgrade names = (1, refl)
 used-first Waits names = (length names, whole names)
+used-first Lift names = (length names, whole names)
 
 -- the first words, all of which are files that are read
 first-misses : (command : PlayCommand) (n : ℕ) (words : List (List ℕ)) (ending : Ending) (missed : Option (List ℕ)) → command_of words ≡ Some (Play command) → files_played command (drop 1 words) ≡ take n (drop 1 words) → MissesScript (take n (drop 1 words)) ending missed →

@@ -15,9 +15,11 @@ use Rattle.papyrus_cmd.specs.Check.{accepted_line}
 use Rattle.papyrus_cmd.specs.Command.{command_of}
 use Rattle.command_files.specs.Ending.{word_at}
 use Rattle.papyrus_cmd.specs.Help.{help_text, version_text}
+use Rattle.papyrus_cmd.specs.Lift.{RefusesLifted}
 use Rattle.papyrus_cmd.specs.Upgrade.{RefusesText}
 use Rattle.papyrus_cmd.specs.Waits.{PassesWith, RefusesJournal}
 use Rattle.run_commands.specs.Answers.{ExecAnswers, HoldAnswers, JournalAnswers, OnceAnswers, ResumeAnswers, RunAnswers, SampleAnswers}
+use Rattle.command_files.specs.Held.{AreHeld}
 use Rattle.command_files.specs.Outputs.{AnswersTo}
 use Rattle.command_files.specs.PexFile.{RefusesPex}
 use Rattle.command_files.specs.Scripts.{HoldScripts, RefusesScripts}
@@ -31,6 +33,16 @@ CompileAnswersTo names files OutOfMemory text = ⊥
 CompileAnswersTo names files Usage text = ⊥
 CompileAnswersTo names files (ReadFault word) text = ⊥
 CompileAnswersTo names files WriteFault text = ⊥
+
+-- how `lift` ends on the compiled files of these names; it writes nothing to `out`
+abbrev pub LiftAnswersTo : List (List ℕ) → Files → Ending → List ℕ → Type 0
+LiftAnswersTo names files (Refused word place rule) text = RefusesLifted names files word place rule × (text ≡ [])
+LiftAnswersTo names files Done text = AreHeld names files × (text ≡ [])
+LiftAnswersTo names files NotBuilt text = ⊥
+LiftAnswersTo names files OutOfMemory text = ⊥
+LiftAnswersTo names files Usage text = ⊥
+LiftAnswersTo names files (ReadFault word) text = ⊥
+LiftAnswersTo names files WriteFault text = ⊥
 
 -- how `check` ends on a file with these bytes, and what it writes
 abbrev pub CheckAnswers : List ℕ → Ending → List ℕ → Type 0
@@ -90,6 +102,7 @@ FileCommandOn files.Show names held ending text = AnswersTo ShowAnswers (word_at
 FileCommandOn files.Asm names held ending text = AnswersTo AsmAnswers (word_at names 0) held ending text
 FileCommandOn files.Upgrade names held ending text = AnswersTo UpgradeAnswers (word_at names 0) held ending text
 FileCommandOn files.Waits names held ending text = AnswersTo WaitsAnswers (word_at names 0) held ending text
+FileCommandOn files.Lift names held ending text = LiftAnswersTo names held ending text
 
 -- how a command that runs scripts ends on the words behind it
 abbrev pub PlayCommandOn : PlayCommand → List (List ℕ) → Files → Ending → List ℕ → Type 0

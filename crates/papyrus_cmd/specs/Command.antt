@@ -5,17 +5,21 @@ use Rattle.std.specs.Str.{all_ascii_digits, bytes_eq}
 use Rattle.papyrus_cmd.specs.declared.command.Command.{Command}
 use Rattle.papyrus_cmd.specs.declared.command.Command.TheVariants.{Help, Version, Files, Play}
 use Rattle.papyrus_cmd.specs.declared.command.FileCommand.{FileCommand}
-use Rattle.papyrus_cmd.specs.declared.command.FileCommand.TheVariants.{Compile, Check, Show, Asm, Upgrade, Waits}
+use Rattle.papyrus_cmd.specs.declared.command.FileCommand.TheVariants.{Compile, Check, Show, Asm, Upgrade, Waits, Lift}
 use Rattle.papyrus_cmd.specs.declared.command.PlayCommand.{PlayCommand}
 use Rattle.papyrus_cmd.specs.declared.command.PlayCommand.TheVariants.{Once, Run, Exec, Journal, Hold, Resume, Sample}
 
--- one byte or more, followed by `.psc`, and at most 4,096 bytes in all
-abbrev pub is_script_word : List ℕ → Bool
-is_script_word word = nat_lt 4 (length word) && (nat_le (length word) 4096 && ends_with nat_eq word (codes ".psc"))
+-- one byte or more, followed by an ending of four bytes, and at most 4,096 bytes in all
+abbrev pub is_named : List ℕ → List ℕ → Bool
+is_named ending word = nat_lt 4 (length word) && (nat_le (length word) 4096 && ends_with nat_eq word ending)
 
--- 1 to 256 scripts
+-- 1 to 256 such words
+abbrev pub are_named : List ℕ → List (List ℕ) → Bool
+are_named ending words = nat_lt 0 (length words) && (nat_le (length words) 256 && list_all (is_named ending) words)
+
+-- scripts
 abbrev pub are_script_words : List (List ℕ) → Bool
-are_script_words words = nat_lt 0 (length words) && (nat_le (length words) 256 && list_all is_script_word words)
+are_script_words words = are_named (codes ".psc") words
 
 -- 1 to 4,096 bytes
 abbrev pub is_file_word : List ℕ → Bool
@@ -105,6 +109,7 @@ file_command name words =
     else if bytes_eq name (codes "asm") && are_file_words 2 words then Some Asm
     else if bytes_eq name (codes "upgrade") && are_file_words 2 words then Some Upgrade
     else if bytes_eq name (codes "waits") && are_file_words 1 words then Some Waits
+    else if bytes_eq name (codes "lift") && are_named (codes ".pex") words then Some Lift
     else None
 
 abbrev pub either_command : Option PlayCommand → Option FileCommand → Option Command
@@ -148,6 +153,7 @@ files_used Show names = names
 files_used Asm names = take 1 names
 files_used Upgrade names = take 1 names
 files_used Waits names = names
+files_used Lift names = names
 
 -- the words that name a file which the command reads
 abbrev pub files_of : List (List ℕ) → Option Command → List (List ℕ)

@@ -1,7 +1,7 @@
 -- How many words a command may have behind it.
 use Rattle.std.specs.Prelude.{ℕ, ◌≤◌}
 use Rattle.papyrus_cmd.specs.declared.command.FileCommand.{FileCommand}
-use Rattle.papyrus_cmd.specs.declared.command.FileCommand.TheVariants.{Compile, Check, Show, Asm, Upgrade, Waits}
+use Rattle.papyrus_cmd.specs.declared.command.FileCommand.TheVariants.{Compile, Check, Show, Asm, Upgrade, Waits, Lift}
 use Rattle.papyrus_cmd.specs.declared.command.PlayCommand.{PlayCommand}
 use Rattle.papyrus_cmd.specs.declared.command.PlayCommand.TheVariants.{Once, Run, Exec, Journal, Hold, Resume, Sample}
 
@@ -17,6 +17,7 @@ SuitsFiles Show count = IsBetween 1 1 count
 SuitsFiles Asm count = IsBetween 2 2 count
 SuitsFiles Upgrade count = IsBetween 2 2 count
 SuitsFiles Waits count = IsBetween 1 1 count
+SuitsFiles Lift count = IsBetween 1 256 count
 
 -- a scene stands before 1 to 256 scripts or compiled files, with the file that is written behind it, and a number of turns before it, where there
 -- are such; a sample has 1 to 200 workers

@@ -5,6 +5,7 @@ pub mod Command
 pub mod Compile
 pub mod Dispatch
 pub mod Help
+pub mod Lift
 pub mod Missed
 pub mod Show
 pub mod TopCall

@@ -20,6 +20,7 @@ use Rattle.run_commands.specs.Journal.{JournalLeaves, MayHoldNoted}
 use Rattle.papyrus_cmd.specs.Asm.{AsmLeaves, MayWrite}
 use Rattle.papyrus_cmd.specs.Command.{command_of, files_read}
 use Rattle.papyrus_cmd.specs.Compile.{CompileLeaves, MayCompile}
+use Rattle.papyrus_cmd.specs.Lift.{LiftLeaves, MayLift}
 use Rattle.papyrus_cmd.specs.Show.{ShowsHead}
 use Rattle.papyrus_cmd.specs.Upgrade.{MayUpgrade, UpgradeLeaves}
 use Rattle.command_files.specs.Ending.{status_of, note_of, cannot_read, out_of_memory, word_at}
@@ -27,7 +28,7 @@ use Rattle.command_files.specs.Refusal.{rule_status}
 
 -- every status that there is
 abbrev pub IsStatus : ℕ → Type 0
-IsStatus status = (status ≡ 0) ⊎ (status ≡ 1) ⊎ (status ≡ 2) ⊎ (status ≡ 3) ⊎ (status ≡ 4) ⊎ (status ≡ 5) ⊎ (status ≡ 6) ⊎ (status ≡ 7) ⊎ (status ≡ 8) ⊎ (status ≡ 9) ⊎ (status ≡ 10) ⊎ (status ≡ 11) ⊎ (status ≡ 12)
+IsStatus status = (status ≡ 0) ⊎ (status ≡ 1) ⊎ (status ≡ 2) ⊎ (status ≡ 3) ⊎ (status ≡ 4) ⊎ (status ≡ 5) ⊎ (status ≡ 6) ⊎ (status ≡ 7) ⊎ (status ≡ 8) ⊎ (status ≡ 9) ⊎ (status ≡ 10) ⊎ (status ≡ 11) ⊎ (status ≡ 12) ⊎ (status ≡ 13)
 
 -- memory was found, and no device failed
 pub record IsAnswer (status : ℕ) : Type 0 where
@@ -47,6 +48,7 @@ FileCommandLeaves files.Show names ending holds left = left ≡ holds
 FileCommandLeaves files.Waits names ending holds left = left ≡ holds
 FileCommandLeaves files.Asm names ending holds left = AsmLeaves (word_at names 0) (word_at names 1) ending holds left
 FileCommandLeaves files.Upgrade names ending holds left = UpgradeLeaves (word_at names 1) ending holds left
+FileCommandLeaves files.Lift names ending holds left = LiftLeaves names ending holds left
 
 -- what the files are by the way that a command that runs scripts ended, and what it has written
 abbrev pub PlayCommandLeaves : PlayCommand → List (List ℕ) → Ending → Option (List ℕ) → Option (List ℕ) → Option Files → Option Files → Type 0
@@ -77,6 +79,7 @@ FileCommandLists files.Check names ending holds before now = Unit {0}
 FileCommandLists files.Asm names ending holds before now = Unit {0}
 FileCommandLists files.Upgrade names ending holds before now = Unit {0}
 FileCommandLists files.Waits names ending holds before now = Unit {0}
+FileCommandLists files.Lift names ending holds before now = Unit {0}
 
 abbrev pub CommandLists : Option Command → List (List ℕ) → Ending → Option Files → Option (List ℕ) → Option (List ℕ) → Type 0
 CommandLists (Some (command.Files work)) names ending holds before now = FileCommandLists work names ending holds before now
@@ -96,6 +99,7 @@ FileCommandCut files.Show names holds left = left ≡ holds
 FileCommandCut files.Waits names holds left = left ≡ holds
 FileCommandCut files.Asm names holds left = MayWrite (word_at names 0) (word_at names 1) holds left
 FileCommandCut files.Upgrade names holds left = MayUpgrade (word_at names 1) holds left
+FileCommandCut files.Lift names holds left = MayLift names holds left
 
 -- the same of a command that runs scripts
 abbrev pub PlayCommandCut : PlayCommand → List (List ℕ) → Option Files → Option Files → Type 0
@@ -126,6 +130,7 @@ file_command_writes files.Show = false
 file_command_writes files.Asm = true
 file_command_writes files.Upgrade = true
 file_command_writes files.Waits = false
+file_command_writes files.Lift = true
 
 abbrev pub play_command_writes : PlayCommand → Bool
 play_command_writes play.Once = false

@@ -2,7 +2,7 @@
 ghost use Rattle.std.specs.Prelude.{◌≡◌, ◌≤◌, IfSome, map};
 ghost use Rattle.std.specs.List.{list_all};
 ghost use Rattle.std.specs.String.{string_bytes};
-ghost use Rattle.papyrus_cmd.specs.Command.{are_file_words, are_pex_words, are_script_words, begins_above_zero, command_of, counted_number, file_command, hold_command, is_file_word, is_script_word, lone_command, play_command, resume_command, sample_command, stand_behind_file, turn_count};
+ghost use Rattle.papyrus_cmd.specs.Command.{are_file_words, are_named, are_pex_words, are_script_words, begins_above_zero, command_of, counted_number, file_command, hold_command, is_file_word, is_named, lone_command, play_command, resume_command, sample_command, stand_behind_file, turn_count};
 
 /// The most bytes that a word may have.
 const WORD_LIMIT: usize = 4096;
@@ -18,6 +18,12 @@ const TURN_LIMIT: u32 = 1_000_000;
 
 /// What a script's name ends with.
 const SCRIPT_ENDING: &[u8] = b".psc";
+
+/// What the name of a compiled file ends with.
+const PEX_ENDING: &[u8] = b".pex";
+
+/// The bytes of an ending.
+const ENDING_LENGTH: usize = 4;
 
 /// A command of the program.
 #[derive(Clone, Copy, PartialEq, Eq)]
@@ -49,6 +55,8 @@ pub enum FileCommand {
     Upgrade,
     /// Checks a journal, and counts for how many turns stacks waited. The word after the first names it.
     Waits,
+    /// Writes sources of compiled files. Every word after the first names a compiled file.
+    Lift,
 }
 
 /// A command that runs scripts.
@@ -147,6 +155,8 @@ fn file_command(word: &String, rest: &[String]) -> Option<FileCommand>
         Some(FileCommand::Upgrade)
     } else if name == "waits" && are_file_words(1, rest) {
         Some(FileCommand::Waits)
+    } else if name == "lift" && are_named(PEX_ENDING, rest) {
+        Some(FileCommand::Lift)
     } else {
         None
     }
@@ -230,22 +240,28 @@ fn begins_above_zero(text: &[u8]) -> bool
 fn are_script_words(words: &[String]) -> bool
     ensures { result ≡ are_script_words (map string_bytes words.now) }
 {
+    are_named(SCRIPT_ENDING, words)
+}
+
+fn are_named(ending: &[u8], words: &[String]) -> bool
+    ensures { result ≡ are_named ending.now (map string_bytes words.now) }
+{
     if words.is_empty() || words.len() > FILE_COUNT_LIMIT {
         return false;
     }
-    each_is_script_word(words)
+    each_is_named(ending, words)
 }
 
-fn each_is_script_word(words: &[String]) -> bool
-    ensures { result ≡ list_all (λ word. is_script_word (string_bytes word)) words.now }
+fn each_is_named(ending: &[u8], words: &[String]) -> bool
+    ensures { result ≡ list_all (λ word. is_named ending.now (string_bytes word)) words.now }
 {
-    words.iter().all(|word| is_script_word(word.as_bytes()))
+    words.iter().all(|word| is_named(ending, word.as_bytes()))
 }
 
-fn is_script_word(word: &[u8]) -> bool
-    ensures { result ≡ is_script_word word.now }
+fn is_named(ending: &[u8], word: &[u8]) -> bool
+    ensures { result ≡ is_named ending.now word.now }
 {
-    word.len() > SCRIPT_ENDING.len() && word.len() <= WORD_LIMIT && word.ends_with(SCRIPT_ENDING)
+    word.len() > ENDING_LENGTH && word.len() <= WORD_LIMIT && word.ends_with(ending)
 }
 
 // A file, and scripts behind it.

@@ -16,6 +16,7 @@ use crate::check::check;
 use crate::command::{Command, FileCommand, PlayCommand, command_of};
 use crate::compile::compile;
 use crate::help::{help, version};
+use crate::lift::lift;
 use crate::show::show;
 use crate::upgrade::upgrade;
 use crate::waits::waits;
@@ -62,6 +63,7 @@ fn use_files<D: Desk, S: Sink>(
         FileCommand::Asm => asm(alloc, files, desk),
         FileCommand::Upgrade => upgrade(alloc, files, desk),
         FileCommand::Waits => waits(alloc, files, desk, out),
+        FileCommand::Lift => lift(alloc, files, desk),
     }
 }
 

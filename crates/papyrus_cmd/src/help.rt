@@ -15,6 +15,7 @@ const HELP: &[u8] = b"papyrus: compiles Papyrus scripts and runs them under inst
   papyrus check PEX                 tells whether a compiled file breaks a rule
   papyrus show PEX                  prints the listing of a compiled file
   papyrus asm TEXT PEX              writes the compiled file of a listing
+  papyrus lift PEX..                writes sources that compile to the files' code
   papyrus sample N                  runs N workers on one hub and prints what they did
   papyrus upgrade SCENE NEW         writes a scene in the current version
   papyrus --help                    prints this text

@@ -7,6 +7,7 @@ mod command;
 mod compile;
 mod dispatch;
 mod help;
+mod lift;
 mod notes;
 mod show;
 mod top;

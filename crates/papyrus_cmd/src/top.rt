@@ -22,7 +22,8 @@ use std::alloc::Global;
 /// 1 (out of memory), 2 (the words are no command), 3 (a file was not read), 4 (the output, a file
 /// or the line was not written), 5 (a script was refused), 6 (a compiled file was refused), 7 (a scene was
 /// refused), 8 (a listing was refused), 9 (compiled files can't run together), 10 (accepted scripts have no
-/// compiled files; no scripts are known that have none), 11 (a held file was refused) and 12 (a journal was refused).
+/// compiled files; no scripts are known that have none), 11 (a held file was refused), 12 (a journal was
+/// refused) and 13 (no sources were found for compiled files).
 pub fn papyrus<D: Desk, S: Sink, E: Sink>(
     alloc: Global,
     words: &[String],

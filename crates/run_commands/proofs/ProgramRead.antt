@@ -18,14 +18,14 @@ use Rattle.command_files.specs.declared.pex_file.KeptPex.{KeptPex}
 use Rattle.command_files.specs.declared.pex_file.PexFile.{PexFile}
 use Rattle.command_files.specs.declared.scene_file.KeptScene.{KeptScene}
 use Rattle.command_files.specs.Compiled.{bytes_of}
-use Rattle.command_files.specs.Ending.{CountsReads, IsWordBelow, word_at}
+use Rattle.command_files.specs.Ending.{CountsReads, IsWordBelow, MissesScript, word_at}
 use Rattle.command_files.specs.FileFault.{CountsFile, MissesFile, ending_at}
 use Rattle.command_files.specs.Held.{AreHeld, Hold}
 use Rattle.command_files.specs.PexFile.{ReadsKept, ReadsPex}
 use Rattle.command_files.specs.SceneFile.{ReadsKeptScene}
 use Rattle.command_files.specs.Scripts.{CountsScripts}
 use Rattle.command_files.proofs.HeldScripts.{held-more}
-use Rattle.run_commands.specs.Program.{AreKept, AreSmall, BreaksTogether, EndsOnProgram, EndsOnValues, IsHeldProgram, MissesRead, MissesValue, ReadsValue, Verifies, files_from, scene_of}
+use Rattle.run_commands.specs.Program.{AreKept, AreSmall, AreSpelled, BreaksTogether, EndsOnProgram, EndsOnSet, EndsOnValues, EndsTogether, IsHeldProgram, IsSpelled, MissesRead, MissesValue, ReadsValue, Verifies, files_from, scene_of}
 use Rattle.run_commands.specs.declared.program.Program.{Program}
 
 -- ---- one file
@@ -53,6 +53,16 @@ part_unread None name fault read = tt
 part_unread (Some files) name (file.Refused place rule) read = read
 part_unread (Some files) name file.ReadFault read = tt
 part_unread (Some files) name file.OutOfMemory read = tt
+
+-- the bytes spell the value, whether they were kept or not
+pub kept_spelled : (holds : Option Files) (name : List ℕ) (result : Result KeptPex FileFault) → ReadsKept holds name result → IfOk result (λ found. IfSome holds (IsSpelled name found.value))
+kept_spelled None name (Ok found) read = tt
+kept_spelled (Some files) name (Ok found) (bytes, held, kept) = (bytes, held, kept.spelled)
+kept_spelled holds name (Err fault) read = tt
+
+pub part_spelled : (holds : Option Files) (name : List ℕ) (found : PexFile) → ReadsPex holds name (Ok found) → IfSome holds (IsSpelled name found.value)
+part_spelled None name found read = tt
+part_spelled (Some files) name found (bytes, held, read) = (bytes, held, read.spelled)
 
 -- ---- one file after another
 
@@ -115,6 +125,17 @@ kept_more true (Some files) names kept name found are read =
     let each : map bytes_of (kept ++ found.bytes ∷ []) ≡ map bytes_of kept ++ found.bytes.items ∷ [] = map-append bytes_of kept (found.bytes ∷ []) in
     subst (λ contents. Hold files (names ++ name ∷ []) contents) (sym each) (hold-more files names (map bytes_of kept) name found.bytes.items are read)
 kept_more false (Some files) names kept name found are read = held-more (Some files) names name are read
+
+spell-more : (files : Files) (names : List (List ℕ)) (values : List Pex) (name : List ℕ) (value : Pex) → AreSpelled names values files → IsSpelled name value files → AreSpelled (names ++ name ∷ []) (values ++ value ∷ []) files
+spell-more files [] [] name value are is = (is, tt)
+spell-more files [] (v ∷ values) name value are is = absurd are
+spell-more files (n ∷ names) [] name value are is = absurd are
+spell-more files (n ∷ names) (v ∷ values) name value are is = (are.0, spell-more files names values name value are.1 is)
+
+pub spelled_more : (holds : Option Files) (names : List (List ℕ)) (values : List Pex) (name : List ℕ) (value : Pex) → IfSome holds (AreSpelled names values) → IfSome holds (IsSpelled name value) →
+    IfSome holds (AreSpelled (names ++ name ∷ []) (values ++ value ∷ []))
+spelled_more None names values name value are is = tt
+spelled_more (Some files) names values name value are is = spell-more files names values name value are is
 
 -- the files whether their bytes were kept or not
 pub kept_are_held : (keep : Bool) (holds : Option Files) (names : List (List ℕ)) (kept : List (Vec ℕ Global)) → IfSome holds (AreKept keep names kept) → IfSome holds (AreHeld names)
@@ -213,35 +234,74 @@ together_ends words number first count holds scene (Err Usage) is read held ends
 together_ends words number first count holds scene (Err WriteFault) is read held ends = absurd ends.0
 together_ends words number first count holds scene (Err NotBuilt) is read held ends = absurd ends.0
 
+-- the same of files alone
+pub values_end_set : (first : ℕ) (names : List (List ℕ)) (holds : Option Files) (ending : Ending) → EndsOnValues first names holds ending → EndsOnSet first names holds ending
+values_end_set first names None (Refused word place rule) ends = tt
+values_end_set first names (Some files) (Refused word place rule) ends = inl ends
+values_end_set first names holds (ReadFault word) ends = tt
+values_end_set first names holds OutOfMemory ends = tt
+values_end_set first names holds Done ends = absurd ends
+values_end_set first names holds Usage ends = absurd ends
+values_end_set first names holds WriteFault ends = absurd ends
+values_end_set first names holds NotBuilt ends = absurd ends
+
+pub apart_ends : (first count : ℕ) (names : List (List ℕ)) (holds : Option Files) (ending : Ending) → count ≡ length names → IfSome holds (AreHeld names) → EndsTogether first count ending → EndsOnSet first names holds ending
+apart_ends first count names None (Refused word place rule) is held ends = tt
+apart_ends first count names (Some files) (Refused word place rule) is held ends = inr (subst (λ n. BreaksTogether first n word place rule) is ends.0, held)
+apart_ends first count names holds OutOfMemory is held ends = tt
+apart_ends first count names holds (ReadFault word) is held ends = absurd ends.1
+apart_ends first count names holds Done is held ends = absurd ends.0
+apart_ends first count names holds Usage is held ends = absurd ends.0
+apart_ends first count names holds WriteFault is held ends = absurd ends.0
+apart_ends first count names holds NotBuilt is held ends = absurd ends.0
+
+pub apart_counts : (first count : ℕ) (ending : Ending) (before now : ℕ) → EndsTogether first count ending → now ≡ before → CountsReads ending before now
+apart_counts first count (Refused word place rule) before now ends same = same
+apart_counts first count OutOfMemory before now ends same = same
+apart_counts first count (ReadFault word) before now ends same = absurd ends.1
+apart_counts first count Done before now ends same = same
+apart_counts first count Usage before now ends same = same
+apart_counts first count WriteFault before now ends same = same
+apart_counts first count NotBuilt before now ends same = same
+
+pub behind_command : (names : List (List ℕ)) (ending : Ending) (missed : Option (List ℕ)) → MissesValue 1 names ending missed → MissesScript names ending missed
+behind_command names (ReadFault word) missed (at, word_is, within, missed_is) = (at, omega arith, within, missed_is)
+behind_command names OutOfMemory missed misses = tt
+behind_command names Done missed misses = tt
+behind_command names Usage missed misses = tt
+behind_command names WriteFault missed misses = tt
+behind_command names (Refused word place rule) missed misses = tt
+behind_command names NotBuilt missed misses = tt
+
+pub apart_misses : (first count : ℕ) (names : List (List ℕ)) (ending : Ending) (missed : Option (List ℕ)) → EndsTogether first count ending → MissesValue first names ending missed
+apart_misses first count names (Refused word place rule) missed ends = tt
+apart_misses first count names OutOfMemory missed ends = tt
+apart_misses first count names (ReadFault word) missed ends = absurd ends.1
+apart_misses first count names Done missed ends = tt
+apart_misses first count names Usage missed ends = tt
+apart_misses first count names WriteFault missed ends = tt
+apart_misses first count names NotBuilt missed ends = tt
+
+pub apart_below : (first count size : ℕ) (ending : Ending) → first + count ≤ size → EndsTogether first count ending → IsWordBelow size ending
+apart_below first count size (Refused word place rule) within ends = let broken = ends.0 in omega (arith, broken.within, broken.word_is)
+apart_below first count size OutOfMemory within ends = tt
+apart_below first count size (ReadFault word) within ends = absurd ends.1
+apart_below first count size Done within ends = tt
+apart_below first count size Usage within ends = tt
+apart_below first count size WriteFault within ends = tt
+apart_below first count size NotBuilt within ends = tt
+
 pub together_reads : (first count : ℕ) (result : Result Program Ending) (before now : ℕ) → Verifies first count result → now ≡ before → CountsScripts result before now
 together_reads first count (Ok program) before now ends same = same
-together_reads first count (Err (Refused word place rule)) before now ends same = same
-together_reads first count (Err OutOfMemory) before now ends same = same
-together_reads first count (Err (ReadFault word)) before now ends same = absurd ends.1
-together_reads first count (Err Done) before now ends same = same
-together_reads first count (Err Usage) before now ends same = same
-together_reads first count (Err WriteFault) before now ends same = same
-together_reads first count (Err NotBuilt) before now ends same = same
+together_reads first count (Err ending) before now ends same = apart_counts first count ending before now ends same
 
-pub together_misses : (number first count : ℕ) (words : List (List ℕ)) (result : Result Program Ending) (missed : Option (List ℕ)) → Verifies first count result → IfErr result (λ ending. MissesRead number first words ending missed)
-together_misses number first count words (Ok program) missed ends = tt
-together_misses number first count words (Err (Refused word place rule)) missed ends = tt
-together_misses number first count words (Err OutOfMemory) missed ends = tt
-together_misses number first count words (Err (ReadFault word)) missed ends = absurd ends.1
-together_misses number first count words (Err Done) missed ends = tt
-together_misses number first count words (Err Usage) missed ends = tt
-together_misses number first count words (Err WriteFault) missed ends = tt
-together_misses number first count words (Err NotBuilt) missed ends = tt
+pub together_misses : (number first count : ℕ) (words : List (List ℕ)) (result : Result Program Ending) (missed : Option (List ℕ)) → Verifies first count result → 0 < first → IfErr result (λ ending. MissesRead number first words ending missed)
+together_misses number first count words (Ok program) missed ends above = tt
+together_misses number first count words (Err ending) missed ends above = values_miss words number first ending missed above (apart_misses first count (files_from first words) ending missed ends)
 
 pub together_word : (first count size : ℕ) (result : Result Program Ending) → first + count ≤ size → Verifies first count result → IfErr result (IsWordBelow size)
 together_word first count size (Ok program) within ends = tt
-together_word first count size (Err (Refused word place rule)) within ends = let broken = ends.0 in omega (arith, broken.within, broken.word_is)
-together_word first count size (Err OutOfMemory) within ends = tt
-together_word first count size (Err (ReadFault word)) within ends = absurd ends.1
-together_word first count size (Err Done) within ends = tt
-together_word first count size (Err Usage) within ends = tt
-together_word first count size (Err WriteFault) within ends = tt
-together_word first count size (Err NotBuilt) within ends = tt
+together_word first count size (Err ending) within ends = apart_below first count size ending within ends
 
 -- ---- what was read
 

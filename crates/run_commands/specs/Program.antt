@@ -1,10 +1,13 @@
 -- What reading and verifying a scene and compiled files gives. Words are counted from the command's own, which is 0: the scene's is `named`,
 -- and those from `first` on name the compiled files.
-use Rattle.std.specs.Prelude.{◌≡◌, ◌⊎◌, ℕ, suc, ◌+◌, ◌-◌, ◌<◌, ◌≤◌, ◌^◌, Bool, true, false, List, drop, length, map, Option, None, Some, Result, Ok, Err, IfSome}
+use Rattle.std.specs.Prelude.{◌≡◌, ◌⊎◌, ℕ, suc, ◌+◌, ◌-◌, ◌<◌, ◌≤◌, ◌^◌, Bool, true, false, List, [], ◌∷◌, drop, length, map, Option, None, Some, Result, Ok, Err, IfSome}
 use Rattle.std.specs.List.{AllByRecursion}
 use Rattle.std.specs.declared.alloc.Global.{Global}
 use Rattle.std.specs.declared.vec.Vec.{Vec}
 use Rattle.papy_io.specs.Files.{Files, told_bytes}
+use Rattle.pex_codec.specs.Spells.{Spells}
+use Rattle.pex_values.specs.Plain.{plain}
+use Rattle.pex_values.specs.declared.values.Pex.{Pex}
 use Rattle.pex_verify.specs.declared.fault.VerifyRule.{VerifyRule}
 use Rattle.command_files.specs.declared.ending.Ending.{Ending}
 use Rattle.command_files.specs.declared.ending.Ending.TheVariants.{Done, OutOfMemory, Usage, ReadFault, WriteFault, Refused, NotBuilt}
@@ -53,12 +56,15 @@ pub record BreaksTogether (first count word : ℕ) (place : Place) (rule : Rule)
   pub place_is : place ≡ Member object member instruction
   pub rule_is : rule ≡ Verification broken
 
--- the scene is refused, or one of the files, by itself or among the others, all of which are held
+-- one of the files is refused, by itself or among the others, all of which are held
+abbrev pub RefusesSet : ℕ → List (List ℕ) → Files → ℕ → Place → Rule → Type 0
+RefusesSet first names files word place rule =
+    RefusesValue first names files word place rule ⊎ (BreaksTogether first (length names) word place rule × AreHeld names files)
+
+-- the scene is refused, or one of the files
 abbrev pub RefusesProgram : ℕ → ℕ → List (List ℕ) → Files → ℕ → Place → Rule → Type 0
 RefusesProgram named first words files word place rule = IsHeld (scene_of named words) files
-    × (RefusesScene named word place rule
-    ⊎ RefusesValue first (files_from first words) files word place rule
-    ⊎ (BreaksTogether first (length (files_from first words)) word place rule × AreHeld (files_from first words) files))
+    × (RefusesScene named word place rule ⊎ RefusesSet first (files_from first words) files word place rule)
 
 -- how a command ends early of whose refusals this holds
 abbrev pub EndsOn : (ℕ → Place → Rule → Type 0) → Ending → Type 0
@@ -79,6 +85,10 @@ EndsRead _ = Unit {0}
 abbrev pub EndsOnValues : ℕ → List (List ℕ) → Option Files → Ending → Type 0
 EndsOnValues first names holds ending = EndsOn (λ word place rule. IfSome holds (λ files. RefusesValue first names files word place rule)) ending
 
+-- what reading and verifying these files answers early
+abbrev pub EndsOnSet : ℕ → List (List ℕ) → Option Files → Ending → Type 0
+EndsOnSet first names holds ending = EndsOn (λ word place rule. IfSome holds (λ files. RefusesSet first names files word place rule)) ending
+
 -- what verifying so many files answers early
 abbrev pub EndsTogether : ℕ → ℕ → Ending → Type 0
 EndsTogether first count ending = EndsOn (BreaksTogether first count) ending × EndsRead ending
@@ -98,6 +108,10 @@ abbrev pub IsKept : Bool → List ℕ → Vec ℕ Global → Files → Type 0
 IsKept true name bytes files = told_bytes (Some files) name ≡ Some bytes.items
 IsKept false name bytes files = IsHeld name files
 
+-- the name is held, with bytes that spell the value
+abbrev pub IsSpelled : List ℕ → Pex → Files → Type 0
+IsSpelled name value files = (bytes : List ℕ) × (told_bytes (Some files) name ≡ Some bytes) × Spells (plain value) bytes
+
 -- what reading one file gives
 abbrev pub ReadsValue : Bool → Option Files → List ℕ → Result KeptPex FileFault → Type 0
 ReadsValue keep None name result = Unit {0}
@@ -110,6 +124,13 @@ ReadsValue keep (Some files) name (Err file.OutOfMemory) = Unit {0}
 abbrev pub AreKept : Bool → List (List ℕ) → List (Vec ℕ Global) → Files → Type 0
 AreKept true names kept files = Hold files names (map bytes_of kept)
 AreKept false names kept files = AreHeld names files
+
+-- each of these names is held, with bytes that spell the value in its place
+abbrev pub AreSpelled : List (List ℕ) → List Pex → Files → Type 0
+AreSpelled [] [] files = Unit {0}
+AreSpelled [] (value ∷ values) files = ⊥
+AreSpelled (name ∷ names) [] files = ⊥
+AreSpelled (name ∷ names) (value ∷ values) files = IsSpelled name value files × AreSpelled names values files
 
 -- the scene is held with its text, and each compiled file
 pub record IsHeldProgram (named first : ℕ) (keep : Bool) (words : List (List ℕ)) (program : Program) (files : Files) : Type 0 where

@@ -1,5 +1,5 @@
 //! The commands that run scripts: from their text by `run` and `once`, from compiled files by `exec`, `journal` and
-//! `hold`, a held run by `resume`, and the scripts of `sample`.
+//! `hold`, a held run by `resume`, and the scripts of `sample`; and how compiled files are read and judged together.
 #![tactic(auto)]
 
 mod exec_command;
@@ -19,6 +19,7 @@ pub use exec_command::exec;
 pub use hold_command::hold;
 pub use journal_command::journal;
 pub use once_command::once;
+pub use program::read_set;
 pub use resume_command::resume;
 pub use run_command::run;
 pub use sample_command::sample;

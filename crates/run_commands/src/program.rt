@@ -4,10 +4,11 @@ ghost use Rattle.std.specs.String.{string_bytes};
 ghost use Rattle.papy_io.specs.Activity.{Idle};
 ghost use Rattle.pex_verify.specs.Files.{IsFile};
 ghost use Rattle.scene_reader.specs.Limits.{KeepsLimits};
-ghost use Rattle.command_files.specs.Ending.{IsWordBelow};
+ghost use Rattle.command_files.specs.Ending.{IsWordBelow, MissesScript};
+ghost use Rattle.command_files.specs.Held.{AreHeld};
 ghost use Rattle.command_files.specs.FileFault.{CountsFile, MissesFile};
 ghost use Rattle.command_files.specs.Scripts.{CountsScripts};
-ghost use Rattle.run_commands.specs.Program.{AreKept, AreSmall, EndsOnProgram, EndsOnValues, IsHeldProgram, MissesRead, MissesValue, ReadsValue, Verifies};
+ghost use Rattle.run_commands.specs.Program.{AreKept, AreSmall, AreSpelled, EndsOnProgram, EndsOnSet, EndsOnValues, EndsTogether, IsHeldProgram, IsSpelled, MissesRead, MissesValue, ReadsValue, Verifies};
 
 use command_files::{
     Ending, FileFault, KeptPex, KeptScene, Place, Rule, load_kept_scene, read_kept_pex, read_pex,
@@ -16,7 +17,7 @@ use core_tree::SceneTree;
 use papy_base::OutOfMemory;
 use papy_io::Desk;
 use pex_values::Pex;
-use pex_verify::{Loaded, VerifyFault, verify};
+use pex_verify::{Loaded, VerifyFault, judge, verify};
 use std::alloc::Global;
 
 /// What a command runs.
@@ -55,6 +56,7 @@ fn read_value<D: Desk>(
     ensures valid { IfOk result (λ file. IsFile file.value) }
     ensures small { IfOk result (λ file. vec_len file.bytes ≤ 16777216) }
     ensures read { ReadsValue keep (D.holds desk.old) name.now result }
+    ensures spelled { IfOk result (λ file. IfSome (D.holds desk.old) (IsSpelled name.now file.value)) }
 {
     if keep {
         return read_kept_pex(alloc, desk, name);
@@ -101,6 +103,7 @@ fn read_values<D: Desk>(
     ensures valid { IfOk result (λ files. All IsFile files.values.items) }
     ensures small { IfOk result (λ files. AreSmall files.kept.items) }
     ensures kept { IfOk result (λ files. IfSome (D.holds desk.old) (AreKept keep (map string_bytes names.now) files.kept.items)) }
+    ensures spelled { IfOk result (λ files. IfSome (D.holds desk.old) (AreSpelled (map string_bytes names.now) files.values.items)) }
 {
     let mut files = ReadFiles {
         values: Vec::new(alloc),
@@ -125,6 +128,29 @@ fn read_values<D: Desk>(
     Ok(files)
 }
 
+// How a command ends whose compiled files, so many, can't run together.
+fn unfit_ending(fault: VerifyFault, first: usize, count: usize) -> Ending
+    requires some { 0 < count }
+    requires few { count ≤ 256 }
+    requires near { first ≤ 4 }
+    ensures { EndsTogether first count result }
+{
+    match fault {
+        VerifyFault::OutOfMemory => Ending::OutOfMemory,
+        VerifyFault::Broken {
+            file,
+            object,
+            member,
+            at,
+            rule,
+        } => Ending::Refused {
+            word: first + usize::from(file).min(count - 1),
+            place: Place::Member { object, member, at },
+            rule: Rule::Verification(rule),
+        },
+    }
+}
+
 // The set of compiled files, or how the command ends that can't run them together.
 fn load_values(alloc: Global, values: Vec<Pex>, first: usize) -> Result<Loaded, Ending>
     requires some { 0 < vec_len values }
@@ -133,23 +159,61 @@ fn load_values(alloc: Global, values: Vec<Pex>, first: usize) -> Result<Loaded, 
     requires valid { All IsFile values.items }
     ensures { Verifies first (vec_len values) result }
 {
-    let last = values.len() - 1;
+    let count = values.len();
     match verify(alloc, values) {
         Ok(loaded) => Ok(loaded),
-        Err(VerifyFault::OutOfMemory) => Err(Ending::OutOfMemory),
-        Err(
-            VerifyFault::Broken {
-                file,
-                object,
-                member,
-                at,
-                rule,
-            },
-        ) => Err(Ending::Refused {
-            word: first + usize::from(file).min(last),
-            place: Place::Member { object, member, at },
-            rule: Rule::Verification(rule),
-        }),
+        Err(fault) => Err(unfit_ending(fault, first, count)),
+    }
+}
+
+// Whether these compiled files could run together.
+fn judge_values(alloc: Global, values: &[Pex], first: usize) -> Result<(), Ending>
+    requires some { 0 < length values.now }
+    requires few { length values.now ≤ 256 }
+    requires near { first ≤ 4 }
+    requires valid { All IsFile values.now }
+    ensures { Verifies first (length values.now) result }
+{
+    match judge(alloc, values) {
+        Ok(outline) => {
+            drop(outline);
+            Ok(())
+        }
+        Err(fault) => Err(unfit_ending(fault, first, values.len())),
+    }
+}
+
+/// Reads compiled files in order, up to the first that isn't read or breaks a rule, and judges them together. Nothing is
+/// made of them that could run. The values are those that the files spell, one by one. The first name is the word behind the
+/// command's own.
+pub fn read_set<D: Desk>(alloc: Global, names: &[String], desk: &mut D) -> Result<Vec<Pex>, Ending>
+    requires idle { D.busy desk.old ≡ Idle }
+    requires some { 0 < length names.now }
+    requires few { length names.now ≤ 256 }
+    ensures busy { D.busy desk.new ≡ Idle }
+    ensures holds { D.holds desk.new ≡ D.holds desk.old }
+    ensures write_faults { D.write_faults desk.new ≡ D.write_faults desk.old }
+    ensures read_faults { CountsScripts result (D.read_faults desk.old) (D.read_faults desk.new) }
+    ensures missed { IfErr result (λ ending. MissesScript (map string_bytes names.now) ending (D.missed desk.new)) }
+    ensures ends { IfErr result (EndsOnSet 1 (map string_bytes names.now) (D.holds desk.old)) }
+    ensures word { IfErr result (IsWordBelow (length names.now + 1)) }
+    ensures count { IfOk result (λ values. vec_len values ≡ length names.now) }
+    ensures valid { IfOk result (λ values. All IsFile values.items) }
+    ensures held { IfOk result (λ _. IfSome (D.holds desk.old) (AreHeld (map string_bytes names.now))) }
+    ensures spelled { IfOk result (λ values. IfSome (D.holds desk.old) (AreSpelled (map string_bytes names.now) values.items)) }
+{
+    let files = match read_values(alloc, names, 1, desk, false) {
+        Ok(files) => files,
+        Err(ending) => return Err(ending),
+    };
+    let ReadFiles { values, kept } = files;
+    drop(kept);
+    match judge_values(alloc, &values, 1) {
+        Ok(()) => Ok(values),
+        Err(ending) => {
+            drop(values);
+            Err(ending)
+        }
     }
 }
 

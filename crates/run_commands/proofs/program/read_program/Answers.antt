@@ -62,7 +62,7 @@ pub returns-clause-read_faults : goal.returns-clause-read_faults
 returns-clause-read_faults g c = together_reads c.args.first _ c.loaded_program.result _ _ c.loaded_program.ensures.ends (c.in-Ok-read_values.ensures.read_faults ∙ c.in-Ok.ensures.read_faults)
 
 pub returns-clause-missed : goal.returns-clause-missed
-returns-clause-missed g c = together_misses c.args.named c.args.first _ (map string_bytes c.args.words.now) c.loaded_program.result _ c.loaded_program.ensures.ends
+returns-clause-missed g c = together_misses c.args.named c.args.first _ (map string_bytes c.args.words.now) c.loaded_program.result _ c.loaded_program.ensures.ends (omega (arith, c.requires.counted, c.requires.behind))
 
 pub returns-clause-ends : goal.returns-clause-ends
 returns-clause-ends g c =

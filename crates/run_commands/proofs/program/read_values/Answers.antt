@@ -4,7 +4,7 @@ use Rattle.std.proofs.lemmas.List.Elements.{All-push}
 use Rattle.std.specs.String.{string_bytes}
 use Rattle.pex_verify.specs.Files.{IsFile}
 use Rattle.command_files.proofs.HeldScripts.{names-more, names-all}
-use Rattle.run_commands.proofs.ProgramRead.{kept_more, small_more, value_counts, value_ends, value_missed, value_word}
+use Rattle.run_commands.proofs.ProgramRead.{kept_more, small_more, spelled_more, value_counts, value_ends, value_missed, value_word}
 use Rattle.run_commands.proofs.program.read_values.Goals as goal
 
 pub loop-place-preserved : goal.loop-place-preserved
@@ -13,6 +13,7 @@ loop-place-preserved g c =
     let name = c.index-names-place.result in
     let names = names-more c.args.names.now c.loop-place.place name c.loop-place-test.true c.index-names-place.is in
     let read = rw (so_far.holds, c.as_bytes.ensures.value) at c.in-Ok.ensures.read in
+    let spells = rw (so_far.holds, c.as_bytes.ensures.value) at c.in-Ok.ensures.spelled in
     record {
       busy = c.in-Ok.ensures.busy;
       holds = c.in-Ok.ensures.holds ∙ so_far.holds;
@@ -23,6 +24,7 @@ loop-place-preserved g c =
       valid = rw c.in-Ok-keep_file.ensures.values (All-push IsFile c.loop-place.files.values.items c.in-Ok.file.value so_far.valid c.in-Ok.ensures.valid);
       small = rw c.in-Ok-keep_file.ensures.kept (small_more c.loop-place.files.kept.items c.in-Ok.file.bytes so_far.small (omega (arith, c.in-Ok.ensures.small, c.in-Ok.file.bytes.ok.0)));
       kept = rw (names, c.in-Ok-keep_file.ensures.kept) (kept_more c.args.keep (g.D.Desk.holds c.args.desk.now) (map string_bytes (take c.loop-place.place c.args.names.now)) c.loop-place.files.kept.items (string_bytes name) c.in-Ok.file so_far.kept read);
+      spelled = rw (names, c.in-Ok-keep_file.ensures.values) (spelled_more (g.D.Desk.holds c.args.desk.now) (map string_bytes (take c.loop-place.place c.args.names.now)) c.loop-place.files.values.items (string_bytes name) c.in-Ok.file.value so_far.spelled spells);
     }
 
 pub returns-in-Err-clause-read_faults : goal.returns-in-Err-clause-read_faults
@@ -48,3 +50,8 @@ pub returns-clause-kept : goal.returns-clause-kept
 returns-clause-kept g c =
     let all = names-all c.args.names.now c.loop-place.place c.loop-place.auto.place-end c.loop-place-test.false in
     rw all at c.loop-place.invariant.kept
+
+pub returns-clause-spelled : goal.returns-clause-spelled
+returns-clause-spelled g c =
+    let all = names-all c.args.names.now c.loop-place.place c.loop-place.auto.place-end c.loop-place-test.false in
+    rw all at c.loop-place.invariant.spelled

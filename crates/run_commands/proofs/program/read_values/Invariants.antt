@@ -3,7 +3,7 @@ use Rattle.std.specs.Prelude.{All, IfSome}
 use Rattle.std.specs.String.{string_bytes}
 use Rattle.papy_io.specs.Activity.{Idle}
 use Rattle.pex_verify.specs.Files.{IsFile}
-use Rattle.run_commands.specs.Program.{AreKept, AreSmall}
+use Rattle.run_commands.specs.Program.{AreKept, AreSmall, AreSpelled}
 use Rattle.run_commands.proofs.program.read_values.Given as goal
 
 -- the files so far are held, and their values are those of files
@@ -18,4 +18,5 @@ invariant-loop-place g l = record {
   valid : All IsFile l.files.values.items;
   small : AreSmall l.files.kept.items;
   kept : IfSome (g.D.Desk.holds l.fn.desk) (AreKept l.keep (map string_bytes (take l.place l.names)) l.files.kept.items);
+  spelled : IfSome (g.D.Desk.holds l.fn.desk) (AreSpelled (map string_bytes (take l.place l.names)) l.files.values.items);
 }

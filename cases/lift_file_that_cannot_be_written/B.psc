@@ -1,0 +1,2 @@
+ScriptName B
+Int n

@@ -1,0 +1,3 @@
+ScriptName A
+
+Int n

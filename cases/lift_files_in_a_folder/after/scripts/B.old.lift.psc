@@ -1,0 +1,3 @@
+ScriptName B Extends A
+
+Int n

@@ -1,0 +1,1 @@
+what stood here before

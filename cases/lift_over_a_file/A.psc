@@ -1,0 +1,5 @@
+ScriptName A
+Int n
+Function F()
+n += 1
+EndFunction

@@ -1,0 +1,7 @@
+ScriptName A
+
+Int n
+
+Function F()
+    n += 1
+EndFunction

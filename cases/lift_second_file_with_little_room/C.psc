@@ -1,0 +1,2 @@
+ScriptName C
+Int n

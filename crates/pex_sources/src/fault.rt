@@ -1,0 +1,44 @@
+ghost use Rattle.std.specs.Prelude.{◌≡◌};
+ghost use Rattle.pex_sources.specs.declared.fault.SourceFault.TheVariants as fault;
+
+use papy_base::OutOfMemory;
+use std::alloc::{AllocError, AllocFailed};
+use thiserror::Error;
+
+/// Why files have no sources.
+#[derive(Clone, Copy, Debug, PartialEq, Eq, Error)]
+pub enum SourceFault {
+    /// The files aren't what a compiler writes.
+    #[error("no source was found")]
+    NotFound,
+    /// No memory was found.
+    #[error("out of memory")]
+    OutOfMemory,
+}
+
+/// What is read isn't what a compiler writes, or not in this way.
+pub(crate) const NOT_FOUND: SourceFault = SourceFault::NotFound;
+
+impl From<OutOfMemory> for SourceFault {
+    ghost from_gives = { λ _ given. given ≡ fault.OutOfMemory };
+
+    fn from(_error: OutOfMemory) -> SourceFault {
+        SourceFault::OutOfMemory
+    }
+}
+
+impl From<AllocError> for SourceFault {
+    ghost from_gives = { λ _ given. given ≡ fault.OutOfMemory };
+
+    fn from(_error: AllocError) -> SourceFault {
+        SourceFault::OutOfMemory
+    }
+}
+
+impl<T: Drop> From<AllocFailed<T>> for SourceFault {
+    ghost from_gives = { λ _ given. given ≡ fault.OutOfMemory };
+
+    fn from(_error: AllocFailed<T>) -> SourceFault {
+        SourceFault::OutOfMemory
+    }
+}

@@ -1,0 +1,25 @@
+//! Texts that may be the sources of compiled Papyrus files (PEX 3.1 and 3.2), which is to be checked by compiling them.
+#![tactic(auto)]
+
+mod blocks;
+mod code;
+mod declarations;
+mod definitions;
+mod expressions;
+mod fault;
+mod imports;
+mod lines;
+mod opcodes;
+mod page;
+mod reader;
+mod script;
+mod source_texts;
+mod statements;
+mod temporaries;
+mod trees;
+mod uses;
+mod words;
+mod world;
+
+pub use fault::SourceFault;
+pub use source_texts::sources;

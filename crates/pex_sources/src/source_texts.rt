@@ -1,0 +1,28 @@
+ghost use Rattle.std.specs.Prelude.{◌≡◌, length, vec_len, IfOk};
+
+use crate::declarations::script_text;
+use crate::fault::SourceFault;
+use crate::world::World;
+use papy_base::Text;
+use pex_names::{PRELUDE_COUNT, Prelude};
+use pex_values::Pex;
+use std::alloc::Global;
+
+/// A text for each of these files, which are those of one set. Where the files are those that a compiler wrote, the texts are
+/// sources of them, which is to be checked: what a text compiles to no clause says.
+///
+/// # Errors
+///
+/// `NotFound` comes where a file hasn't one script, or its code isn't that of a compiler. `OutOfMemory` comes where no memory is
+/// found.
+pub fn sources(alloc: Global, files: &[Pex]) -> Result<Vec<Text>, SourceFault>
+    ensures { IfOk result (λ texts. vec_len texts ≡ length files.now) }
+{
+    let prelude = Prelude::new(alloc)?;
+    let world = World::new(alloc, &prelude, files)?;
+    let mut texts = Vec::with_capacity(alloc, files.len())?;
+    for number in 0..files.len() {
+        texts.push(script_text(&world, PRELUDE_COUNT.saturating_add(number))?)?;
+    }
+    Ok(texts)
+}
