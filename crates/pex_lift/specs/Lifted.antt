@@ -14,6 +14,7 @@ use Rattle.script_linker.specs.Lookup.{StartsWithPrelude}
 use Rattle.core_tree.specs.declared.script.CoreSet.{CoreSet}
 use Rattle.core_tree.specs.InRange.{InRange}
 use Rattle.type_rules.specs.Heads.{core_script_head, script_head}
+use Rattle.type_rules.specs.Variables.{HaveVariables}
 use Rattle.pex_values.specs.declared.values.Pex.{Pex}
 use Rattle.pex_values.specs.Plain.{PlainPex, plain}
 use Rattle.pex_values.specs.Shape.{IsWellShaped}
@@ -39,7 +40,8 @@ pub record AreLinked (files set : List SourceFile) : Type 0 where
 
 -- the set is elaborated to these trees, in which each number names what is there
 pub record IsElaborated (set : List SourceFile) (core : CoreSet) : Type 0 where
-  pub heads : map core_script_head core.scripts.items ≡ map script_head set
+  pub heads : map core_script_head core.scripts.items ≡ map (script_head set) set
+  pub variables : HaveVariables set core.scripts.items
   pub in_range : InRange core
 
 -- these files are accepted as a set with these trees
