@@ -1,5 +1,5 @@
 -- What the values of texts are, step by step.
-use Rattle.std.proofs.Common.{ℕ, List}
+use Rattle.std.proofs.Common.{arith, ℕ, List, [], refl}
 use Rattle.std.specs.Prelude.{Result, Ok, Err, IfOk}
 use Rattle.std.specs.declared.alloc.Global.{Global}
 use Rattle.std.specs.declared.vec.Vec.{Vec}
@@ -9,6 +9,10 @@ use Rattle.pex_values.specs.declared.values.Pex.{Pex}
 use Rattle.script_linker.specs.declared.set.SourceFile.{SourceFile}
 use Rattle.pex_lift.specs.declared.fault.LiftFault.{LiftFault}
 use Rattle.pex_lift.specs.Lifted.{AreLinked, CompileTo, HasCore, IsElaborated, IsEmitted, IsRead}
+
+pub each_none : {A B : Type 0} (R : A → B → Type 0) → SameEach R [] []
+unfolding SameEach
+each_none R = (refl, λ n x y lt. absurd (omega arith))
 
 pub has_core : (files set : List SourceFile) (result : Result CoreSet LiftFault) → AreLinked files set → IfOk result (IsElaborated set) → IfOk result (HasCore files)
 has_core files set (Ok core) linked made = record { set = set; linked = linked; elaborated = made }
