@@ -1,11 +1,13 @@
 -- The heads of a set's scripts, and the functions of their empty states.
-use Rattle.std.proofs.Common.{◌≡◌, ◌+◌, ◌<◌, ℕ, Bool, true, false, List, [], ◌∷◌, ◌++◌, length, map, take, filter, refl, sym, ap, ◌∙◌, arith, slice_index_or, subst}
+use Rattle.std.proofs.Common.{◌≡◌, ◌+◌, ◌<◌, ℕ, Bool, true, false, List, [], ◌∷◌, ◌++◌, length, map, take, filter, refl, sym, ap, ◌∙◌, arith, slice_index_or, subst, append_assoc}
 use Rattle.std.specs.List.{All, last_or}
 use Rattle.std.specs.Prelude.{Option, None, Some}
 use Rattle.std.proofs.lemmas.List.{append-nil, length-map, map-append, take_more}
 use Rattle.std.proofs.lemmas.List.Elements.{All-push, All-same, filter-append}
+use Rattle.line_parser.specs.declared.tree.Parameter.{Parameter}
 use Rattle.script_linker.proofs.GeneratedLemmas.{Pairwise-append}
 use Rattle.script_linker.specs.Generated.{Pairwise}
+use Rattle.core_tree.specs.declared.core_type.CoreType.{CoreType}
 use Rattle.core_tree.specs.declared.script.CoreFunction.{CoreFunction}
 use Rattle.core_tree.specs.declared.script.CoreScript.{CoreScript}
 use Rattle.core_tree.specs.declared.script.CoreState.{CoreState}
@@ -15,8 +17,9 @@ use Rattle.core_tree.specs.Set.{empty_functions, empty_functions_of, function_of
 use Rattle.script_linker.specs.declared.set.SourceFile.{SourceFile}
 use Rattle.script_parser.specs.declared.script.Function.{Function}
 use Rattle.script_parser.specs.declared.script.State.{State}
-use Rattle.type_scope.specs.Types.{file_signatures, signature_of, signatures}
+use Rattle.type_scope.specs.Types.{file_signatures, signature_of, signatures, type_named}
 use Rattle.type_rules.specs.Heads.{FunctionHead, ScriptHead, StateHead, core_function_head, core_script_head, core_state_head, function_head, parameter_type, script_head, state_head}
+use Rattle.type_rules.specs.Ranges.{known}
 
 -- ---- one thing more
 
@@ -31,6 +34,17 @@ heads-push {X} {Y} {H} core head (first ∷ rest) n found all made pushed so_far
     ∙ ap (λ (h : H). map head (take n (first ∷ rest)) ++ h ∷ []) (is first)
     ∙ sym (map-append head (take n (first ∷ rest)) (slice_index_or (first ∷ rest) n first ∷ []))
     ∙ ap (map head) (sym (take_more (first ∷ rest) n first within))
+
+-- the same where the next thing is at hand
+pub heads-next : {X Y H : Type 0} (core : Y → H) (head : X → H) (xs : List X) (n : ℕ) (found all : List Y) (made : Y) (x : X) → all ≡ found ++ made ∷ [] → map core found ≡ map head (take n xs) → n < length xs →
+    x ≡ slice_index_or xs n x → core made ≡ head x → map core all ≡ map head (take (n + 1) xs)
+heads-next {X} {Y} {H} core head xs n found all made x pushed so_far within is made_is =
+    ap (map core) pushed
+    ∙ map-append core found (made ∷ [])
+    ∙ ap (λ (heads : List H). heads ++ core made ∷ []) so_far
+    ∙ ap (λ (h : H). map head (take n xs) ++ h ∷ []) (made_is ∙ ap head is)
+    ∙ sym (map-append head (take n xs) (slice_index_or xs n x ∷ []))
+    ∙ ap (map head) (sym (take_more xs n x within))
 
 -- pairs in order, where the next thing of the first list has one more beside it
 pub pairs-push : {X Y : Type 0} (R : X → Y → Type 0) (xs : List X) (n : ℕ) (found all : List Y) (made : Y) → all ≡ found ++ made ∷ [] → Pairwise R (take n xs) found → n < length xs →
@@ -135,3 +149,20 @@ last-same {X} p xs n x within is left =
     ∙ ap (λ (y : X). last_or None (filter p (take n xs ++ y ∷ []))) (sym is)
     ∙ ap (last_or None) (filter-append p (take n xs) (x ∷ []))
     ∙ rw left (ap (last_or None) (append-nil (filter p (take n xs))))
+
+-- ---- one parameter more
+
+pub parameters-push : (set : List SourceFile) (parameters : List Parameter) (n : ℕ) (first : List CoreType) (found all : List (Option CoreType)) (parameter : Parameter) → n < length parameters → parameter ≡ slice_index_or parameters n parameter →
+    all ≡ found ++ type_named set parameter.kind ∷ [] → map known found ≡ first ++ map (parameter_type set) (take n parameters) → map known all ≡ first ++ map (parameter_type set) (take (n + 1) parameters)
+parameters-push set parameters n first found all parameter within is pushed so_far =
+    let before : List CoreType = map (parameter_type set) (take n parameters) in
+    let joined : (first ++ before) ++ parameter_type set parameter ∷ [] ≡ first ++ (before ++ parameter_type set parameter ∷ []) = simp append_assoc in
+    let next : map (parameter_type set) (take (n + 1) parameters) ≡ before ++ parameter_type set parameter ∷ [] =
+    ap (map (parameter_type set)) (take_more parameters n parameter within)
+    ∙ map-append (parameter_type set) (take n parameters) (slice_index_or parameters n parameter ∷ [])
+    ∙ ap (λ (p : Parameter). before ++ parameter_type set p ∷ []) (sym is) in
+    ap (map known) pushed
+    ∙ map-append known found (type_named set parameter.kind ∷ [])
+    ∙ ap (λ (types : List CoreType). types ++ parameter_type set parameter ∷ []) so_far
+    ∙ joined
+    ∙ ap (λ (types : List CoreType). first ++ types) (sym next)

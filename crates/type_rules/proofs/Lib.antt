@@ -1,6 +1,7 @@
+pub mod AccessHeads
 pub mod Heads
 pub mod MemberRanges
 pub mod Scopes
 pub mod Trees
 pub mod Types
-pub mod Variables
+pub mod VariableHeads

@@ -2,12 +2,13 @@
 use Rattle.std.proofs.Common.{◌≡◌, ℕ, List, map, subst}
 use Rattle.std.specs.List.{All}
 use Rattle.std.proofs.lemmas.List.Elements.{All-map}
+use Rattle.core_tree.specs.declared.script.CoreFunction.{CoreFunction}
 use Rattle.core_tree.specs.declared.script.CoreProperty.{CoreProperty}
 use Rattle.core_tree.specs.declared.script.CoreState.{CoreState}
 use Rattle.core_tree.specs.InRange.{PropertyInRange, Signatures, StateInRange}
 use Rattle.core_tree.specs.Set.{property_of, state_of}
 use Rattle.type_rules.specs.declared.work.Work.{Work}
-use Rattle.type_rules.specs.Ranges.{CorePropertyInRange, CoreStateInRange, KeepsScript, WorkInRange, functions_of, variables_of}
+use Rattle.type_rules.specs.Ranges.{CoreFunctionInRange, CorePropertyInRange, CoreStateInRange, KeepsScript, WorkInRange, functions_of, variables_of}
 
 pub keeps-further : (a b c : Work) → KeepsScript a b → KeepsScript b c → KeepsScript a c
 keeps-further a b c first second = record { catalog = cc; layout = cc; number = cc }
@@ -41,3 +42,9 @@ pub state-kept : (a b : Work) → KeepsScript a b → (s : CoreState) → CoreSt
 state-kept a b k s r =
     let counted = subst (λ (v : ℕ). StateInRange (functions_of b) v (state_of s)) (keeps-variables a b k) r in
     subst (λ (functions : Signatures). StateInRange functions (variables_of a) (state_of s)) (keeps-functions a b k) counted
+
+pub function-kept : (a b : Work) → KeepsScript a b → (f : CoreFunction) → CoreFunctionInRange b f → CoreFunctionInRange a f
+function-kept a b k f r = rw (k.catalog, k.layout) at r
+
+pub property-kept : (a b : Work) → KeepsScript a b → (p : CoreProperty) → CorePropertyInRange b p → CorePropertyInRange a p
+property-kept a b k p r = rw (k.catalog, k.layout) at r

@@ -1,7 +1,7 @@
 -- What trees may name in a scope that grows.
 use Rattle.std.proofs.Common.{◌≡◌, ◌<◌, ◌+◌, ℕ, [], ◌∷◌, ◌++◌, length, min, arith, sym, ap, ◌∙◌, subst, vec_len, length-append}
 use Rattle.std.specs.Prelude.{Option}
-use Rattle.std.proofs.lemmas.List.Elements.{All-push}
+use Rattle.std.proofs.lemmas.List.Elements.{All-nil, All-push}
 use Rattle.core_tree.specs.declared.core_type.CoreType.{CoreType}
 use Rattle.core_tree.proofs.Ranges.{with_locals, expression-more_locals, block-more_locals, branches-more_locals}
 use Rattle.core_tree.specs.InRange.{Bounds, BlockInRange, BranchesInRange, ExpressionInRange, ResultInRange}
@@ -9,7 +9,8 @@ use Rattle.core_tree.specs.Tree.{Block, Branches, Expression}
 use Rattle.expression_rules.specs.declared.scope.Scope.{Scope}
 use Rattle.expression_rules.specs.Scopes.{Keeps, ScopeInRange, scope_bounds}
 use Rattle.type_rules.specs.declared.statements.Promise.{Promise}
-use Rattle.type_rules.specs.Ranges.{Grows, PromiseInRange}
+use Rattle.type_rules.specs.declared.work.Work.{Work}
+use Rattle.type_rules.specs.Ranges.{Grows, PromiseInRange, WorkInRange}
 
 -- ---- nothing changes but what is noted
 
@@ -90,4 +91,12 @@ pub added-in_range : (a b : Scope) (kind : Option CoreType) → b.catalog ≡ a.
 added-in_range a b kind catalog script added k r = record {
   script = rw (script, catalog) r.script;
   locals = rw (catalog, added) (All-push (ResultInRange (scope_bounds a).functions) a.locals.kinds.items kind r.locals k);
+}
+
+-- ---- a scope of a function of which nothing is judged yet
+
+pub opened-in_range : (work : Work) (s : Scope) → s.catalog ≡ work.catalog → s.script ≡ work.number → s.locals.kinds.items ≡ [] → WorkInRange work → ScopeInRange s
+opened-in_range work s catalog script none r = record {
+  script = rw (script, catalog) r;
+  locals = rw none (All-nil (ResultInRange (scope_bounds s).functions));
 }

@@ -1,5 +1,5 @@
 // Functions, with their parameters and statements judged.
-ghost use Rattle.std.specs.Prelude.{◌≡◌, ◌≤◌, ◌++◌, All, List, map, option_map, vec_len, IfOk, OnOk};
+ghost use Rattle.std.specs.Prelude.{◌≡◌, ◌≤◌, [], ◌∷◌, ◌++◌, All, List, map, option_map, vec_len, IfOk, OnOk};
 ghost use Rattle.core_tree.specs.InRange.{BlockInRange, FunctionInRange, TypeInRange};
 ghost use Rattle.core_tree.specs.Set.{function_of};
 ghost use Rattle.core_tree.specs.Tree.{block_of};
@@ -7,6 +7,7 @@ ghost use Rattle.expression_rules.specs.Scopes.{Keeps, ScopeInRange, scope_bound
 ghost use Rattle.type_rules.specs.Ranges.{CoreFunctionInRange, Grows, KeepsScript, PromiseInRange, WorkInRange, known, promised, scope_set, set_of};
 ghost use Rattle.script_linker.specs.declared.set.SourceFile.{SourceFile};
 ghost use Rattle.type_rules.specs.Heads.{core_function_head, function_head, parameter_type, type_in};
+ghost use Rattle.type_scope.specs.Types.{type_named};
 
 use crate::sizes::function_size;
 use crate::statements::{BLOCK_LIMIT, Promise, core_block};
@@ -14,7 +15,7 @@ use crate::variables::known;
 use crate::work::Work;
 use core_tree::{CoreFunction, CoreLine, CoreType};
 use expression_rules::{Scope, TypeRule, default_fits};
-use line_parser::{Parameter, TypeName};
+use line_parser::{Constant, Parameter, TypeName};
 use papy_base::{OutOfMemory, Text};
 use script_parser::{Body, Function};
 use std::alloc::Global;
@@ -48,7 +49,8 @@ pub(crate) fn core_function(
     let mut scope = work.open_scope(heading.is_global, function.line);
     let promise = promise_of(&mut scope, &heading.result)?;
     add_parameters(&mut scope, heading.parameters.as_slice())?;
-    let parameters = known_types(scope.catalog.alloc, scope.locals.kinds.as_slice())?;
+    let kinds = scope.locals.kinds.as_slice();
+    let parameters = known_types(scope.catalog.alloc, kinds)?;
     let body = core_body(&mut scope, &function.body, promise)?;
     let made = assemble(function, &scope, promise, parameters, body)?;
     let size = function_size(&made);
@@ -67,21 +69,35 @@ fn promise_of(scope: &mut Scope<'_>, result_type: &Option<TypeName>) -> Result<P
     }
 }
 
-// A default that doesn't convert to its parameter's type by itself breaks K6.
 fn add_parameters(scope: &mut Scope<'_>, parameters: &[Parameter]) -> Result<(), OutOfMemory>
     ensures grows { OnOk result (Grows scope.old scope.new) }
     ensures added { OnOk result (map known scope.new.locals.kinds.items ≡ map known scope.old.locals.kinds.items ++ map (parameter_type (scope_set scope.old)) parameters.now) }
 {
     for parameter in parameters {
-        let kind = scope.kind_named(&parameter.kind)?;
-        let _number = scope.new_local(&parameter.name, kind)?;
-        if let Some(default) = &parameter.default {
-            if !default_fits(scope.catalog, default, kind) {
-                scope.fault(TypeRule::NoConversion);
-            }
-        }
+        add_parameter(scope, parameter)?;
     }
     Ok(())
+}
+
+fn add_parameter(scope: &mut Scope<'_>, parameter: &Parameter) -> Result<(), OutOfMemory>
+    ensures grows { OnOk result (Grows scope.old scope.new) }
+    ensures added { OnOk result (scope.new.locals.kinds.items ≡ scope.old.locals.kinds.items ++ type_named (scope_set scope.old) parameter.now.kind ∷ []) }
+{
+    let kind = scope.kind_named(&parameter.kind)?;
+    let _number = scope.new_local(&parameter.name, kind)?;
+    judge_default(scope, &parameter.default, kind);
+    Ok(())
+}
+
+// A default that doesn't convert to its parameter's type by itself breaks K6.
+fn judge_default(scope: &mut Scope<'_>, default: &Option<Constant>, kind: Option<CoreType>)
+    ensures { Keeps scope.old scope.new }
+{
+    if let Some(default) = default {
+        if !default_fits(scope.catalog, default, kind) {
+            scope.fault(TypeRule::NoConversion);
+        }
+    }
 }
 
 fn core_body(

@@ -1,5 +1,6 @@
 // The properties and the states of a script.
-ghost use Rattle.std.specs.Prelude.{◌≡◌, ◌<◌, All, map, option_map, IfOk, OnOk, vec_len};
+ghost use Rattle.std.specs.Prelude.{◌≡◌, ◌<◌, All, Some, codes, map, option_map, if◌then◌else◌, IfOk, OnOk, vec_len};
+ghost use Rattle.std.specs.Str.{str_eq_ignore_ascii_case};
 ghost use Rattle.core_tree.specs.InRange.{AccessInRange, ResultInRange};
 ghost use Rattle.core_tree.specs.Set.{access_of};
 ghost use Rattle.type_rules.specs.Ranges.{CoreFunctionInRange, CorePropertyInRange, CoreStateInRange, KeepsScript, WorkInRange, functions_of, known, set_of, variables_of};
@@ -128,24 +129,53 @@ fn constant_get(
     })
 }
 
-// The functions of a full property are at most one Get and one Set.
+// The functions of a full property, at most one Get and one Set.
+#[derive(Drop)]
+struct Accessors {
+    read: Option<CoreFunction>,
+    write: Option<CoreFunction>,
+}
+
 fn full_access(work: &mut Work<'_>, functions: &[Function]) -> Result<CoreAccess, OutOfMemory>
     ensures head { IfOk result (λ access. core_access_head access
         ≡ ByFunctions (option_map (function_head (set_of work.old)) (getter functions.now)) (option_map (function_head (set_of work.old)) (setter functions.now))) }
     ensures kept { OnOk result (KeepsScript work.old work.new) }
     ensures in_range { WorkInRange work.old → IfOk result (λ access. AccessInRange (functions_of work.old) (variables_of work.old) (access_of access)) }
 {
-    let mut read = None;
-    let mut write = None;
+    let mut found = Accessors {
+        read: None,
+        write: None,
+    };
     for function in functions {
         let made = core_function(work, function)?;
-        if made.name.as_bytes().eq_ignore_ascii_case(b"Get") {
-            read = Some(made);
-        } else {
-            write = Some(made);
-        }
+        found = with_accessor(found, made);
     }
-    Ok(CoreAccess::Full(read, write))
+    Ok(CoreAccess::Full(found.read, found.write))
+}
+
+fn with_accessor(found: Accessors, made: CoreFunction) -> Accessors
+    ensures read { result.read ≡ (if str_eq_ignore_ascii_case made.name (codes "Get") then Some made else found.read) }
+    ensures write { result.write ≡ (if str_eq_ignore_ascii_case made.name (codes "Get") then found.write else Some made) }
+{
+    let Accessors { read, write } = found;
+    if is_get(&made.name) {
+        drop(read);
+        return Accessors {
+            read: Some(made),
+            write,
+        };
+    }
+    drop(write);
+    Accessors {
+        read,
+        write: Some(made),
+    }
+}
+
+fn is_get(name: &Name) -> bool
+    ensures { result ≡ str_eq_ignore_ascii_case name.now (codes "Get") }
+{
+    name.as_bytes().eq_ignore_ascii_case(b"Get")
 }
 
 /// The states of the script, the empty state first.

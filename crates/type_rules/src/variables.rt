@@ -24,13 +24,20 @@ pub(crate) fn core_variables(work: &mut Work<'_>) -> Result<Vec<CoreVariable>, O
     let layout = work.layout;
     let mut found = Vec::with_capacity(work.alloc(), layout.sources.len())?;
     for source in &layout.sources {
-        let variable = match *source {
-            Source::Declared(variable) => declared_variable(work, variable)?,
-            Source::Auto(property, _) => property_variable(work, property)?,
-        };
-        found.push(variable)?;
+        found.push(source_variable(work, source)?)?;
     }
     Ok(found)
+}
+
+fn source_variable(work: &mut Work<'_>, source: &Source<'_>) -> Result<CoreVariable, OutOfMemory>
+    ensures kept { KeepsScript work.old work.new }
+    ensures head { IfOk result (λ made. core_variable_head made ≡ variable_head (set_of work.old) (declaration source.now)) }
+    ensures in_range { IfOk result (VariableInRange (functions_of work.old)) }
+{
+    match *source {
+        Source::Declared(variable) => declared_variable(work, variable),
+        Source::Auto(property, _) => property_variable(work, property),
+    }
 }
 
 fn declared_variable(work: &mut Work<'_>, variable: &Variable) -> Result<CoreVariable, OutOfMemory>

@@ -10,8 +10,8 @@ use Rattle.type_rules.proofs.members.full_access.Given as goal
 abbrev pub invariant-loop-function : goal.invariant-loop-function
 invariant-loop-function l = record {
   kept : KeepsScript l.fn.work l.work;
-  getter : option_map core_function_head l.read ≡ option_map (function_head (set_of l.fn.work)) (getter (take l.function-index l.functions));
-  setter : option_map core_function_head l.write ≡ option_map (function_head (set_of l.fn.work)) (setter (take l.function-index l.functions));
-  read : WorkInRange l.fn.work → AccessorInRange (functions_of l.fn.work) (variables_of l.fn.work) (function_of_option l.read);
-  write : WorkInRange l.fn.work → AccessorInRange (functions_of l.fn.work) (variables_of l.fn.work) (function_of_option l.write);
+  getter : option_map core_function_head l.found.read ≡ option_map (function_head (set_of l.fn.work)) (getter (take l.function-index l.functions));
+  setter : option_map core_function_head l.found.write ≡ option_map (function_head (set_of l.fn.work)) (setter (take l.function-index l.functions));
+  read : WorkInRange l.fn.work → AccessorInRange (functions_of l.fn.work) (variables_of l.fn.work) (function_of_option l.found.read);
+  write : WorkInRange l.fn.work → AccessorInRange (functions_of l.fn.work) (variables_of l.fn.work) (function_of_option l.found.write);
 }
