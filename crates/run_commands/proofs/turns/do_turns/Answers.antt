@@ -1,20 +1,20 @@
 use Rattle.std.proofs.Common.{arith, ◌∙◌}
 use Rattle.std.proofs.lemmas.Grind.{common_steps}
-use Rattle.scene_runner.proofs.Appending.{appends_more}
+use Rattle.stack_machine.proofs.Sinks.{lines_more, some_behind_lines}
 use Rattle.run_commands.proofs.turns.do_turns.Goals as goal
 
 pub returns-in_err-turn-clause-appended : goal.returns-in_err-turn-clause-appended
-returns-in_err-turn-clause-appended g c = appends_more _ _ _ c.turns.invariant.appended c.turn.ensures.appended
+returns-in_err-turn-clause-appended g c = some_behind_lines _ _ _ c.turns.invariant.appended c.in_err-turn.ensures.appended
 
 pub returns-then-eq-clause-appended : goal.returns-then-eq-clause-appended
-returns-then-eq-clause-appended g c = appends_more _ _ _ c.turns.invariant.appended c.turn.ensures.appended
+returns-then-eq-clause-appended g c = lines_more _ _ _ c.turns.invariant.appended c.in_ok-turn.ensures.appended
 
 pub turns-preserved : goal.turns-preserved
 turns-preserved g c = record {
   scene = c.turn.ensures.fixed.1 ∙ c.turns.invariant.scene;
   fault = c.in_ok-turn.ensures.fault ∙ c.turns.invariant.fault;
   turns = grind (arith, common_steps);
-  appended = appends_more _ _ _ c.turns.invariant.appended c.turn.ensures.appended;
+  appended = lines_more _ _ _ c.turns.invariant.appended c.in_ok-turn.ensures.appended;
   count = c.in_ok-turn.ensures.count c.turns.invariant.fault ∙ c.turns.invariant.count;
   kinds = c.turn.ensures.kinds ∙ c.turns.invariant.kinds;
 }

@@ -1,12 +1,12 @@
 use Rattle.std.proofs.Common.{◌∙◌}
-use Rattle.scene_runner.proofs.Appending.{appends_more}
+use Rattle.stack_machine.proofs.Sinks.{lines_more, some_behind_lines}
 use Rattle.scene_runner.proofs.closing.write_declared.Goals as goal
 
 pub returns-in_err-write_line-clause-appended : goal.returns-in_err-write_line-clause-appended
-returns-in_err-write_line-clause-appended g c = appends_more _ _ _ c.loop-property.invariant.appended c.write_line.ensures.appended
+returns-in_err-write_line-clause-appended g c = some_behind_lines _ _ _ c.loop-property.invariant.appended c.in_err-write_line.ensures.appended
 
 pub loop-property-preserved : goal.loop-property-preserved
 loop-property-preserved g c = record {
   faults = c.in_ok-write_line.ensures.count ∙ c.loop-property.invariant.faults;
-  appended = appends_more _ _ _ c.loop-property.invariant.appended c.write_line.ensures.appended;
+  appended = lines_more _ _ _ c.loop-property.invariant.appended c.in_ok-write_line.ensures.appended;
 }

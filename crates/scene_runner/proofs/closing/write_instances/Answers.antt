@@ -1,16 +1,16 @@
 use Rattle.std.proofs.Common.{◌∙◌}
-use Rattle.scene_runner.proofs.Appending.{appends_more}
+use Rattle.stack_machine.proofs.Sinks.{lines_more, some_behind_lines}
 use Rattle.scene_runner.proofs.closing.write_instances.Goals as goal
 
 pub returns-in_err-write_line-clause-appended : goal.returns-in_err-write_line-clause-appended
-returns-in_err-write_line-clause-appended g c = appends_more _ _ _ c.loop-instance.invariant.appended c.write_line.ensures.appended
+returns-in_err-write_line-clause-appended g c = some_behind_lines _ _ _ c.loop-instance.invariant.appended c.in_err-write_line.ensures.appended
 
 pub returns-in_err-write_properties-clause-appended : goal.returns-in_err-write_properties-clause-appended
 returns-in_err-write_properties-clause-appended g c =
-    appends_more _ _ _ c.loop-instance.invariant.appended (appends_more _ _ _ c.write_line.ensures.appended c.write_properties.ensures.appended)
+    some_behind_lines _ _ _ (lines_more _ _ _ c.loop-instance.invariant.appended c.in_ok-write_line.ensures.appended) c.in_err-write_properties.ensures.appended
 
 pub loop-instance-preserved : goal.loop-instance-preserved
 loop-instance-preserved g c = record {
   faults = c.in_ok-write_properties.ensures.count ∙ c.in_ok-write_line.ensures.count ∙ c.loop-instance.invariant.faults;
-  appended = appends_more _ _ _ c.loop-instance.invariant.appended (appends_more _ _ _ c.write_line.ensures.appended c.write_properties.ensures.appended);
+  appended = lines_more _ _ _ c.loop-instance.invariant.appended (lines_more _ _ _ c.in_ok-write_line.ensures.appended c.in_ok-write_properties.ensures.appended);
 }
