@@ -68,6 +68,10 @@ pub lines_before : {T E : Type 0} (result : Result T E) (before between now : Op
 lines_before (Ok value) before between now a b = lines_more before between now a b
 lines_before (Err fault) before between now a b = some_behind_lines before between now a b
 
+-- an answer that is a fault, behind lines
+pub fault_behind_lines : {T E : Type 0} (result : Result T E) (fault : E) (before between now : Option (List ℕ)) → result ≡ Err fault → AppendsLines before between → AppendsSome between now → WritesLines result before now
+fault_behind_lines result fault before between now is a b = rw is (some_behind_lines before between now a b)
+
 -- a call of the sink wrote a line
 pub line_written : (line : List ℕ) (before now : Option (List ℕ)) → IsLines line → Appended line before now → AppendsLines before now
 line_written line before now is wrote = record { bytes = line; lines = is; appended = wrote }

@@ -1,5 +1,6 @@
 use Rattle.std.proofs.Common.{◌∙◌, refl}
-use Rattle.stack_machine.proofs.Sinks.{lines_more, lines_none, some_behind_lines}
+use Rattle.std.proofs.lemmas.Result.{err_from_is_err_and}
+use Rattle.stack_machine.proofs.Sinks.{fault_behind_lines, lines_more, lines_none}
 use Rattle.run_commands.proofs.NotedRun.{noted_more, noted_none}
 use Rattle.run_commands.proofs.turns.note_turns.Goals as goal
 
@@ -24,7 +25,9 @@ loop-preserved g c = record {
 }
 
 pub returns-in_err-note_turn-clause-appended : goal.returns-in_err-note_turn-clause-appended
-returns-in_err-note_turn-clause-appended g c = some_behind_lines _ _ _ c.loop.invariant.appended c.in_err-note_turn.ensures.appended
+returns-in_err-note_turn-clause-appended g c =
+    let told = err_from_is_err_and c.from_residual.result c.from_residual.ensures.1 in
+    fault_behind_lines c.from_residual.result told.0 _ _ _ told.1 c.loop.invariant.appended c.in_err-note_turn.ensures.appended
 
 pub returns-then-not-branch-clause-noted : goal.returns-then-not-branch-clause-noted
 returns-then-not-branch-clause-noted g c = noted_more _ _ _ _ _ _ c.loop.invariant.noted c.in_ok-note_turn.ensures.noted

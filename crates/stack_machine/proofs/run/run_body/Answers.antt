@@ -1,10 +1,12 @@
 use Rattle.std.proofs.Common.{◌∙◌}
-use Rattle.stack_machine.proofs.Sinks.{lines_before, lines_more, some_behind_lines}
+use Rattle.std.proofs.lemmas.Result.{err_from_is_err_and}
+use Rattle.stack_machine.proofs.Sinks.{fault_behind_lines, lines_before, lines_more}
 use Rattle.stack_machine.proofs.run.run_body.Goals as goal
 
 pub returns-in_err-ending-clause-appended : goal.returns-in_err-ending-clause-appended
 returns-in_err-ending-clause-appended g c =
-    some_behind_lines _ _ _ c.loop.invariant.appended c.in_err-ending.ensures.appended
+    let told = err_from_is_err_and c.from_residual.result c.from_residual.ensures.1 in
+    fault_behind_lines c.from_residual.result told.0 _ _ _ told.1 c.loop.invariant.appended c.in_err-ending.ensures.appended
 
 pub returns-in_default : goal.returns-in_default
 returns-in_default g c = record {
