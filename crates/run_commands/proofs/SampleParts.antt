@@ -84,9 +84,12 @@ unstarted_ends tree WriteFault starts = absurd starts
 unstarted_ends tree NotBuilt starts = absurd starts
 unstarted_ends tree (ReadFault word) starts = absurd starts
 
--- a closing report that stands by itself
-pub closing_alone : (turns : ℕ) (text : List ℕ) → Closes turns (Some []) (Some text) → IsClosing turns text
-closing_alone turns text closes = let is : closes.text ≡ text = cc in subst (IsClosing turns) is closes.closing
+closing-behind-nothing : (turns : ℕ) (text : List ℕ) → Closes turns (Some []) (Some text) → IsClosing turns text
+closing-behind-nothing turns text closes = let is : closes.text ≡ text = cc in subst (IsClosing turns) is closes.closing
+
+-- a closing report that was written to an empty sink
+pub closing_alone : (turns : ℕ) (before text : List ℕ) → before ≡ [] → Closes turns (Some before) (Some text) → IsClosing turns text
+closing_alone turns before text none closes = closing-behind-nothing turns text (subst (λ (bytes : List ℕ). Closes turns (Some bytes) (Some text)) none closes)
 
 pub closes_within : (workers : ℕ) (tree : SceneTree) (first machine : MachineView) (text : List ℕ) → IsSampleScene workers tree → IsStarted tree first → machine.scene ≡ first.scene → machine.turns ≤ machine.scene.turns →
     IsClosing machine.turns text → IsClosingWithin most_turns text

@@ -9,5 +9,5 @@ returns-in-Err-start_machine-clause-ends g c = unstarted_ends c.in-Ok-sample_sce
 
 pub returns-in-Ok-closing-clause-report : goal.returns-in-Ok-closing-clause-report
 returns-in-Ok-closing-clause-report g c =
-    closes_within c.args.workers c.in-Ok-sample_scene.tree c.in-Ok-start_machine.machine c.closing_of.new.machine _ c.in-Ok-sample_scene.ensures c.in-Ok-start_machine.ensures.starts
-    c.closing_of.ensures.scene c.in-Ok-closing.ensures.within c.in-Ok-closing.ensures.closes
+    closes_within c.args.workers c.in-Ok-sample_scene.tree c.in-Ok-start_machine.machine c.closing_of-closing.new.machine _ c.in-Ok-sample_scene.ensures c.in-Ok-start_machine.ensures.starts
+    c.closing_of-closing.ensures.scene c.in-Ok-closing.ensures.within c.in-Ok-closing.ensures.closes
