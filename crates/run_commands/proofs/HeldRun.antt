@@ -1,13 +1,14 @@
 -- How `hold` ends, and what it leaves.
-use Rattle.std.proofs.Common.{arith, ◌≡◌, ◌≢◌, ◌<◌, ℕ, true, List, [], length, map, take, refl, inl, inr}
+use Rattle.std.proofs.Common.{arith, ◌≡◌, ◌≢◌, ◌<◌, ℕ, true, List, [], ◌∷◌, ◌++◌, length, map, take, sym, refl, inl, inr}
+use Rattle.std.proofs.Math.Seq.{take-append_seam}
 use Rattle.std.proofs.lemmas.Grind.{common_steps}
 use Rattle.std.specs.Prelude.{Option, None, Some, Ok, Err, IfSome}
 use Rattle.papy_io.specs.Files.{Files}
-use Rattle.papy_io.specs.Sink.{AppendsSome}
 use Rattle.papy_io.specs.WriteFile.{WritesFile}
 use Rattle.papy_io.specs.declared.fault.IoFault.{IoFault}
 use Rattle.papy_io.specs.declared.fault.IoFault.TheVariants as io
 use Rattle.scene_runner.proofs.Appending.{appends_nothing}
+use Rattle.stack_machine.specs.Written.{AppendsLines, IsLines}
 use Rattle.core_tree.specs.declared.scene_tree.SceneTree.{SceneTree}
 use Rattle.command_files.specs.Compiled.{bytes_of}
 use Rattle.command_files.specs.declared.ending.Ending.{Ending}
@@ -119,26 +120,32 @@ pub are_there : (words : List (List ℕ)) (program : Program) (holds : Option Fi
 are_there words program None held = tt
 are_there words program (Some files) held = ((program.text.items, held.scene), (map bytes_of program.kept.items, held.values))
 
-any-done : (words : List (List ℕ)) (holds : Option Files) (text : List ℕ) → IfSome holds (AreThere words) → IfSome holds (λ files. HoldAnswers words files Done text)
-any-done words None text there = tt
-any-done words (Some files) text there = there
+any-done : (words : List (List ℕ)) (holds : Option Files) (text : List ℕ) → IfSome holds (AreThere words) → IsLines text → IfSome holds (λ files. HoldAnswers words files Done text)
+any-done words None text there lines = tt
+any-done words (Some files) text there lines = (there.0, there.1, lines)
 
+-- lines that were written before the held file was found too large
+lines-part : (words : List (List ℕ)) (holds : Option Files) (text : List ℕ) → IfSome holds (AreThere words) → IsLines text → IfSome holds (λ files. IsPart (HoldAnswers words files) text)
+lines-part words None text there lines = tt
+lines-part words (Some files) text there lines = let whole : text ≡ take (length text) text = grind (arith, common_steps) in inr (text, length text, (there.0, there.1, lines), whole)
+
+-- bytes that whole lines may begin with
 any-part : (words : List (List ℕ)) (holds : Option Files) (text : List ℕ) → IfSome holds (AreThere words) → IfSome holds (λ files. IsPart (HoldAnswers words files) text)
 any-part words None text there = tt
-any-part words (Some files) text there = let whole : text ≡ take (length text) text = grind (arith, common_steps) in inr (text, length text, there, whole)
+any-part words (Some files) text there = inr (text ++ 10 ∷ [], length text, (there.0, there.1, inr (text, refl)), sym (take-append_seam text (10 ∷ [])))
 
 refused-scene : (words : List (List ℕ)) (holds : Option Files) (word : ℕ) (place : Place) (rule : Rule) → IfSome holds (AreThere words) → RefusesScene 2 word place rule → IfSome holds (λ files. HoldAnswers words files (Refused word place rule) [])
 refused-scene words None word place rule there refuses = tt
 refused-scene words (Some files) word place rule there refuses = inl ((there.0, inl refuses), refl)
 
-too-large : (words : List (List ℕ)) (holds : Option Files) (word : ℕ) (place : Place) (rule : Rule) (text : List ℕ) → IfSome holds (AreThere words) → IsTooLarge 3 word place rule → IfSome holds (λ files. HoldAnswers words files (Refused word place rule) text)
-too-large words None word place rule text there large = tt
-too-large words (Some files) word place rule text there large = inr (large, there.0, there.1)
+too-large : (words : List (List ℕ)) (holds : Option Files) (word : ℕ) (place : Place) (rule : Rule) (text : List ℕ) → IfSome holds (AreThere words) → IsTooLarge 3 word place rule → IsLines text → IfSome holds (λ files. HoldAnswers words files (Refused word place rule) text)
+too-large words None word place rule text there large lines = tt
+too-large words (Some files) word place rule text there large lines = inr (large, there.0, there.1, lines)
 
 pub held_outputs : (most : ℕ) (words values : List (List ℕ)) (scene : List ℕ) (holds : Option Files) (ending : Ending) (before now : Option (List ℕ)) → IfSome holds (AreThere words) → PlaysHeld most values scene (Err ending) before now → Outputs (HoldAnswers words) holds ending before now
 held_outputs most words values scene holds (Refused word place rule) before now there (inl (refuses, same)) = inl (same, refused-scene words holds word place rule there refuses)
 held_outputs most words values scene holds (Refused word place rule) before now there (inr (large, appends)) =
-    inr (record { rule_is = large.rule_is; text = appends.bytes; appended = appends.appended; ends = too-large words holds word place rule appends.bytes there large; part = any-part words holds appends.bytes there })
+    inr (record { rule_is = large.rule_is; text = appends.bytes; appended = appends.appended; ends = too-large words holds word place rule appends.bytes there large appends.lines; part = lines-part words holds appends.bytes there appends.lines })
 held_outputs most words values scene holds OutOfMemory before now there plays = (plays.bytes, plays.appended, any-part words holds plays.bytes there)
 held_outputs most words values scene holds WriteFault before now there plays = (plays.bytes, plays.appended, any-part words holds plays.bytes there)
 held_outputs most words values scene holds (ReadFault word) before now there plays = absurd plays
@@ -146,8 +153,8 @@ held_outputs most words values scene holds Done before now there plays = absurd 
 held_outputs most words values scene holds Usage before now there plays = absurd plays
 held_outputs most words values scene holds NotBuilt before now there plays = absurd plays
 
-pub done_outputs : (words : List (List ℕ)) (holds : Option Files) (before now : Option (List ℕ)) → IfSome holds (AreThere words) → AppendsSome before now → Outputs (HoldAnswers words) holds Done before now
-done_outputs words holds before now there appends = (appends.bytes, appends.appended, any-done words holds appends.bytes there)
+pub done_outputs : (words : List (List ℕ)) (holds : Option Files) (before now : Option (List ℕ)) → IfSome holds (AreThere words) → AppendsLines before now → Outputs (HoldAnswers words) holds Done before now
+done_outputs words holds before now there appends = (appends.bytes, appends.appended, any-done words holds appends.bytes there appends.lines)
 
 pub hold_ends : (words : List (List ℕ)) (holds : Option Files) (ending : Ending) → EndsOnProgram 2 4 words holds ending → EndsEarly (HoldAnswers words) holds ending
 hold_ends words None (Refused word place rule) ends = tt

@@ -1,5 +1,5 @@
 -- How `resume` ends.
-use Rattle.std.proofs.Common.{arith, ◌≡◌, ◌≢◌, ◌≤◌, ◌<◌, ◌+◌, ◌∙◌, ℕ, suc, List, [], ◌∷◌, ◌++◌, length, map, refl, sym, ap, inl, inr, append-nil}
+use Rattle.std.proofs.Common.{arith, ◌≡◌, ◌≢◌, ◌≤◌, ◌<◌, ◌+◌, ◌∙◌, ℕ, suc, List, [], ◌∷◌, ◌++◌, length, map, take, refl, sym, ap, inl, inr, append-nil, append_assoc}
 use Rattle.std.proofs.Math.Seq.{take-append_seam}
 use Rattle.std.proofs.lemmas.List.{length-map}
 use Rattle.std.proofs.lemmas.List.Elements.{All-cons, All-nil}
@@ -9,11 +9,12 @@ use Rattle.std.specs.declared.alloc.Global.{Global}
 use Rattle.std.specs.declared.vec.Vec.{Vec}
 use Rattle.machine_state.specs.Plain.{plain, plain_device}
 use Rattle.papy_io.specs.Files.{Files}
-use Rattle.papy_io.specs.Sink.{Appended, AppendsSome}
+use Rattle.papy_io.specs.Sink.{Appended}
 use Rattle.pex_values.specs.declared.values.Pex.{Pex}
 use Rattle.pex_verify.specs.Files as verified
 use Rattle.scene_runner.specs.Report.{Closes, IsClosing, IsReport, turns_line}
 use Rattle.scene_runner.proofs.Appending.{appends_nothing, reports_behind}
+use Rattle.stack_machine.specs.Written.{AppendsLines}
 use Rattle.stack_machine.specs.declared.status.TurnFault.{TurnFault}
 use Rattle.stack_save.specs.Held.{HasLayout, IsFile, IsHeld, LoadGives, limit}
 use Rattle.stack_save.specs.declared.fault.HeldFault.{HeldFault}
@@ -73,7 +74,7 @@ pub late_writes : (fault : HeldFault) (count : ℕ) → CountsWrites (held_endin
 late_writes (held.Broken by) count = refl
 late_writes held.OutOfMemory count = refl
 
-pub went_on : {T : Type 0} (result : Result T TurnFault) (from turns most : ℕ) (before between now : Option (List ℕ)) → from ≤ turns → turns ≤ from + most → AppendsSome before between → IfOk result (λ _. Closes turns between now) → IfOk result (λ _. GoesOn from most before now)
+pub went_on : {T : Type 0} (result : Result T TurnFault) (from turns most : ℕ) (before between now : Option (List ℕ)) → from ≤ turns → turns ≤ from + most → AppendsLines before between → IfOk result (λ _. Closes turns between now) → IfOk result (λ _. GoesOn from most before now)
 went_on (Ok value) from turns most before between now on within appends closes =
     record { turns = turns; on = on; within = within; reports = reports_behind (Ok value) turns before between now appends closes }
 went_on (Err fault) from turns most before between now on within appends closes = tt
@@ -171,16 +172,18 @@ breaks-late bytes BadState late few layout = (few, layout)
 breaks-late bytes OtherDevices late few layout = (few, layout)
 
 -- bytes that a report of a held run may begin with
-rest-behind : (most : ℕ) (bytes : List ℕ) (found : Held) (part : List ℕ) → IsHeld bytes found → IsRest most bytes (part ++ turns_line found.state.turn)
+rest-behind : (most : ℕ) (bytes : List ℕ) (found : Held) (part : List ℕ) → IsHeld bytes found → IsRest most bytes (part ++ 10 ∷ [] ++ turns_line found.state.turn)
 rest-behind most bytes found part is =
-    let closing : IsClosing found.state.turn (turns_line found.state.turn) = record { rest = []; text_is = sym (append-nil (turns_line found.state.turn)) } in
-    let report : IsReport found.state.turn (part ++ turns_line found.state.turn) = record { lines = part; closing = turns_line found.state.turn; closes = closing; text_is = refl } in
+    let closing : IsClosing found.state.turn (turns_line found.state.turn) = record { rest = []; are_lines = inl refl; text_is = sym (append-nil (turns_line found.state.turn)) } in
+    let report : IsReport found.state.turn (part ++ 10 ∷ [] ++ turns_line found.state.turn) = record { lines = part ++ 10 ∷ []; closing = turns_line found.state.turn; are_lines = inr (part, refl); closes = closing; text_is = refl } in
     record { from = found.state.turn; turns = found.state.turn; held = held-at bytes found is; on = omega arith; within = omega arith; report = report }
 
 part-of : (most : ℕ) (holds : Option Files) (name : List ℕ) (found : Held) (part : List ℕ) → ReadsHeld holds name (Ok found) → IfSome holds (λ files. IsPart (AnswersTo (ResumeAnswers most) name files) part)
 part-of most None name found part read = tt
 part-of most (Some files) name found part (bytes, told, few, is) =
-    inr (part ++ turns_line found.state.turn, length part, (bytes, told, rest-behind most bytes found part is), sym (take-append_seam part (turns_line found.state.turn)))
+    let behind : List ℕ = 10 ∷ turns_line found.state.turn in
+    let whole : part ++ 10 ∷ [] ++ turns_line found.state.turn ≡ part ++ behind = append_assoc part (10 ∷ []) (turns_line found.state.turn) in
+    inr (part ++ 10 ∷ [] ++ turns_line found.state.turn, length part, (bytes, told, rest-behind most bytes found part is), sym (take-append_seam part behind) ∙ sym (ap (take (length part)) whole))
 
 done-of : (most : ℕ) (holds : Option Files) (name : List ℕ) (found : Held) (before now : Option (List ℕ)) (on : GoesOn found.state.turn most before now) → ReadsHeld holds name (Ok found) → IfSome holds (λ files. AnswersTo (ResumeAnswers most) name files Done on.reports.text)
 done-of most None name found before now on read = tt

@@ -1,5 +1,5 @@
 -- How a command ends that ran a scene, and what it has written then.
-use Rattle.std.proofs.Common.{arith, ◌≡◌, ◌≢◌, ◌<◌, ◌≤◌, ℕ, List, [], ◌++◌, length, append-nil, sym, ap, ◌∙◌, refl, subst, inl, inr}
+use Rattle.std.proofs.Common.{arith, ◌≡◌, ◌≢◌, ◌<◌, ◌≤◌, ℕ, List, [], ◌∷◌, ◌++◌, length, take, append-nil, append_assoc, sym, ap, ◌∙◌, refl, subst, inl, inr}
 use Rattle.std.proofs.Math.Seq.{take-append_seam}
 use Rattle.std.specs.Prelude.{Option, None, Some, IfSome}
 use Rattle.core_tree.specs.declared.scene.Scene.{Scene}
@@ -134,14 +134,16 @@ report-within : (tree : SceneTree) (most : ℕ) (text : List ℕ) → tree.turns
 report-within tree most text few report = record { turns = report.turns; within = omega (arith, report.within); report = report.report }
 
 -- bytes that any report may begin with
-report-behind : (most : ℕ) (bytes : List ℕ) → IsReportWithin most (bytes ++ turns_line 0)
+report-behind : (most : ℕ) (bytes : List ℕ) → IsReportWithin most (bytes ++ 10 ∷ [] ++ turns_line 0)
 report-behind most bytes =
-    let closing : IsClosing 0 (turns_line 0) = record { rest = []; text_is = sym (append-nil (turns_line 0)) } in
-    record { turns = 0; within = omega arith; report = record { lines = bytes; closing = turns_line 0; closes = closing; text_is = refl } }
+    let closing : IsClosing 0 (turns_line 0) = record { rest = []; are_lines = inl refl; text_is = sym (append-nil (turns_line 0)) } in
+    record { turns = 0; within = omega arith; report = record { lines = bytes ++ 10 ∷ []; closing = turns_line 0; are_lines = inr (bytes, refl); closes = closing; text_is = refl } }
 
 part-of : (Ends : Files → Ending → List ℕ → Type 0) (most named : ℕ) (files : Files) (bytes : List ℕ) → AnswersRun Ends most named files → IsPart (Ends files) bytes
 part-of Ends most named files bytes ends =
-    inr (bytes ++ turns_line 0, length bytes, ends.done (bytes ++ turns_line 0) (report-behind most bytes), sym (take-append_seam bytes (turns_line 0)))
+    let text : List ℕ = bytes ++ 10 ∷ [] ++ turns_line 0 in
+    let whole : text ≡ bytes ++ (10 ∷ turns_line 0) = append_assoc bytes (10 ∷ []) (turns_line 0) in
+    inr (text, length bytes, ends.done text (report-behind most bytes), sym (take-append_seam bytes (10 ∷ turns_line 0)) ∙ sym (ap (take (length bytes)) whole))
 
 pub play_outputs : (Ends : Files → Ending → List ℕ → Type 0) (tree : SceneTree) (most named : ℕ) (holds : Option Files) (ending : Ending) (before now : Option (List ℕ)) → tree.turns ≤ most →
     IfSome holds (AnswersRun Ends most named) → Plays tree named ending before now → Outputs Ends holds ending before now

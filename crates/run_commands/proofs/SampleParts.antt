@@ -1,6 +1,7 @@
 -- How many scripts, files and parts a sample has, and what its own bytes spell.
-use Rattle.std.proofs.Common.{arith, ◌≡◌, ◌∙◌, ℕ, suc, ◌+◌, ◌≤◌, List, [], ◌∷◌, ◌++◌, map, length, sym, ap}
+use Rattle.std.proofs.Common.{arith, ◌≡◌, ◌∙◌, ℕ, suc, ◌+◌, ◌≤◌, List, [], ◌∷◌, ◌++◌, map, length, sym, ap, subst}
 use Rattle.std.specs.List.{range_with_len}
+use Rattle.std.specs.Prelude.{Err, Some}
 use Rattle.std.proofs.lemmas.List.{length-map, map-append}
 use Rattle.std.proofs.lemmas.List.FromFn.{length-map-range_with_len, map-range_with_len_more}
 use Rattle.core_tree.specs.declared.scene_tree.SceneTree.{SceneTree}
@@ -13,8 +14,14 @@ use Rattle.command_files.specs.declared.compiled.CompiledSet.{CompiledSet}
 use Rattle.command_files.specs.declared.source_texts.NamedText.{NamedText}
 use Rattle.command_files.specs.Compiled.{HasFiles, bytes_of, spelled}
 use Rattle.command_files.specs.SourceTexts.{text_of}
-use Rattle.run_commands.specs.Play.{HasFewParts}
-use Rattle.run_commands.specs.Sample.{IsSampleScene, sample_texts, start_plan, worker_plan, worker_text}
+use Rattle.scene_runner.specs.Report.{Closes, IsClosing}
+use Rattle.stack_machine.specs.Machine.{MachineView}
+use Rattle.core_tree.specs.declared.scene.Scene.{Scene}
+use Rattle.command_files.specs.declared.ending.Ending.{Ending}
+use Rattle.command_files.specs.declared.ending.Ending.TheVariants.{Done, OutOfMemory, Usage, ReadFault, WriteFault, Refused, NotBuilt}
+use Rattle.run_commands.specs.Play.{HasFewParts, IsStarted, Starts}
+use Rattle.run_commands.specs.Report.{IsClosingWithin, most_turns}
+use Rattle.run_commands.specs.Sample.{EndsUnreported, IsSampleScene, sample_texts, start_plan, worker_plan, worker_text}
 
 -- the hub's script and one for each worker
 pub scripts_counted : (scripts : List NamedText) (workers : ℕ) → map text_of scripts ≡ sample_texts workers → length scripts ≡ workers + 1
@@ -64,3 +71,28 @@ one_more_behind f g first before after x number grown so_far is =
 
 pub decoded_is_file : (bytes : List ℕ) (value : Pex) → Spells (plain value) bytes → IsFile value
 decoded_is_file bytes value spells = record { shaped = spells.shaped; fits = spells.fits }
+
+-- ---- the run
+
+-- a sample whose machine can't be started
+pub unstarted_ends : (tree : SceneTree) (ending : Ending) → Starts tree 0 (Err ending) → EndsUnreported ending
+unstarted_ends tree (Refused word place rule) starts = starts
+unstarted_ends tree OutOfMemory starts = tt
+unstarted_ends tree Done starts = absurd starts
+unstarted_ends tree Usage starts = absurd starts
+unstarted_ends tree WriteFault starts = absurd starts
+unstarted_ends tree NotBuilt starts = absurd starts
+unstarted_ends tree (ReadFault word) starts = absurd starts
+
+closing-behind-nothing : (turns : ℕ) (text : List ℕ) → Closes turns (Some []) (Some text) → IsClosing turns text
+closing-behind-nothing turns text closes = let is : closes.text ≡ text = cc in subst (IsClosing turns) is closes.closing
+
+-- a closing report that was written to an empty sink
+pub closing_alone : (turns : ℕ) (before text : List ℕ) → before ≡ [] → Closes turns (Some before) (Some text) → IsClosing turns text
+closing_alone turns before text none closes = closing-behind-nothing turns text (subst (λ (bytes : List ℕ). Closes turns (Some bytes) (Some text)) none closes)
+
+pub closes_within : (workers : ℕ) (tree : SceneTree) (first machine : MachineView) (text : List ℕ) → IsSampleScene workers tree → IsStarted tree first → machine.scene ≡ first.scene → machine.turns ≤ machine.scene.turns →
+    IsClosing machine.turns text → IsClosingWithin most_turns text
+closes_within workers tree first machine text sample started same within closing =
+    let turns : machine.scene.turns ≡ tree.turns = ap (λ (s : Scene). s.turns) same ∙ started.kept.turns in
+    record { turns = machine.turns; within = omega (arith, sample.turns); closing = closing }

@@ -2,6 +2,7 @@
 -- every file is held, and that it tells how many turns were done, not which instances and stacks it tells of.
 use Rattle.std.specs.Prelude.{◌≡◌, ◌⊎◌, ℕ, suc, List, [], ◌∷◌}
 use Rattle.papy_io.specs.Files.{Files}
+use Rattle.stack_machine.specs.Written.{IsLines}
 use Rattle.command_files.specs.declared.ending.Ending.{Ending}
 use Rattle.command_files.specs.declared.ending.Ending.TheVariants.{Done, OutOfMemory, Usage, ReadFault, WriteFault, Refused, NotBuilt}
 use Rattle.command_files.specs.declared.refusal.Place.{Place}
@@ -12,7 +13,7 @@ use Rattle.run_commands.specs.Hold.{IsTooLarge}
 use Rattle.run_commands.specs.Play.{RefusesScene}
 use Rattle.run_commands.specs.Program.{RefusesProgram, files_from, scene_of}
 use Rattle.run_commands.specs.Resume.{IsRest, RefusesHeld}
-use Rattle.run_commands.specs.Report.{IsReportWithin, default_turns, most_turns, sample_text}
+use Rattle.run_commands.specs.Report.{IsClosingWithin, IsReportWithin, default_turns, most_turns, sample_text}
 
 -- how `once` ends on the scripts of these names; the default scene is refused at the command's own word
 abbrev pub OnceAnswers : List (List ℕ) → Files → Ending → List ℕ → Type 0
@@ -64,13 +65,13 @@ ExecAnswers words files ending text = ProgramAnswers 1 2 words files ending text
 abbrev pub JournalAnswers : List (List ℕ) → Files → Ending → List ℕ → Type 0
 JournalAnswers words files ending text = ProgramAnswers 1 3 words files ending text
 
--- how `hold` ends on the words behind it: a number, a scene, the file that it writes, and compiled files. Nothing is said yet of what it writes
--- to `out`.
+-- how `hold` ends on the words behind it: a number, a scene, the file that it writes, and compiled files. Of what it
+-- writes to `out` they say that it is whole lines.
 abbrev pub HoldAnswers : List (List ℕ) → Files → Ending → List ℕ → Type 0
 HoldAnswers words files (Refused word place rule) text =
     (RefusesProgram 2 4 words files word place rule × (text ≡ []))
-    ⊎ (IsTooLarge 3 word place rule × IsHeld (scene_of 2 words) files × AreHeld (files_from 4 words) files)
-HoldAnswers words files Done text = IsHeld (scene_of 2 words) files × AreHeld (files_from 4 words) files
+    ⊎ (IsTooLarge 3 word place rule × IsHeld (scene_of 2 words) files × AreHeld (files_from 4 words) files × IsLines text)
+HoldAnswers words files Done text = IsHeld (scene_of 2 words) files × AreHeld (files_from 4 words) files × IsLines text
 HoldAnswers words files NotBuilt text = ⊥
 HoldAnswers words files OutOfMemory text = ⊥
 HoldAnswers words files Usage text = ⊥
@@ -89,7 +90,7 @@ ResumeAnswers most bytes WriteFault text = ⊥
 
 -- how `sample` ends with so many workers; its scene is refused at the command's own word
 abbrev pub SampleAnswers : ℕ → Ending → List ℕ → Type 0
-SampleAnswers workers Done text = (report : List ℕ) × IsReportWithin most_turns report × (text ≡ sample_text workers report)
+SampleAnswers workers Done text = (closing : List ℕ) × IsClosingWithin most_turns closing × (text ≡ sample_text workers closing)
 SampleAnswers workers (Refused word place rule) text = RefusesScene 0 word place rule × (text ≡ [])
 SampleAnswers workers NotBuilt text = text ≡ []
 SampleAnswers workers OutOfMemory text = ⊥

@@ -6,6 +6,7 @@ use Rattle.machine_state.specs.Plain.{PlainState}
 use Rattle.papy_io.specs.Files.{Files, told_bytes, ChangesTold}
 use Rattle.papy_io.specs.Sink.{AppendsSome}
 use Rattle.papy_io.specs.WriteFile.{HoldsNow, MayHold}
+use Rattle.stack_machine.specs.Written.{AppendsLines}
 use Rattle.stack_save.specs.Held.{Spells, limit}
 use Rattle.stack_save.specs.Spelling.{spelling}
 use Rattle.stack_save.specs.declared.fault.HeldRule.TheVariants.{TooLarge}
@@ -45,9 +46,9 @@ Saves values scene state (Err (ReadFault word)) = ⊥
 
 -- the bytes of a held run, and the lines that were written before; or the command ends so
 abbrev pub PlaysHeld : ℕ → List (List ℕ) → List ℕ → Result (Vec ℕ Global) Ending → Option (List ℕ) → Option (List ℕ) → Type 0
-PlaysHeld most values scene (Ok bytes) before now = IsHeldRun most values scene bytes.items × AppendsSome before now
+PlaysHeld most values scene (Ok bytes) before now = IsHeldRun most values scene bytes.items × AppendsLines before now
 PlaysHeld most values scene (Err (Refused word place rule)) before now =
-    (RefusesScene 2 word place rule × (now ≡ before)) ⊎ (IsTooLarge 3 word place rule × AppendsSome before now)
+    (RefusesScene 2 word place rule × (now ≡ before)) ⊎ (IsTooLarge 3 word place rule × AppendsLines before now)
 PlaysHeld most values scene (Err OutOfMemory) before now = AppendsSome before now
 PlaysHeld most values scene (Err WriteFault) before now = AppendsSome before now
 PlaysHeld most values scene (Err Done) before now = ⊥

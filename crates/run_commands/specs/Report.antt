@@ -5,13 +5,19 @@ use Rattle.std.specs.Io.BufRead.{drop_through, take_through}
 use Rattle.core_tree.specs.declared.scene_tree.SceneTree.{SceneTree}
 use Rattle.core_tree.specs.declared.scene_tree.TurnOrder.TheVariants as orders
 use Rattle.papy_io.specs.Sink.{Appended}
-use Rattle.scene_runner.specs.Report.{IsReport}
+use Rattle.scene_runner.specs.Report.{IsClosing, IsReport}
 
 -- the report of a run of at most so many turns
 pub record IsReportWithin (most : ℕ) (text : List ℕ) : Type 0 where
   pub turns : ℕ
   pub within : turns ≤ most
   pub report : IsReport turns text
+
+-- the closing report of a run of at most so many turns
+pub record IsClosingWithin (most : ℕ) (text : List ℕ) : Type 0 where
+  pub turns : ℕ
+  pub within : turns ≤ most
+  pub closing : IsClosing turns text
 
 -- the report of a run of a scene: of its turns, or, in round order only, of fewer
 pub record IsReportOf (tree : SceneTree) (text : List ℕ) : Type 0 where
@@ -42,6 +48,6 @@ abbrev pub first_lines : ℕ → List ℕ → List ℕ
 first_lines zero text = []
 first_lines (suc count) text = take_through 10 text ++ first_lines count (drop_through 10 text)
 
--- what is written of a sample's report: the turns, the hub and its total
+-- what is written of a sample's closing report: the turns, the hub and its total
 abbrev pub sample_text : ℕ → List ℕ → List ℕ
-sample_text workers report = scripts_line workers ++ first_lines 3 report
+sample_text workers closing = scripts_line workers ++ first_lines 3 closing

@@ -4,8 +4,8 @@ ghost use Rattle.std.specs.String.{string_bytes};
 ghost use Rattle.machine_state.specs.Plain.{plain};
 ghost use Rattle.machine_state.specs.Savable.{IsSavable};
 ghost use Rattle.papy_io.specs.Activity.{Idle};
-ghost use Rattle.papy_io.specs.Sink.{AppendsSome};
 ghost use Rattle.stack_machine.specs.Machine.{CountsTurn};
+ghost use Rattle.stack_machine.specs.Written.{WritesLines};
 ghost use Rattle.command_files.specs.Compiled.{bytes_of};
 ghost use Rattle.command_files.specs.Ending.{CountsBoth, CountsReads, IsWordBelow, word_at};
 ghost use Rattle.command_files.specs.Outputs.{Outputs};
@@ -39,7 +39,7 @@ fn state_after<S: Sink>(
     ensures savable { IfOk result (λ state. IsSavable (plain state)) }
     ensures within { IfOk result (λ state. state.turn ≤ machine.old.turns + most) }
     ensures count { CountsTurn result (S.faults out.old) (S.faults out.new) }
-    ensures appended { AppendsSome (S.written out.old) (S.written out.new) }
+    ensures appended { WritesLines result (S.written out.old) (S.written out.new) }
     ensures kinds { SameKinds (map (λ d. device_state d) devices.old.items) (map (λ d. device_state d) devices.new.items) }
 {
     do_turns(machine, most, out, devices)?;

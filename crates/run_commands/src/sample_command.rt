@@ -11,10 +11,11 @@ ghost use Rattle.command_files.specs.Ending.{CountsWrites, IsWordBelow};
 ghost use Rattle.command_files.specs.Outputs.{Outputs};
 ghost use Rattle.latent_natives.specs.Devices.{SameKinds};
 ghost use Rattle.run_commands.specs.Answers.{ReadsNothing, SampleAnswers};
-ghost use Rattle.run_commands.specs.Report.{IsReportWithin, first_lines, most_turns, sample_text, scripts_line};
+ghost use Rattle.scene_runner.specs.Report.{IsClosing};
+ghost use Rattle.run_commands.specs.Report.{IsClosingWithin, first_lines, most_turns, sample_text, scripts_line};
 ghost use Rattle.run_commands.specs.Sample.{EndsUnreported, WritesText};
 
-use crate::play::play;
+use crate::play::start_machine;
 use crate::sample_scene::sample_scene;
 use crate::sample_scripts::sample_scripts;
 use command_files::{CompileFault, Ending, accept_texts, compile_set};
@@ -24,6 +25,8 @@ use papy_io::{IoFault, MemorySink, Sink};
 use pex_codec::{PexFault, decode};
 use pex_values::Pex;
 use pex_verify::{Loaded, verify};
+use scene_runner::{finish_turns, write_closing};
+use stack_machine::{Machine, TurnFault};
 use std::alloc::Global;
 
 /// Why a sample's scripts have no compiled files, where they weren't accepted. No sample is known whose scripts
@@ -92,7 +95,27 @@ fn load(alloc: Global, workers: u8) -> Result<Loaded, CompileFault>
     Ok(verify(alloc, values)?)
 }
 
-/// The report of a sample's run, or how it ends without one.
+/// Runs a machine to its end, and gives its closing report apart from the lines of its turns.
+fn closing_of(
+    alloc: Global,
+    machine: &mut Machine,
+    devices: &mut Vec<Box<dyn Device>>,
+) -> Result<MemorySink, TurnFault>
+    requires { vec_len devices.old ≡ machine.old.scene.devices }
+    ensures scene { machine.new.scene ≡ machine.old.scene }
+    ensures closes { IfOk result (λ closing. IsClosing machine.new.turns closing.written) }
+    ensures within { IfOk result (λ _. machine.new.turns ≤ machine.new.scene.turns) }
+    ensures kinds { SameKinds (map (λ d. device_state d) devices.old.items) (map (λ d. device_state d) devices.new.items) }
+{
+    let mut lines = MemorySink::new(alloc, Vec::new(alloc));
+    finish_turns(machine, &mut lines, devices)?;
+    drop(lines);
+    let mut closing = MemorySink::new(alloc, Vec::new(alloc));
+    write_closing(alloc, machine, &mut closing)?;
+    Ok(closing)
+}
+
+/// The closing report of a sample's run, or how it ends without one.
 fn report_of(
     alloc: Global,
     workers: u8,
@@ -100,7 +123,7 @@ fn report_of(
 ) -> Result<MemorySink, Ending>
     requires few { workers ≤ 200 }
     requires few_devices { vec_len devices.old ≤ 65535 }
-    ensures report { IfOk result (λ report. IsReportWithin most_turns report.written) }
+    ensures report { IfOk result (λ closing. IsClosingWithin most_turns closing.written) }
     ensures ends { IfErr result EndsUnreported }
     ensures kinds { SameKinds (map (λ d. device_state d) devices.old.items) (map (λ d. device_state d) devices.new.items) }
 {
@@ -115,12 +138,16 @@ fn report_of(
             return Err(Ending::OutOfMemory);
         }
     };
-    let mut report = MemorySink::new(alloc, Vec::new(alloc));
-    match play(alloc, loaded, tree, 0, &mut report, devices) {
-        Ending::Done => Ok(report),
-        Ending::Refused { word, place, rule } => Err(Ending::Refused { word, place, rule }),
+    let mut machine = match start_machine(alloc, loaded, tree, 0, devices) {
+        Ok(machine) => machine,
+        Err(ending) => return Err(ending),
+    };
+    let closing = closing_of(alloc, &mut machine, devices);
+    drop(machine);
+    match closing {
+        Ok(closing) => Ok(closing),
         // A sink in memory that lists no call fails only for want of memory.
-        _ => Err(Ending::OutOfMemory),
+        Err(_) => Err(Ending::OutOfMemory),
     }
 }
 
@@ -144,7 +171,7 @@ fn split_line(text: &[u8]) -> (&[u8], &[u8])
     (text, &[])
 }
 
-/// Writes the first three lines of a report, each by one call of the sink: the turns, the hub, and its total.
+/// Writes the first three lines of a closing report, each by one call of the sink: the turns, the hub, and its total.
 fn write_lines<S: Sink>(report: &[u8], out: &mut S) -> Result<(), IoFault>
     ensures written { WritesText (first_lines 3 report.now) result (S.written out.old) (S.written out.new) }
     ensures faults { CountsFaults result (S.faults out.old) (S.faults out.new) }
@@ -157,7 +184,7 @@ fn write_lines<S: Sink>(report: &[u8], out: &mut S) -> Result<(), IoFault>
     out.write(total)
 }
 
-/// Writes the number of scripts and the first three lines of a report.
+/// Writes the number of scripts and the first three lines of a closing report.
 fn write_sample<S: Sink>(
     alloc: Global,
     workers: u8,
@@ -173,7 +200,7 @@ fn write_sample<S: Sink>(
 }
 
 /// Makes a hub and so many workers, each of which adds its number to the hub's total a thousand times, compiles
-/// them, runs their files, and writes the number of scripts and the first three lines of the report.
+/// them, runs their files, and writes the number of scripts and the first three lines of the closing report.
 pub fn sample<S: Sink>(
     alloc: Global,
     workers: u8,

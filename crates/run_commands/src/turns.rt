@@ -6,6 +6,7 @@ ghost use Rattle.papy_io.specs.Sink.{AppendsSome};
 ghost use Rattle.scene_binder.specs.Bound.{instance_name};
 ghost use Rattle.scene_runner.specs.Report.{Reports};
 ghost use Rattle.stack_machine.specs.Machine.{CountsTurn, HasEnded};
+ghost use Rattle.stack_machine.specs.Written.{WritesLines};
 ghost use Rattle.run_commands.specs.Journal.{IsJournalOf, NotesTurns};
 
 use core_tree::BoundInstance;
@@ -31,7 +32,7 @@ pub fn do_turns<S: Sink>(
     ensures most { IfOk result (λ _. machine.new.turns ≤ machine.old.turns + most) }
     ensures whole { IfOk result (λ _. (machine.new.turns ≡ machine.old.turns + most) ⊎ HasEnded machine.new) }
     ensures count { CountsTurn result (S.faults sink.old) (S.faults sink.new) }
-    ensures appended { AppendsSome (S.written sink.old) (S.written sink.new) }
+    ensures appended { WritesLines result (S.written sink.old) (S.written sink.new) }
     ensures kinds { SameKinds (map (λ d. device_state d) devices.old.items) (map (λ d. device_state d) devices.new.items) }
 {
     'turns: for _ in 0..most {
@@ -69,7 +70,7 @@ fn note_turn<S: Sink>(
     ensures ended { IfOk result (λ on. OnFalse on (HasEnded machine.new)) }
     ensures within { machine.new.turns ≤ machine.new.scene.turns }
     ensures count { CountsTurn result (S.faults sink.old) (S.faults sink.new) }
-    ensures appended { AppendsSome (S.written sink.old) (S.written sink.new) }
+    ensures appended { WritesLines result (S.written sink.old) (S.written sink.new) }
     ensures kinds { SameKinds (map (λ d. device_state d) devices.old.items) (map (λ d. device_state d) devices.new.items) }
 {
     let turn = machine.turns_done();
@@ -97,7 +98,7 @@ fn note_turns<S: Sink>(
     ensures ended { IfOk result (λ _. HasEnded machine.new) }
     ensures within { IfOk result (λ _. machine.new.turns ≤ machine.new.scene.turns) }
     ensures count { CountsTurn result (S.faults sink.old) (S.faults sink.new) }
-    ensures appended { AppendsSome (S.written sink.old) (S.written sink.new) }
+    ensures appended { WritesLines result (S.written sink.old) (S.written sink.new) }
     ensures kinds { SameKinds (map (λ d. device_state d) devices.old.items) (map (λ d. device_state d) devices.new.items) }
 {
     loop {

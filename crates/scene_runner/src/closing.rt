@@ -2,6 +2,7 @@
 
 ghost use Rattle.std.specs.Prelude.{◌≡◌, ◌<◌, IfOk, None, vec_len};
 ghost use Rattle.stack_machine.specs.Machine.{CountsTurn};
+ghost use Rattle.stack_machine.specs.Written.{IsLines, WritesLines};
 ghost use Rattle.papy_io.specs.Sink.{Appended, AppendsSome};
 ghost use Rattle.scene_runner.specs.Report.{Closes};
 
@@ -36,9 +37,10 @@ pub fn write_closing<S: Sink>(
 }
 
 fn write_line<S: Sink>(sink: &mut S, line: &[u8]) -> Result<(), TurnFault>
+    requires { IsLines line.now }
     ensures written { IfOk result (λ _. Appended line.now (S.written sink.old) (S.written sink.new)) }
     ensures count { CountsTurn result (S.faults sink.old) (S.faults sink.new) }
-    ensures appended { AppendsSome (S.written sink.old) (S.written sink.new) }
+    ensures appended { WritesLines result (S.written sink.old) (S.written sink.new) }
 {
     match sink.write(line) {
         Ok(()) => Ok(()),
@@ -49,7 +51,7 @@ fn write_line<S: Sink>(sink: &mut S, line: &[u8]) -> Result<(), TurnFault>
 
 fn write_instances<S: Sink>(alloc: Global, machine: &Machine, sink: &mut S) -> Result<(), TurnFault>
     ensures count { CountsTurn result (S.faults sink.old) (S.faults sink.new) }
-    ensures appended { AppendsSome (S.written sink.old) (S.written sink.new) }
+    ensures appended { WritesLines result (S.written sink.old) (S.written sink.new) }
 {
     for instance in 0..machine.scene().instances.len() {
         let line = instance_line(alloc, machine, instance as u16)?;
@@ -67,7 +69,7 @@ fn write_properties<S: Sink>(
     sink: &mut S,
 ) -> Result<(), TurnFault>
     ensures count { CountsTurn result (S.faults sink.old) (S.faults sink.new) }
-    ensures appended { AppendsSome (S.written sink.old) (S.written sink.new) }
+    ensures appended { WritesLines result (S.written sink.old) (S.written sink.new) }
 {
     let scripts = scripts_of(alloc, machine, instance)?;
     for script in scripts.iter().rev() {
@@ -85,7 +87,7 @@ fn write_declared<S: Sink>(
     sink: &mut S,
 ) -> Result<(), TurnFault>
     ensures count { CountsTurn result (S.faults sink.old) (S.faults sink.new) }
-    ensures appended { AppendsSome (S.written sink.old) (S.written sink.new) }
+    ensures appended { WritesLines result (S.written sink.old) (S.written sink.new) }
 {
     for property in properties_of(machine, script) {
         let value = machine.variable_at(instance, script, property.variable)?;
@@ -97,7 +99,7 @@ fn write_declared<S: Sink>(
 
 fn write_stacks<S: Sink>(alloc: Global, machine: &Machine, sink: &mut S) -> Result<(), TurnFault>
     ensures count { CountsTurn result (S.faults sink.old) (S.faults sink.new) }
-    ensures appended { AppendsSome (S.written sink.old) (S.written sink.new) }
+    ensures appended { WritesLines result (S.written sink.old) (S.written sink.new) }
 {
     for stack in 0..machine.stack_count() {
         let line = stack_line(alloc, machine, stack)?;

@@ -7,6 +7,6 @@ mod lines;
 mod runner;
 
 pub use closing::write_closing;
-pub use runner::run_scene;
+pub use runner::{finish_turns, run_scene};
 pub use scene_binder::bind;
 pub use scene_reader::{SceneFault, SceneRule, default_scene, read_scene, upgrade_scene};

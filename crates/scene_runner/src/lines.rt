@@ -1,7 +1,9 @@
 //! The lines of a closing report.
+#![tactic(auto, using(crate::proofs::Appending::pushed_line))]
 
 ghost use Rattle.std.specs.Prelude.{◌≡◌, ◌<◌, IfOk, vec_len};
 ghost use Rattle.std.specs.String.{string_bytes};
+ghost use Rattle.stack_machine.specs.Written.{IsLines};
 ghost use Rattle.scene_runner.specs.Report.{turns_line};
 
 use core_tree::Value;
@@ -23,6 +25,7 @@ pub fn instance_line(
     instance: u16,
 ) -> Result<Vec<u8>, OutOfMemory>
     requires { instance < vec_len machine.now.scene.instances }
+    ensures { IfOk result (λ line. IsLines line.items) }
 {
     let mut line = Vec::new(alloc);
     append_instance(&mut line, machine, instance)?;
@@ -40,7 +43,9 @@ pub fn property_line(
     machine: &Machine,
     name: &Name,
     value: &Value,
-) -> Result<Vec<u8>, OutOfMemory> {
+) -> Result<Vec<u8>, OutOfMemory>
+    ensures { IfOk result (λ line. IsLines line.items) }
+{
     let mut line = Vec::new(alloc);
     line.extend_from_slice(b"  ")?;
     line.extend_from_slice(name.as_bytes())?;
@@ -53,6 +58,7 @@ pub fn property_line(
 /// What a stack is doing: `stack k` and `done`, `ready`, `waits NAME` or `asleep T`.
 pub fn stack_line(alloc: Global, machine: &Machine, stack: u16) -> Result<Vec<u8>, OutOfMemory>
     requires { stack < machine.now.started }
+    ensures { IfOk result (λ line. IsLines line.items) }
 {
     let mut line = Vec::new(alloc);
     let start = format!(in alloc; "stack {stack} ")?;

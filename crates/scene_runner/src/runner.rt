@@ -3,6 +3,7 @@
 ghost use Rattle.std.specs.Prelude.{◌≡◌, ◌≤◌, Err, None, IfOk, IfSome, map, vec_len};
 ghost use Rattle.latent_natives.specs.Devices.{SameKinds};
 ghost use Rattle.stack_machine.specs.Machine.{CountsTurn, HasEnded};
+ghost use Rattle.stack_machine.specs.Written.{WritesLines};
 ghost use Rattle.papy_io.specs.Sink.{AppendsSome};
 ghost use Rattle.scene_runner.specs.Report.{Reports};
 
@@ -42,8 +43,13 @@ pub fn run_scene<S: Sink>(
     write_closing(alloc, machine, sink)
 }
 
-// Does the turns that are left.
-fn finish_turns<S: Sink>(
+/// Does turns until the run of a machine has ended, with as many devices as its scene was bound to. Each line is one
+/// call of the sink.
+///
+/// # Errors
+///
+/// They are those of `run_scene`.
+pub fn finish_turns<S: Sink>(
     machine: &mut Machine,
     sink: &mut S,
     devices: &mut Vec<Box<dyn Device>>,
@@ -54,7 +60,7 @@ fn finish_turns<S: Sink>(
     ensures ended { IfOk result (λ _. HasEnded machine.new) }
     ensures within { IfOk result (λ _. machine.new.turns ≤ machine.new.scene.turns) }
     ensures count { machine.old.fault ≡ None → CountsTurn result (S.faults sink.old) (S.faults sink.new) }
-    ensures appended { AppendsSome (S.written sink.old) (S.written sink.new) }
+    ensures appended { WritesLines result (S.written sink.old) (S.written sink.new) }
     ensures kinds { SameKinds (map (λ d. device_state d) devices.old.items) (map (λ d. device_state d) devices.new.items) }
     ensures same_fault { IfSome machine.old.fault (λ fault. result ≡ Err fault) }
     ensures nothing_written { IfSome machine.old.fault (λ fault. (S.written sink.new ≡ S.written sink.old) × (S.faults sink.new ≡ S.faults sink.old)) }
@@ -77,7 +83,7 @@ fn turn_on<S: Sink>(
     ensures ended { IfOk result (λ _. HasEnded machine.new) }
     ensures within { IfOk result (λ _. machine.new.turns ≤ machine.new.scene.turns) }
     ensures count { CountsTurn result (S.faults sink.old) (S.faults sink.new) }
-    ensures appended { AppendsSome (S.written sink.old) (S.written sink.new) }
+    ensures appended { WritesLines result (S.written sink.old) (S.written sink.new) }
     ensures kinds { SameKinds (map (λ d. device_state d) devices.old.items) (map (λ d. device_state d) devices.new.items) }
 {
     loop {

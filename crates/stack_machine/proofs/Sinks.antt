@@ -1,11 +1,15 @@
 -- What a sink has taken and counted after several steps.
-use Rattle.std.proofs.Common.{◌≡◌, ℕ, List, [], ◌++◌, Option, None, Some, Result, Ok, Err, sym, ◌∙◌, ap, subst, refl, append_assoc, append-nil}
+use Rattle.std.proofs.Common.{◌≡◌, ℕ, List, [], ◌∷◌, ◌++◌, Option, None, Some, Result, Ok, Err, sym, ◌∙◌, ap, subst, refl, append_assoc, append-nil, inl, inr}
 use Rattle.std.specs.Option.{option_map}
+use Rattle.std.specs.Fmt.{decimal}
+use Rattle.papy_base.specs.declared.faults.StackFault.{StackFault}
 use Rattle.papy_io.specs.declared.fault.IoFault.{IoFault}
 use Rattle.papy_io.specs.declared.fault.IoFault.TheVariants.{Failed, OutOfMemory}
 use Rattle.papy_io.specs.Sink.{Appended, SinkWrites, AppendsSome}
 use Rattle.stack_machine.specs.declared.status.TurnFault.{TurnFault}
+use Rattle.stack_machine.specs.Lines.{escaped, fault_line, fault_name, trace_line}
 use Rattle.stack_machine.specs.Machine.{CountsFault, CountsTurn}
+use Rattle.stack_machine.specs.Written.{AppendsLines, IsLines, WritesLines}
 
 pub appended_none : (now : Option (List ℕ)) → Appended [] now now
 appended_none None = refl
@@ -38,4 +42,46 @@ counts_later fault before between now e h = subst (λ (count : ℕ). CountsFault
 pub counts_turn_later : {T : Type 0} (result : Result T TurnFault) (before between now : ℕ) → between ≡ before → CountsTurn result between now → CountsTurn result before now
 counts_turn_later result before between now e h = subst (λ (count : ℕ). CountsTurn result count now) e h
 
-pub ruleset sinks = (appended_none, appends_none, appends_more, appends_written, counts_later, counts_turn_later)
+-- ---- whole lines
+
+pub lines_none : (now : Option (List ℕ)) → AppendsLines now now
+lines_none now = record { bytes = []; lines = inl refl; appended = appended_none now }
+
+-- lines that follow lines are lines
+pub lines_join : (first second : List ℕ) → IsLines first → IsLines second → IsLines (first ++ second)
+lines_join first second a (inl none) = subst IsLines (sym (append-nil first) ∙ ap (λ rest. first ++ rest) (sym none)) a
+lines_join first second a (inr (front, is)) = inr (first ++ front, ap (λ rest. first ++ rest) is ∙ sym (append_assoc first front (10 ∷ [])))
+
+pub lines_more : (before between now : Option (List ℕ)) → AppendsLines before between → AppendsLines between now → AppendsLines before now
+lines_more before between now a b =
+    record { bytes = a.bytes ++ b.bytes; lines = lines_join a.bytes b.bytes a.lines b.lines; appended = b.appended ∙ ap (option_map (λ written. written ++ b.bytes)) a.appended ∙ appended_twice a.bytes b.bytes before }
+
+-- lines are bytes
+pub lines_some : (before now : Option (List ℕ)) → AppendsLines before now → AppendsSome before now
+lines_some before now a = record { bytes = a.bytes; appended = a.appended }
+
+pub some_behind_lines : (before between now : Option (List ℕ)) → AppendsLines before between → AppendsSome between now → AppendsSome before now
+some_behind_lines before between now a b = appends_more before between now (lines_some before between a) b
+
+-- what an answer has written behind lines
+pub lines_before : {T E : Type 0} (result : Result T E) (before between now : Option (List ℕ)) → AppendsLines before between → WritesLines result between now → WritesLines result before now
+lines_before (Ok value) before between now a b = lines_more before between now a b
+lines_before (Err fault) before between now a b = some_behind_lines before between now a b
+
+-- an answer that is a fault, behind lines
+pub fault_behind_lines : {T E : Type 0} (result : Result T E) (fault : E) (before between now : Option (List ℕ)) → result ≡ Err fault → AppendsLines before between → AppendsSome between now → WritesLines result before now
+fault_behind_lines result fault before between now is a b = rw is (some_behind_lines before between now a b)
+
+-- a call of the sink wrote a line
+pub line_written : (line : List ℕ) (before now : Option (List ℕ)) → IsLines line → Appended line before now → AppendsLines before now
+line_written line before now is wrote = record { bytes = line; lines = is; appended = wrote }
+
+-- ---- the lines of a report
+
+pub trace_is_line : (stack : ℕ) (text : List ℕ) → IsLines (trace_line stack text)
+trace_is_line stack text = inr (35 ∷ decimal stack ++ 32 ∷ escaped text, refl)
+
+pub fault_is_line : (stack : ℕ) (script function : List ℕ) (line : ℕ) (fault : StackFault) → IsLines (fault_line stack script function line fault)
+fault_is_line stack script function line fault = inr (33 ∷ decimal stack ++ 32 ∷ script ++ 46 ∷ function ++ 58 ∷ decimal line ++ 32 ∷ fault_name fault, refl)
+
+pub ruleset sinks = (appended_none, appends_none, appends_more, appends_written, lines_none, lines_more, lines_some, some_behind_lines, lines_before, line_written, counts_later, counts_turn_later)

@@ -5,6 +5,7 @@ pub mod Choices
 pub mod Faults
 pub mod Instructions
 pub mod Lines
+pub mod Written
 pub mod Machine
 pub mod Moves
 pub mod Natives

@@ -7,7 +7,7 @@ ghost use Rattle.stack_machine.specs.Casts.{IsTextOf};
 ghost use Rattle.stack_machine.specs.Machine.{turns_after, fault_after, CountsTurn, HasEnded, HasNothingLeft, HasStarted};
 ghost use Rattle.stack_machine.specs.Moves.{AppendsTurn, NotesEnd};
 ghost use Rattle.stack_machine.specs.Plans.{ArePlanned, HasBegun, calls_before};
-ghost use Rattle.papy_io.specs.Sink.{AppendsSome};
+ghost use Rattle.stack_machine.specs.Written.{WritesLines};
 
 use crate::casts::text_of;
 use crate::notes::{NoNotes, Notes};
@@ -110,7 +110,7 @@ impl Machine {
         ensures ended { result ≡ Ok TurnEnd.Ended → self.new ≡ self.old }
         ensures ends { self.old.fault ≡ None → (result ≡ Ok TurnEnd.Ended ↔ HasEnded self.old) }
         ensures count { self.old.fault ≡ None → CountsTurn result (S.faults sink.old) (S.faults sink.new) }
-        ensures appended { AppendsSome (S.written sink.old) (S.written sink.new) }
+        ensures appended { WritesLines result (S.written sink.old) (S.written sink.new) }
         ensures kinds { SameKinds (map (λ d. device_state d) devices.old.items) (map (λ d. device_state d) devices.new.items) }
         ensures ran { HasStarted result self.new.started }
         ensures started { OnOk result (self.new.started ≡ calls_before self.new.turns self.new.scene.calls.items) }
@@ -146,7 +146,7 @@ impl Machine {
         ensures ended { result ≡ Ok TurnEnd.Ended → self.new ≡ self.old }
         ensures ends { self.old.fault ≡ None → (result ≡ Ok TurnEnd.Ended ↔ HasEnded self.old) }
         ensures count { self.old.fault ≡ None → CountsTurn result (S.faults sink.old) (S.faults sink.new) }
-        ensures appended { AppendsSome (S.written sink.old) (S.written sink.new) }
+        ensures appended { WritesLines result (S.written sink.old) (S.written sink.new) }
         ensures kinds { SameKinds (map (λ d. device_state d) devices.old.items) (map (λ d. device_state d) devices.new.items) }
         ensures ran { HasStarted result self.new.started }
         ensures started { OnOk result (self.new.started ≡ calls_before self.new.turns self.new.scene.calls.items) }
@@ -177,7 +177,7 @@ impl Machine {
         ensures ended { result ≡ Ok TurnEnd.Ended → self.new ≡ self.old }
         ensures ends { self.old.fault ≡ None → (result ≡ Ok TurnEnd.Ended ↔ HasEnded self.old) }
         ensures count { self.old.fault ≡ None → CountsTurn result (S.faults sink.old) (S.faults sink.new) }
-        ensures appended { AppendsSome (S.written sink.old) (S.written sink.new) }
+        ensures appended { WritesLines result (S.written sink.old) (S.written sink.new) }
         ensures kinds { SameKinds (map (λ d. device_state d) devices.old.items) (map (λ d. device_state d) devices.new.items) }
         ensures ran { HasStarted result self.new.started }
         ensures started { OnOk result (self.new.started ≡ calls_before self.new.turns self.new.scene.calls.items) }

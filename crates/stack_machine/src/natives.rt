@@ -5,11 +5,12 @@ ghost use Rattle.std.specs.Prelude.{◌≡◌, IfOk, OnErr, OnOk, map};
 ghost use Rattle.std.specs.Option.{option_and_then};
 ghost use Rattle.core_tree.specs.declared.value.Value.TheVariants as values;
 ghost use Rattle.latent_natives.specs.Devices.{SameKinds};
-ghost use Rattle.papy_io.specs.Sink.{Appended, AppendsSome};
+ghost use Rattle.papy_io.specs.Sink.{Appended};
 ghost use Rattle.stack_machine.specs.Machine.{CountsTurn};
 ghost use Rattle.stack_machine.specs.Natives.{binding_in, called_device, device_reply, devices_after, devices_called, first_number, line_of, reply_called, reply_value, rest_of, traced, turns_asleep};
 ghost use Rattle.stack_machine.specs.Settings.{method_at};
 ghost use Rattle.stack_machine.specs.Values.{number_in};
+ghost use Rattle.stack_machine.specs.Written.{WritesLines};
 
 use crate::lines::trace_line;
 use crate::operands::Turn;
@@ -42,7 +43,7 @@ pub fn perform<S: Sink>(
     sink: &mut S,
     devices: &mut Vec<Box<dyn Device>>,
 ) -> Result<Performed, TurnFault>
-    ensures appended { AppendsSome (S.written sink.old) (S.written sink.new) }
+    ensures appended { WritesLines result (S.written sink.old) (S.written sink.new) }
     ensures count { CountsTurn result (S.faults sink.old) (S.faults sink.new) }
     ensures kinds { SameKinds (map (λ d. device_state d) devices.old.items) (map (λ d. device_state d) devices.new.items) }
 
@@ -99,7 +100,7 @@ fn trace<S: Sink>(
     sink: &mut S,
     rest: Option<u32>,
 ) -> Result<Performed, TurnFault>
-    ensures appended { AppendsSome (S.written sink.old) (S.written sink.new) }
+    ensures appended { WritesLines result (S.written sink.old) (S.written sink.new) }
     ensures count { CountsTurn result (S.faults sink.old) (S.faults sink.new) }
     ensures line { OnOk result (Appended (traced turn.now.stack arguments.now) (S.written sink.old) (S.written sink.new)) }
     ensures reply { IfOk result (λ performed. performed.reply ≡ values.NoneValue) }

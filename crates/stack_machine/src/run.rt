@@ -4,7 +4,7 @@
 ghost use Rattle.std.specs.Prelude.{◌≡◌, ◌+◌, ◌<◌, ◌≤◌, ◌^◌, IfOk, length, map};
 ghost use Rattle.latent_natives.specs.Devices.{SameKinds};
 ghost use Rattle.stack_machine.specs.Machine.{CountsTurn};
-ghost use Rattle.papy_io.specs.Sink.{AppendsSome};
+ghost use Rattle.stack_machine.specs.Written.{WritesLines};
 
 use crate::frame::{Call, Running};
 use crate::instruction::{Event, Step};
@@ -62,7 +62,7 @@ pub fn run_frame<S: Sink>(
     sink: &mut S,
     devices: &mut Vec<Box<dyn Device>>,
 ) -> Result<Ending, TurnFault>
-    ensures appended { AppendsSome (S.written sink.old) (S.written sink.new) }
+    ensures appended { WritesLines result (S.written sink.old) (S.written sink.new) }
     ensures count { CountsTurn result (S.faults sink.old) (S.faults sink.new) }
     ensures kinds { SameKinds (map (λ d. device_state d) devices.old.items) (map (λ d. device_state d) devices.new.items) }
 {
@@ -105,7 +105,7 @@ fn run_body<S: Sink>(
     sink: &mut S,
     devices: &mut Vec<Box<dyn Device>>,
 ) -> Result<Ending, TurnFault>
-    ensures appended { AppendsSome (S.written sink.old) (S.written sink.new) }
+    ensures appended { WritesLines result (S.written sink.old) (S.written sink.new) }
     ensures count { CountsTurn result (S.faults sink.old) (S.faults sink.new) }
     ensures kinds { SameKinds (map (λ d. device_state d) devices.old.items) (map (λ d. device_state d) devices.new.items) }
 {
@@ -125,7 +125,7 @@ fn run_pass<S: Sink>(
     sink: &mut S,
     devices: &mut Vec<Box<dyn Device>>,
 ) -> Result<Ending, TurnFault>
-    ensures appended { AppendsSome (S.written sink.old) (S.written sink.new) }
+    ensures appended { WritesLines result (S.written sink.old) (S.written sink.new) }
     ensures count { CountsTurn result (S.faults sink.old) (S.faults sink.new) }
     ensures kinds { SameKinds (map (λ d. device_state d) devices.old.items) (map (λ d. device_state d) devices.new.items) }
 {
@@ -183,7 +183,7 @@ fn follow<S: Sink>(
     devices: &mut Vec<Box<dyn Device>>,
     row: Row,
 ) -> Result<Option<Ending>, TurnFault>
-    ensures appended { AppendsSome (S.written sink.old) (S.written sink.new) }
+    ensures appended { WritesLines result (S.written sink.old) (S.written sink.new) }
     ensures count { CountsTurn result (S.faults sink.old) (S.faults sink.new) }
     ensures kinds { SameKinds (map (λ d. device_state d) devices.old.items) (map (λ d. device_state d) devices.new.items) }
 {
@@ -205,7 +205,7 @@ fn leave<S: Sink>(
     sink: &mut S,
     devices: &mut Vec<Box<dyn Device>>,
 ) -> Result<Option<Ending>, TurnFault>
-    ensures appended { AppendsSome (S.written sink.old) (S.written sink.new) }
+    ensures appended { WritesLines result (S.written sink.old) (S.written sink.new) }
     ensures count { CountsTurn result (S.faults sink.old) (S.faults sink.new) }
     ensures kinds { SameKinds (map (λ d. device_state d) devices.old.items) (map (λ d. device_state d) devices.new.items) }
 {
@@ -234,7 +234,7 @@ fn run_native<S: Sink>(
     sink: &mut S,
     devices: &mut Vec<Box<dyn Device>>,
 ) -> Result<Option<Ending>, TurnFault>
-    ensures appended { AppendsSome (S.written sink.old) (S.written sink.new) }
+    ensures appended { WritesLines result (S.written sink.old) (S.written sink.new) }
     ensures count { CountsTurn result (S.faults sink.old) (S.faults sink.new) }
     ensures kinds { SameKinds (map (λ d. device_state d) devices.old.items) (map (λ d. device_state d) devices.new.items) }
 {
@@ -248,7 +248,7 @@ fn refuse<S: Sink>(
     sink: &mut S,
     fault: StackFault,
 ) -> Result<Option<Ending>, TurnFault>
-    ensures appended { AppendsSome (S.written sink.old) (S.written sink.new) }
+    ensures appended { WritesLines result (S.written sink.old) (S.written sink.new) }
     ensures count { CountsTurn result (S.faults sink.old) (S.faults sink.new) }
 {
     write_fault(work, sink, fault)?;
@@ -256,7 +256,7 @@ fn refuse<S: Sink>(
 }
 
 fn write_fault<S: Sink>(work: &Work<'_>, sink: &mut S, fault: StackFault) -> Result<(), TurnFault>
-    ensures appended { AppendsSome (S.written sink.old) (S.written sink.new) }
+    ensures appended { WritesLines result (S.written sink.old) (S.written sink.new) }
     ensures count { CountsTurn result (S.faults sink.old) (S.faults sink.new) }
 {
     let line = fault_line(work, work.place, work.turn.stack, fault)?;

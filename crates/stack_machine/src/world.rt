@@ -7,7 +7,7 @@ ghost use Rattle.stack_machine.specs.Machine.{CountsTurn, HasStarted};
 ghost use Rattle.stack_machine.specs.Moves.{AddsSome, AreOfEnd, AreOfTurn, IsAct, Noted};
 ghost use Rattle.stack_machine.specs.Plans.{HasBegun, calls_before};
 ghost use Rattle.stack_machine.specs.Threads.{IsSameSize};
-ghost use Rattle.papy_io.specs.Sink.{AppendsSome};
+ghost use Rattle.stack_machine.specs.Written.{WritesLines};
 
 use crate::begin::{begin, choose};
 use crate::entry::{Found, look_up, open};
@@ -56,7 +56,7 @@ impl World {
         notes: &mut N,
     ) -> Result<TurnEnd, TurnFault>
         requires { HasBegun setting.now.plan.calls.items setting.now.scene.calls.items self.old.threads number }
-        ensures appended { AppendsSome (S.written sink.old) (S.written sink.new) }
+        ensures appended { WritesLines result (S.written sink.old) (S.written sink.new) }
         ensures count { CountsTurn result (S.faults sink.old) (S.faults sink.new) }
         ensures kinds { SameKinds (map (λ d. device_state d) devices.old.items) (map (λ d. device_state d) devices.new.items) }
         ensures ran { HasStarted result self.new.threads.started }
@@ -90,7 +90,7 @@ impl World {
         devices: &mut Vec<Box<dyn Device>>,
         notes: &mut N,
     ) -> Result<(), TurnFault>
-        ensures appended { AppendsSome (S.written sink.old) (S.written sink.new) }
+        ensures appended { WritesLines result (S.written sink.old) (S.written sink.new) }
         ensures count { CountsTurn result (S.faults sink.old) (S.faults sink.new) }
         ensures kinds { SameKinds (map (λ d. device_state d) devices.old.items) (map (λ d. device_state d) devices.new.items) }
         ensures size { IsSameSize self.old.threads self.new.threads }
@@ -139,7 +139,7 @@ impl World {
         sink: &mut S,
         devices: &mut Vec<Box<dyn Device>>,
     ) -> Result<(), TurnFault>
-        ensures appended { AppendsSome (S.written sink.old) (S.written sink.new) }
+        ensures appended { WritesLines result (S.written sink.old) (S.written sink.new) }
         ensures count { CountsTurn result (S.faults sink.old) (S.faults sink.new) }
         ensures kinds { SameKinds (map (λ d. device_state d) devices.old.items) (map (λ d. device_state d) devices.new.items) }
         ensures size { IsSameSize self.old.threads self.new.threads }
@@ -157,7 +157,7 @@ impl World {
         sink: &mut S,
         devices: &mut Vec<Box<dyn Device>>,
     ) -> Result<(), TurnFault>
-        ensures appended { AppendsSome (S.written sink.old) (S.written sink.new) }
+        ensures appended { WritesLines result (S.written sink.old) (S.written sink.new) }
         ensures count { CountsTurn result (S.faults sink.old) (S.faults sink.new) }
         ensures kinds { SameKinds (map (λ d. device_state d) devices.old.items) (map (λ d. device_state d) devices.new.items) }
         ensures size { IsSameSize self.old.threads self.new.threads }
@@ -175,7 +175,7 @@ impl World {
         sink: &mut S,
         devices: &mut Vec<Box<dyn Device>>,
     ) -> Result<(), TurnFault>
-        ensures appended { AppendsSome (S.written sink.old) (S.written sink.new) }
+        ensures appended { WritesLines result (S.written sink.old) (S.written sink.new) }
         ensures count { CountsTurn result (S.faults sink.old) (S.faults sink.new) }
         ensures kinds { SameKinds (map (λ d. device_state d) devices.old.items) (map (λ d. device_state d) devices.new.items) }
         ensures size { IsSameSize self.old.threads self.new.threads }
@@ -192,7 +192,7 @@ impl World {
         sink: &mut S,
         devices: &mut Vec<Box<dyn Device>>,
     ) -> Result<bool, TurnFault>
-        ensures appended { AppendsSome (S.written sink.old) (S.written sink.new) }
+        ensures appended { WritesLines result (S.written sink.old) (S.written sink.new) }
         ensures count { CountsTurn result (S.faults sink.old) (S.faults sink.new) }
         ensures kinds { SameKinds (map (λ d. device_state d) devices.old.items) (map (λ d. device_state d) devices.new.items) }
         ensures size { IsSameSize self.old.threads self.new.threads }
@@ -224,7 +224,7 @@ impl World {
         sink: &mut S,
         devices: &mut Vec<Box<dyn Device>>,
     ) -> Result<bool, TurnFault>
-        ensures appended { AppendsSome (S.written sink.old) (S.written sink.new) }
+        ensures appended { WritesLines result (S.written sink.old) (S.written sink.new) }
         ensures count { CountsTurn result (S.faults sink.old) (S.faults sink.new) }
         ensures kinds { SameKinds (map (λ d. device_state d) devices.old.items) (map (λ d. device_state d) devices.new.items) }
         ensures size { IsSameSize self.old.threads self.new.threads }
@@ -267,7 +267,7 @@ impl World {
         sink: &mut S,
         devices: &mut Vec<Box<dyn Device>>,
     ) -> Result<bool, TurnFault>
-        ensures appended { AppendsSome (S.written sink.old) (S.written sink.new) }
+        ensures appended { WritesLines result (S.written sink.old) (S.written sink.new) }
         ensures count { CountsTurn result (S.faults sink.old) (S.faults sink.new) }
         ensures kinds { SameKinds (map (λ d. device_state d) devices.old.items) (map (λ d. device_state d) devices.new.items) }
         ensures size { IsSameSize self.old.threads self.new.threads }
@@ -345,7 +345,7 @@ impl World {
         sink: &mut S,
         devices: &mut Vec<Box<dyn Device>>,
     ) -> Result<Ending, TurnFault>
-        ensures appended { AppendsSome (S.written sink.old) (S.written sink.new) }
+        ensures appended { WritesLines result (S.written sink.old) (S.written sink.new) }
         ensures count { CountsTurn result (S.faults sink.old) (S.faults sink.new) }
         ensures kinds { SameKinds (map (λ d. device_state d) devices.old.items) (map (λ d. device_state d) devices.new.items) }
         ensures size { IsSameSize self.old.threads self.new.threads }
@@ -367,7 +367,7 @@ fn run_stack_body<S: Sink>(
     sink: &mut S,
     devices: &mut Vec<Box<dyn Device>>,
 ) -> Result<Ending, TurnFault>
-    ensures appended { AppendsSome (S.written sink.old) (S.written sink.new) }
+    ensures appended { WritesLines result (S.written sink.old) (S.written sink.new) }
     ensures count { CountsTurn result (S.faults sink.old) (S.faults sink.new) }
     ensures kinds { SameKinds (map (λ d. device_state d) devices.old.items) (map (λ d. device_state d) devices.new.items) }
 {

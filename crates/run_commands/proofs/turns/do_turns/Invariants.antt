@@ -1,7 +1,7 @@
 use Rattle.std.proofs.Common.{◌≡◌, ◌+◌, map}
 use Rattle.std.specs.Prelude.{None}
 use Rattle.latent_natives.specs.Devices.{SameKinds}
-use Rattle.papy_io.specs.Sink.{AppendsSome}
+use Rattle.stack_machine.specs.Written.{AppendsLines}
 use Rattle.run_commands.proofs.turns.do_turns.Given as goal
 
 -- so many turns are done
@@ -12,7 +12,7 @@ invariant-turns g l =
       scene : l.machine.scene ≡ l.fn.machine.scene;
       fault : l.machine.fault ≡ None;
       turns : l.machine.turns ≡ l.fn.machine.turns + l.counter;
-      appended : AppendsSome (sink.written l.fn.sink) (sink.written l.sink);
+      appended : AppendsLines (sink.written l.fn.sink) (sink.written l.sink);
       count : sink.faults l.sink ≡ sink.faults l.fn.sink;
       kinds : SameKinds (map (λ d. (goal.Device-dyn g (d.vtable, d.value)).device_state d.value) l.fn.devices.items) (map (λ d. (goal.Device-dyn g (d.vtable, d.value)).device_state d.value) l.devices.items);
     }

@@ -1,5 +1,6 @@
 use Rattle.std.proofs.Common.{◌∙◌, refl}
-use Rattle.scene_runner.proofs.Appending.{appends_more, appends_nothing}
+use Rattle.std.proofs.lemmas.Result.{err_from_is_err_and}
+use Rattle.stack_machine.proofs.Sinks.{fault_behind_lines, lines_more, lines_none}
 use Rattle.run_commands.proofs.NotedRun.{noted_more, noted_none}
 use Rattle.run_commands.proofs.turns.note_turns.Goals as goal
 
@@ -8,7 +9,7 @@ loop-init g c = record {
   scene = refl;
   fault = c.requires;
   noted = noted_none _ _;
-  appended = appends_nothing _ _ refl;
+  appended = lines_none _;
   count = refl;
   kinds = refl;
 }
@@ -18,16 +19,18 @@ loop-preserved g c = record {
   scene = c.note_turn.ensures.scene ∙ c.loop.invariant.scene;
   fault = c.in_ok-note_turn.ensures.no_fault;
   noted = noted_more _ _ _ _ _ _ c.loop.invariant.noted c.in_ok-note_turn.ensures.noted;
-  appended = appends_more _ _ _ c.loop.invariant.appended c.note_turn.ensures.appended;
+  appended = lines_more _ _ _ c.loop.invariant.appended c.in_ok-note_turn.ensures.appended;
   count = c.in_ok-note_turn.ensures.count ∙ c.loop.invariant.count;
   kinds = c.note_turn.ensures.kinds ∙ c.loop.invariant.kinds;
 }
 
 pub returns-in_err-note_turn-clause-appended : goal.returns-in_err-note_turn-clause-appended
-returns-in_err-note_turn-clause-appended g c = appends_more _ _ _ c.loop.invariant.appended c.note_turn.ensures.appended
+returns-in_err-note_turn-clause-appended g c =
+    let told = err_from_is_err_and c.from_residual.result c.from_residual.ensures.1 in
+    fault_behind_lines c.from_residual.result told.0 _ _ _ told.1 c.loop.invariant.appended c.in_err-note_turn.ensures.appended
 
 pub returns-then-not-branch-clause-noted : goal.returns-then-not-branch-clause-noted
 returns-then-not-branch-clause-noted g c = noted_more _ _ _ _ _ _ c.loop.invariant.noted c.in_ok-note_turn.ensures.noted
 
 pub returns-then-not-branch-clause-appended : goal.returns-then-not-branch-clause-appended
-returns-then-not-branch-clause-appended g c = appends_more _ _ _ c.loop.invariant.appended c.note_turn.ensures.appended
+returns-then-not-branch-clause-appended g c = lines_more _ _ _ c.loop.invariant.appended c.in_ok-note_turn.ensures.appended

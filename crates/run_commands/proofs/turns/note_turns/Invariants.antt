@@ -1,7 +1,7 @@
 use Rattle.std.proofs.Common.{◌≡◌, ◌-◌, map}
 use Rattle.std.specs.Prelude.{None}
 use Rattle.latent_natives.specs.Devices.{SameKinds}
-use Rattle.papy_io.specs.Sink.{AppendsSome}
+use Rattle.stack_machine.specs.Written.{AppendsLines}
 use Rattle.run_commands.specs.Journal.{NotesTurns}
 use Rattle.run_commands.proofs.turns.note_turns.Given as goal
 
@@ -13,7 +13,7 @@ invariant-loop g l =
       scene : l.machine.scene ≡ l.fn.machine.scene;
       fault : l.machine.fault ≡ None;
       noted : NotesTurns l.fn.machine.turns l.machine.turns l.fn.journal.items l.journal.items;
-      appended : AppendsSome (sink.written l.fn.sink) (sink.written l.sink);
+      appended : AppendsLines (sink.written l.fn.sink) (sink.written l.sink);
       count : sink.faults l.sink ≡ sink.faults l.fn.sink;
       kinds : SameKinds (map (λ d. (goal.Device-dyn g (d.vtable, d.value)).device_state d.value) l.fn.devices.items) (map (λ d. (goal.Device-dyn g (d.vtable, d.value)).device_state d.value) l.devices.items);
     }

@@ -1,9 +1,9 @@
 use Rattle.std.proofs.Common.{◌≡◌}
-use Rattle.papy_io.specs.Sink.{AppendsSome}
+use Rattle.stack_machine.specs.Written.{AppendsLines}
 use Rattle.scene_runner.proofs.closing.write_properties.Given as goal
 
 abbrev pub invariant-loop-script : goal.invariant-loop-script
 invariant-loop-script g l = record {
   faults : g.S.Sink.faults l.sink ≡ g.S.Sink.faults l.initial.sink;
-  appended : AppendsSome (g.S.Sink.written l.initial.sink) (g.S.Sink.written l.sink);
+  appended : AppendsLines (g.S.Sink.written l.initial.sink) (g.S.Sink.written l.sink);
 }

@@ -1,7 +1,7 @@
 use Rattle.std.proofs.Common.{◌≡◌, ◌-◌, map}
 use Rattle.std.specs.Prelude.{None}
 use Rattle.latent_natives.specs.Devices.{SameKinds}
-use Rattle.papy_io.specs.Sink.{AppendsSome}
+use Rattle.stack_machine.specs.Written.{AppendsLines}
 use Rattle.scene_runner.proofs.runner.turn_on.Given as goal
 
 abbrev pub invariant-loop : goal.invariant-loop
@@ -11,7 +11,7 @@ invariant-loop g l =
       outline : l.machine.outline ≡ l.fn.machine.outline;
       scene : l.machine.scene ≡ l.fn.machine.scene;
       fault : l.machine.fault ≡ None;
-      appended : AppendsSome (sink.written l.fn.sink) (sink.written l.sink);
+      appended : AppendsLines (sink.written l.fn.sink) (sink.written l.sink);
       count : sink.faults l.sink ≡ sink.faults l.fn.sink;
       kinds : SameKinds (map (λ d. (goal.Device-dyn g (d.vtable, d.value)).device_state d.value) l.fn.devices.items) (map (λ d. (goal.Device-dyn g (d.vtable, d.value)).device_state d.value) l.devices.items);
     }

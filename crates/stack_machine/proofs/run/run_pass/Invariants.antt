@@ -1,13 +1,13 @@
 use Rattle.std.proofs.Common.{◌≡◌, ◌-◌, length, map}
 use Rattle.latent_natives.specs.Devices.{SameKinds}
-use Rattle.papy_io.specs.Sink.{AppendsSome}
+use Rattle.stack_machine.specs.Written.{AppendsLines}
 use Rattle.stack_machine.proofs.run.run_pass.Given as goal
 
 abbrev pub invariant-loop-place : goal.invariant-loop-place
 invariant-loop-place g l =
     let sink = g.S.Sink in
     record {
-      appended : AppendsSome (sink.written l.fn.sink) (sink.written l.sink);
+      appended : AppendsLines (sink.written l.fn.sink) (sink.written l.sink);
       count : sink.faults l.sink ≡ sink.faults l.fn.sink;
       kinds : SameKinds (map (λ d. (goal.Device-dyn g (d.vtable, d.value)).device_state d.value) l.fn.devices.items) (map (λ d. (goal.Device-dyn g (d.vtable, d.value)).device_state d.value) l.devices.items);
     }
