@@ -25,7 +25,7 @@ use Rattle.command_files.specs.declared.ending.Ending.{Ending}
 use Rattle.command_files.specs.declared.ending.Ending.TheVariants as ending
 use Rattle.command_files.specs.declared.refusal.Place.{Place}
 use Rattle.command_files.specs.declared.refusal.Rule.{Rule}
-use Rattle.command_files.specs.declared.refusal.Rule.TheVariants.{Pex, Listing, Lexical, Grammar, Link, Typing, Scene, Verification, Held, Journal}
+use Rattle.command_files.specs.declared.refusal.Rule.TheVariants.{Pex, Listing, Lexical, Grammar, Link, Typing, Scene, Verification, Held, Journal, Lifting}
 use Rattle.command_files.specs.declared.source_texts.NamedText.{NamedText}
 use Rattle.command_files.specs.Ending.{word_at}
 use Rattle.command_files.specs.Scripts.{BeginsLine, BreaksSet, DeclaresOn, EndsOnScripts, EndsOnSet, HoldScripts, HoldSources, HoldsLineAt, HoldsSource, IsScriptOf, KeepsForm, RefusesSet, link_ending, type_ending}
@@ -84,6 +84,7 @@ breaks_on A B into line (Scene rule) broken = absurd broken
 breaks_on A B into line (Verification rule) broken = absurd broken
 breaks_on A B into line (Held rule) broken = absurd broken
 breaks_on A B into line (Journal rule) broken = absurd broken
+breaks_on A B into line (Lifting rule) broken = absurd broken
 
 refuses_on : (n m : ℕ) (A B : ℕ → ℕ → Type 0) → n ≡ m → ((at : ℕ) → at < m → (line : ℕ) → A at line → B at line) → (word : ℕ) (place : Place) (rule : Rule) → RefusesSet n A word place rule → RefusesSet m B word place rule
 refuses_on n m A B same into word place rule refused =
