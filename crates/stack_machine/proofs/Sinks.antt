@@ -72,16 +72,13 @@ lines_before (Err fault) before between now a b = some_behind_lines before betwe
 pub fault_behind_lines : {T E : Type 0} (result : Result T E) (fault : E) (before between now : Option (List ℕ)) → result ≡ Err fault → AppendsLines before between → AppendsSome between now → WritesLines result before now
 fault_behind_lines result fault before between now is a b = rw is (some_behind_lines before between now a b)
 
--- a call of the sink wrote a line
-pub line_written : (line : List ℕ) (before now : Option (List ℕ)) → IsLines line → Appended line before now → AppendsLines before now
-line_written line before now is wrote = record { bytes = line; lines = is; appended = wrote }
-
 -- ---- the lines of a report
 
-pub trace_is_line : (stack : ℕ) (text : List ℕ) → IsLines (trace_line stack text)
-trace_is_line stack text = inr (35 ∷ decimal stack ++ 32 ∷ escaped text, refl)
+pub trace_written : (stack : ℕ) (text bytes : List ℕ) (before now : Option (List ℕ)) → bytes ≡ trace_line stack text → Appended bytes before now → AppendsLines before now
+trace_written stack text bytes before now is wrote = record { bytes = bytes; lines = inr (35 ∷ decimal stack ++ 32 ∷ escaped text, is); appended = wrote }
 
-pub fault_is_line : (stack : ℕ) (script function : List ℕ) (line : ℕ) (fault : StackFault) → IsLines (fault_line stack script function line fault)
-fault_is_line stack script function line fault = inr (33 ∷ decimal stack ++ 32 ∷ script ++ 46 ∷ function ++ 58 ∷ decimal line ++ 32 ∷ fault_name fault, refl)
+pub fault_written : (stack : ℕ) (script function : List ℕ) (line : ℕ) (fault : StackFault) (bytes : List ℕ) (before now : Option (List ℕ)) → bytes ≡ fault_line stack script function line fault → Appended bytes before now → AppendsLines before now
+fault_written stack script function line fault bytes before now is wrote =
+    record { bytes = bytes; lines = inr (33 ∷ decimal stack ++ 32 ∷ script ++ 46 ∷ function ++ 58 ∷ decimal line ++ 32 ∷ fault_name fault, is); appended = wrote }
 
-pub ruleset sinks = (appended_none, appends_none, appends_more, appends_written, lines_none, lines_more, lines_some, some_behind_lines, lines_before, line_written, counts_later, counts_turn_later)
+pub ruleset sinks = (appended_none, appends_none, appends_more, appends_written, lines_none, lines_more, lines_some, some_behind_lines, lines_before, counts_later, counts_turn_later)
