@@ -1,2 +1,3 @@
+pub mod CalleeLemmas
 pub mod ScopeLemmas
 pub mod SourceLemmas

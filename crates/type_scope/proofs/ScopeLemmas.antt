@@ -1,4 +1,4 @@
--- What the counts of functions say of a set's scripts, and the first script of a name.
+-- The first script of a name.
 use Rattle.std.proofs.Common.{◌≡◌, ℕ, zero, suc, ◌<◌, ◌≤◌, ◌↔◌, Bool, true, false, cond, List, [], ◌∷◌, ◌++◌, length, map, take, get_or, refl, sym, ap, ◌∙◌, ◌+◌, subst, arith, IsTrue, nat_lt, ⊎_elim}
 use Rattle.std.specs.Prelude.{Option, Some, None, slice_get}
 use Rattle.std.specs.List.{position, position_or_len}
@@ -15,17 +15,6 @@ use Rattle.script_linker.specs.Table.{IsPlaceTable, Notes}
 use Rattle.script_linker.specs.declared.name_table.NameTable.{NameTable}
 use Rattle.script_linker.specs.declared.set.SourceFile.{SourceFile}
 use Rattle.script_parser.specs.declared.script.Script.{Script}
-use Rattle.type_scope.specs.Types.{function_count, function_counts}
-
--- ---- how many functions a script has
-
--- a place below the number of functions of the script n
-pub below_count : (files : List SourceFile) (n k : ℕ) → n < length files → ((file : SourceFile) → k < function_count (get_or files n file)) → k < get_or (function_counts files) n 0
-below_count [] n k inside below = absurd (omega arith)
-below_count (file ∷ files) zero k inside below = below file
-below_count (file ∷ files) (suc n) k inside below = below_count files n k (omega arith) below
-
--- ---- the first script of a name
 
 -- whether a script has a name, as the comparison of names tells it
 pub is-named : (name word : List ℕ) (same : Bool) → (IsTrue same ↔ SameIgnoringCase name word) → bytes_eq (folded word) (folded name) ≡ same

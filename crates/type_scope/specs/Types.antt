@@ -1,8 +1,10 @@
--- What names of types mean in a set of scripts, and how many functions its scripts have.
+-- What names of types mean in a set of scripts, and what functions its scripts have.
 use Rattle.std.specs.Prelude.{ℕ, List, codes, length, map, nat_lt, Option, Some, None, option_and_then, option_map, if◌then◌else◌}
 use Rattle.std.specs.Str.{bytes_eq}
+use Rattle.core_tree.specs.InRange.{Signature, Signatures}
 use Rattle.core_tree.specs.declared.core_type.CoreType.{CoreType}
 use Rattle.core_tree.specs.declared.core_type.CoreType.TheVariants as types
+use Rattle.line_parser.specs.declared.tree.Heading.{Heading}
 use Rattle.line_parser.specs.declared.tree.TypeName.{TypeName}
 use Rattle.script_linker.specs.Lookup.{script_named}
 use Rattle.script_linker.specs.declared.set.SourceFile.{SourceFile}
@@ -43,10 +45,13 @@ type_named set name =
 
 -- ---- functions
 
--- how many functions the empty state of a script has
-abbrev pub function_count : SourceFile → ℕ
-function_count file = length file.script.functions.items
+abbrev pub signature_of : Heading → Signature
+signature_of heading = record { name = heading.name; parameters = length heading.parameters.items }
+
+-- the functions of the empty state of a script
+abbrev pub file_signatures : SourceFile → List Signature
+file_signatures file = map (λ function. signature_of function.heading) file.script.functions.items
 
 -- the same of each script of a set
-abbrev pub function_counts : List SourceFile → List ℕ
-function_counts files = map function_count files
+abbrev pub signatures : List SourceFile → Signatures
+signatures files = map file_signatures files

@@ -1,9 +1,10 @@
 // The scripts of a set by their names, and what names mean in them.
-ghost use Rattle.std.specs.Prelude.{◌≡◌, ◌<◌, ◌≤◌, ℕ, List, length, IfNone, IfOk, IfSome, OnSome, option_and_then, option_map, slice_index_or};
-ghost use Rattle.core_tree.specs.InRange.{TypeInRange, ResultInRange, FunctionThere};
+ghost use Rattle.std.specs.Prelude.{◌≡◌, ◌<◌, ◌≤◌, length, IfNone, IfOk, IfSome, OnSome, option_and_then, option_map, slice_index_or};
+ghost use Rattle.core_tree.specs.InRange.{Signatures, TypeInRange, ResultInRange};
 ghost use Rattle.script_linker.specs.Lookup.{parent_in, script_name, script_named};
 ghost use Rattle.script_linker.specs.Table.{IsPlaceTable};
-ghost use Rattle.type_scope.specs.Types.{array_of, element_named, function_counts, plain_type, script_type, type_named};
+ghost use Rattle.type_scope.specs.Scope.{IsCallee};
+ghost use Rattle.type_scope.specs.Types.{array_of, element_named, plain_type, script_type, signatures, type_named};
 
 use core_tree::{CoreType, FunctionPlace};
 use line_parser::{Heading, TypeName};
@@ -107,7 +108,7 @@ impl<'a> Catalog<'a> {
     /// The type that is written so, or none.
     pub fn type_of(&self, name: &TypeName) -> Result<Option<CoreType>, OutOfMemory>
         ensures found { IfOk result (λ found. found ≡ type_named self.now.set.now name.now) }
-        ensures in_range { IfOk result (ResultInRange (function_counts self.now.set.now)) }
+        ensures in_range { IfOk result (ResultInRange (signatures self.now.set.now)) }
     {
         let element = self.element_type(&name.word)?;
         Ok(if name.is_array {
@@ -120,7 +121,7 @@ impl<'a> Catalog<'a> {
     /// The type of this name that is no array, or none.
     pub fn element_type(&self, word: &Name) -> Result<Option<CoreType>, OutOfMemory>
         ensures found { IfOk result (λ found. found ≡ element_named self.now.set.now word.now) }
-        ensures in_range { IfOk result (ResultInRange (function_counts self.now.set.now)) }
+        ensures in_range { IfOk result (ResultInRange (signatures self.now.set.now)) }
     {
         match plain_type(word.as_bytes()) {
             Some(found) => Ok(Some(found)),
@@ -130,7 +131,7 @@ impl<'a> Catalog<'a> {
 
     /// The nearest function of this name in the empty states, from the script upward.
     pub fn find_function(&self, script: u16, name: &Name) -> Option<Callee<'a>>
-        ensures { IfSome result (λ callee. FunctionThere (function_counts self.now.set.now) callee.at) }
+        ensures { IfSome result (IsCallee self.now.set.now name.now) }
     {
         if script >= self.set.count() {
             return None;
@@ -182,7 +183,7 @@ impl<'a> Catalog<'a> {
 
     /// The first Global function of this name that a script imported by this one has itself.
     pub fn find_imported(&self, script: u16, name: &Name) -> Result<Option<Callee<'a>>, OutOfMemory>
-        ensures { IfOk result (λ found. IfSome found (λ callee. FunctionThere (function_counts self.now.set.now) callee.at)) }
+        ensures { IfOk result (λ found. IfSome found (IsCallee self.now.set.now name.now)) }
     {
         let Some(script) = self.script(script) else {
             return Ok(None);
@@ -197,7 +198,7 @@ impl<'a> Catalog<'a> {
 
     // The Global function of this name that the script of the other name has itself.
     fn import_global(&self, import: &Name, name: &Name) -> Result<Option<Callee<'a>>, OutOfMemory>
-        ensures { IfOk result (λ found. IfSome found (λ callee. FunctionThere (function_counts self.now.set.now) callee.at)) }
+        ensures { IfOk result (λ found. IfSome found (IsCallee self.now.set.now name.now)) }
     {
         match self.find_script(import)? {
             Some(script) => Ok(self.own_global(script, name)),
@@ -206,7 +207,7 @@ impl<'a> Catalog<'a> {
     }
 
     fn own_global(&self, script: u16, name: &Name) -> Option<Callee<'a>>
-        ensures { IfSome result (λ callee. FunctionThere (function_counts self.now.set.now) callee.at) }
+        ensures { IfSome result (IsCallee self.now.set.now name.now) }
     {
         let found = self.find_function(script, name)?;
         if found.at.script == script && found.heading.is_global {
@@ -240,7 +241,7 @@ fn number_below(number: Option<usize>, count: u16) -> Option<u16>
 // `Int`, `Bool` and `String`.
 fn plain_type(word: &[u8]) -> Option<CoreType>
     ensures found { result ≡ plain_type word.now }
-    ensures in_range { (functions : List ℕ) → ResultInRange functions result }
+    ensures in_range { (functions : Signatures) → ResultInRange functions result }
 {
     if word == b"Int".as_slice() {
         Some(CoreType::Int)
@@ -255,7 +256,7 @@ fn plain_type(word: &[u8]) -> Option<CoreType>
 
 fn script_type(script: Option<u16>) -> Option<CoreType>
     ensures found { result ≡ option_and_then script_type script }
-    ensures in_range { (functions : List ℕ) → IfSome script (λ n. n < length functions) → ResultInRange functions result }
+    ensures in_range { (functions : Signatures) → IfSome script (λ n. n < length functions) → ResultInRange functions result }
 {
     match script {
         Some(script) if script >= LIBRARY_COUNT => Some(CoreType::Script(script)),
@@ -265,7 +266,7 @@ fn script_type(script: Option<u16>) -> Option<CoreType>
 
 fn array_type(element: Option<CoreType>) -> Option<CoreType>
     ensures found { result ≡ option_map array_of element }
-    ensures in_range { (functions : List ℕ) → ResultInRange functions element → ResultInRange functions result }
+    ensures in_range { (functions : Signatures) → ResultInRange functions element → ResultInRange functions result }
 {
     match element {
         Some(element) => Some(array_of(element)),
@@ -276,7 +277,7 @@ fn array_type(element: Option<CoreType>) -> Option<CoreType>
 /// The type of arrays of this element type. An array type stays as it is.
 pub fn array_of(element: CoreType) -> CoreType
     ensures found { result ≡ array_of element }
-    ensures in_range { (functions : List ℕ) → TypeInRange functions element → TypeInRange functions result }
+    ensures in_range { (functions : Signatures) → TypeInRange functions element → TypeInRange functions result }
 {
     match element {
         CoreType::Int => CoreType::IntArray,
@@ -289,7 +290,7 @@ pub fn array_of(element: CoreType) -> CoreType
 
 /// The element type of an array type, or none.
 pub fn element_of(array: CoreType) -> Option<CoreType>
-    ensures { (functions : List ℕ) → TypeInRange functions array → ResultInRange functions result }
+    ensures { (functions : Signatures) → TypeInRange functions array → ResultInRange functions result }
 {
     match array {
         CoreType::IntArray => Some(CoreType::Int),

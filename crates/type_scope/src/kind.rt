@@ -1,6 +1,5 @@
 // What is known of the type of an expression.
-ghost use Rattle.std.specs.Prelude.{ℕ, List};
-ghost use Rattle.core_tree.specs.InRange.{ResultInRange};
+ghost use Rattle.core_tree.specs.InRange.{Signatures, ResultInRange};
 ghost use Rattle.type_scope.specs.Scope.{KindInRange};
 
 use core_tree::CoreType;
@@ -21,7 +20,7 @@ pub enum Kind {
 impl Kind {
     /// What is known where a type was looked up.
     pub fn from_type(found: Option<CoreType>) -> Kind
-        ensures { (functions : List ℕ) → ResultInRange functions found → KindInRange functions result }
+        ensures { (functions : Signatures) → ResultInRange functions found → KindInRange functions result }
     {
         match found {
             Some(found) => Kind::Of(found),
