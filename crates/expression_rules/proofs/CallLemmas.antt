@@ -1,10 +1,14 @@
 -- Arguments that are in range, as operands of a call.
-use Rattle.std.proofs.Common.{◌≡◌, suc, List, [], ◌∷◌, length, map, refl, ap, arith}
+use Rattle.std.proofs.Common.{◌≡◌, ℕ, suc, List, [], ◌∷◌, length, map, refl, sym, ap, subst, ◌∙◌, arith}
 use Rattle.std.specs.List.{All}
 use Rattle.core_tree.specs.declared.expression.Core.{Core}
-use Rattle.core_tree.specs.InRange.{Bounds, PlacesInRange, ResultInRange, ExpressionsInRange, count_of}
+use Rattle.core_tree.specs.InRange.{Bounds, NameTakes, PlaceTakes, PlacesInRange, ResultInRange, ExpressionsInRange, count_of}
 use Rattle.core_tree.specs.Tree.{expression_of, expressions}
-use Rattle.expression_rules.specs.Ranges.{CoreInRange, PassedInRange}
+use Rattle.script_linker.specs.declared.set.SourceFile.{SourceFile}
+use Rattle.type_scope.specs.declared.catalog.Callee.{Callee}
+use Rattle.type_scope.specs.Scope.{IsCallee}
+use Rattle.type_scope.specs.Types.{signature_of, signatures}
+use Rattle.expression_rules.specs.Ranges.{CoreInRange, PassedInRange, heading_count}
 use Rattle.expression_rules.specs.declared.trees.Passed.{Passed}
 
 expressions-all : (b : Bounds) (cores : List Core) → All (CoreInRange b) cores → ExpressionsInRange b (expressions (map expression_of cores))
@@ -16,6 +20,17 @@ count_of-expressions : (cores : List Core) → count_of (expressions (map expres
 count_of-expressions [] = refl
 count_of-expressions (core ∷ cores) = ap suc (count_of-expressions cores)
 
-pub operands-passed : (b : Bounds) (passed : Passed) → PassedInRange b passed → (PlacesInRange passed.places.items (count_of (expressions (map expression_of passed.arguments.items))) × ResultInRange b.functions passed.result) × ExpressionsInRange b (expressions (map expression_of passed.arguments.items))
-operands-passed b passed h =
-    ((rw (count_of-expressions passed.arguments.items) h.places, h.result), expressions-all b passed.arguments.items h.arguments)
+-- what takes so many operands takes those that are passed
+pub operands-passed : (b : Bounds) (count : ℕ) (Takes : ℕ → Type 0) (passed : Passed) → Takes count → PassedInRange b count passed →
+    (Takes (count_of (expressions (map expression_of passed.arguments.items))) × PlacesInRange passed.places.items (count_of (expressions (map expression_of passed.arguments.items))) × ResultInRange b.functions passed.result)
+    × ExpressionsInRange b (expressions (map expression_of passed.arguments.items))
+operands-passed b count Takes passed takes h =
+    let same : count ≡ count_of (expressions (map expression_of passed.arguments.items)) = sym (count_of-expressions passed.arguments.items ∙ h.counted) in
+    ((subst Takes same takes, subst (PlacesInRange passed.places.items) same h.places, h.result), expressions-all b passed.arguments.items h.arguments)
+
+-- the function at its place, and by its name
+pub callee-at : (set : List SourceFile) (name : List ℕ) (callee : Callee) → IsCallee set name callee → PlaceTakes (signatures set) callee.at (heading_count callee.heading.now)
+callee-at set name callee is = (signature_of callee.heading.now, is.there, refl)
+
+pub callee-named : (set : List SourceFile) (name : List ℕ) (callee : Callee) → IsCallee set name callee → NameTakes (signatures set) name (heading_count callee.heading.now)
+callee-named set name callee is = (callee.at, signature_of callee.heading.now, is.there, is.named, refl)

@@ -1,11 +1,13 @@
 -- That each number in judged trees names what is there.
-use Rattle.std.specs.Prelude.{◌≡◌, ◌<◌, List, length, All, IfSome, vec_len}
+use Rattle.std.specs.Prelude.{◌≡◌, ◌<◌, ℕ, true, List, length, All, IfSome, Some, nat_eq, slice_get, vec_len}
+use Rattle.std.specs.List.{IsDistinct}
 use Rattle.core_tree.specs.declared.expression.Core.{Core}
 use Rattle.core_tree.specs.declared.statement.CoreStatement.{CoreStatement}
 use Rattle.core_tree.specs.InRange.{Bounds, ResultInRange, TypeInRange, PlacesInRange, ExpressionInRange, StatementInRange}
 use Rattle.core_tree.specs.Tree.{expression_of, statement_of}
+use Rattle.line_parser.specs.declared.tree.Heading.{Heading}
 use Rattle.type_scope.specs.Scope.{KindInRange}
-use Rattle.type_scope.specs.Types.{function_counts}
+use Rattle.type_scope.specs.Types.{signatures}
 use Rattle.expression_rules.specs.declared.arguments.Given.{Given}
 use Rattle.expression_rules.specs.declared.arguments.Arguments.{Arguments}
 use Rattle.expression_rules.specs.declared.assignment.Target.{Target}
@@ -39,16 +41,17 @@ pub record OperandInRange (b : Bounds) (operand : Operand) : Type 0 where
 abbrev pub GivenInRange : Bounds → List Given → Type 0
 GivenInRange b given = All (λ one. OperandInRange b one.value) given
 
--- arguments that have a parameter each
-pub record PassedInRange (b : Bounds) (passed : Passed) : Type 0 where
+-- an argument for each of so many parameters
+pub record PassedInRange (b : Bounds) (count : ℕ) (passed : Passed) : Type 0 where
   pub arguments : All (CoreInRange b) passed.arguments.items
-  pub places : PlacesInRange passed.places.items (length passed.arguments.items)
+  pub counted : length passed.arguments.items ≡ count
+  pub places : PlacesInRange passed.places.items count
   pub result : ResultInRange b.functions passed.result
 
 -- what expressions may name where they stand
 abbrev pub bounds_of : Context → Bounds
 bounds_of context = record {
-  functions = function_counts context.catalog.now.set.now;
+  functions = signatures context.catalog.now.set.now;
   variables = vec_len context.layout.now.sources;
   locals = vec_len context.locals.now.kinds;
 }
@@ -63,24 +66,34 @@ MeaningInRange b (meanings.Local number kind) = (number < b.locals) × ResultInR
 MeaningInRange b (meanings.Field number kind) = (number < b.variables) × ResultInRange b.functions kind
 MeaningInRange b _ = Unit {0}
 
+abbrev pub heading_count : Heading → ℕ
+heading_count heading = length heading.parameters.items
+
+abbrev pub parameter_count : Parameters → ℕ
+parameter_count (parameters.Declared declared) = length declared.now
+parameter_count (parameters.Search element start) = 2
+
 -- a search is for a value of the elements' type
 abbrev pub ParametersInRange : Bounds → Parameters → Type 0
 ParametersInRange b (parameters.Declared declared) = Unit {0}
 ParametersInRange b (parameters.Search element start) = TypeInRange b.functions element
 
--- arguments of some of so many parameters
-pub record ArgumentsInRange (b : Bounds) (found : Arguments) : Type 0 where
+-- arguments of some of so many parameters, each of another one, which is marked
+pub record ArgumentsInRange (b : Bounds) (count : ℕ) (found : Arguments) : Type 0 where
   pub cores : All (CoreInRange b) found.cores.items
   pub numbered : length found.places.items ≡ length found.cores.items
-  pub within : All (λ place. place < length found.filled.items) found.places.items
+  pub marked : All (λ place. slice_get found.filled.items place ≡ Some true) found.places.items
+  pub different : IsDistinct nat_eq found.places.items
+  pub counted : length found.filled.items ≡ count
 
--- an argument for each parameter
-pub record CompleteInRange (b : Bounds) (found : Arguments) : Type 0 where
+-- an argument for each of so many parameters
+pub record CompleteInRange (b : Bounds) (count : ℕ) (found : Arguments) : Type 0 where
   pub cores : All (CoreInRange b) found.cores.items
-  pub places : PlacesInRange found.places.items (length found.cores.items)
+  pub counted : length found.cores.items ≡ count
+  pub places : PlacesInRange found.places.items count
 
-pub record OutcomeInRange (b : Bounds) (outcome : Outcome) : Type 0 where
-  pub passed : IfSome outcome.passed (PassedInRange b)
+pub record OutcomeInRange (b : Bounds) (count : ℕ) (outcome : Outcome) : Type 0 where
+  pub passed : IfSome outcome.passed (PassedInRange b count)
   pub kind : KindInRange b.functions outcome.kind
 
 -- what is assigned to

@@ -1,13 +1,13 @@
 -- What stays the same in a scope while its lines are judged, and what its trees may name.
 use Rattle.std.specs.Prelude.{◌≡◌, ◌<◌, length, All, vec_len}
 use Rattle.core_tree.specs.InRange.{Bounds, ResultInRange}
-use Rattle.type_scope.specs.Types.{function_counts}
+use Rattle.type_scope.specs.Types.{signatures}
 use Rattle.expression_rules.specs.declared.scope.Scope.{Scope}
 
 -- what expressions may name in a scope
 abbrev pub scope_bounds : Scope → Bounds
 scope_bounds scope = record {
-  functions = function_counts scope.catalog.now.set.now;
+  functions = signatures scope.catalog.now.set.now;
   variables = vec_len scope.layout.now.sources;
   locals = vec_len scope.locals.kinds;
 }

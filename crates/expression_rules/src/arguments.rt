@@ -1,7 +1,7 @@
 // The arguments of a call: each finds its parameter, and default arguments follow.
-ghost use Rattle.std.specs.Prelude.{◌<◌, IfOk, OnOk, IfSome, vec_len};
+ghost use Rattle.std.specs.Prelude.{◌≡◌, ◌<◌, ℕ, false, IfOk, OnOk, IfSome, Some, slice_get, vec_len};
 ghost use Rattle.core_tree.specs.InRange.{Bounds};
-ghost use Rattle.expression_rules.specs.Ranges.{CoreInRange, OperandInRange, GivenInRange, ParametersInRange, ArgumentsInRange, CompleteInRange, bounds_of};
+ghost use Rattle.expression_rules.specs.Ranges.{CoreInRange, OperandInRange, GivenInRange, ParametersInRange, ArgumentsInRange, CompleteInRange, bounds_of, parameter_count};
 
 use crate::context::Context;
 use crate::conversions::convert;
@@ -33,7 +33,7 @@ pub(crate) struct Arguments {
 
 impl Arguments {
     fn new(alloc: Global, parameters: usize) -> Result<Arguments, OutOfMemory>
-        ensures { (b : Bounds) → IfOk result (ArgumentsInRange b) }
+        ensures { (b : Bounds) → IfOk result (ArgumentsInRange b parameters) }
     {
         Ok(Arguments {
             cores: Vec::with_capacity(alloc, parameters)?,
@@ -44,7 +44,8 @@ impl Arguments {
 
     // The place, where it is a parameter's that has no argument yet.
     fn free(&self, place: usize) -> Option<usize>
-        ensures { IfSome result (λ found. found < vec_len self.now.filled) }
+        ensures within { IfSome result (λ found. found < vec_len self.now.filled) }
+        ensures free { IfSome result (λ found. slice_get self.now.filled.items found ≡ Some false) }
     {
         match self.filled.get(place) {
             Some(false) => Some(place),
@@ -53,8 +54,9 @@ impl Arguments {
     }
 
     fn add(&mut self, place: usize, core: Core) -> Result<(), OutOfMemory>
-        requires { place < vec_len self.old.filled }
-        ensures { (b : Bounds) → ArgumentsInRange b self.old → CoreInRange b core → OnOk result (ArgumentsInRange b self.new) }
+        requires within { place < vec_len self.old.filled }
+        requires free { slice_get self.old.filled.items place ≡ Some false }
+        ensures { (b : Bounds) (count : ℕ) → ArgumentsInRange b count self.old → CoreInRange b core → OnOk result (ArgumentsInRange b count self.new) }
     {
         // A heading has at most 8,000 tokens.
         let Ok(number) = u16::try_from(place) else {
@@ -69,7 +71,7 @@ impl Arguments {
 
     // The arguments, where each parameter has one.
     fn complete(self) -> Option<Arguments>
-        ensures { (b : Bounds) → ArgumentsInRange b self → IfSome result (CompleteInRange b) }
+        ensures { (b : Bounds) (count : ℕ) → ArgumentsInRange b count self → IfSome result (CompleteInRange b count) }
     {
         if self.cores.len() == self.filled.len() {
             Some(self)
@@ -87,7 +89,7 @@ pub(crate) fn place_arguments(
     given: Vec<Given<'_>>,
     parameters: Parameters<'_>,
 ) -> Result<Option<Arguments>, OutOfMemory>
-    ensures { GivenInRange (bounds_of context.now) given.entry.items → ParametersInRange (bounds_of context.now) parameters.entry → IfOk result (λ found. IfSome found (CompleteInRange (bounds_of context.now))) }
+    ensures { GivenInRange (bounds_of context.now) given.entry.items → ParametersInRange (bounds_of context.now) parameters.entry → IfOk result (λ found. IfSome found (CompleteInRange (bounds_of context.now) (parameter_count parameters.entry))) }
 {
     let mut given = given;
     let mut found = Arguments::new(context.catalog.alloc, parameters.count())?;
@@ -126,7 +128,7 @@ fn place_argument(
     place: Option<usize>,
     value: Operand,
 ) -> Result<(), OutOfMemory>
-    ensures { ParametersInRange (bounds_of context.now) parameters.entry → ArgumentsInRange (bounds_of context.now) found.old → OperandInRange (bounds_of context.now) value → OnOk result (ArgumentsInRange (bounds_of context.now) found.new) }
+    ensures { ParametersInRange (bounds_of context.now) parameters.entry → ArgumentsInRange (bounds_of context.now) (parameter_count parameters.entry) found.old → OperandInRange (bounds_of context.now) value → OnOk result (ArgumentsInRange (bounds_of context.now) (parameter_count parameters.entry) found.new) }
 {
     let free = match place {
         Some(place) => found.free(place),
@@ -148,7 +150,7 @@ fn add_defaults(
     found: &mut Arguments,
     parameters: Parameters<'_>,
 ) -> Result<(), OutOfMemory>
-    ensures { ArgumentsInRange (bounds_of context.now) found.old → OnOk result (ArgumentsInRange (bounds_of context.now) found.new) }
+    ensures { ArgumentsInRange (bounds_of context.now) (parameter_count parameters.entry) found.old → OnOk result (ArgumentsInRange (bounds_of context.now) (parameter_count parameters.entry) found.new) }
 {
     for place in 0..parameters.count() {
         if let Some(place) = found.free(place)
@@ -168,8 +170,9 @@ fn add_default(
     parameters: Parameters<'_>,
     place: usize,
 ) -> Result<bool, OutOfMemory>
-    requires { place < vec_len found.old.filled }
-    ensures { ArgumentsInRange (bounds_of context.now) found.old → OnOk result (ArgumentsInRange (bounds_of context.now) found.new) }
+    requires within { place < vec_len found.old.filled }
+    requires free { slice_get found.old.filled.items place ≡ Some false }
+    ensures { ArgumentsInRange (bounds_of context.now) (parameter_count parameters.entry) found.old → OnOk result (ArgumentsInRange (bounds_of context.now) (parameter_count parameters.entry) found.new) }
 {
     let Some(default) = parameters.default(context, place)? else {
         context.fault(notes, TypeRule::Arguments);

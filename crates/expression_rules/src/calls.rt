@@ -1,8 +1,8 @@
 // The forms of calls.
-ghost use Rattle.std.specs.Prelude.{IfOk, IfSome};
-ghost use Rattle.core_tree.specs.InRange.{Bounds, FunctionThere, TypeInRange, ResultInRange};
-ghost use Rattle.type_scope.specs.Scope.{KindInRange};
-ghost use Rattle.expression_rules.specs.Ranges.{CoreInRange, OperandInRange, GivenInRange, CompleteInRange, PassedInRange, OutcomeInRange, bounds_of};
+ghost use Rattle.std.specs.Prelude.{ℕ, IfOk, IfSome};
+ghost use Rattle.core_tree.specs.InRange.{Bounds, NameTakes, PlaceTakes, TypeInRange, ResultInRange};
+ghost use Rattle.type_scope.specs.Scope.{IsCallee, KindInRange};
+ghost use Rattle.expression_rules.specs.Ranges.{CoreInRange, OperandInRange, GivenInRange, CompleteInRange, PassedInRange, OutcomeInRange, bounds_of, heading_count};
 
 use crate::arguments::{Arguments, Given, place_arguments};
 use crate::context::Context;
@@ -41,7 +41,7 @@ pub(crate) fn plain_call(
 }
 
 fn plain_callee<'s>(context: &Context<'s>, name: &Name) -> Result<Option<Callee<'s>>, OutOfMemory>
-    ensures { IfOk result (λ found. IfSome found (λ callee. FunctionThere (bounds_of context.now).functions callee.at)) }
+    ensures { IfOk result (λ found. IfSome found (IsCallee context.now.catalog.now.set.now name.now)) }
 {
     match context.catalog.find_function(context.script, name) {
         Some(callee) => Ok(Some(callee)),
@@ -74,7 +74,7 @@ fn parent_value(
     name: &Name,
     outcome: Outcome,
 ) -> Result<Operand, OutOfMemory>
-    ensures { OutcomeInRange (bounds_of context.now) outcome → IfOk result (OperandInRange (bounds_of context.now)) }
+    ensures { (count : ℕ) → NameTakes (bounds_of context.now).functions name.now count → OutcomeInRange (bounds_of context.now) count outcome → IfOk result (OperandInRange (bounds_of context.now)) }
 {
     let Outcome { passed, kind } = outcome;
     match passed {
@@ -175,7 +175,7 @@ fn first_place(direction: Direction) -> i32 {
 
 // The value that is looked for, and the place to start at.
 fn value_and_start(found: Option<Arguments>) -> Option<(Core, Core)>
-    ensures { (b : Bounds) → IfSome found (CompleteInRange b) → IfSome result (λ parts. CoreInRange b parts.0 × CoreInRange b parts.1) }
+    ensures { (b : Bounds) (count : ℕ) → IfSome found (CompleteInRange b count) → IfSome result (λ parts. CoreInRange b parts.0 × CoreInRange b parts.1) }
 {
     let mut found = found?;
     let second = found.cores.pop()?;
@@ -203,7 +203,7 @@ fn called(
     heading: &Heading,
     given: Vec<Given<'_>>,
 ) -> Result<Outcome, OutOfMemory>
-    ensures { GivenInRange (bounds_of context.now) given.entry.items → IfOk result (OutcomeInRange (bounds_of context.now)) }
+    ensures { GivenInRange (bounds_of context.now) given.entry.items → IfOk result (OutcomeInRange (bounds_of context.now) (heading_count heading.now)) }
 {
     let parameters = Parameters::Declared(heading.parameters.as_slice());
     let found = place_arguments(context, notes, given, parameters)?;
@@ -241,7 +241,7 @@ fn global_call(
     callee: Callee<'_>,
     given: Vec<Given<'_>>,
 ) -> Result<Operand, OutOfMemory>
-    ensures { FunctionThere (bounds_of context.now).functions callee.entry.at → GivenInRange (bounds_of context.now) given.entry.items → IfOk result (OperandInRange (bounds_of context.now)) }
+    ensures { PlaceTakes (bounds_of context.now).functions callee.entry.at (heading_count callee.entry.heading.now) → GivenInRange (bounds_of context.now) given.entry.items → IfOk result (OperandInRange (bounds_of context.now)) }
 {
     notes.write_out(callee.heading.name.as_bytes())?;
     let outcome = called(context, notes, callee.heading, given)?;
@@ -255,7 +255,7 @@ fn global_value(
     is_native: bool,
     outcome: Outcome,
 ) -> Result<Operand, OutOfMemory>
-    ensures { FunctionThere (bounds_of context.now).functions at → OutcomeInRange (bounds_of context.now) outcome → IfOk result (OperandInRange (bounds_of context.now)) }
+    ensures { (count : ℕ) → PlaceTakes (bounds_of context.now).functions at count → OutcomeInRange (bounds_of context.now) count outcome → IfOk result (OperandInRange (bounds_of context.now)) }
 {
     let Outcome { passed, kind } = outcome;
     match passed {
@@ -268,7 +268,7 @@ fn global_value(
 }
 
 fn global_core(at: FunctionPlace, is_native: bool, passed: Passed) -> Core
-    ensures { (b : Bounds) → FunctionThere b.functions at → PassedInRange b passed → CoreInRange b result }
+    ensures { (b : Bounds) (count : ℕ) → PlaceTakes b.functions at count → PassedInRange b count passed → CoreInRange b result }
 {
     if is_native {
         native_called(at, passed)
@@ -285,7 +285,7 @@ fn method_call(
     name: &Name,
     given: Vec<Given<'_>>,
 ) -> Result<Operand, OutOfMemory>
-    ensures { CoreInRange (bounds_of context.now) of.value → GivenInRange (bounds_of context.now) given.entry.items → IfOk result (OperandInRange (bounds_of context.now)) }
+    ensures { CoreInRange (bounds_of context.now) of.value → NameTakes (bounds_of context.now).functions name.now (heading_count heading.now) → GivenInRange (bounds_of context.now) given.entry.items → IfOk result (OperandInRange (bounds_of context.now)) }
 {
     let Outcome { passed, kind } = called(context, notes, heading, given)?;
     match passed {
@@ -297,7 +297,9 @@ fn method_call(
     }
 }
 
-fn method_of<'s>(context: &Context<'s>, kind: Kind, name: &Name) -> Option<&'s Heading> {
+fn method_of<'s>(context: &Context<'s>, kind: Kind, name: &Name) -> Option<&'s Heading>
+    ensures { IfSome result (λ heading. NameTakes (bounds_of context.now).functions name.now (heading_count heading.now)) }
+{
     match kind {
         Kind::Of(CoreType::Script(script)) => method_named(context, script, name),
         _ => None,
@@ -305,7 +307,9 @@ fn method_of<'s>(context: &Context<'s>, kind: Kind, name: &Name) -> Option<&'s H
 }
 
 // The nearest function of this name, where it isn't Global.
-fn method_named<'s>(context: &Context<'s>, script: u16, name: &Name) -> Option<&'s Heading> {
+fn method_named<'s>(context: &Context<'s>, script: u16, name: &Name) -> Option<&'s Heading>
+    ensures { IfSome result (λ heading. NameTakes (bounds_of context.now).functions name.now (heading_count heading.now)) }
+{
     let callee = context.catalog.find_function(script, name)?;
     if callee.heading.is_global {
         None

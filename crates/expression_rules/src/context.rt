@@ -2,7 +2,7 @@
 ghost use Rattle.std.specs.Prelude.{◌≡◌, IfNone, IfOk, IfSome, IsSome, IsTrue};
 ghost use Rattle.core_tree.specs.InRange.{ResultInRange};
 ghost use Rattle.type_scope.specs.Scope.{KindInRange};
-ghost use Rattle.type_scope.specs.Types.{function_counts, type_named};
+ghost use Rattle.type_scope.specs.Types.{signatures, type_named};
 ghost use Rattle.expression_rules.specs.Ranges.{OperandInRange, bounds_of};
 ghost use Rattle.expression_rules.specs.Rules.{IsFirst};
 
@@ -78,7 +78,7 @@ impl Context<'_> {
         name: &TypeName,
     ) -> Result<Option<CoreType>, OutOfMemory>
         ensures found { IfOk result (λ found. found ≡ type_named self.now.catalog.now.set.now name.now) }
-        ensures in_range { IfOk result (ResultInRange (function_counts self.now.catalog.now.set.now)) }
+        ensures in_range { IfOk result (ResultInRange (signatures self.now.catalog.now.set.now)) }
         ensures noted { IfOk result (λ found. IfNone found (IsSome notes.new.first)) }
     {
         let found = self.catalog.type_of(name)?;

@@ -1,6 +1,6 @@
 // Which types convert to which, and the conversions that are written out.
-ghost use Rattle.std.specs.Prelude.{◌≡◌, IfOk, List, ℕ};
-ghost use Rattle.core_tree.specs.InRange.{Bounds, ResultInRange};
+ghost use Rattle.std.specs.Prelude.{◌≡◌, IfOk};
+ghost use Rattle.core_tree.specs.InRange.{Bounds, Signatures, ResultInRange};
 ghost use Rattle.type_scope.specs.Scope.{KindInRange};
 ghost use Rattle.expression_rules.specs.Conversions.{prints};
 ghost use Rattle.expression_rules.specs.Ranges.{CoreInRange, OperandInRange, bounds_of};
@@ -116,7 +116,7 @@ pub(crate) fn prints(kind: Kind) -> bool
 
 /// The type that both sides of `==` have after at most one of them was cast, none where there is none.
 pub(crate) fn common_type(catalog: &Catalog<'_>, left: Kind, right: Kind) -> Option<CoreType>
-    ensures { (functions : List ℕ) → KindInRange functions left → KindInRange functions right → ResultInRange functions result }
+    ensures { (functions : Signatures) → KindInRange functions left → KindInRange functions right → ResultInRange functions result }
 {
     if left == right {
         type_of(left)
@@ -134,7 +134,7 @@ pub(crate) fn common_type(catalog: &Catalog<'_>, left: Kind, right: Kind) -> Opt
 }
 
 fn type_of(kind: Kind) -> Option<CoreType>
-    ensures { (functions : List ℕ) → KindInRange functions kind → ResultInRange functions result }
+    ensures { (functions : Signatures) → KindInRange functions kind → ResultInRange functions result }
 {
     match kind {
         Kind::Of(known) => Some(known),

@@ -1,8 +1,8 @@
 // Properties, and the lengths, elements and sizes of arrays.
-ghost use Rattle.std.specs.Prelude.{◌≡◌, ◌<◌, ◌≤◌, pos, IfOk, IfSome, IfNone, List, ℕ};
-ghost use Rattle.core_tree.specs.InRange.{Bounds, TypeInRange, ResultInRange};
+ghost use Rattle.std.specs.Prelude.{◌≡◌, ◌<◌, ◌≤◌, pos, IfOk, IfSome, IfNone, ℕ};
+ghost use Rattle.core_tree.specs.InRange.{Bounds, Signatures, TypeInRange, ResultInRange};
 ghost use Rattle.type_scope.specs.Scope.{KindInRange};
-ghost use Rattle.type_scope.specs.Types.{function_counts};
+ghost use Rattle.type_scope.specs.Types.{signatures};
 ghost use Rattle.expression_rules.specs.Ranges.{CoreInRange, OperandInRange, bounds_of};
 
 use crate::context::Context;
@@ -132,7 +132,7 @@ pub(crate) fn property_type(
     at: PropertyRef,
     access: Access,
 ) -> Result<Option<CoreType>, OutOfMemory>
-    ensures { IfOk result (ResultInRange (function_counts context.now.catalog.now.set.now)) }
+    ensures { IfOk result (ResultInRange (signatures context.now.catalog.now.set.now)) }
 {
     let Some(property) = context.catalog.property(at) else {
         return Ok(None);
@@ -227,7 +227,7 @@ pub(crate) fn element(
 
 /// The type of the elements of what `[ ]` stands on.
 pub(crate) fn indexed(context: &Context<'_>, notes: &mut Notes, kind: Kind) -> Option<CoreType>
-    ensures { (functions : List ℕ) → KindInRange functions kind → ResultInRange functions result }
+    ensures { (functions : Signatures) → KindInRange functions kind → ResultInRange functions result }
 {
     let element = element_kind(kind);
     if element.is_none() && kind != Kind::Unknown {
@@ -238,7 +238,7 @@ pub(crate) fn indexed(context: &Context<'_>, notes: &mut Notes, kind: Kind) -> O
 
 /// The type of the elements, where this is the type of an array.
 pub(crate) fn element_kind(kind: Kind) -> Option<CoreType>
-    ensures { (functions : List ℕ) → KindInRange functions kind → ResultInRange functions result }
+    ensures { (functions : Signatures) → KindInRange functions kind → ResultInRange functions result }
 {
     match kind {
         Kind::Of(array) => element_of(array),

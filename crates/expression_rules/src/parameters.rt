@@ -1,7 +1,7 @@
 // The parameters of what is called.
-ghost use Rattle.std.specs.Prelude.{IfOk, IfSome};
+ghost use Rattle.std.specs.Prelude.{◌≡◌, IfOk, IfSome};
 ghost use Rattle.core_tree.specs.InRange.{Bounds, TypeInRange, ResultInRange};
-ghost use Rattle.expression_rules.specs.Ranges.{CoreInRange, ParametersInRange, bounds_of};
+ghost use Rattle.expression_rules.specs.Ranges.{CoreInRange, ParametersInRange, bounds_of, parameter_count};
 
 use crate::constants::{default_fits, kind_of, value_of};
 use crate::context::Context;
@@ -20,7 +20,9 @@ pub(crate) enum Parameters<'a> {
 }
 
 impl Parameters<'_> {
-    pub(crate) fn count(&self) -> usize {
+    pub(crate) fn count(&self) -> usize
+        ensures { result ≡ parameter_count self.now }
+    {
         match self {
             Parameters::Declared(parameters) => parameters.len(),
             Parameters::Search { .. } => 2,

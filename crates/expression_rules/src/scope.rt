@@ -1,7 +1,7 @@
 // One function while its lines are judged.
 ghost use Rattle.std.specs.Prelude.{◌≡◌, ◌<◌, ◌++◌, ◌∷◌, [], IfNone, IfOk, IfSome, IsSome, OnOk, min, vec_len};
 ghost use Rattle.core_tree.specs.InRange.{ResultInRange};
-ghost use Rattle.type_scope.specs.Types.{function_counts, type_named};
+ghost use Rattle.type_scope.specs.Types.{signatures, type_named};
 ghost use Rattle.expression_rules.specs.Ranges.{CoreInRange, FormInRange, TypedInRange};
 ghost use Rattle.expression_rules.specs.Rules.{IsFirst};
 ghost use Rattle.expression_rules.specs.Scopes.{Keeps, ScopeInRange, scope_bounds};
@@ -95,7 +95,7 @@ impl<'a> Scope<'a> {
     /// The type of this name. `UnknownType` is broken where there is none.
     pub fn kind_named(&mut self, name: &TypeName) -> Result<Option<CoreType>, OutOfMemory>
         ensures found { IfOk result (λ found. found ≡ type_named self.old.catalog.now.set.now name.now) }
-        ensures in_range { IfOk result (ResultInRange (function_counts self.old.catalog.now.set.now)) }
+        ensures in_range { IfOk result (ResultInRange (signatures self.old.catalog.now.set.now)) }
         ensures kept { Keeps self.old self.new }
         ensures noted { IfOk result (λ found. IfNone found (IsSome self.new.notes.first)) }
     {

@@ -1,6 +1,6 @@
 // Trees put together.
-ghost use Rattle.std.specs.Prelude.{◌<◌, IfOk};
-ghost use Rattle.core_tree.specs.InRange.{Bounds, TypeInRange, LiteralInRange, FunctionThere};
+ghost use Rattle.std.specs.Prelude.{◌<◌, ℕ, IfOk};
+ghost use Rattle.core_tree.specs.InRange.{Bounds, TypeInRange, LiteralInRange, NameTakes, PlaceTakes};
 ghost use Rattle.expression_rules.specs.Ranges.{CoreInRange, PassedInRange};
 
 use core_tree::{Arith, Core, CoreType, FunctionPlace, Order, Value};
@@ -170,7 +170,7 @@ pub(crate) fn method_called(
     name: &Name,
     passed: Passed,
 ) -> Result<Core, OutOfMemory>
-    ensures { (b : Bounds) → CoreInRange b of.value → PassedInRange b passed → IfOk result (CoreInRange b) }
+    ensures { (b : Bounds) (count : ℕ) → CoreInRange b of.value → NameTakes b.functions name.now count → PassedInRange b count passed → IfOk result (CoreInRange b) }
 {
     let name = name.try_clone(alloc)?;
     Ok(Core::CallMethod {
@@ -183,7 +183,7 @@ pub(crate) fn method_called(
 }
 
 pub(crate) fn parent_called(alloc: Global, name: &Name, passed: Passed) -> Result<Core, OutOfMemory>
-    ensures { (b : Bounds) → PassedInRange b passed → IfOk result (CoreInRange b) }
+    ensures { (b : Bounds) (count : ℕ) → NameTakes b.functions name.now count → PassedInRange b count passed → IfOk result (CoreInRange b) }
 {
     let name = name.try_clone(alloc)?;
     Ok(Core::CallParent {
@@ -195,7 +195,7 @@ pub(crate) fn parent_called(alloc: Global, name: &Name, passed: Passed) -> Resul
 }
 
 pub(crate) fn global_called(at: FunctionPlace, passed: Passed) -> Core
-    ensures { (b : Bounds) → FunctionThere b.functions at → PassedInRange b passed → CoreInRange b result }
+    ensures { (b : Bounds) (count : ℕ) → PlaceTakes b.functions at count → PassedInRange b count passed → CoreInRange b result }
 {
     Core::CallGlobal {
         at,
@@ -206,7 +206,7 @@ pub(crate) fn global_called(at: FunctionPlace, passed: Passed) -> Core
 }
 
 pub(crate) fn native_called(at: FunctionPlace, passed: Passed) -> Core
-    ensures { (b : Bounds) → FunctionThere b.functions at → PassedInRange b passed → CoreInRange b result }
+    ensures { (b : Bounds) (count : ℕ) → PlaceTakes b.functions at count → PassedInRange b count passed → CoreInRange b result }
 {
     Core::CallNative {
         at,
