@@ -1,4 +1,4 @@
--- The heads of a set's scripts, and how many functions their empty states have.
+-- The heads of a set's scripts, and the functions of their empty states.
 use Rattle.std.proofs.Common.{◌≡◌, ◌+◌, ◌<◌, ℕ, Bool, true, false, List, [], ◌∷◌, ◌++◌, length, map, take, filter, refl, sym, ap, ◌∙◌, arith, slice_index_or, subst, append_assoc}
 use Rattle.std.specs.List.{All, last_or}
 use Rattle.std.specs.Prelude.{Option, None, Some}
@@ -8,15 +8,17 @@ use Rattle.line_parser.specs.declared.tree.Parameter.{Parameter}
 use Rattle.script_linker.proofs.GeneratedLemmas.{Pairwise-append}
 use Rattle.script_linker.specs.Generated.{Pairwise}
 use Rattle.core_tree.specs.declared.core_type.CoreType.{CoreType}
+use Rattle.core_tree.specs.declared.script.CoreFunction.{CoreFunction}
 use Rattle.core_tree.specs.declared.script.CoreScript.{CoreScript}
 use Rattle.core_tree.specs.declared.script.CoreState.{CoreState}
-use Rattle.core_tree.specs.InRange.{ScriptInRange}
-use Rattle.core_tree.specs.InRange.{function_counts as core_counts}
+use Rattle.core_tree.specs.InRange.{ScriptInRange, Signature, Signatures}
+use Rattle.core_tree.specs.InRange.{signature_of as core_signature, signatures as core_signatures}
 use Rattle.core_tree.specs.Set.{empty_functions, empty_functions_of, function_of, script_of, state_of}
 use Rattle.script_linker.specs.declared.set.SourceFile.{SourceFile}
+use Rattle.script_parser.specs.declared.script.Function.{Function}
 use Rattle.script_parser.specs.declared.script.State.{State}
-use Rattle.type_scope.specs.Types.{function_count, function_counts, type_named}
-use Rattle.type_rules.specs.Heads.{ScriptHead, StateHead, core_function_head, core_script_head, core_state_head, function_head, parameter_type, script_head, state_head}
+use Rattle.type_scope.specs.Types.{file_signatures, signature_of, signatures, type_named}
+use Rattle.type_rules.specs.Heads.{FunctionHead, ScriptHead, StateHead, core_function_head, core_script_head, core_state_head, function_head, parameter_type, script_head, state_head}
 use Rattle.type_rules.specs.Ranges.{known}
 
 -- ---- one thing more
@@ -53,46 +55,61 @@ pairs-push {X} {Y} R (first ∷ rest) n found all made pushed so_far within is =
     let behind = subst (λ (ys : List Y). Pairwise R (take n (first ∷ rest) ++ slice_index_or (first ∷ rest) n first ∷ []) ys) (sym pushed) both in
     subst (λ (xs : List X). Pairwise R xs all) (sym (take_more (first ∷ rest) n first within)) behind
 
-pub scripts-push : (functions : List ℕ) (scripts all : List CoreScript) (made : CoreScript) → all ≡ scripts ++ made ∷ [] → All (ScriptInRange functions) (map script_of scripts) →
+pub scripts-push : (functions : Signatures) (scripts all : List CoreScript) (made : CoreScript) → all ≡ scripts ++ made ∷ [] → All (ScriptInRange functions) (map script_of scripts) →
     ScriptInRange functions (script_of made) → All (ScriptInRange functions) (map script_of all)
 scripts-push functions scripts all made pushed so_far here =
     All-same (ScriptInRange functions) (map script_of all) (map script_of scripts ++ script_of made ∷ []) (ap (map script_of) pushed ∙ map-append script_of scripts (made ∷ []))
     (All-push (ScriptInRange functions) (map script_of scripts) (script_of made) so_far here)
 
--- ---- how many functions the empty state has
+-- ---- the functions that the empty state has
 
-first_count : List StateHead → ℕ
-first_count [] = 0
-first_count (empty ∷ named) = length empty.functions
+head_signature : FunctionHead → Signature
+head_signature head = record { name = head.name; parameters = length head.parameters }
 
-first_count-core : (states : List CoreState) → first_count (map core_state_head states) ≡ length (empty_functions_of (map state_of states))
-unfolding first_count
-first_count-core [] = refl
-first_count-core (empty ∷ named) = length-map empty.functions.items core_function_head ∙ sym (length-map empty.functions.items function_of)
+first_signatures : List StateHead → List Signature
+first_signatures [] = []
+first_signatures (empty ∷ named) = map head_signature empty.functions
 
-counts-core : (scripts : List CoreScript) → map (λ (h : ScriptHead). first_count h.states) (map core_script_head scripts) ≡ core_counts (map script_of scripts)
-counts-core [] = refl
-counts-core (script ∷ rest) =
-    ap (λ (n : ℕ). n ∷ map (λ (h : ScriptHead). first_count h.states) (map core_script_head rest)) (first_count-core script.states.items)
-    ∙ ap (λ (ns : List ℕ). length (empty_functions (script_of script)) ∷ ns) (counts-core rest)
+functions-core : (functions : List CoreFunction) → map head_signature (map core_function_head functions) ≡ map core_signature (map function_of functions)
+unfolding head_signature
+functions-core [] = refl
+functions-core (f ∷ rest) = ap (λ (ss : List Signature). core_signature (function_of f) ∷ ss) (functions-core rest)
 
-counts-files : (set files : List SourceFile) → map (λ (h : ScriptHead). first_count h.states) (map (script_head set) files) ≡ function_counts files
-unfolding first_count
-counts-files set [] = refl
-counts-files set (file ∷ rest) =
-    ap (λ (n : ℕ). n ∷ map (λ (h : ScriptHead). first_count h.states) (map (script_head set) rest)) (length-map file.script.functions.items (function_head set))
-    ∙ ap (λ (ns : List ℕ). function_count file ∷ ns) (counts-files set rest)
+functions-files : (set : List SourceFile) (functions : List Function) → map head_signature (map (function_head set) functions) ≡ map (λ f. signature_of f.heading) functions
+unfolding head_signature
+functions-files set [] = refl
+functions-files set (f ∷ rest) =
+    ap (λ (n : ℕ). record { name = f.heading.name; parameters = n } ∷ map head_signature (map (function_head set) rest)) (length-map f.heading.parameters.items (parameter_type set))
+    ∙ ap (λ (ss : List Signature). signature_of f.heading ∷ ss) (functions-files set rest)
 
-same_counts : (set files : List SourceFile) (scripts : List CoreScript) → map core_script_head scripts ≡ map (script_head set) files → function_counts files ≡ core_counts (map script_of scripts)
-same_counts set files scripts heads =
-    sym (counts-files set files)
-    ∙ ap (map (λ (h : ScriptHead). first_count h.states)) (sym heads)
-    ∙ counts-core scripts
+first-core : (states : List CoreState) → first_signatures (map core_state_head states) ≡ map core_signature (empty_functions_of (map state_of states))
+unfolding first_signatures
+first-core [] = refl
+first-core (empty ∷ named) = functions-core empty.functions.items
 
-pub set-in_range : (set files : List SourceFile) (scripts : List CoreScript) → map core_script_head scripts ≡ map (script_head set) files → All (ScriptInRange (function_counts files)) (map script_of scripts) →
-    All (ScriptInRange (core_counts (map script_of scripts))) (map script_of scripts)
+scripts-core : (scripts : List CoreScript) → map (λ (h : ScriptHead). first_signatures h.states) (map core_script_head scripts) ≡ core_signatures (map script_of scripts)
+scripts-core [] = refl
+scripts-core (script ∷ rest) =
+    ap (λ (ss : List Signature). ss ∷ map (λ (h : ScriptHead). first_signatures h.states) (map core_script_head rest)) (first-core script.states.items)
+    ∙ ap (λ (sss : Signatures). map core_signature (empty_functions (script_of script)) ∷ sss) (scripts-core rest)
+
+scripts-files : (set files : List SourceFile) → map (λ (h : ScriptHead). first_signatures h.states) (map (script_head set) files) ≡ signatures files
+unfolding first_signatures
+scripts-files set [] = refl
+scripts-files set (file ∷ rest) =
+    ap (λ (ss : List Signature). ss ∷ map (λ (h : ScriptHead). first_signatures h.states) (map (script_head set) rest)) (functions-files set file.script.functions.items)
+    ∙ ap (λ (sss : Signatures). file_signatures file ∷ sss) (scripts-files set rest)
+
+same_signatures : (set files : List SourceFile) (scripts : List CoreScript) → map core_script_head scripts ≡ map (script_head set) files → signatures files ≡ core_signatures (map script_of scripts)
+same_signatures set files scripts heads =
+    sym (scripts-files set files)
+    ∙ ap (map (λ (h : ScriptHead). first_signatures h.states)) (sym heads)
+    ∙ scripts-core scripts
+
+pub set-in_range : (set files : List SourceFile) (scripts : List CoreScript) → map core_script_head scripts ≡ map (script_head set) files → All (ScriptInRange (signatures files)) (map script_of scripts) →
+    All (ScriptInRange (core_signatures (map script_of scripts))) (map script_of scripts)
 set-in_range set files scripts heads all =
-    subst (λ (functions : List ℕ). All (ScriptInRange functions) (map script_of scripts)) (same_counts set files scripts heads) all
+    subst (λ (functions : Signatures). All (ScriptInRange functions) (map script_of scripts)) (same_signatures set files scripts heads) all
 
 -- ---- one state more
 

@@ -5,10 +5,10 @@ use Rattle.core_tree.specs.declared.core_type.CoreType.TheVariants as kinds
 use Rattle.core_tree.specs.declared.script.CoreFunction.{CoreFunction}
 use Rattle.core_tree.specs.declared.script.CoreProperty.{CoreProperty}
 use Rattle.core_tree.specs.declared.script.CoreState.{CoreState}
-use Rattle.core_tree.specs.InRange.{FunctionInRange, PropertyInRange, ResultInRange, StateInRange}
+use Rattle.core_tree.specs.InRange.{FunctionInRange, PropertyInRange, ResultInRange, Signatures, StateInRange}
 use Rattle.core_tree.specs.Set.{function_of, property_of, state_of}
 use Rattle.script_linker.specs.declared.set.SourceFile.{SourceFile}
-use Rattle.type_scope.specs.Types.{function_counts}
+use Rattle.type_scope.specs.Types.{signatures}
 use Rattle.expression_rules.specs.declared.scope.Scope.{Scope}
 use Rattle.expression_rules.specs.Scopes.{ScopeInRange}
 use Rattle.type_rules.specs.declared.statements.Promise.{Promise}
@@ -29,7 +29,7 @@ abbrev pub promised : Promise → Option CoreType
 promised Nothing = None
 promised (Value kind) = Some (known kind)
 
-abbrev pub PromiseInRange : List ℕ → Promise → Type 0
+abbrev pub PromiseInRange : Signatures → Promise → Type 0
 PromiseInRange functions Nothing = Unit {0}
 PromiseInRange functions (Value kind) = ResultInRange functions kind
 
@@ -46,9 +46,9 @@ pub record Grows (before after : Scope) : Type 0 where
 abbrev pub set_of : Work → List SourceFile
 set_of work = work.catalog.now.set.now
 
--- the number of functions of the empty state of each script of the set, and that of the script's variables
-abbrev pub functions_of : Work → List ℕ
-functions_of work = function_counts work.catalog.now.set.now
+-- the functions of the empty state of each script of the set, and the number of the script's variables
+abbrev pub functions_of : Work → Signatures
+functions_of work = signatures work.catalog.now.set.now
 
 abbrev pub variables_of : Work → ℕ
 variables_of work = vec_len work.layout.now.sources

@@ -8,7 +8,7 @@ ghost use Rattle.type_rules.specs.Ranges.{WorkInRange, functions_of, set_of};
 ghost use Rattle.type_rules.specs.Variables.{HasVariables, core_variable_head, variable_head};
 ghost use Rattle.type_scope.specs.Sources.{declaration};
 ghost use Rattle.type_rules.specs.Members.{MembersInRange};
-ghost use Rattle.type_scope.specs.Types.{function_counts};
+ghost use Rattle.type_scope.specs.Types.{signatures};
 
 use crate::first_faults::ScriptFaults;
 use crate::functions::clone_text;
@@ -38,7 +38,7 @@ struct Members {
 /// The script of this number in its set.
 pub(crate) fn judge_script(catalog: &Catalog<'_>, number: u16) -> Result<Judged, OutOfMemory>
     requires { number < length catalog.now.set.now }
-    ensures in_range { IfOk result (λ judged. ScriptInRange (function_counts catalog.now.set.now) (script_of judged.script)) }
+    ensures in_range { IfOk result (λ judged. ScriptInRange (signatures catalog.now.set.now) (script_of judged.script)) }
     ensures head { (file : SourceFile) → IfOk result (λ judged. core_script_head judged.script ≡ script_head catalog.now.set.now (slice_index_or catalog.now.set.now number file)) }
     ensures variables { (file : SourceFile) → IfOk result (λ judged. HasVariables catalog.now.set.now (slice_index_or catalog.now.set.now number file).script judged.script.variables.items) }
 {
@@ -61,7 +61,7 @@ fn judge_layout(
     ensures variables { IfOk result (λ judged. map core_variable_head judged.0.variables.items ≡ map (variable_head catalog.now.set.now) (map declaration layout.now.sources.items)) }
     ensures properties { IfOk result (λ judged. map core_property_head judged.0.properties.items ≡ property_heads catalog.now.set.now script.now) }
     ensures states { IfOk result (λ judged. map core_state_head judged.0.states.items ≡ state_heads catalog.now.set.now script.now) }
-    ensures in_range { number < length catalog.now.set.now → IfOk result (λ judged. MembersInRange (function_counts catalog.now.set.now) judged.0) }
+    ensures in_range { number < length catalog.now.set.now → IfOk result (λ judged. MembersInRange (signatures catalog.now.set.now) judged.0) }
 {
     judge_members(Work::new(catalog, layout, number), script)
 }
@@ -92,7 +92,7 @@ fn core_script(
     members: Members,
 ) -> Result<CoreScript, OutOfMemory>
     requires { number < length catalog.now.set.now }
-    ensures in_range { MembersInRange (function_counts catalog.now.set.now) members → IfOk result (λ made. ScriptInRange (function_counts catalog.now.set.now) (script_of made)) }
+    ensures in_range { MembersInRange (signatures catalog.now.set.now) members → IfOk result (λ made. ScriptInRange (signatures catalog.now.set.now) (script_of made)) }
     ensures head { (file : SourceFile) → map core_property_head members.properties.items ≡ property_heads catalog.now.set.now (slice_index_or catalog.now.set.now number file).script →
         map core_state_head members.states.items ≡ state_heads catalog.now.set.now (slice_index_or catalog.now.set.now number file).script →
         IfOk result (λ made. core_script_head made ≡ script_head catalog.now.set.now (slice_index_or catalog.now.set.now number file)) }

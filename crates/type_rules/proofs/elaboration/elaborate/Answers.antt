@@ -2,7 +2,7 @@ use Rattle.std.proofs.Common.{◌<◌, ◌≤◌, List, length, map, arith, ◌�
 use Rattle.std.proofs.lemmas.List.{take_all}
 use Rattle.script_linker.specs.Generated.{Pairwise}
 use Rattle.script_linker.specs.declared.set.SourceFile.{SourceFile}
-use Rattle.type_scope.specs.Types.{function_counts}
+use Rattle.type_scope.specs.Types.{signatures}
 use Rattle.type_rules.proofs.Heads.{heads-push, pairs-push, scripts-push, set-in_range}
 use Rattle.type_rules.specs.Heads.{core_script_head, script_head}
 use Rattle.type_rules.specs.Variables.{ScriptVariables}
@@ -21,7 +21,7 @@ loop-number-preserved c =
     record {
       heads = heads-push core_script_head (script_head set) set number scripts all made c.in_ok-push.ensures.items so_far.heads within (rw c.in_ok-catalog.ensures at judged.head);
       variables = pairs-push (ScriptVariables set) set number scripts all made c.in_ok-push.ensures.items so_far.variables within (rw c.in_ok-catalog.ensures at judged.variables);
-      in_range = scripts-push (function_counts set) scripts all made c.in_ok-push.ensures.items so_far.in_range (rw c.in_ok-catalog.ensures at judged.in_range);
+      in_range = scripts-push (signatures set) scripts all made c.in_ok-push.ensures.items so_far.in_range (rw c.in_ok-catalog.ensures at judged.in_range);
       broken = c.note.ensures.broken_below (length set) within so_far.broken;
       too_large = c.note.ensures.too_large_below (length set) within so_far.too_large;
     }
