@@ -1,6 +1,6 @@
 -- What a set keeps of its files: the scripts, properties, states and functions, each in its place with
 -- its name, its types, its flags and its documentation.
-use Rattle.std.specs.Prelude.{ℕ, Bool, true, false, List, [], ◌∷◌, map, codes, filter, not, Option, Some, None, option_map, if◌then◌else◌}
+use Rattle.std.specs.Prelude.{ℕ, Bool, false, List, [], ◌∷◌, map, codes, filter, not, Option, Some, None, option_map, if◌then◌else◌}
 use Rattle.std.specs.List.{last_or}
 use Rattle.std.specs.Str.{str_eq_ignore_ascii_case}
 use Rattle.core_tree.specs.declared.core_type.CoreType.{CoreType}

@@ -1,7 +1,5 @@
-use Rattle.std.proofs.Common.{◌<◌, ◌≤◌, List, length, map, arith, ◌∙◌, ap, subst}
+use Rattle.std.proofs.Common.{◌<◌, ◌≤◌, length, map, arith, ◌∙◌, ap}
 use Rattle.std.proofs.lemmas.List.{take_all}
-use Rattle.script_linker.specs.Generated.{Pairwise}
-use Rattle.script_linker.specs.declared.set.SourceFile.{SourceFile}
 use Rattle.type_scope.specs.Types.{signatures}
 use Rattle.type_rules.proofs.Heads.{heads-push, pairs-push, scripts-push, set-in_range}
 use Rattle.type_rules.specs.Heads.{core_script_head, script_head}
@@ -26,14 +24,8 @@ loop-number-preserved c =
       too_large = c.note.ensures.too_large_below (length set) within so_far.too_large;
     }
 
-pub returns-in-None-clause-in_range : goal.returns-in-None-clause-in_range
-returns-in-None-clause-in_range c =
+pub returns-clause-in_range : goal.returns-clause-in_range
+returns-clause-in_range c =
     let past : length c.args.set.now ≤ c.loop-number.number = omega arith in
     let heads = c.loop-number.invariant.heads ∙ ap (map (script_head c.args.set.now)) (take_all c.loop-number.number c.args.set.now past) in
     set-in_range c.args.set.now c.args.set.now c.loop-number.scripts.items heads c.loop-number.invariant.in_range
-
-pub returns-in-None-clause-variables : goal.returns-in-None-clause-variables
-returns-in-None-clause-variables c =
-    let set = c.args.set.now in
-    let past : length set ≤ c.loop-number.number = omega arith in
-    subst (λ (files : List SourceFile). Pairwise (ScriptVariables set) files c.loop-number.scripts.items) (take_all c.loop-number.number set past) c.loop-number.invariant.variables
