@@ -74,7 +74,7 @@ three form operands = form (at operands 0) (at operands 1) (at operands 2)
 abbrev pub four : (Operand → Operand → Operand → Operand → Instruction) → Operands → Instruction
 four form operands = form (at operands 0) (at operands 1) (at operands 2) (at operands 3)
 
--- floats, which no accepted file has
+-- nop. It also stands at the opcodes of floats, which no accepted file has
 abbrev pub none : Operands → Instruction
 none operands = op.Nop
 

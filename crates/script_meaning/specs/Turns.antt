@@ -37,6 +37,7 @@ pub record Turn : Type 0 where
 abbrev pub After : Type 0 → Type 0
 After Body = World × List (Frame Body)
 
+-- a frame below another is a running one (`waiting` of `Exclusive`), so no run comes to the first case
 abbrev pub with_reply : {Body : Type 0} → Value → Frame Body → Frame Body
 with_reply value (ToEnter instance way arguments) = ToEnter instance way arguments
 with_reply value (Running instance body reply) = Running instance body (Some value)
@@ -52,7 +53,8 @@ returned turn value [] world = (ends turn.stack (let_go turn.stack world), [])
 returned turn value (caller ∷ below) world =
     (moves turn.stack turn.own (frame_instance caller) world, with_reply value caller ∷ below)
 
--- a native that isn't prompt is performed, and its reply waits in the innermost of the frames
+-- a native that isn't prompt is performed, and its reply waits in the innermost of the frames. A scene calls
+-- functions with bodies, so no run of a bound scene comes to the case without frames
 abbrev pub native_done : {Body : Type 0} → Turn → FunctionPlace → List Value → List (Frame Body) → World → After Body
 native_done turn at arguments [] world = (ends turn.stack (let_go turn.stack world), [])
 native_done turn at arguments (waiting ∷ below) world =
