@@ -1,4 +1,4 @@
-use pex_names::{Descent, EMPTY_NAME, NameTable, on_circles};
+use pex_set::{Descent, EMPTY_NAME, NameTable, on_circles};
 use std::test::Fail;
 
 #[test]

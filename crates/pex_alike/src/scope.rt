@@ -7,7 +7,7 @@ ghost use Rattle.pex_alike.specs.SameCode.{SameString, SameWord, meaning_of, nam
 ghost use Rattle.pex_alike.specs.Scopes.{naming};
 
 use papy_base::Text;
-use pex_names::text_at;
+use pex_set::text_at;
 use pex_values::PexFunction;
 
 /// The strings of a file, and references to the names and types of a function's parameters and locals.

@@ -1,7 +1,7 @@
 // A script of the set, with the numbers of its names and its members by name.
 use crate::fault::{NOT_FOUND, SourceFault};
 use papy_base::{OutOfMemory, Text};
-use pex_names::{FileNames, NameTable, text_at};
+use pex_set::{FileNames, NameTable, text_at};
 use pex_values::{Pex, PexFunction, PexObject, PexProperty, PexVariable};
 use std::alloc::Global;
 use std::collections::HashMap;

@@ -4,7 +4,7 @@ use crate::declarations::script_text;
 use crate::fault::SourceFault;
 use crate::world::World;
 use papy_base::Text;
-use pex_names::{PRELUDE_COUNT, Prelude};
+use pex_set::{PRELUDE_COUNT, Prelude};
 use pex_values::Pex;
 use std::alloc::Global;
 

@@ -1,7 +1,7 @@
 // Words that Papyrus keeps for itself, and names that are made up.
 use crate::script::{Kind, Script};
 use papy_base::OutOfMemory;
-use pex_names::NameTable;
+use pex_set::NameTable;
 use pex_values::Pex;
 use std::alloc::Global;
 use std::collections::HashSet;

@@ -3,7 +3,7 @@ use crate::fault::{NOT_FOUND, SourceFault};
 use crate::script::Script;
 use crate::words::{Words, free_infix, taken_names};
 use papy_base::OutOfMemory;
-use pex_names::{NameTable, Prelude};
+use pex_set::{NameTable, Prelude};
 use pex_values::{Pex, PexFunction, PexProperty};
 use std::alloc::Global;
 use std::collections::{HashMap, HashSet};

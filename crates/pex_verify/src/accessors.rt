@@ -13,7 +13,7 @@ use crate::scope::{Home, Slots};
 use crate::signature::KIND_BITS;
 use crate::sources::Source;
 use core_tree::CoreType;
-use pex_names::EMPTY_NAME;
+use pex_set::EMPTY_NAME;
 use pex_values::{PexFunction, PexObject, PexProperty};
 
 /// Where an object's property stands.

@@ -2,7 +2,7 @@
 ghost use Rattle.std.specs.Prelude.{◌≡◌, vec_len, IfOk};
 
 use papy_base::OutOfMemory;
-use pex_names::FileNames;
+use pex_set::FileNames;
 use pex_values::{Pex, PexLines};
 use std::alloc::Global;
 use std::collections::HashMap;

@@ -5,7 +5,7 @@ ghost use Rattle.pex_verify.specs.Files.{IsFile};
 use crate::members::MemberTable;
 use core_tree::{CoreType, Outline};
 use papy_base::{Name, OutOfMemory, Text};
-use pex_names::{EMPTY_NAME, NameTable};
+use pex_set::{EMPTY_NAME, NameTable};
 use pex_values::Pex;
 use std::alloc::Global;
 use std::marker::Model;

@@ -3,7 +3,7 @@ use crate::loaded::{MethodPlace, PropertyPlace};
 use crate::scripts::ScriptHead;
 use crate::sources::Members;
 use papy_base::OutOfMemory;
-use pex_names::{Descent, EMPTY_NAME, FileNames, Inherited, MemberPlace, OwnMembers, Span};
+use pex_set::{Descent, EMPTY_NAME, FileNames, Inherited, MemberPlace, OwnMembers, Span};
 use pex_values::{PexObject, PexState};
 use std::alloc::Global;
 

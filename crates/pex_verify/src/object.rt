@@ -17,7 +17,7 @@ use crate::sources::{Members, Source};
 use crate::variables::load_variables;
 use core_tree::OutlineScript;
 use papy_base::Name;
-use pex_names::EMPTY_NAME;
+use pex_set::EMPTY_NAME;
 use pex_values::{PexFunction, PexObject, PexState};
 use std::alloc::Global;
 use std::collections::HashMap;

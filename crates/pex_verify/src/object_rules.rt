@@ -1,7 +1,7 @@
 // The rules that are judged of all objects before any member: V3, V4, V5 of object names, and V13 of the
 // number of objects.
 use crate::fault::{Site, VerifyFault, VerifyRule};
-use pex_names::{EMPTY_NAME, Head, LIBRARY_COUNT, Objects, PRELUDE_COUNT, on_circles, text_at};
+use pex_set::{EMPTY_NAME, Head, LIBRARY_COUNT, Objects, PRELUDE_COUNT, on_circles, text_at};
 use pex_values::Pex;
 use std::alloc::Global;
 

@@ -9,7 +9,7 @@ use crate::scripts::Scripts;
 use crate::sources::Source;
 use core_tree::{CoreType, OutlineVariable};
 use papy_base::OutOfMemory;
-use pex_names::NameTable;
+use pex_set::NameTable;
 use std::alloc::Global;
 
 /// The numbers of the words that name something in every script.

@@ -10,7 +10,7 @@ use crate::sources::{Members, Source};
 use crate::type_names::TypeNames;
 use core_tree::CoreType;
 use papy_base::OutOfMemory;
-use pex_names::{EMPTY_NAME, FileNames, LIBRARY_COUNT, NameTable, Objects};
+use pex_set::{EMPTY_NAME, FileNames, LIBRARY_COUNT, NameTable, Objects};
 use pex_values::{PexFunction, PexObject, PexProperty};
 use std::alloc::Global;
 

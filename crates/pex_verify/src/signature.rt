@@ -1,6 +1,6 @@
 // What a function gives and takes, by the numbers of its type names.
 use papy_base::OutOfMemory;
-use pex_names::FileNames;
+use pex_set::FileNames;
 use pex_values::PexFunction;
 use std::alloc::Global;
 

@@ -4,7 +4,7 @@ ghost use Rattle.pex_verify.specs.Sources.{object_count, objects_in, objects_of}
 
 use crate::fault::Site;
 use papy_base::{Name, OutOfMemory, TEXT_LIMIT, Text};
-use pex_names::{FileNames, NameTable, Objects, Prelude, text_at};
+use pex_set::{FileNames, NameTable, Objects, Prelude, text_at};
 use pex_values::{Pex, PexFunction, PexObject};
 use std::alloc::Global;
 

@@ -5,7 +5,7 @@ ghost use Rattle.pex_verify.specs.Types.{IsKindAmong};
 use crate::kind::{BOOL, INT, Kind, TEXT, array_of};
 use core_tree::CoreType;
 use papy_base::OutOfMemory;
-use pex_names::{LIBRARY_COUNT, NameTable, Objects};
+use pex_set::{LIBRARY_COUNT, NameTable, Objects};
 use std::alloc::Global;
 use std::marker::Model;
 

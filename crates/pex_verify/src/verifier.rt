@@ -17,7 +17,7 @@ use crate::sources::{
     strings_of_files,
 };
 use core_tree::{Outline, OutlineScript};
-use pex_names::{NameTable, Prelude};
+use pex_set::{NameTable, Prelude};
 use pex_values::{Pex, PexObject};
 use std::alloc::Global;
 

@@ -13,7 +13,7 @@ use crate::sound_stacks::has_sound_stacks;
 use crate::sound_values::{has_fitting_slots, has_sound_values};
 use machine_state::{FrameState, MachineState};
 use papy_base::OutOfMemory;
-use pex_names::Descent;
+use pex_set::Descent;
 use std::alloc::Global;
 
 /// A state that is judged for a scene of loaded scripts.

@@ -1,4 +1,4 @@
-//! The names of a set of compiled Papyrus files (PEX 3.1 and 3.2) as numbers, the scripts that every set has,
+//! A set of compiled Papyrus files (PEX 3.1 and 3.2): its names as numbers, the scripts that every set has,
 //! and the objects of a set with their parents.
 #![tactic(auto)]
 

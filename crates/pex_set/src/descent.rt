@@ -1,6 +1,6 @@
 // Which objects stand below which.
 ghost use Rattle.std.specs.Prelude.{◌≡◌, ◌<◌, length, vec_len, IfOk, IfSome};
-ghost use Rattle.pex_names.specs.Ranks.{has as is_between, span_at, is_below as stands_below};
+ghost use Rattle.pex_set.specs.Ranks.{has as is_between, span_at, is_below as stands_below};
 
 use papy_base::OutOfMemory;
 use std::alloc::Global;
@@ -33,7 +33,7 @@ pub struct Descent {
 
 impl Model for Descent {
     ghost use Rattle.std.specs.Prelude.{List};
-    ghost use Rattle.pex_names.specs.declared.descent.Span.{Span};
+    ghost use Rattle.pex_set.specs.declared.descent.Span.{Span};
 
     ghost Value = { List Span };
 

@@ -34,7 +34,7 @@ pub struct Objects {
 
 impl Model for Objects {
     ghost use Rattle.std.specs.Prelude.{List};
-    ghost use Rattle.pex_names.specs.declared.objects.Head.{Head};
+    ghost use Rattle.pex_set.specs.declared.objects.Head.{Head};
 
     ghost Value = { List Head };
 

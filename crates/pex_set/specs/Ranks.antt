@@ -1,6 +1,6 @@
 -- Ranks of objects, by which an object is followed at once by all that stand below it.
 use Rattle.std.specs.Prelude.{ℕ, ◌==◌, Bool, ◌&&◌, ◌||◌, List, nat_le, nat_lt, slice_index_or}
-use Rattle.pex_names.specs.declared.descent.Span.{Span}
+use Rattle.pex_set.specs.declared.descent.Span.{Span}
 
 abbrev pub no_ranks : Span
 no_ranks = record { start = 0; end = 0 }

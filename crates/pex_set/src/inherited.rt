@@ -52,17 +52,17 @@ impl OwnMembers {
     pub fn inherited(mut self, alloc: Global) -> Result<Inherited, OutOfMemory> {
         self.holders
             .sort_by_key(|(names, holder)| (*names, holder.span))?;
-        let mut turns = Turns::new(alloc, self.holders.len())?;
+        let mut stretches = Stretches::new(alloc, self.holders.len())?;
         for (names, holder) in self.holders {
-            turns.add(names, holder)?;
+            stretches.add(names, holder)?;
         }
-        turns.inherited()
+        stretches.inherited()
     }
 }
 
-/// From this rank on, up to the next turn, objects have this member of the names.
+/// From this rank on, up to the next stretch, objects have this member of the names.
 #[derive(Clone, Copy)]
-struct Turn {
+struct Stretch {
     start: usize,
     member: Option<MemberPlace>,
 }
@@ -71,8 +71,8 @@ struct Turn {
 /// steps as the number of objects with such a member has digits.
 #[derive(Drop)]
 pub struct Inherited {
-    turns: Vec<Turn>,
-    // Where the turns of the names begin, and where they end.
+    stretches: Vec<Stretch>,
+    // Where the stretches of the names begin, and where they end.
     ranges: HashMap<MemberNames, (usize, usize)>,
 }
 
@@ -80,29 +80,29 @@ impl Inherited {
     /// The nearest member of these names, from the object of this rank upward.
     pub fn find(&self, names: MemberNames, rank: usize) -> Option<MemberPlace> {
         let (start, end) = *self.ranges.get(&names)?;
-        let turns = self.turns.get(start..end)?;
-        let behind = turns.partition_point(|turn| turn.start <= rank);
-        turns.get(behind.checked_sub(1)?)?.member
+        let stretches = self.stretches.get(start..end)?;
+        let behind = stretches.partition_point(|stretch| stretch.start <= rank);
+        stretches.get(behind.checked_sub(1)?)?.member
     }
 }
 
 // Where the nearest member of some names changes as ranks grow, from one names to the next.
 #[derive(Drop)]
-struct Turns {
+struct Stretches {
     found: Inherited,
-    // The names that are open, and where their turns begin.
+    // The names that are open, and where their stretches begin.
     names: MemberNames,
     start: usize,
     // The members of these names whose ranks go on, the innermost of which stands last.
     open: Vec<Holder>,
 }
 
-impl Turns {
-    // No turns, of so many members at most.
-    fn new(alloc: Global, members: usize) -> Result<Turns, OutOfMemory> {
-        Ok(Turns {
+impl Stretches {
+    // No stretches, of so many members at most.
+    fn new(alloc: Global, members: usize) -> Result<Stretches, OutOfMemory> {
+        Ok(Stretches {
             found: Inherited {
-                turns: Vec::with_capacity(alloc, members.saturating_mul(2))?,
+                stretches: Vec::with_capacity(alloc, members.saturating_mul(2))?,
                 ranges: HashMap::new(alloc),
             },
             names: (0, 0),
@@ -120,8 +120,8 @@ impl Turns {
         if self.repeats(&holder) {
             return Ok(());
         }
-        close(&mut self.found.turns, &mut self.open, holder.span.start)?;
-        self.found.turns.push(Turn {
+        close(&mut self.found.stretches, &mut self.open, holder.span.start)?;
+        self.found.stretches.push(Stretch {
             start: holder.span.start,
             member: Some(holder.member),
         })?;
@@ -137,10 +137,10 @@ impl Turns {
         }
     }
 
-    // Ends the turns of the open names.
+    // Ends the stretches of the open names.
     fn end(&mut self) -> Result<(), OutOfMemory> {
-        close(&mut self.found.turns, &mut self.open, usize::MAX)?;
-        let end = self.found.turns.len();
+        close(&mut self.found.stretches, &mut self.open, usize::MAX)?;
+        let end = self.found.stretches.len();
         if self.start < end {
             self.found.ranges.insert(self.names, (self.start, end))?;
         }
@@ -155,7 +155,11 @@ impl Turns {
 }
 
 // Ends those of the open members, the innermost of which stands last, whose ranks all lie below this one.
-fn close(turns: &mut Vec<Turn>, open: &mut Vec<Holder>, rank: usize) -> Result<(), OutOfMemory> {
+fn close(
+    stretches: &mut Vec<Stretch>,
+    open: &mut Vec<Holder>,
+    rank: usize,
+) -> Result<(), OutOfMemory> {
     for _ in 0..open.len() {
         let start = match open.last() {
             Some(last) if last.span.end <= rank => last.span.end,
@@ -163,7 +167,7 @@ fn close(turns: &mut Vec<Turn>, open: &mut Vec<Holder>, rank: usize) -> Result<(
         };
         open.pop();
         let member = open.last().map(|outer| outer.member);
-        turns.push(Turn { start, member })?;
+        stretches.push(Stretch { start, member })?;
     }
     Ok(())
 }
