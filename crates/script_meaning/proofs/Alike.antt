@@ -1,5 +1,5 @@
 -- Engines that do the same on related bodies have the same runs of worlds.
-use Rattle.std.proofs.Common.{◌≡◌, ℕ, zero, suc, pred, ◌+◌, ◌-◌, Bool, true, false, cond, ◌&&◌, List, [], ◌∷◌, ◌++◌, map, Option, Some, None, refl, ap, subst, ◌∙◌}
+use Rattle.std.proofs.Common.{◌≡◌, ℕ, zero, suc, pred, ◌+◌, Bool, true, false, cond, ◌&&◌, List, [], ◌∷◌, ◌++◌, map, Option, Some, None, refl, ap, subst, ◌∙◌}
 use Rattle.std.specs.Prelude.{is_some, length, sum, nat_lt, slice_set}
 use Rattle.core_tree.specs.declared.DeviceKind.{DeviceKind}
 use Rattle.core_tree.specs.declared.expression.FunctionPlace.{FunctionPlace}
@@ -8,93 +8,93 @@ use Rattle.core_tree.specs.Outlines.{ScriptShape}
 use Rattle.core_tree.specs.Scenes.{SceneShape, CallShape}
 use Rattle.script_meaning.specs.First.{first_state}
 use Rattle.script_meaning.specs.Fits.{Fitting, InnermostFits, TurnFits, NextTurnFits}
-use Rattle.script_meaning.specs.Locks.{goes_to_wait, takes}
+use Rattle.script_meaning.specs.Locks.{goes_to_wait, rests, moves, takes}
 use Rattle.script_meaning.specs.Related.{EnteredAlike, both_open, both_native, both_read, both_write, both_nothing, AtRequest, AtLoopPass, StopsAlike, EnginesAlike}
-use Rattle.script_meaning.specs.Requests.{Sight, Setting, Request, Method, ParentMethod, GlobalFunction, GlobalNative, Get, Set, LoopPass, Return, binding_in, is_prompt, performed_at}
-use Rattle.script_meaning.specs.Stacks.{Way, ByMethod, ByParent, ByGlobal, ByGet, BySet, Frame, ToEnter, Running, Entered, Stop, Engine, State, frame_instance, inner_instance, frames_of, stack_limit, frame_limit, has_room}
-use Rattle.script_meaning.specs.Turns.{sight_of, with_sight, Turn, After, returned, native_done, acted, past_pass, run_on, stopped, ran, native_entered, entered, in_turn, setting_of, turn_of, after_turn, turn_ended, turned, instance_script, call_started, calls_started, is_due, not_due, all_wait, awoken, begun, chosen, has_ended, chosen_turned, step, states_from}
+use Rattle.script_meaning.specs.Requests.{Sight, Setting, Request, Method, ParentMethod, GlobalFunction, GlobalNative, Get, Set, LoopPass, Return, binding_in, is_prompt, latency_of, performed_at}
+use Rattle.script_meaning.specs.Stacks.{Way, ByMethod, ByParent, ByGlobal, ByGet, BySet, Frame, Stack, Done, ToEnter, Running, Entered, Stop, Engine, State, stack_at, inner_instance, stack_limit, frame_limit, frames_below, has_room}
+use Rattle.script_meaning.specs.Turns.{sight_of, with_sight, Turn, After, answered, returned, native_done, acted, past_pass, run_on, stopped, ran, native_entered, entered, in_turn, setting_of, turn_of, after_turn, turn_ended, turned, instance_script, call_started, calls_started, is_due, not_due, all_wait, awoken, begun, chosen, has_ended, chosen_turned, step, states_from}
 use Rattle.script_meaning.specs.World.{World, title}
 use Rattle.std.specs.List.{filter, AllByRecursion}
 use Rattle.std.proofs.Math.Dec.{eqb}
 
 module _ {B C : Type 0} (R : Bool → B → C → Type 0) where
-  pub data FramesAlike : Frame B → Frame C → Type 0 where
-    both_enter : (instance : Option ℕ) (way : Way) (arguments : List Value) → FramesAlike (ToEnter instance way arguments) (ToEnter instance way arguments)
-    both_run : {b : B} {c : C} (instance : Option ℕ) (reply : Option Value) → R (is_some reply) b c → FramesAlike (Running instance b reply) (Running instance c reply)
-
-  -- frames below the innermost, which wait
+  -- frames that wait
   pub data BelowAlike : List (Frame B) → List (Frame C) → Type 0 where
     none_below : BelowAlike [] []
-    more_below : {b : B} {c : C} (instance : Option ℕ) {fs : List (Frame B)} {gs : List (Frame C)} → R true b c → BelowAlike fs gs → BelowAlike (Running instance b None ∷ fs) (Running instance c None ∷ gs)
+    more_below : {f : Frame B} {g : Frame C} {fs : List (Frame B)} {gs : List (Frame C)} → f.instance ≡ g.instance → R true f.body g.body → BelowAlike fs gs → BelowAlike (f ∷ fs) (g ∷ gs)
 
-  pub data StackAlike : List (Frame B) → List (Frame C) → Type 0 where
-    no_frames : StackAlike [] []
-    more_frames : {f : Frame B} {g : Frame C} {fs : List (Frame B)} {gs : List (Frame C)} → FramesAlike f g → BelowAlike fs gs → StackAlike (f ∷ fs) (g ∷ gs)
+  pub data StackAlike : Stack B → Stack C → Type 0 where
+    both_done : StackAlike Done Done
+    both_enter : (instance : Option ℕ) (way : Way) (arguments : List Value) {fs : List (Frame B)} {gs : List (Frame C)} → BelowAlike fs gs → StackAlike (ToEnter instance way arguments fs) (ToEnter instance way arguments gs)
+    both_run : (reply : Option Value) {f : Frame B} {g : Frame C} {fs : List (Frame B)} {gs : List (Frame C)} → f.instance ≡ g.instance → R (is_some reply) f.body g.body → BelowAlike fs gs → StackAlike (Running f reply fs) (Running g reply gs)
 
-  pub data StacksAlike : List (List (Frame B)) → List (List (Frame C)) → Type 0 where
+  pub data StacksAlike : List (Stack B) → List (Stack C) → Type 0 where
     no_stacks : StacksAlike [] []
-    more_stacks : {s : List (Frame B)} {t : List (Frame C)} {ss : List (List (Frame B))} {ts : List (List (Frame C))} → StackAlike s t → StacksAlike ss ts → StacksAlike (s ∷ ss) (t ∷ ts)
+    more_stacks : {s : Stack B} {t : Stack C} {ss : List (Stack B)} {ts : List (Stack C)} → StackAlike s t → StacksAlike ss ts → StacksAlike (s ∷ ss) (t ∷ ts)
 
   -- ---- one stack among others
-  frames_alike : (k : ℕ) {ss : List (List (Frame B))} {ts : List (List (Frame C))} → StacksAlike ss ts → StackAlike (frames_of ss k) (frames_of ts k)
-  frames_alike k no_stacks = no_frames
-  frames_alike zero (more_stacks s ss) = s
-  frames_alike (suc k) (more_stacks s ss) = frames_alike k ss
+  stack_alike : (k : ℕ) {ss : List (Stack B)} {ts : List (Stack C)} → StacksAlike ss ts → StackAlike (stack_at ss k) (stack_at ts k)
+  stack_alike k no_stacks = both_done
+  stack_alike zero (more_stacks s ss) = s
+  stack_alike (suc k) (more_stacks s ss) = stack_alike k ss
 
-  set_alike : (k : ℕ) {s : List (Frame B)} {t : List (Frame C)} → StackAlike s t → {ss : List (List (Frame B))} {ts : List (List (Frame C))} → StacksAlike ss ts → StacksAlike (slice_set ss k s) (slice_set ts k t)
+  set_alike : (k : ℕ) {s : Stack B} {t : Stack C} → StackAlike s t → {ss : List (Stack B)} {ts : List (Stack C)} → StacksAlike ss ts → StacksAlike (slice_set ss k s) (slice_set ts k t)
   set_alike k new no_stacks = no_stacks
   set_alike zero new (more_stacks s ss) = more_stacks new ss
   set_alike (suc k) new (more_stacks s ss) = more_stacks s (set_alike k new ss)
 
-  append_alike : {s : List (Frame B)} {t : List (Frame C)} → StackAlike s t → {ss : List (List (Frame B))} {ts : List (List (Frame C))} → StacksAlike ss ts → StacksAlike (ss ++ s ∷ []) (ts ++ t ∷ [])
+  append_alike : {s : Stack B} {t : Stack C} → StackAlike s t → {ss : List (Stack B)} {ts : List (Stack C)} → StacksAlike ss ts → StacksAlike (ss ++ s ∷ []) (ts ++ t ∷ [])
   append_alike new no_stacks = more_stacks new no_stacks
   append_alike new (more_stacks s ss) = more_stacks s (append_alike new ss)
 
-  same_below : {s : List (Frame B)} {t : List (Frame C)} → BelowAlike s t → length s ≡ length t
-  same_below none_below = refl
-  same_below (more_below instance r fs) = ap suc (same_below fs)
+  same_length : {fs : List (Frame B)} {gs : List (Frame C)} → BelowAlike fs gs → length fs ≡ length gs
+  same_length none_below = refl
+  same_length (more_below e r fs) = ap suc (same_length fs)
 
-  same_length : {s : List (Frame B)} {t : List (Frame C)} → StackAlike s t → length s ≡ length t
-  same_length no_frames = refl
-  same_length (more_frames f fs) = ap suc (same_below fs)
+  same_height : {s : Stack B} {t : Stack C} → StackAlike s t → length (frames_below s) ≡ length (frames_below t)
+  same_height both_done = refl
+  same_height (both_enter instance way arguments fs) = same_length fs
+  same_height (both_run reply e r fs) = same_length fs
 
-  same_sizes : {ss : List (List (Frame B))} {ts : List (List (Frame C))} → StacksAlike ss ts → map (λ s. length s - 1) ss ≡ map (λ t. length t - 1) ts
-  same_sizes no_stacks = refl
-  same_sizes (more_stacks s ss) = λ i. (same_length s i - 1) ∷ same_sizes ss i
+  same_heights : {ss : List (Stack B)} {ts : List (Stack C)} → StacksAlike ss ts → map (λ s. length (frames_below s)) ss ≡ map (λ t. length (frames_below t)) ts
+  same_heights no_stacks = refl
+  same_heights (more_stacks s ss) = λ i. same_height s i ∷ same_heights ss i
 
-  same_room : (k : ℕ) {ss : List (List (Frame B))} {ts : List (List (Frame C))} → StacksAlike ss ts → has_room ss k ≡ has_room ts k
-  same_room k a = λ i. nat_lt (same_length (frames_alike k a) i) stack_limit && nat_lt (sum (same_sizes a i)) frame_limit
+  same_room : (k : ℕ) {ss : List (Stack B)} {ts : List (Stack C)} → StacksAlike ss ts → has_room ss k ≡ has_room ts k
+  same_room k a = λ i. nat_lt (suc (same_height (stack_alike k a) i)) stack_limit && nat_lt (sum (same_heights a i)) frame_limit
 
-  same_instance_of : {f : Frame B} {g : Frame C} → FramesAlike f g → frame_instance f ≡ frame_instance g
-  same_instance_of (both_enter instance way arguments) = refl
-  same_instance_of (both_run instance reply r) = refl
-
-  same_inner : {s : List (Frame B)} {t : List (Frame C)} → StackAlike s t → inner_instance s ≡ inner_instance t
-  same_inner no_frames = refl
-  same_inner (more_frames f fs) = same_instance_of f
+  same_inner : {s : Stack B} {t : Stack C} → StackAlike s t → inner_instance s ≡ inner_instance t
+  same_inner both_done = refl
+  same_inner (both_enter instance way arguments fs) = refl
+  same_inner (both_run reply e r fs) = e
 
   -- ---- acts
   abbrev pub AfterAlike : After B → After C → Type 0
   AfterAlike a b = (a.0 ≡ b.0) × StackAlike a.1 b.1
 
-  returned_alike : (turn : Turn) (value : Value) (world : World) {below : List (Frame B)} {below' : List (Frame C)} → BelowAlike below below' → AfterAlike (returned turn value below world) (returned turn value below' world)
-  returned_alike turn value world none_below = (refl, no_frames)
-  returned_alike turn value world (more_below instance r fs) = (refl, more_frames (both_run instance (Some value) r) fs)
+  answered_alike : (turn : Turn) (goes_on : Option ℕ → World → World) (value : Value) (world : World) {fs : List (Frame B)} {gs : List (Frame C)} → BelowAlike fs gs → AfterAlike (answered turn goes_on value fs world) (answered turn goes_on value gs world)
+  answered_alike turn goes_on value world none_below = (refl, both_done)
+  answered_alike turn goes_on value world (more_below e r fs) = (ap (λ o. goes_on o world) e, both_run (Some value) e r fs)
 
-  native_alike : (turn : Turn) (at : FunctionPlace) (arguments : List Value) (world : World) {frames : List (Frame B)} {frames' : List (Frame C)} → BelowAlike frames frames' → AfterAlike (native_done turn at arguments frames world) (native_done turn at arguments frames' world)
-  native_alike turn at arguments world none_below = (refl, no_frames)
-  native_alike turn at arguments world (more_below instance r fs) =
+  returned_alike : (turn : Turn) (value : Value) (world : World) {fs : List (Frame B)} {gs : List (Frame C)} → BelowAlike fs gs → AfterAlike (returned turn value fs world) (returned turn value gs world)
+  returned_alike turn value world fs = answered_alike turn (moves turn.stack turn.own) value world fs
+
+  native_alike : (turn : Turn) (at : FunctionPlace) (arguments : List Value) (world : World) {fs : List (Frame B)} {gs : List (Frame C)} → BelowAlike fs gs → AfterAlike (native_done turn at arguments fs world) (native_done turn at arguments gs world)
+  native_alike turn at arguments world fs =
       let done : Value × Sight = performed_at turn.setting at arguments (sight_of world turn.own) in
-      (refl, more_frames (both_run instance (Some done.0) r) fs)
+      answered_alike turn (rests turn.stack (latency_of (binding_in turn.setting.natives at) arguments)) done.0 (with_sight world turn.own done.1) fs
 
-  acted_alike : (turn : Turn) (request : Request) (world : World) (b : B) (c : C) {fs : List (Frame B)} {gs : List (Frame C)} → AtRequest request (λ waits. R waits b c) → BelowAlike fs gs → AfterAlike (acted turn request (Running turn.own b None) fs world) (acted turn request (Running turn.own c None) gs world)
-  acted_alike turn (Method target name arguments otherwise) world b c a fs = (refl, more_frames (both_enter (Some target) (ByMethod name) arguments) (more_below turn.own a fs))
-  acted_alike turn (ParentMethod script name arguments otherwise) world b c a fs = (refl, more_frames (both_enter turn.own (ByParent script name) arguments) (more_below turn.own a fs))
-  acted_alike turn (GlobalFunction script name arguments otherwise) world b c a fs = (refl, more_frames (both_enter None (ByGlobal script name) arguments) (more_below turn.own a fs))
-  acted_alike turn (GlobalNative at arguments) world b c a fs = native_alike turn at arguments world (more_below turn.own a fs)
-  acted_alike turn (Get target name otherwise) world b c a fs = (refl, more_frames (both_enter (Some target) (ByGet name) []) (more_below turn.own a fs))
-  acted_alike turn (Set target name value) world b c a fs = (refl, more_frames (both_enter (Some target) (BySet name) (value ∷ [])) (more_below turn.own a fs))
-  acted_alike turn LoopPass world b c a fs = (refl, more_frames (both_run turn.own None a) fs)
+  abbrev frame_on : {Body : Type 0} → Turn → Body → Frame Body
+  frame_on turn body = record { instance = turn.own; body = body }
+
+  acted_alike : (turn : Turn) (request : Request) (world : World) (b : B) (c : C) {fs : List (Frame B)} {gs : List (Frame C)} → AtRequest request (λ waits. R waits b c) → BelowAlike fs gs → AfterAlike (acted turn request (frame_on turn b) fs world) (acted turn request (frame_on turn c) gs world)
+  acted_alike turn (Method target name arguments otherwise) world b c a fs = (refl, both_enter (Some target) (ByMethod name) arguments (more_below refl a fs))
+  acted_alike turn (ParentMethod script name arguments otherwise) world b c a fs = (refl, both_enter turn.own (ByParent script name) arguments (more_below refl a fs))
+  acted_alike turn (GlobalFunction script name arguments otherwise) world b c a fs = (refl, both_enter None (ByGlobal script name) arguments (more_below refl a fs))
+  acted_alike turn (GlobalNative at arguments) world b c a fs = native_alike turn at arguments world (more_below refl a fs)
+  acted_alike turn (Get target name otherwise) world b c a fs = (refl, both_enter (Some target) (ByGet name) [] (more_below refl a fs))
+  acted_alike turn (Set target name value) world b c a fs = (refl, both_enter (Some target) (BySet name) (value ∷ []) (more_below refl a fs))
+  acted_alike turn LoopPass world b c a fs = (refl, both_run None refl a fs)
   acted_alike turn (Return value) world b c a fs = returned_alike turn value world fs
 
   pub record StatesAlike (s : State B) (t : State C) : Type 0 where
@@ -129,8 +129,8 @@ module _ {B C : Type 0} (R : Bool → B → C → Type 0) where
 
     stopped_alike : (turn : Turn) (world : World) (s : Stop B) (t : Stop C) {fs : List (Frame B)} {gs : List (Frame C)} → Stopped turn.setting s t → BelowAlike fs gs → AfterAlike (stopped turn world fs s) (stopped turn world gs t)
     stopped_alike turn world s t {fs} {gs} a below =
-        let here : AfterAlike (acted turn s.request (Running turn.own s.body None) fs (with_sight world turn.own s.sight)) (acted turn s.request (Running turn.own t.body None) gs (with_sight world turn.own s.sight)) = acted_alike turn s.request (with_sight world turn.own s.sight) s.body t.body a.bodies below in
-        subst (λ x. AfterAlike (stopped turn world fs s) (acted turn t.request (Running turn.own t.body None) gs (with_sight world turn.own x))) a.sight (subst (λ q. AfterAlike (stopped turn world fs s) (acted turn q (Running turn.own t.body None) gs (with_sight world turn.own s.sight))) a.request here)
+        let here : AfterAlike (acted turn s.request (frame_on turn s.body) fs (with_sight world turn.own s.sight)) (acted turn s.request (frame_on turn t.body) gs (with_sight world turn.own s.sight)) = acted_alike turn s.request (with_sight world turn.own s.sight) s.body t.body a.bodies below in
+        subst (λ x. AfterAlike (stopped turn world fs s) (acted turn t.request (frame_on turn t.body) gs (with_sight world turn.own x))) a.sight (subst (λ q. AfterAlike (stopped turn world fs s) (acted turn q (frame_on turn t.body) gs (with_sight world turn.own s.sight))) a.request here)
 
     ran_alike : (scene : SceneShape) (turn : Turn) (world : World) (b : B) (c : C) (reply : Option Value) {fs : List (Frame B)} {gs : List (Frame C)} → R (is_some reply) b c → fitting.sight turn.setting (sight_of world turn.own) → fitting.body turn.setting (sight_of world turn.own) b reply → BelowAlike fs gs → AfterAlike (ran scene left turn world fs b reply) (ran scene right turn world gs c reply)
     ran_alike scene turn world b c reply r f h below =
@@ -150,31 +150,32 @@ module _ {B C : Type 0} (R : Bool → B → C → Type 0) where
     abbrev turn_on : ℕ → Setting → Option ℕ → Turn
     turn_on k setting own = record { stack = k; own = own; setting = setting }
 
-    in_turn_alike : (scene : SceneShape) (k : ℕ) (setting : Setting) (world : World) {f : Frame B} {g : Frame C} {fs : List (Frame B)} {gs : List (Frame C)} → FramesAlike f g → BelowAlike fs gs → InnermostFits fitting setting world (f ∷ fs) → AfterAlike (in_turn scene left (turn_on k setting (frame_instance f)) world f fs) (in_turn scene right (turn_on k setting (frame_instance f)) world g gs)
-    in_turn_alike scene k setting world (both_enter instance way arguments) below i =
+    in_turn_alike : (scene : SceneShape) (k : ℕ) (setting : Setting) (world : World) {s : Stack B} {t : Stack C} → StackAlike s t → InnermostFits fitting setting world s → AfterAlike (in_turn scene left (turn_on k setting (inner_instance s)) world s) (in_turn scene right (turn_on k setting (inner_instance s)) world t)
+    in_turn_alike scene k setting world both_done i = (refl, both_done)
+    in_turn_alike scene k setting world (both_enter instance way arguments below) i =
         entered_alike scene (turn_on k setting instance) world arguments below i.0 (alike.enter setting (sight_of world instance) (instance_script world instance) way arguments i.0 i.1)
-    in_turn_alike scene k setting world (both_run {b} {c} instance reply r) below i =
-        ran_alike scene (turn_on k setting instance) world b c reply r i.0 i.1 below
+    in_turn_alike scene k setting world (both_run reply {f} {g} e r below) i =
+        ran_alike scene (turn_on k setting f.instance) world f.body g.body reply r i.0 i.1 below
 
     -- ---- turns
     turn_from : SceneShape → World → ℕ → Option ℕ → Bool → Turn
     turn_from scene world k own room =
         record { stack = k; own = own; setting = record { stack = k; self = own; outline = world.outline; instances = map title world.instances; natives = scene.natives; has_room = room } }
 
-    after_alike : (scene : SceneShape) (world : World) (ss : List (List (Frame B))) (ts : List (List (Frame C))) (k : ℕ) → StacksAlike ss ts → {fs : List (Frame B)} {gs : List (Frame C)} → StackAlike fs gs → InnermostFits fitting (setting_of scene world ss k (inner_instance fs)) world fs → AfterAlike (after_turn scene left world ss k fs) (after_turn scene right world ts k gs)
+    after_alike : (scene : SceneShape) (world : World) (ss : List (Stack B)) (ts : List (Stack C)) (k : ℕ) → StacksAlike ss ts → {s : Stack B} {t : Stack C} → StackAlike s t → InnermostFits fitting (setting_of scene world ss k (inner_instance s)) world s → AfterAlike (after_turn scene left world ss k s) (after_turn scene right world ts k t)
     unfolding turn_from
-    after_alike scene world ss ts k all no_frames n = (refl, no_frames)
-    after_alike scene world ss ts k all (more_frames {f} {g} {fs} {gs} a below) n =
-        let here : AfterAlike (in_turn scene left (turn_of scene world ss k (frame_instance f)) world f fs) (in_turn scene right (turn_of scene world ss k (frame_instance f)) world g gs) = in_turn_alike scene k (setting_of scene world ss k (frame_instance f)) world a below n in
-        let room : AfterAlike (in_turn scene left (turn_of scene world ss k (frame_instance f)) world f fs) (in_turn scene right (turn_of scene world ts k (frame_instance f)) world g gs) = subst (λ x. AfterAlike (in_turn scene left (turn_of scene world ss k (frame_instance f)) world f fs) (in_turn scene right (turn_from scene world k (frame_instance f) x) world g gs)) (same_room k all) here in
-        subst (λ o. AfterAlike (in_turn scene left (turn_of scene world ss k (frame_instance f)) world f fs) (in_turn scene right (turn_of scene world ts k o) world g gs)) (same_instance_of a) room
+    after_alike scene world ss ts k all {s} {t} a n =
+        let own : Option ℕ = inner_instance s in
+        let here : AfterAlike (in_turn scene left (turn_of scene world ss k own) world s) (in_turn scene right (turn_of scene world ss k own) world t) = in_turn_alike scene k (setting_of scene world ss k own) world a n in
+        let room : AfterAlike (in_turn scene left (turn_of scene world ss k own) world s) (in_turn scene right (turn_of scene world ts k own) world t) = subst (λ x. AfterAlike (in_turn scene left (turn_of scene world ss k own) world s) (in_turn scene right (turn_from scene world k own x) world t)) (same_room k all) here in
+        subst (λ o. AfterAlike (in_turn scene left (turn_of scene world ss k own) world s) (in_turn scene right (turn_of scene world ts k o) world t)) (same_inner a) room
 
-    turned_alike : (scene : SceneShape) (world : World) (k : ℕ) {ss : List (List (Frame B))} {ts : List (List (Frame C))} → TurnFits fitting scene (record { world = world; stacks = ss }) k → StacksAlike ss ts → StatesAlike (turned scene left (record { world = world; stacks = ss }) k) (turned scene right (record { world = world; stacks = ts }) k)
+    turned_alike : (scene : SceneShape) (world : World) (k : ℕ) {ss : List (Stack B)} {ts : List (Stack C)} → TurnFits fitting scene (record { world = world; stacks = ss }) k → StacksAlike ss ts → StatesAlike (turned scene left (record { world = world; stacks = ss }) k) (turned scene right (record { world = world; stacks = ts }) k)
     turned_alike scene world k {ss} {ts} n a =
-        let after : AfterAlike (after_turn scene left (takes k world) ss k (frames_of ss k)) (after_turn scene right (takes k world) ts k (frames_of ts k)) = after_alike scene (takes k world) ss ts k a (frames_alike k a) n in
+        let after : AfterAlike (after_turn scene left (takes k world) ss k (stack_at ss k)) (after_turn scene right (takes k world) ts k (stack_at ts k)) = after_alike scene (takes k world) ss ts k a (stack_alike k a) n in
         record { world = ap (λ w. turn_ended w k) after.0; stacks = set_alike k after.1 a }
 
-    chosen_alike : (scene : SceneShape) (world : World) (o : Option ℕ) {ss : List (List (Frame B))} {ts : List (List (Frame C))} → ((k : ℕ) → TurnFits fitting scene (record { world = world; stacks = ss }) k) → StacksAlike ss ts → StatesAlike (chosen_turned scene left (record { world = world; stacks = ss }) o) (chosen_turned scene right (record { world = world; stacks = ts }) o)
+    chosen_alike : (scene : SceneShape) (world : World) (o : Option ℕ) {ss : List (Stack B)} {ts : List (Stack C)} → ((k : ℕ) → TurnFits fitting scene (record { world = world; stacks = ss }) k) → StacksAlike ss ts → StatesAlike (chosen_turned scene left (record { world = world; stacks = ss }) o) (chosen_turned scene right (record { world = world; stacks = ts }) o)
     chosen_alike scene world None n a = record { world = refl; stacks = a }
     chosen_alike scene world (Some k) n a = turned_alike scene world k (n k) a
 
@@ -185,17 +186,17 @@ module _ {B C : Type 0} (R : Bool → B → C → Type 0) where
 
     call_alike : (s : State B) (t : State C) (call : CallShape) → StatesAlike s t → StatesAlike (call_started s call) (call_started t call)
     call_alike s t call a =
-        record { world = ap (λ (w : World). goes_to_wait w.started (Some call.instance) (record w { started = w.started + 1 })) a.world; stacks = append_alike (more_frames (both_enter (Some call.instance) (ByMethod call.function) call.arguments) none_below) a.stacks }
+        record { world = ap (λ (w : World). goes_to_wait w.started (Some call.instance) (record w { started = w.started + 1 })) a.world; stacks = append_alike (both_enter (Some call.instance) (ByMethod call.function) call.arguments none_below) a.stacks }
 
     calls_alike : (calls : List CallShape) (s : State B) (t : State C) → StatesAlike s t → StatesAlike (calls_started calls s) (calls_started calls t)
     calls_alike [] s t a = a
     calls_alike (call ∷ rest) s t a =
         calls_alike rest _ _ (subst (λ n. StatesAlike (cond (eqb call.turn s.world.turn) (call_started s call) s) (cond (eqb call.turn n) (call_started t call) t)) (ap (λ (w : World). w.turn) a.world) (both_states (eqb call.turn s.world.turn) (call_started s call) s (call_started t call) t (call_alike s t call a) a))
 
-    waits_alike : (sleepers : List (ℕ × ℕ)) (world : World) {ss : List (List (Frame B))} {ts : List (List (Frame C))} → StacksAlike ss ts → all_wait ss sleepers world ≡ all_wait ts sleepers world
+    waits_alike : (sleepers : List (ℕ × ℕ)) (world : World) {ss : List (Stack B)} {ts : List (Stack C)} → StacksAlike ss ts → all_wait ss sleepers world ≡ all_wait ts sleepers world
     waits_alike [] world a = refl
     waits_alike (first ∷ rest) world {ss} {ts} a =
-        ap (λ o. all_wait ss rest (goes_to_wait first.0 o world)) (same_inner (frames_alike first.0 a)) ∙ waits_alike rest (goes_to_wait first.0 (inner_instance (frames_of ts first.0)) world) a
+        ap (λ o. all_wait ss rest (goes_to_wait first.0 o world)) (same_inner (stack_alike first.0 a)) ∙ waits_alike rest (goes_to_wait first.0 (inner_instance (stack_at ts first.0)) world) a
 
     awoken_world : World → World
     awoken_world world = record world { asleep = filter (not_due world.turn) world.asleep }

@@ -12,16 +12,16 @@ use Rattle.core_tree.specs.Set.{Script, Function, State as ScriptState, Property
 use Rattle.script_meaning.specs.Evaluation.{functions_at}
 use Rattle.script_meaning.specs.First.{first_state}
 use Rattle.script_meaning.specs.Fits.{Fitting, InnermostFits, NextTurnFits}
-use Rattle.script_meaning.specs.InnerSteps.{FitsIn, FrameFits, StateFits, EnteredFits, IsWithin, IsAccessorWithin, IsAccessWithin, IsScriptWithin}
+use Rattle.script_meaning.specs.InnerSteps.{FitsIn, FrameFits, StackFits, StateFits, EnteredFits, IsWithin, IsAccessorWithin, IsAccessWithin, IsScriptWithin}
 use Rattle.script_meaning.specs.Related.{EnteredAlike, both_open, both_native, both_read, both_write, both_nothing, AtRequest, AtLoopPass, StopsAlike, EnginesAlike}
 use Rattle.script_meaning.specs.Locks.{takes}
 use Rattle.script_meaning.specs.Requests.{Setting, Request, Method, ParentMethod, GlobalFunction, GlobalNative, Get, Set, LoopPass, Return}
 use Rattle.script_meaning.specs.Source.{Body, run_body, body_of, opened, named, functions_of_state, state_functions, with_script, or_else_found, first_function, first_empty, method_in, native_there, function_entered, properties_of, first_property, accessor_entered, get_entered, set_entered, get_found, set_found, enter_body, source_engine}
-use Rattle.script_meaning.specs.Stacks.{Way, ByMethod, ByParent, ByGlobal, ByGet, BySet, Frame, ToEnter, Running, Entered, Opened, NativeThere, NothingThere, State, inner_instance, frames_of}
+use Rattle.script_meaning.specs.Stacks.{Way, ByMethod, ByParent, ByGlobal, ByGet, BySet, Frame, Stack, Done, ToEnter, Running, Entered, Opened, NativeThere, NothingThere, State, stack_at, inner_instance}
 use Rattle.script_meaning.specs.Turns.{setting_of, begun, has_ended, step, states_from}
 use Rattle.script_meaning.specs.Values.{lineage, parent_in}
 use Rattle.script_meaning.specs.World.{World}
-use Rattle.script_meaning.proofs.Alike.{FramesAlike, both_enter, both_run, BelowAlike, none_below, more_below, StackAlike, no_frames, more_frames, StacksAlike, no_stacks, more_stacks, StatesAlike, step_alike}
+use Rattle.script_meaning.proofs.Alike.{BelowAlike, none_below, more_below, StackAlike, both_done, both_enter, both_run, StacksAlike, no_stacks, more_stacks, StatesAlike, step_alike}
 use Rattle.script_meaning.proofs.TurnBounds.{run_fits}
 
 -- nothing is taken for granted here
@@ -29,15 +29,15 @@ abbrev pub anything : Fitting Body
 anything =
     record { sight = λ setting sight. Unit {0}; body = λ setting sight body reply. Unit {0}; arguments = λ setting sight script way values. Unit {0} }
 
-any_innermost : (setting : Setting) (world : World) (frames : List (Frame Body)) → InnermostFits anything setting world frames
-any_innermost setting world [] = tt
-any_innermost setting world (ToEnter instance way arguments ∷ below) = (tt, tt)
-any_innermost setting world (Running instance body reply ∷ below) = (tt, tt)
+any_innermost : (setting : Setting) (world : World) (stack : Stack Body) → InnermostFits anything setting world stack
+any_innermost setting world Done = tt
+any_innermost setting world (ToEnter instance way arguments below) = (tt, tt)
+any_innermost setting world (Running innermost reply below) = (tt, tt)
 
 any_turn : (scene : SceneShape) (state : State Body) → NextTurnFits anything scene state
 any_turn scene state k =
     let now : State Body = begun scene state in
-    any_innermost (setting_of scene (takes k now.world) now.stacks k (inner_instance (frames_of now.stacks k))) (takes k now.world) (frames_of now.stacks k)
+    any_innermost (setting_of scene (takes k now.world) now.stacks k (inner_instance (stack_at now.stacks k))) (takes k now.world) (stack_at now.stacks k)
 
 in_any_case : {X : Type 0} (request : Request) → X → AtRequest request (λ waits. X)
 in_any_case (Method target name arguments otherwise) x = x
@@ -226,19 +226,16 @@ module _ (most : ℕ) where
   entered_fits (both_write script variable) = tt
   entered_fits both_nothing = tt
 
-  frame_fits : {f g : Frame Body} → FramesAlike BothFit f g → FrameFits most f
-  frame_fits (both_enter instance way arguments) = tt
-  frame_fits (both_run instance reply r) = r.1
-
   below_fits : {fs gs : List (Frame Body)} → BelowAlike BothFit fs gs → AllByRecursion (FrameFits most) fs
   below_fits none_below = tt
-  below_fits (more_below instance r fs) = (r.1, below_fits fs)
+  below_fits (more_below e r fs) = (r.1, below_fits fs)
 
-  stack_fits : {fs gs : List (Frame Body)} → StackAlike BothFit fs gs → AllByRecursion (FrameFits most) fs
-  stack_fits no_frames = tt
-  stack_fits (more_frames f fs) = (frame_fits f, below_fits fs)
+  stack_fits : {s t : Stack Body} → StackAlike BothFit s t → StackFits most s
+  stack_fits both_done = tt
+  stack_fits (both_enter instance way arguments fs) = below_fits fs
+  stack_fits (both_run reply e r fs) = (r.1, below_fits fs)
 
-  stacks_fit : {ss ts : List (List (Frame Body))} → StacksAlike BothFit ss ts → AllByRecursion (AllByRecursion (FrameFits most)) ss
+  stacks_fit : {ss ts : List (Stack Body)} → StacksAlike BothFit ss ts → AllByRecursion (StackFits most) ss
   stacks_fit no_stacks = tt
   stacks_fit (more_stacks s ss) = (stack_fits s, stacks_fit ss)
 

@@ -1,6 +1,6 @@
 -- How many elements pass a test after a list was changed, and what holds of each element then.
-use Rattle.std.proofs.Common.{◌≡◌, ◌≢◌, ℕ, zero, suc, ◌+◌, ◌≤◌, Bool, true, false, cond, not, ◌||◌, ◌⊎◌, List, [], ◌∷◌, ◌++◌, map, Option, Some, refl, sym, ap, subst, ◌∙◌, inl, inr, arith}
-use Rattle.std.specs.Prelude.{nat_lt, slice_set}
+use Rattle.std.proofs.Common.{◌≡◌, ◌≢◌, ℕ, ◌+◌, ◌≤◌, Bool, true, false, cond, not, ◌||◌, ◌⊎◌, List, [], ◌∷◌, ◌++◌, map, Option, Some, refl, sym, ap, subst, ◌∙◌, inl, inr, arith}
+use Rattle.std.specs.Prelude.{nat_lt}
 use Rattle.std.specs.List.{filter, list_any, AllByRecursion}
 use Rattle.std.proofs.lemmas.Bool.{eqb-true, eqb-false}
 use Rattle.std.proofs.Math.Dec.{eqb}
@@ -157,11 +157,6 @@ counted_step P test false x c e p more h = more (omega arith)
 pub counted : {X : Type 0} (P : X → Type 0) (test : X → Bool) (xs : List X) → AllByRecursion P xs → 1 ≤ how_many test xs → (y : X) × ((test y ≡ true) × P y)
 counted P test [] a h = absurd (omega arith)
 counted P test (x ∷ xs) a h = counted_step P test (test x) x (how_many test xs) refl a.0 (counted P test xs a.1) h
-
-pub all-set : {X : Type 0} (P : X → Type 0) (xs : List X) (n : ℕ) (y : X) → AllByRecursion P xs → P y → AllByRecursion P (slice_set xs n y)
-all-set P [] n y a p = tt
-all-set P (x ∷ xs) zero y a p = (p, a.1)
-all-set P (x ∷ xs) (suc n) y a p = (a.0, all-set P xs n y a.1 p)
 
 -- ---- pairs
 pair_same : (p : ℕ × ℕ) (i k : ℕ) → p.0 ≡ i → p.1 ≡ k → p ≡ (i, k)

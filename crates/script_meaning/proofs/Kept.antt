@@ -21,8 +21,8 @@ use Rattle.script_meaning.specs.Fits.{Known, known, HasType, IsResult, HaveTypes
 use Rattle.script_meaning.specs.Keeps.{seen, IsVariable, IsOfOwn, RequestFits, StopFits, FoundFits, KeepsFit, first_known, SetFits, InstanceFits, StartFits, SceneFits}
 use Rattle.script_meaning.specs.Locks.{let_go, goes_to_wait, rests, same_instance, moves, waited_for, becomes_owner, takes}
 use Rattle.script_meaning.specs.Requests.{Sight, Setting, Request, Method, ParentMethod, GlobalFunction, GlobalNative, Get, Set, LoopPass, Return, binding_in, result_of, is_prompt, latency_of, reply_as, traced, performed, performed_at, first_argument}
-use Rattle.script_meaning.specs.Stacks.{Way, ByMethod, Frame, ToEnter, Running, Entered, Opened, NativeThere, ReadThere, WriteThere, NothingThere, Stop, Engine, State, inner_instance, frames_of}
-use Rattle.script_meaning.specs.Turns.{sight_of, instances_after, with_sight, Turn, After, called, returned, native_done, acted, past_pass, run_on, stopped, ran, native_entered, entered, instance_script, turn_of, after_turn, turned, call_started, calls_started, is_due, not_due, all_wait, awoken, begun, chosen, has_ended, chosen_turned, step, states_from}
+use Rattle.script_meaning.specs.Stacks.{Way, ByMethod, Frame, Stack, Done, ToEnter, Running, Entered, Opened, NativeThere, ReadThere, WriteThere, NothingThere, Stop, Engine, State, stack_at, inner_instance}
+use Rattle.script_meaning.specs.Turns.{sight_of, instances_after, with_sight, Turn, After, called, answered, returned, native_done, acted, past_pass, run_on, stopped, ran, native_entered, entered, instance_script, turn_of, after_turn, turned, call_started, calls_started, is_due, not_due, all_wait, awoken, begun, chosen, has_ended, chosen_turned, step, states_from}
 use Rattle.script_meaning.specs.Values.{upward, lineage}
 use Rattle.script_meaning.specs.World.{World, Instance, Variables, ArrayState, title, no_instance, instance_at, variable_of, with_variable}
 use Rattle.script_meaning.proofs.Typing.{all_so, all_at, all_or, all_written, all_more, extends_self, extends_on, result_moved, types_moved, variables_moved, variable_fits, variable_written, written_scripts}
@@ -39,9 +39,9 @@ same_waiting : (k : ℕ) (o : Option ℕ) (w : World) → stored (goes_to_wait k
 same_waiting k None w = refl
 same_waiting k (Some i) w = refl
 
-same_rest : (k : ℕ) (o : Option ℕ) (latency : ℕ) (w : World) → stored (rests k o latency w) ≡ stored w
-same_rest k o zero w = same_waiting k o w
-same_rest k o (suc latency) w = refl
+same_rest : (k latency : ℕ) (o : Option ℕ) (w : World) → stored (rests k latency o w) ≡ stored w
+same_rest k zero o w = same_waiting k o (let_go k w)
+same_rest k (suc latency) o w = refl
 
 same_move_by : (same : Bool) (k : ℕ) (to : Option ℕ) (w : World) → stored (cond same w (goes_to_wait k to (let_go k w))) ≡ stored w
 same_move_by true k to w = refl
@@ -57,10 +57,10 @@ same_owner k (Some i) w = refl
 same_taken : (k : ℕ) (w : World) → stored (takes k w) ≡ stored w
 same_taken k w = same_owner k (waited_for k w.waiters) w
 
-same_all : {Body : Type 0} (stacks : List (List (Frame Body))) (sleepers : List (ℕ × ℕ)) (w : World) → stored (all_wait stacks sleepers w) ≡ stored w
+same_all : {Body : Type 0} (stacks : List (Stack Body)) (sleepers : List (ℕ × ℕ)) (w : World) → stored (all_wait stacks sleepers w) ≡ stored w
 same_all stacks [] w = refl
 same_all stacks (first ∷ rest) w =
-    same_all stacks rest (goes_to_wait first.0 (inner_instance (frames_of stacks first.0)) w) ∙ same_waiting first.0 (inner_instance (frames_of stacks first.0)) w
+    same_all stacks rest (goes_to_wait first.0 (inner_instance (stack_at stacks first.0)) w) ∙ same_waiting first.0 (inner_instance (stack_at stacks first.0)) w
 
 -- ---- natives
 abbrev pub SameSight : Sight → Sight → Type 0
@@ -140,17 +140,15 @@ module _ {Body : Type 0} (types : Types Body) where
   -- frames that wait for what the frame above them gives
   abbrev pub Below : Known → Option CoreType → List (Frame Body) → Type 0
   Below known given [] = Unit {0}
-  Below known given (ToEnter instance way arguments ∷ below) = ⊥
-  Below known given (Running instance body (Some reply) ∷ below) = ⊥
-  Below known given (Running instance body None ∷ below) =
-      (result : Option CoreType) × IsThere known.instances instance × BodyHolds types known instance body (Some given) result × Below known result below
+  Below known given (frame ∷ below) =
+      (result : Option CoreType) × IsThere known.instances frame.instance × BodyHolds types known frame.instance frame.body (Some given) result × Below known result below
 
-  abbrev pub StackFits : Known → List (Frame Body) → Type 0
-  StackFits known [] = Unit {0}
-  StackFits known (ToEnter instance way arguments ∷ below) =
+  abbrev pub StackFits : Known → Stack Body → Type 0
+  StackFits known Done = Unit {0}
+  StackFits known (ToEnter instance way arguments below) =
       (result : Option CoreType) × CallFits types known instance way arguments result × Below known result below
-  StackFits known (Running instance body reply ∷ below) =
-      (awaited : Option (Option CoreType)) × (result : Option CoreType) × IsThere known.instances instance × BodyHolds types known instance body awaited result × IsReply known awaited reply × Below known result below
+  StackFits known (Running innermost reply below) =
+      (awaited : Option (Option CoreType)) × (result : Option CoreType) × IsThere known.instances innermost.instance × BodyHolds types known innermost.instance innermost.body awaited result × IsReply known awaited reply × Below known result below
 
   pub record StateHolds (first : Known) (state : State Body) : Type 0 where
     pub fits : StoredFits (stored state.world)
@@ -162,9 +160,9 @@ module _ {Body : Type 0} (types : Types Body) where
   Ends now after =
       StoredFits (stored after.0) × StackFits (there (stored after.0)) after.1 × Extends now (there (stored after.0))
 
-  at_world : (now : Known) (w v : World) (frames : List (Frame Body)) → stored v ≡ stored w → StoredFits (stored w) → StackFits (there (stored w)) frames → Extends now (there (stored w)) → Ends now (v, frames)
-  at_world now w v frames e f s x =
-      subst (λ st. StoredFits st × StackFits (there st) frames × Extends now (there st)) (sym e) (f, s, x)
+  at_world : (now : Known) (w v : World) (stack : Stack Body) → stored v ≡ stored w → StoredFits (stored w) → StackFits (there (stored w)) stack → Extends now (there (stored w)) → Ends now (v, stack)
+  at_world now w v stack e f s x =
+      subst (λ st. StoredFits st × StackFits (there st) stack × Extends now (there st)) (sym e) (f, s, x)
 
   -- ---- what a frame sees
   abbrev on : Option ℕ → ℕ → Bool → List BoundNative → World → Setting
@@ -240,10 +238,8 @@ module _ {Body : Type 0} (types : Types Body) where
 
     below_moved : (now then : Known) (given : Option CoreType) (frames : List (Frame Body)) → Extends now then → Below now given frames → Below then given frames
     below_moved now then given [] e h = tt
-    below_moved now then given (ToEnter instance way arguments ∷ below) e h = absurd h
-    below_moved now then given (Running instance body (Some reply) ∷ below) e h = absurd h
-    below_moved now then given (Running instance body None ∷ below) e h =
-        (h.0, there_moved now then instance e h.1, body_moved now then instance body (Some given) h.0 e h.2, below_moved now then h.0 below e h.3)
+    below_moved now then given (frame ∷ below) e h =
+        (h.0, there_moved now then frame.instance e h.1, body_moved now then frame.instance frame.body (Some given) h.0 e h.2, below_moved now then h.0 below e h.3)
 
     reply_moved : (now then : Known) (awaited : Option (Option CoreType)) (reply : Option Value) → Extends now then → IsReply now awaited reply → IsReply then awaited reply
     reply_moved now then None None e h = tt
@@ -251,48 +247,52 @@ module _ {Body : Type 0} (types : Types Body) where
     reply_moved now then None (Some value) e h = absurd h
     reply_moved now then (Some result) None e h = absurd h
 
-    stack_moved : (now then : Known) → Extends now then → (frames : List (Frame Body)) → StackFits now frames → StackFits then frames
-    stack_moved now then e [] h = tt
-    stack_moved now then e (ToEnter instance way arguments ∷ below) h =
+    stack_moved : (now then : Known) → Extends now then → (stack : Stack Body) → StackFits now stack → StackFits then stack
+    stack_moved now then e Done h = tt
+    stack_moved now then e (ToEnter instance way arguments below) h =
         (h.0, call_moved now then instance way arguments h.0 e h.1, below_moved now then h.0 below e h.2)
-    stack_moved now then e (Running instance body reply ∷ below) h =
-        (h.0, h.1, there_moved now then instance e h.2, body_moved now then instance body h.0 h.1 e h.3, reply_moved now then h.0 reply e h.4, below_moved now then h.1 below e h.5)
+    stack_moved now then e (Running innermost reply below) h =
+        (h.0, h.1, there_moved now then innermost.instance e h.2, body_moved now then innermost.instance innermost.body h.0 h.1 e h.3, reply_moved now then h.0 reply e h.4, below_moved now then h.1 below e h.5)
 
     -- ---- acts
+    answered_ends : (now : Known) (turn : Turn) (goes_on : Option ℕ → World → World) (value : Value) (result : Option CoreType) (below : List (Frame Body)) (world : World) → ((to : Option ℕ) → stored (goes_on to world) ≡ stored world) → StoredFits (stored world) → Extends now (there (stored world)) → IsResult (there (stored world)) result value → Below (there (stored world)) result below → Ends now (answered turn goes_on value below world)
+    answered_ends now turn goes_on value result [] world same f x v b = (f, tt, x)
+    answered_ends now turn goes_on value result (caller ∷ below) world same f x v b =
+        at_world now world (goes_on caller.instance world) (Running caller (Some value) below) (same caller.instance) f (Some result, b.0, b.1, b.2, v, b.3) x
+
     returned_ends : (now : Known) (turn : Turn) (value : Value) (result : Option CoreType) (below : List (Frame Body)) (world : World) → StoredFits (stored world) → Extends now (there (stored world)) → IsResult (there (stored world)) result value → Below (there (stored world)) result below → Ends now (returned turn value below world)
-    returned_ends now turn value result [] world f x v b = (f, tt, x)
-    returned_ends now turn value result (ToEnter instance way arguments ∷ below) world f x v b = absurd b
-    returned_ends now turn value result (Running instance body (Some reply) ∷ below) world f x v b = absurd b
-    returned_ends now turn value result (Running instance body None ∷ below) world f x v b =
-        at_world now world (moves turn.stack turn.own instance world) (Running instance body (Some value) ∷ below) (same_move turn.stack turn.own instance world) f (Some result, b.0, b.1, b.2, v, b.3) x
+    returned_ends now turn value result below world f x v b =
+        answered_ends now turn (moves turn.stack turn.own) value result below world (λ to. same_move turn.stack turn.own to world) f x v b
 
-    native_ends : (now : Known) (turn : Turn) (at : FunctionPlace) (arguments : List Value) (frames : List (Frame Body)) (world : World) → turn.setting.outline ≡ types.outline → NativesFit types.outline turn.setting.natives → is_native_at types.outline at ≡ true → StoredFits (stored world) → Extends now (there (stored world)) → Below (there (stored world)) (result_of types.outline at) frames → Ends now (native_done turn at arguments frames world)
-    native_ends now turn at arguments [] world o n native f x b = (f, tt, x)
-    native_ends now turn at arguments (ToEnter instance way values ∷ below) world o n native f x b = absurd b
-    native_ends now turn at arguments (Running instance body (Some reply) ∷ below) world o n native f x b = absurd b
-    native_ends now turn at arguments (Running instance body None ∷ below) world o n native f x b =
+    native_ends : (now : Known) (turn : Turn) (at : FunctionPlace) (arguments : List Value) (below : List (Frame Body)) (world : World) → turn.setting.outline ≡ types.outline → NativesFit types.outline turn.setting.natives → is_native_at types.outline at ≡ true → StoredFits (stored world) → Extends now (there (stored world)) → Below (there (stored world)) (result_of types.outline at) below → Ends now (native_done turn at arguments below world)
+    native_ends now turn at arguments below world o n native f x b =
         let done = performed_at turn.setting at arguments (sight_of world turn.own) in
-        let quiet = let_go turn.stack (with_sight world turn.own done.1) in
+        let after : World = with_sight world turn.own done.1 in
         let latency = latency_of (binding_in turn.setting.natives at) arguments in
-        at_world now world (rests turn.stack instance latency quiet) (Running instance body (Some done.0) ∷ below) (same_rest turn.stack instance latency quiet ∙ same_stored world turn.own done.1 (performed_same turn.setting (binding_in turn.setting.natives at) (result_of turn.setting.outline at) arguments (sight_of world turn.own))) f (Some (result_of types.outline at), b.0, b.1, b.2, performed_fits (there (stored world)) types.outline turn.setting at arguments (sight_of world turn.own) o n native, b.3) x
+        let same : stored world ≡ stored after = sym (same_stored world turn.own done.1 (performed_same turn.setting (binding_in turn.setting.natives at) (result_of turn.setting.outline at) arguments (sight_of world turn.own))) in
+        let fits : IsResult (there (stored world)) (result_of types.outline at) done.0 = performed_fits (there (stored world)) types.outline turn.setting at arguments (sight_of world turn.own) o n native in
+        answered_ends now turn (rests turn.stack latency) done.0 (result_of types.outline at) below after (λ to. same_rest turn.stack latency to after) (subst (λ st. StoredFits st) same f) (subst (λ st. Extends now (there st)) same x) (subst (λ st. IsResult (there st) (result_of types.outline at) done.0) same fits) (subst (λ st. Below (there st) (result_of types.outline at) below) same b)
 
-    called_ends : (now : Known) (turn : Turn) (target : Option ℕ) (way : Way) (arguments : List Value) (given : Option CoreType) (frames : List (Frame Body)) (world : World) → StoredFits (stored world) → Extends now (there (stored world)) → CallFits types (there (stored world)) target way arguments given → Below (there (stored world)) given frames → Ends now (called turn target way arguments frames world)
-    called_ends now turn target way arguments given frames world f x c b =
-        at_world now world (moves turn.stack turn.own target world) (ToEnter target way arguments ∷ frames) (same_move turn.stack turn.own target world) f (given, c, b) x
+    called_ends : (now : Known) (turn : Turn) (target : Option ℕ) (way : Way) (arguments : List Value) (given : Option CoreType) (below : List (Frame Body)) (world : World) → StoredFits (stored world) → Extends now (there (stored world)) → CallFits types (there (stored world)) target way arguments given → Below (there (stored world)) given below → Ends now (called turn target way arguments below world)
+    called_ends now turn target way arguments given below world f x c b =
+        at_world now world (moves turn.stack turn.own target world) (ToEnter target way arguments below) (same_move turn.stack turn.own target world) f (given, c, b) x
 
-    acted_ends : (now : Known) (turn : Turn) (request : Request) (body : Body) (result : Option CoreType) (below : List (Frame Body)) (world : World) → turn.setting.outline ≡ types.outline → NativesFit types.outline turn.setting.natives → StoredFits (stored world) → Extends now (there (stored world)) → IsThere (map title world.instances) turn.own → RequestFits types (there (stored world)) turn.own result (λ awaited. BodyHolds types (there (stored world)) turn.own body awaited result) request → Below (there (stored world)) result below → Ends now (acted turn request (Running turn.own body None) below world)
+    abbrev frame_on : Turn → Body → Frame Body
+    frame_on turn body = record { instance = turn.own; body = body }
+
+    acted_ends : (now : Known) (turn : Turn) (request : Request) (body : Body) (result : Option CoreType) (below : List (Frame Body)) (world : World) → turn.setting.outline ≡ types.outline → NativesFit types.outline turn.setting.natives → StoredFits (stored world) → Extends now (there (stored world)) → IsThere (map title world.instances) turn.own → RequestFits types (there (stored world)) turn.own result (λ awaited. BodyHolds types (there (stored world)) turn.own body awaited result) request → Below (there (stored world)) result below → Ends now (acted turn request (frame_on turn body) below world)
     acted_ends now turn (Method target name arguments otherwise) body result below world o n f x h r b =
-        called_ends now turn (Some target) _ arguments r.0 (Running turn.own body None ∷ below) world f x r.1 (result, h, r.2, b)
+        called_ends now turn (Some target) _ arguments r.0 (frame_on turn body ∷ below) world f x r.1 (result, h, r.2, b)
     acted_ends now turn (ParentMethod script name arguments otherwise) body result below world o n f x h r b =
         (f, (r.0, r.1, (result, h, r.2, b)), x)
     acted_ends now turn (GlobalFunction script name arguments otherwise) body result below world o n f x h r b =
-        called_ends now turn None _ arguments r.0 (Running turn.own body None ∷ below) world f x r.1 (result, h, r.2, b)
+        called_ends now turn None _ arguments r.0 (frame_on turn body ∷ below) world f x r.1 (result, h, r.2, b)
     acted_ends now turn (GlobalNative at arguments) body result below world o n f x h r b =
-        native_ends now turn at arguments (Running turn.own body None ∷ below) world o n r.0 f x (result, h, r.1, b)
+        native_ends now turn at arguments (frame_on turn body ∷ below) world o n r.0 f x (result, h, r.1, b)
     acted_ends now turn (Get target name otherwise) body result below world o n f x h r b =
-        called_ends now turn (Some target) _ [] r.0 (Running turn.own body None ∷ below) world f x r.1 (result, h, r.2, b)
+        called_ends now turn (Some target) _ [] r.0 (frame_on turn body ∷ below) world f x r.1 (result, h, r.2, b)
     acted_ends now turn (Set target name value) body result below world o n f x h r b =
-        called_ends now turn (Some target) _ (value ∷ []) None (Running turn.own body None ∷ below) world f x r.0 (result, h, r.1, b)
+        called_ends now turn (Some target) _ (value ∷ []) None (frame_on turn body ∷ below) world f x r.0 (result, h, r.1, b)
     acted_ends now turn LoopPass body result below world o n f x h r b = (f, (None, result, h, r, tt, b), x)
     acted_ends now turn (Return value) body result below world o n f x h r b = returned_ends now turn value result below world f x r b
 
@@ -397,15 +397,15 @@ module _ {Body : Type 0} (types : Types Body) where
     script_known world None h = refl
     script_known world (Some i) h = ap script_in (title_at world.instances i h)
 
-    frames_end : (scene : SceneShape) (world : World) (stacks : List (List (Frame Body))) (k : ℕ) (frames : List (Frame Body)) → NativesFit types.outline scene.natives → StoredFits (stored world) → StackFits (there (stored world)) frames → Ends (there (stored world)) (after_turn scene engine world stacks k frames)
-    frames_end scene world stacks k [] n f s = (f, tt, extends_self (there (stored world)))
-    frames_end scene world stacks k (ToEnter instance way arguments ∷ below) n f s =
+    stack_ends : (scene : SceneShape) (world : World) (stacks : List (Stack Body)) (k : ℕ) (stack : Stack Body) → NativesFit types.outline scene.natives → StoredFits (stored world) → StackFits (there (stored world)) stack → Ends (there (stored world)) (after_turn scene engine world stacks k stack)
+    stack_ends scene world stacks k Done n f s = (f, tt, extends_self (there (stored world)))
+    stack_ends scene world stacks k (ToEnter instance way arguments below) n f s =
         subst (λ script. Ends (there (stored world)) (entered scene engine (turn_of scene world stacks k instance) world below arguments (engine.enter script (sight_of world instance).state way arguments))) (script_known world instance (s.1).there) (entry_ends scene.natives n k _ instance world f (s.1).there scene way arguments s.0 below s.1 s.2)
-    frames_end scene world stacks k (Running instance body reply ∷ below) n f s =
-        ran_ends scene.natives n k _ instance world f s.2 scene body s.0 s.1 reply below s.3 s.4 s.5
+    stack_ends scene world stacks k (Running innermost reply below) n f s =
+        ran_ends scene.natives n k _ innermost.instance world f s.2 scene innermost.body s.0 s.1 reply below s.3 s.4 s.5
 
-    frames_fit : (known : Known) (stacks : List (List (Frame Body))) (k : ℕ) → AllByRecursion (StackFits known) stacks → StackFits known (frames_of stacks k)
-    frames_fit known stacks k a = all_or (StackFits known) stacks k [] tt a
+    stack_fits : (known : Known) (stacks : List (Stack Body)) (k : ℕ) → AllByRecursion (StackFits known) stacks → StackFits known (stack_at stacks k)
+    stack_fits known stacks k a = all_or (StackFits known) stacks k Done tt a
 
     turned_holds : (scene : SceneShape) (first : Known) (state : State Body) (k : ℕ) → NativesFit types.outline scene.natives → StateHolds first state → StateHolds first (turned scene engine state k)
     turned_holds scene first state k n s =
@@ -414,8 +414,8 @@ module _ {Body : Type 0} (types : Types Body) where
         let fits : StoredFits (stored taken) = subst (λ st. StoredFits st) same s.fits in
         let grown : Extends first (there (stored taken)) = subst (λ st. Extends first (there st)) same s.grown in
         let stacks : AllByRecursion (StackFits (there (stored taken))) state.stacks = subst (λ st. AllByRecursion (StackFits (there st)) state.stacks) same s.stacks in
-        let after : After Body = after_turn scene engine taken state.stacks k (frames_of state.stacks k) in
-        let ended : Ends (there (stored taken)) after = frames_end scene taken state.stacks k (frames_of state.stacks k) n fits (frames_fit (there (stored taken)) state.stacks k stacks) in
+        let after : After Body = after_turn scene engine taken state.stacks k (stack_at state.stacks k) in
+        let ended : Ends (there (stored taken)) after = stack_ends scene taken state.stacks k (stack_at state.stacks k) n fits (stack_fits (there (stored taken)) state.stacks k stacks) in
         record { fits = ended.0; grown = extends_on first (there (stored taken)) (there (stored after.0)) grown ended.2; stacks = all_written (StackFits (there (stored after.0))) state.stacks k after.1 ended.1 (all_so (StackFits (there (stored taken))) (StackFits (there (stored after.0))) (stack_moved (there (stored taken)) (there (stored after.0)) ended.2) state.stacks stacks) }
 
     chosen_holds : (scene : SceneShape) (first : Known) (state : State Body) (o : Option ℕ) → NativesFit types.outline scene.natives → StateHolds first state → StateHolds first (chosen_turned scene engine state o)
@@ -425,7 +425,7 @@ module _ {Body : Type 0} (types : Types Body) where
     -- ---- the start of a turn
     call_holds : (first : Known) (state : State Body) (call : CallShape) → StartFits types first call → StateHolds first state → StateHolds first (call_started state call)
     call_holds first state call c s =
-        record { fits = s.fits; grown = s.grown; stacks = all_more (StackFits (there (stored state.world))) state.stacks (ToEnter (Some call.instance) (ByMethod call.function) call.arguments ∷ []) s.stacks (c.0, call_moved first (there (stored state.world)) (Some call.instance) (ByMethod call.function) call.arguments c.0 s.grown c.1, tt) }
+        record { fits = s.fits; grown = s.grown; stacks = all_more (StackFits (there (stored state.world))) state.stacks (ToEnter (Some call.instance) (ByMethod call.function) call.arguments []) s.stacks (c.0, call_moved first (there (stored state.world)) (Some call.instance) (ByMethod call.function) call.arguments c.0 s.grown c.1, tt) }
 
     either_holds : (first : Known) (now : Bool) (one other : State Body) → StateHolds first one → StateHolds first other → StateHolds first (cond now one other)
     either_holds first true one other a b = a
@@ -445,17 +445,17 @@ module _ {Body : Type 0} (types : Types Body) where
     begun_holds scene first state c s = awoken_holds first (calls_started scene.calls state) (calls_hold first scene.calls state c s)
 
     -- ---- what the chosen stack goes on with
-    innermost_fits : (scene : SceneShape) (world : World) (k : ℕ) (room : Bool) (frames : List (Frame Body)) → NativesFit types.outline scene.natives → StoredFits (stored world) → StackFits (there (stored world)) frames → InnermostFits (by_types types) (on (inner_instance frames) k room scene.natives world) world frames
-    innermost_fits scene world k room [] n f s = tt
-    innermost_fits scene world k room (ToEnter instance way arguments ∷ below) n f s =
+    innermost_fits : (scene : SceneShape) (world : World) (k : ℕ) (room : Bool) (stack : Stack Body) → NativesFit types.outline scene.natives → StoredFits (stored world) → StackFits (there (stored world)) stack → InnermostFits (by_types types) (on (inner_instance stack) k room scene.natives world) world stack
+    innermost_fits scene world k room Done n f s = tt
+    innermost_fits scene world k room (ToEnter instance way arguments below) n f s =
         (sees scene.natives k room instance world n (s.1).there f, record { own = sym (script_known world instance (s.1).there); result = s.0; call = subst (λ now. CallFits types now instance way arguments s.0) (sym (same_seen world instance)) s.1 })
-    innermost_fits scene world k room (Running instance body reply ∷ below) n f s =
-        (sees scene.natives k room instance world n s.2 f, record { awaited = s.0; result = s.1; held = subst (λ now. BodyHolds types now instance body s.0 s.1) (sym (same_seen world instance)) s.3; reply = subst (λ now. IsReply now s.0 reply) (sym (same_seen world instance)) s.4 })
+    innermost_fits scene world k room (Running innermost reply below) n f s =
+        (sees scene.natives k room innermost.instance world n s.2 f, record { awaited = s.0; result = s.1; held = subst (λ now. BodyHolds types now innermost.instance innermost.body s.0 s.1) (sym (same_seen world innermost.instance)) s.3; reply = subst (λ now. IsReply now s.0 reply) (sym (same_seen world innermost.instance)) s.4 })
 
     turn_fits : (scene : SceneShape) (first : Known) (state : State Body) (k : ℕ) → NativesFit types.outline scene.natives → StateHolds first state → TurnFits (by_types types) scene state k
     turn_fits scene first state k n s =
         let same : stored state.world ≡ stored (takes k state.world) = sym (same_taken k state.world) in
-        innermost_fits scene (takes k state.world) k _ (frames_of state.stacks k) n (subst (λ st. StoredFits st) same s.fits) (subst (λ st. StackFits (there st) (frames_of state.stacks k)) same (frames_fit (there (stored state.world)) state.stacks k s.stacks))
+        innermost_fits scene (takes k state.world) k _ (stack_at state.stacks k) n (subst (λ st. StoredFits st) same s.fits) (subst (λ st. StackFits (there st) (stack_at state.stacks k)) same (stack_fits (there (stored state.world)) state.stacks k s.stacks))
 
     -- ---- runs
     step_holds : (scene : SceneShape) (first : Known) (state : State Body) → NativesFit types.outline scene.natives → AllByRecursion (StartFits types first) scene.calls → StateHolds first state → StateHolds first (step scene engine state)

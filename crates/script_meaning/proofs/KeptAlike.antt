@@ -1,8 +1,8 @@
 -- Engines that do alike are alike where the left one keeps what fits.
-use Rattle.std.proofs.Common.{ℕ, Bool, true, false, List, Option, Some, None, sym, subst}
+use Rattle.std.proofs.Common.{Bool, false, List, Option, None, sym, subst}
 use Rattle.core_tree.specs.declared.core_type.CoreType.{CoreType}
 use Rattle.core_tree.specs.declared.value.Value.{Value}
-use Rattle.script_meaning.specs.Fits.{Known, SightFits, Types, BodyHolds, BodyFits, ArgumentsFit, by_types}
+use Rattle.script_meaning.specs.Fits.{SightFits, Types, BodyHolds, BodyFits, by_types}
 use Rattle.script_meaning.specs.Keeps.{seen, RequestFits, StopFits, FoundFits, KeepsFit}
 use Rattle.script_meaning.specs.Related.{EnteredAlike, both_open, both_native, both_read, both_write, both_nothing, AtLoopPass, StopsAlike, EnginesAlike, SameStop, DoAlike}
 use Rattle.script_meaning.specs.Requests.{Sight, Setting, Request, Method, ParentMethod, GlobalFunction, GlobalNative, Get, Set, LoopPass, Return}

@@ -7,37 +7,37 @@ use Rattle.std.proofs.Math.Dec.{eqb}
 use Rattle.core_tree.specs.declared.DeviceKind.{DeviceKind}
 use Rattle.core_tree.specs.Outlines.{ScriptShape}
 use Rattle.core_tree.specs.Scenes.{SceneShape, CallShape, OrderShape, Round, Listed}
-use Rattle.script_meaning.specs.Exclusive.{how_many, is_number, first_is, standings, IsOn, HasReply, SleepsWithReply, OthersWait, Exclusive}
+use Rattle.script_meaning.specs.Exclusive.{how_many, is_number, first_is, standings, IsOn, HasReply, SleepsWithReply, Exclusive}
 use Rattle.script_meaning.specs.First.{first_state}
 use Rattle.script_meaning.specs.Locks.{second_is, goes_to_wait, waited_for, stack_of, is_owned, is_stack, is_next, is_ready}
-use Rattle.script_meaning.specs.Stacks.{ByMethod, Frame, ToEnter, Engine, State, inner_instance, frames_of}
+use Rattle.script_meaning.specs.Stacks.{ByMethod, Stack, ToEnter, Engine, State, stack_at, inner_instance}
 use Rattle.script_meaning.specs.Turns.{call_started, calls_started, is_due, not_due, all_wait, begun, round, if_ready, chosen, has_ended, chosen_turned, step, states_from}
 use Rattle.script_meaning.specs.World.{World}
-use Rattle.script_meaning.proofs.Counts.{same_or_not, how_many-split, how_many-firsts, passes_from_count, all-append, all-filter, all_others}
-use Rattle.script_meaning.proofs.Standing.{StandsBut, reply_length, is_on_inner, started_or_not, from_exclusive, to_exclusive, with_rest, wait_stands}
+use Rattle.script_meaning.proofs.Counts.{same_or_not, how_many-split, how_many-firsts, passes_from_count, all-filter, all_others}
+use Rattle.script_meaning.proofs.Standing.{StandsBut, reply_open, is_on_inner, started_or_not, from_exclusive, to_exclusive, with_rest, wait_stands}
 use Rattle.script_meaning.proofs.Steps.{turned_stands}
 
 -- ---- one more stack
-appended : {Body : Type 0} (stacks : List (List (Frame Body))) (frames : List (Frame Body)) (n : ℕ) → n ≢ length stacks → frames_of (stacks ++ frames ∷ []) n ≡ frames_of stacks n
-appended [] frames zero d = absurd (d refl)
-appended [] frames (suc n) d = refl
-appended (first ∷ stacks) frames zero d = refl
-appended (first ∷ stacks) frames (suc n) d = appended stacks frames n (λ e. d (omega arith))
+appended : {Body : Type 0} (stacks : List (Stack Body)) (stack : Stack Body) (n : ℕ) → n ≢ length stacks → stack_at (stacks ++ stack ∷ []) n ≡ stack_at stacks n
+appended [] stack zero d = absurd (d refl)
+appended [] stack (suc n) d = refl
+appended (first ∷ stacks) stack zero d = refl
+appended (first ∷ stacks) stack (suc n) d = appended stacks stack n (λ e. d (omega arith))
 
-last_frames : {Body : Type 0} (stacks : List (List (Frame Body))) (frames : List (Frame Body)) → frames_of (stacks ++ frames ∷ []) (length stacks) ≡ frames
-last_frames [] frames = refl
-last_frames (first ∷ stacks) frames = last_frames stacks frames
+last_stack : {Body : Type 0} (stacks : List (Stack Body)) (stack : Stack Body) → stack_at (stacks ++ stack ∷ []) (length stacks) ≡ stack
+last_stack [] stack = refl
+last_stack (first ∷ stacks) stack = last_stack stacks stack
 
 joined_once : (t : Bool) (c : ℕ) → (t ≡ true → c ≡ 0) → (t ≡ false → c ≡ 1) → c + (cond t 1 0 + 0) ≡ 1
 joined_once true c p q = let e = p refl in omega arith
 joined_once false c p q = let e = q refl in omega arith
 
 module _ {Body : Type 0} where
-  same_before : (world : World) (stacks : List (List (Frame Body))) (frames : List (Frame Body)) (n : ℕ) → length stacks ≡ world.started → eqb n world.started ≡ false → frames_of (stacks ++ frames ∷ []) n ≡ frames_of stacks n
-  same_before world stacks frames n c t = appended stacks frames n (λ e. eqb-false n world.started t (e ∙ c))
+  same_before : (world : World) (stacks : List (Stack Body)) (stack : Stack Body) (n : ℕ) → length stacks ≡ world.started → eqb n world.started ≡ false → stack_at (stacks ++ stack ∷ []) n ≡ stack_at stacks n
+  same_before world stacks stack n c t = appended stacks stack n (λ e. eqb-false n world.started t (e ∙ c))
 
-  one_more : (world : World) (stacks : List (List (Frame Body))) (frames : List (Frame Body)) → OthersWait frames → StandsBut [] world stacks → StandsBut (world.started ∷ []) (record world { started = world.started + 1 }) (stacks ++ frames ∷ [])
-  one_more world stacks frames w s =
+  one_more : (world : World) (stacks : List (Stack Body)) (stack : Stack Body) → StandsBut [] world stacks → StandsBut (world.started ∷ []) (record world { started = world.started + 1 }) (stacks ++ stack ∷ [])
+  one_more world stacks stack s =
       let z = s.none_else world.started (omega arith) in
       let no_owner : how_many (second_is world.started) world.owners ≡ 0 = omega arith in
       let no_waiter : how_many (second_is world.started) world.waiters ≡ 0 = omega arith in
@@ -45,18 +45,17 @@ module _ {Body : Type 0} where
       let not_asleep : how_many (first_is world.started) world.asleep ≡ 0 = omega arith in
       let not_done : how_many (is_number world.started) world.done ≡ 0 = omega arith in record {
         one_owner = s.one_owner;
-        count = length-append stacks (frames ∷ []) ∙ ap (λ n. n + 1) s.count;
+        count = length-append stacks (stack ∷ []) ∙ ap (λ n. n + 1) s.count;
         once = λ n h. joined_once (eqb world.started n) (standings world n) (λ t. let e = eqb-true world.started n t in let o = s.none_else n (omega arith) in omega arith) (λ t. let d = eqb-false world.started n t in let o = s.once n (omega (arith, d)) in omega arith);
         none_else = λ n h. elim (same_or_not world.started n) [
           | inl (e, t) ↦ absurd (omega arith)
           | inr (d, t) ↦ let o = s.none_else n (omega arith) in rw t (omega arith)
         ];
-        owners = all_others (second_is world.started) world.owners no_owner (λ p t a. subst (λ fs. IsOn (Some p.0) fs) (sym (same_before world stacks frames p.1 s.count t)) a) s.owners;
-        waiters = all_others (second_is world.started) world.waiters no_waiter (λ p t a. subst (λ fs. IsOn (Some p.0) fs) (sym (same_before world stacks frames p.1 s.count t)) a) s.waiters;
-        free = all_others (is_number world.started) world.free not_free (λ n t a. subst (λ fs. IsOn None fs) (sym (same_before world stacks frames n s.count t)) a) s.free;
-        asleep = all_others (first_is world.started) world.asleep not_asleep (λ p t a. subst (λ fs. HasReply fs) (sym (same_before world stacks frames p.0 s.count t)) a) s.asleep;
-        done = all_others (is_number world.started) world.done not_done (λ n t a. ap length (same_before world stacks frames n s.count t) ∙ a) s.done;
-        waiting = all-append OthersWait stacks frames s.waiting w;
+        owners = all_others (second_is world.started) world.owners no_owner (λ p t a. subst (λ st. IsOn (Some p.0) st) (sym (same_before world stacks stack p.1 s.count t)) a) s.owners;
+        waiters = all_others (second_is world.started) world.waiters no_waiter (λ p t a. subst (λ st. IsOn (Some p.0) st) (sym (same_before world stacks stack p.1 s.count t)) a) s.waiters;
+        free = all_others (is_number world.started) world.free not_free (λ n t a. subst (λ st. IsOn None st) (sym (same_before world stacks stack n s.count t)) a) s.free;
+        asleep = all_others (first_is world.started) world.asleep not_asleep (λ p t a. subst (λ st. HasReply st) (sym (same_before world stacks stack p.0 s.count t)) a) s.asleep;
+        done = all_others (is_number world.started) world.done not_done (λ n t a. same_before world stacks stack n s.count t ∙ a) s.done;
       }
 
   abbrev pub Stands : State Body → Type 0
@@ -64,10 +63,10 @@ module _ {Body : Type 0} where
 
   call_stands : (state : State Body) (call : CallShape) → Stands state → Stands (call_started state call)
   call_stands state call s =
-      let frames : List (Frame Body) = ToEnter (Some call.instance) (ByMethod call.function) call.arguments ∷ [] in
-      let last : frames_of (state.stacks ++ frames ∷ []) state.world.started ≡ frames = subst (λ n. frames_of (state.stacks ++ frames ∷ []) n ≡ frames) s.count (last_frames state.stacks frames) in
-      let inner : IsOn (Some call.instance) (frames_of (state.stacks ++ frames ∷ []) state.world.started) = subst (λ fs. IsOn (Some call.instance) fs) (sym last) refl in
-      wait_stands (record state.world { started = state.world.started + 1 }) (state.stacks ++ frames ∷ []) state.world.started [] (Some call.instance) inner (one_more state.world state.stacks frames tt s)
+      let stack : Stack Body = ToEnter (Some call.instance) (ByMethod call.function) call.arguments [] in
+      let last : stack_at (state.stacks ++ stack ∷ []) state.world.started ≡ stack = subst (λ n. stack_at (state.stacks ++ stack ∷ []) n ≡ stack) s.count (last_stack state.stacks stack) in
+      let inner : IsOn (Some call.instance) (stack_at (state.stacks ++ stack ∷ []) state.world.started) = subst (λ st. IsOn (Some call.instance) st) (sym last) refl in
+      wait_stands (record state.world { started = state.world.started + 1 }) (state.stacks ++ stack ∷ []) state.world.started [] (Some call.instance) inner (one_more state.world state.stacks stack s)
 
   either_stands : (now : Bool) (one other : State Body) → Stands one → Stands other → Stands (cond now one other)
   either_stands true one other a b = a
@@ -79,12 +78,12 @@ module _ {Body : Type 0} where
       calls_stand rest (cond (eqb call.turn state.world.turn) (call_started state call) state) (either_stands (eqb call.turn state.world.turn) (call_started state call) state (call_stands state call s) s)
 
   -- ---- sleepers
-  all_wait_stands : (stacks : List (List (Frame Body))) (sleepers : List (ℕ × ℕ)) (world : World) → AllByRecursion (SleepsWithReply stacks) sleepers → StandsBut (map (λ p. p.0) sleepers) world stacks → StandsBut [] (all_wait stacks sleepers world) stacks
+  all_wait_stands : (stacks : List (Stack Body)) (sleepers : List (ℕ × ℕ)) (world : World) → AllByRecursion (SleepsWithReply stacks) sleepers → StandsBut (map (λ p. p.0) sleepers) world stacks → StandsBut [] (all_wait stacks sleepers world) stacks
   all_wait_stands stacks [] world r s = s
   all_wait_stands stacks (first ∷ rest) world r s =
-      all_wait_stands stacks rest (goes_to_wait first.0 (inner_instance (frames_of stacks first.0)) world) r.1 (wait_stands world stacks first.0 (map (λ p. p.0) rest) (inner_instance (frames_of stacks first.0)) (is_on_inner (frames_of stacks first.0) (reply_length (frames_of stacks first.0) r.0)) s)
+      all_wait_stands stacks rest (goes_to_wait first.0 (inner_instance (stack_at stacks first.0)) world) r.1 (wait_stands world stacks first.0 (map (λ p. p.0) rest) (inner_instance (stack_at stacks first.0)) (is_on_inner (stack_at stacks first.0) (reply_open (stack_at stacks first.0) r.0)) s)
 
-  woken : (world : World) (stacks : List (List (Frame Body))) → StandsBut [] world stacks → StandsBut (map (λ p. p.0) (filter (is_due world.turn) world.asleep)) (record world { asleep = filter (not_due world.turn) world.asleep }) stacks
+  woken : (world : World) (stacks : List (Stack Body)) → StandsBut [] world stacks → StandsBut (map (λ p. p.0) (filter (is_due world.turn) world.asleep)) (record world { asleep = filter (not_due world.turn) world.asleep }) stacks
   woken world stacks s = record {
     one_owner = s.one_owner;
     count = s.count;
@@ -95,7 +94,6 @@ module _ {Body : Type 0} where
     free = s.free;
     asleep = all-filter (SleepsWithReply stacks) (not_due world.turn) world.asleep s.asleep;
     done = s.done;
-    waiting = s.waiting;
   }
 
   pub begun_stands : (scene : SceneShape) (state : State Body) → Stands state → Stands (begun scene state)
@@ -148,7 +146,6 @@ module _ {Body : Type 0} where
     asleep = tt;
     done = tt;
     ended = λ k h e. absurd (omega arith);
-    waiting = tt;
   }
 
   pub begun_exclusive : (scene : SceneShape) (state : State Body) → Exclusive state → Exclusive (begun scene state)

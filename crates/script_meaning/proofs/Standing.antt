@@ -1,22 +1,22 @@
 -- Each stack stands once, but for some that stand nowhere while they go from one place to another.
-use Rattle.std.proofs.Common.{◌≡◌, ◌≢◌, ℕ, zero, suc, ◌+◌, ◌<◌, ◌≤◌, Bool, true, false, cond, not, ◌&&◌, ◌||◌, ◌⊎◌, List, [], ◌∷◌, Option, Some, None, refl, sym, ap, subst, ◌∙◌, inl, inr, arith}
+use Rattle.std.proofs.Common.{◌≡◌, ◌≢◌, ℕ, ◌+◌, ◌<◌, ◌≤◌, Bool, true, false, cond, not, ◌&&◌, ◌||◌, ◌⊎◌, List, [], ◌∷◌, Option, Some, None, refl, sym, subst, ◌∙◌, inl, inr, arith}
 use Rattle.std.specs.Prelude.{length, slice_set}
 use Rattle.std.specs.List.{list_any, AllByRecursion}
 use Rattle.std.proofs.lemmas.Bool.{eqb-true, eqb-false, ltb-true, ltb-false}
 use Rattle.std.proofs.lemmas.List.{get_or-set_other, get_or-set_same, length-set}
 use Rattle.std.proofs.Math.Dec.{eqb, ltb}
 use Rattle.core_tree.specs.Device.{DeviceState}
-use Rattle.script_meaning.specs.Exclusive.{how_many, is_number, first_is, standings, IsOn, IsOnInstance, IsOnNone, HasReply, SleepsWithReply, IsEmpty, OthersWait, Exclusive}
+use Rattle.script_meaning.specs.Exclusive.{how_many, is_number, first_is, standings, IsOn, IsOnInstance, IsOnNone, HasReply, SleepsWithReply, IsDone, Exclusive}
 use Rattle.script_meaning.specs.Locks.{with_pair, is_other, second_is, second_is_other, let_go, goes_to_wait, sleeps, ends, waited_for, becomes_owner, takes, stack_of, is_owned, is_stack, is_next, is_ready}
-use Rattle.script_meaning.specs.Stacks.{Frame, State, inner_instance, frames_of}
+use Rattle.script_meaning.specs.Stacks.{Stack, Done, ToEnter, Running, State, stack_at, inner_instance}
 use Rattle.script_meaning.specs.World.{World, Instance, ArrayState, Line}
-use Rattle.script_meaning.proofs.Counts.{same_or_not, how_many-append, how_many-without_second, how_many-without_number, how_many-with_number, how_many-with_pair, how_many-filter, some_pass, none_pass, all_step, all-append, all-filter, all-with_number, all-with_pair, all_others, counted, all-set, waits_for}
+use Rattle.script_meaning.proofs.Counts.{same_or_not, how_many-append, how_many-without_second, how_many-without_number, how_many-with_number, how_many-with_pair, how_many-filter, some_pass, none_pass, all_step, all-append, all-filter, all-with_number, all-with_pair, all_others, counted, waits_for}
 
 abbrev pub runs : World → ℕ → Type 0
 runs world k = 1 ≤ how_many (second_is k) world.owners + how_many (is_number k) world.free
 
 -- each stack stands once in the world or is one of these
-pub record StandsBut {Body : Type 0} (away : List ℕ) (world : World) (stacks : List (List (Frame Body))) : Type 0 where
+pub record StandsBut {Body : Type 0} (away : List ℕ) (world : World) (stacks : List (Stack Body)) : Type 0 where
   pub one_owner : (instance : ℕ) → how_many (first_is instance) world.owners ≤ 1
   pub count : length stacks ≡ world.started
   pub once : (k : ℕ) → k < world.started → standings world k + how_many (is_number k) away ≡ 1
@@ -25,32 +25,32 @@ pub record StandsBut {Body : Type 0} (away : List ℕ) (world : World) (stacks :
   pub waiters : AllByRecursion (IsOnInstance stacks) world.waiters
   pub free : AllByRecursion (IsOnNone stacks) world.free
   pub asleep : AllByRecursion (SleepsWithReply stacks) world.asleep
-  pub done : AllByRecursion (IsEmpty stacks) world.done
-  pub waiting : AllByRecursion OthersWait stacks
+  pub done : AllByRecursion (IsDone stacks) world.done
 
--- ---- stacks that have frames
-pub has_length : {Body : Type 0} (instance : Option ℕ) (frames : List (Frame Body)) → IsOn instance frames → 1 ≤ length frames
-has_length instance [] on = absurd on
-has_length instance (f ∷ fs) on = omega arith
+-- ---- stacks that aren't done
+pub on_open : {Body : Type 0} (instance : Option ℕ) (stack : Stack Body) → IsOn instance stack → stack ≢ Done
+on_open instance stack on = λ e. subst (λ s. IsOn instance s) e on
 
-pub reply_length : {Body : Type 0} (frames : List (Frame Body)) → HasReply frames → 1 ≤ length frames
-reply_length [] r = absurd r
-reply_length (f ∷ fs) r = omega arith
+pub reply_open : {Body : Type 0} (stack : Stack Body) → HasReply stack → stack ≢ Done
+reply_open stack r = λ e. subst (λ s. HasReply s) e r
 
-pub is_on_inner : {Body : Type 0} (frames : List (Frame Body)) → 1 ≤ length frames → IsOn (inner_instance frames) frames
-is_on_inner [] h = absurd (omega arith)
-is_on_inner (f ∷ fs) h = refl
+on_inner : {Body : Type 0} (instance : Option ℕ) (stack : Stack Body) → IsOn instance stack → inner_instance stack ≡ instance
+on_inner instance Done on = absurd on
+on_inner instance (ToEnter own way arguments below) on = on
+on_inner instance (Running innermost reply below) on = on
+
+inner_on : {Body : Type 0} (instance : Option ℕ) (stack : Stack Body) → stack ≢ Done → inner_instance stack ≡ instance → IsOn instance stack
+inner_on instance Done h e = absurd (h refl)
+inner_on instance (ToEnter own way arguments below) h e = e
+inner_on instance (Running innermost reply below) h e = e
+
+pub is_on_inner : {Body : Type 0} (stack : Stack Body) → stack ≢ Done → IsOn (inner_instance stack) stack
+is_on_inner stack h = inner_on (inner_instance stack) stack h refl
 
 -- what an innermost frame is on, the innermost frame with the same instance is on
-pub on_as : {Body : Type 0} (instance own : Option ℕ) (frames frames2 : List (Frame Body)) → IsOn own frames → IsOn own frames2 → IsOn instance frames → IsOn instance frames2
-on_as instance own [] frames2 a b c = absurd a
-on_as instance own (f ∷ fs) [] a b c = absurd b
-on_as instance own (f ∷ fs) (g ∷ gs) a b c = b ∙ (sym a ∙ c)
-
-pub others_of : {Body : Type 0} (stacks : List (List (Frame Body))) (k : ℕ) → AllByRecursion OthersWait stacks → OthersWait (frames_of stacks k)
-others_of [] k a = tt
-others_of (s ∷ stacks) zero a = a.0
-others_of (s ∷ stacks) (suc k) a = others_of stacks k a.1
+pub on_as : {Body : Type 0} (instance own : Option ℕ) (stack other : Stack Body) → IsOn own stack → IsOn own other → IsOn instance stack → IsOn instance other
+on_as instance own stack other a b c =
+    inner_on instance other (on_open own other b) (on_inner own other b ∙ (sym (on_inner own stack a) ∙ on_inner instance stack c))
 
 pub started_or_not : (k n : ℕ) → (k < n) ⊎ (n ≤ k)
 started_or_not k n =
@@ -71,32 +71,31 @@ module _ {Body : Type 0} where
     free = e.free;
     asleep = e.asleep;
     done = e.done;
-    waiting = e.waiting;
   }
 
-  -- a stack that stands elsewhere than among those that are done has a frame
-  has_frame : (world : World) (stacks : List (List (Frame Body))) (k : ℕ) → StandsBut [] world stacks → 1 ≤ how_many (second_is k) world.owners + how_many (second_is k) world.waiters + how_many (is_number k) world.free + how_many (first_is k) world.asleep → 1 ≤ length (frames_of stacks k)
-  has_frame world stacks k s h =
+  -- a stack that stands elsewhere than among those that are done isn't done
+  is_open : (world : World) (stacks : List (Stack Body)) (k : ℕ) → StandsBut [] world stacks → 1 ≤ how_many (second_is k) world.owners + how_many (second_is k) world.waiters + how_many (is_number k) world.free + how_many (first_is k) world.asleep → stack_at stacks k ≢ Done
+  is_open world stacks k s h =
       elim (same_or_not (how_many (second_is k) world.owners) 0) [
-        | inr (d, t) ↦ let c = counted (IsOnInstance stacks) (second_is k) world.owners s.owners (omega (arith, d)) in subst (λ n. 1 ≤ length (frames_of stacks n)) (eqb-true c.0.1 k c.1.0) (has_length (Some c.0.0) (frames_of stacks c.0.1) c.1.1)
+        | inr (d, t) ↦ let c = counted (IsOnInstance stacks) (second_is k) world.owners s.owners (omega (arith, d)) in subst (λ n. stack_at stacks n ≢ Done) (eqb-true c.0.1 k c.1.0) (on_open (Some c.0.0) (stack_at stacks c.0.1) c.1.1)
         | inl (p, t) ↦ elim (same_or_not (how_many (second_is k) world.waiters) 0) [
-          | inr (d, t) ↦ let c = counted (IsOnInstance stacks) (second_is k) world.waiters s.waiters (omega (arith, d)) in subst (λ n. 1 ≤ length (frames_of stacks n)) (eqb-true c.0.1 k c.1.0) (has_length (Some c.0.0) (frames_of stacks c.0.1) c.1.1)
+          | inr (d, t) ↦ let c = counted (IsOnInstance stacks) (second_is k) world.waiters s.waiters (omega (arith, d)) in subst (λ n. stack_at stacks n ≢ Done) (eqb-true c.0.1 k c.1.0) (on_open (Some c.0.0) (stack_at stacks c.0.1) c.1.1)
           | inl (q, t) ↦ elim (same_or_not (how_many (is_number k) world.free) 0) [
-            | inr (d, t) ↦ let c = counted (IsOnNone stacks) (is_number k) world.free s.free (omega (arith, d)) in subst (λ n. 1 ≤ length (frames_of stacks n)) (eqb-true c.0 k c.1.0) (has_length None (frames_of stacks c.0) c.1.1)
-            | inl (r, t) ↦ let c = counted (SleepsWithReply stacks) (first_is k) world.asleep s.asleep (omega (arith, p, q, r, h)) in subst (λ n. 1 ≤ length (frames_of stacks n)) (eqb-true c.0.0 k c.1.0) (reply_length (frames_of stacks c.0.0) c.1.1)
+            | inr (d, t) ↦ let c = counted (IsOnNone stacks) (is_number k) world.free s.free (omega (arith, d)) in subst (λ n. stack_at stacks n ≢ Done) (eqb-true c.0 k c.1.0) (on_open None (stack_at stacks c.0) c.1.1)
+            | inl (r, t) ↦ let c = counted (SleepsWithReply stacks) (first_is k) world.asleep s.asleep (omega (arith, p, q, r, h)) in subst (λ n. stack_at stacks n ≢ Done) (eqb-true c.0.0 k c.1.0) (reply_open (stack_at stacks c.0.0) c.1.1)
           ]
         ]
       ]
 
-  pub runs_frame : (world : World) (stacks : List (List (Frame Body))) (k : ℕ) → StandsBut [] world stacks → runs world k → 1 ≤ length (frames_of stacks k)
-  runs_frame world stacks k s r = has_frame world stacks k s (omega (arith, r))
+  pub runs_open : (world : World) (stacks : List (Stack Body)) (k : ℕ) → StandsBut [] world stacks → runs world k → stack_at stacks k ≢ Done
+  runs_open world stacks k s r = is_open world stacks k s (omega (arith, r))
 
-  ended_done : (world : World) (stacks : List (List (Frame Body))) (k : ℕ) → StandsBut [] world stacks → k < world.started → length (frames_of stacks k) ≡ 0 → how_many (is_number k) world.done ≡ 1
+  ended_done : (world : World) (stacks : List (Stack Body)) (k : ℕ) → StandsBut [] world stacks → k < world.started → stack_at stacks k ≡ Done → how_many (is_number k) world.done ≡ 1
   ended_done world stacks k s started e =
       let o = s.once k started in
       elim (same_or_not (how_many (is_number k) world.done) 1) [
         | inl (p, t) ↦ p
-        | inr (d, t) ↦ let h = has_frame world stacks k s (omega (arith, o, d)) in absurd (omega (arith, h, e))
+        | inr (d, t) ↦ let h = is_open world stacks k s (omega (arith, o, d)) in absurd (h e)
       ]
 
   pub to_exclusive : (state : State Body) → StandsBut [] state.world state.stacks → Exclusive state
@@ -111,11 +110,10 @@ module _ {Body : Type 0} where
     asleep = s.asleep;
     done = s.done;
     ended = λ k started e. ended_done state.world state.stacks k s started e;
-    waiting = s.waiting;
   }
 
   -- what else changes in a world changes nothing of this
-  pub with_rest : (away : List ℕ) (world : World) (stacks : List (List (Frame Body))) (turn : ℕ) (last : Option ℕ) (instances : List Instance) (arrays : List ArrayState) (devices : List DeviceState) (output : List Line) → StandsBut away world stacks → StandsBut away (record world { turn = turn; last = last; instances = instances; arrays = arrays; devices = devices; output = output }) stacks
+  pub with_rest : (away : List ℕ) (world : World) (stacks : List (Stack Body)) (turn : ℕ) (last : Option ℕ) (instances : List Instance) (arrays : List ArrayState) (devices : List DeviceState) (output : List Line) → StandsBut away world stacks → StandsBut away (record world { turn = turn; last = last; instances = instances; arrays = arrays; devices = devices; output = output }) stacks
   with_rest away world stacks turn last instances arrays devices output s = record {
     one_owner = s.one_owner;
     count = s.count;
@@ -126,7 +124,6 @@ module _ {Body : Type 0} where
     free = s.free;
     asleep = s.asleep;
     done = s.done;
-    waiting = s.waiting;
   }
 
 -- ---- sums of the five counts
@@ -149,7 +146,7 @@ runs_as world k n r t = subst (λ m. runs world m) (eqb-true k n t) r
 
 module _ {Body : Type 0} where
   -- ---- letting go
-  pub let_go_stands : (world : World) (stacks : List (List (Frame Body))) (k : ℕ) → runs world k → StandsBut [] world stacks → StandsBut (k ∷ []) (let_go k world) stacks
+  pub let_go_stands : (world : World) (stacks : List (Stack Body)) (k : ℕ) → runs world k → StandsBut [] world stacks → StandsBut (k ∷ []) (let_go k world) stacks
   let_go_stands world stacks k r s = record {
     one_owner = λ i. let h = how_many-filter (first_is i) (second_is_other k) world.owners in let b = s.one_owner i in omega arith;
     count = s.count;
@@ -160,11 +157,10 @@ module _ {Body : Type 0} where
     free = all-filter (IsOnNone stacks) (is_other k) world.free s.free;
     asleep = s.asleep;
     done = s.done;
-    waiting = s.waiting;
   }
 
   -- ---- coming to a place
-  pub wait_stands : (world : World) (stacks : List (List (Frame Body))) (k : ℕ) (away : List ℕ) (instance : Option ℕ) → IsOn instance (frames_of stacks k) → StandsBut (k ∷ away) world stacks → StandsBut away (goes_to_wait k instance world) stacks
+  pub wait_stands : (world : World) (stacks : List (Stack Body)) (k : ℕ) (away : List ℕ) (instance : Option ℕ) → IsOn instance (stack_at stacks k) → StandsBut (k ∷ away) world stacks → StandsBut away (goes_to_wait k instance world) stacks
   wait_stands world stacks k away None e s = record {
     one_owner = s.one_owner;
     count = s.count;
@@ -175,7 +171,6 @@ module _ {Body : Type 0} where
     free = all-with_number (IsOnNone stacks) k world.free e s.free;
     asleep = s.asleep;
     done = s.done;
-    waiting = s.waiting;
   }
   wait_stands world stacks k away (Some i) e s = record {
     one_owner = s.one_owner;
@@ -187,10 +182,9 @@ module _ {Body : Type 0} where
     free = s.free;
     asleep = s.asleep;
     done = s.done;
-    waiting = s.waiting;
   }
 
-  pub sleep_stands : (world : World) (stacks : List (List (Frame Body))) (k due : ℕ) (away : List ℕ) → HasReply (frames_of stacks k) → StandsBut (k ∷ away) world stacks → StandsBut away (sleeps k due world) stacks
+  pub sleep_stands : (world : World) (stacks : List (Stack Body)) (k due : ℕ) (away : List ℕ) → HasReply (stack_at stacks k) → StandsBut (k ∷ away) world stacks → StandsBut away (sleeps k due world) stacks
   sleep_stands world stacks k due away r s = record {
     one_owner = s.one_owner;
     count = s.count;
@@ -201,10 +195,9 @@ module _ {Body : Type 0} where
     free = s.free;
     asleep = all-with_pair (SleepsWithReply stacks) (k, due) world.asleep r s.asleep;
     done = s.done;
-    waiting = s.waiting;
   }
 
-  pub end_stands : (world : World) (stacks : List (List (Frame Body))) (k : ℕ) (away : List ℕ) → IsEmpty stacks k → StandsBut (k ∷ away) world stacks → StandsBut away (ends k world) stacks
+  pub end_stands : (world : World) (stacks : List (Stack Body)) (k : ℕ) (away : List ℕ) → IsDone stacks k → StandsBut (k ∷ away) world stacks → StandsBut away (ends k world) stacks
   end_stands world stacks k away e s = record {
     one_owner = s.one_owner;
     count = s.count;
@@ -214,8 +207,7 @@ module _ {Body : Type 0} where
     waiters = s.waiters;
     free = s.free;
     asleep = s.asleep;
-    done = all-with_number (IsEmpty stacks) k world.done e s.done;
-    waiting = s.waiting;
+    done = all-with_number (IsDone stacks) k world.done e s.done;
   }
 
 -- ---- taking an instance
@@ -242,14 +234,14 @@ taken_runs world k i =
     omega arith
 
 module _ {Body : Type 0} where
-  pub has_started : (world : World) (stacks : List (List (Frame Body))) (k : ℕ) → StandsBut [] world stacks → 1 ≤ standings world k → k < world.started
+  pub has_started : (world : World) (stacks : List (Stack Body)) (k : ℕ) → StandsBut [] world stacks → 1 ≤ standings world k → k < world.started
   has_started world stacks k s r =
       elim (ltb k world.started) as (λ t. ltb k world.started ≡ t → k < world.started) [
         | true ↦ λ e. ltb-true k world.started e
         | false ↦ λ e. let z = s.none_else k (ltb-false k world.started e) in absurd (omega arith)
       ] refl
 
-  taken_none : (world : World) (stacks : List (List (Frame Body))) (k : ℕ) → waited_for k world.waiters ≡ None → is_ready world k ≡ true → runs world k
+  taken_none : (world : World) (stacks : List (Stack Body)) (k : ℕ) → waited_for k world.waiters ≡ None → is_ready world k ≡ true → runs world k
   taken_none world stacks k e ready =
       elim (or_true (list_any (second_is k) world.owners || list_any (is_number k) world.free) (is_next world k (waited_for k world.waiters)) ready) [
         | inl ab ↦ elim (or_true (list_any (second_is k) world.owners) (list_any (is_number k) world.free) ab) [
@@ -260,7 +252,7 @@ module _ {Body : Type 0} where
       ]
 
   -- the instance that a ready stack waits for has no owner
-  unowned : (world : World) (stacks : List (List (Frame Body))) (k i : ℕ) → waited_for k world.waiters ≡ Some i → is_ready world k ≡ true → StandsBut [] world stacks → how_many (first_is i) world.owners ≡ 0
+  unowned : (world : World) (stacks : List (Stack Body)) (k i : ℕ) → waited_for k world.waiters ≡ Some i → is_ready world k ≡ true → StandsBut [] world stacks → how_many (first_is i) world.owners ≡ 0
   unowned world stacks k i e ready s =
       let w = waits_for k world.waiters i (IsOnInstance stacks) s.waiters e in
       let started : k < world.started = has_started world stacks k s (omega (arith, w.0)) in
@@ -275,7 +267,7 @@ module _ {Body : Type 0} where
             none_pass (first_is i) world.owners (not_first (is_owned world i) (is_stack k (stack_of world.waiters i)) d)
       ]
 
-  taken_some : (world : World) (stacks : List (List (Frame Body))) (k i : ℕ) → waited_for k world.waiters ≡ Some i → is_ready world k ≡ true → StandsBut [] world stacks → StandsBut [] (becomes_owner k (Some i) world) stacks
+  taken_some : (world : World) (stacks : List (Stack Body)) (k i : ℕ) → waited_for k world.waiters ≡ Some i → is_ready world k ≡ true → StandsBut [] world stacks → StandsBut [] (becomes_owner k (Some i) world) stacks
   taken_some world stacks k i e ready s =
       let w = waits_for k world.waiters i (IsOnInstance stacks) s.waiters e in
       let z = unowned world stacks k i e ready s in
@@ -289,61 +281,59 @@ module _ {Body : Type 0} where
         free = s.free;
         asleep = s.asleep;
         done = s.done;
-        waiting = s.waiting;
       }
 
-  taken : (world : World) (stacks : List (List (Frame Body))) (k : ℕ) (o : Option ℕ) → waited_for k world.waiters ≡ o → is_ready world k ≡ true → StandsBut [] world stacks → StandsBut [] (becomes_owner k o world) stacks × runs (becomes_owner k o world) k
+  taken : (world : World) (stacks : List (Stack Body)) (k : ℕ) (o : Option ℕ) → waited_for k world.waiters ≡ o → is_ready world k ≡ true → StandsBut [] world stacks → StandsBut [] (becomes_owner k o world) stacks × runs (becomes_owner k o world) k
   taken world stacks k None e ready s = (s, taken_none world stacks k e ready)
   taken world stacks k (Some i) e ready s = (taken_some world stacks k i e ready s, taken_runs world k i)
 
-  pub take_stands : (world : World) (stacks : List (List (Frame Body))) (k : ℕ) → is_ready world k ≡ true → StandsBut [] world stacks → StandsBut [] (takes k world) stacks × runs (takes k world) k
+  pub take_stands : (world : World) (stacks : List (Stack Body)) (k : ℕ) → is_ready world k ≡ true → StandsBut [] world stacks → StandsBut [] (takes k world) stacks × runs (takes k world) k
   take_stands world stacks k ready s = taken world stacks k (waited_for k world.waiters) refl ready s
 
--- ---- new frames of one stack
+-- ---- a new stack in the place of one
 not_equal : (a b : ℕ) → eqb a b ≡ false → a ≢ b
 not_equal a b t = eqb-false a b t
 
 module _ {Body : Type 0} where
-  other_frames : (stacks : List (List (Frame Body))) (k n : ℕ) (frames : List (Frame Body)) → eqb n k ≡ false → frames_of (slice_set stacks k frames) n ≡ frames_of stacks n
-  other_frames stacks k n frames t = get_or-set_other stacks k n frames [] (not_equal n k t)
+  other_stack : (stacks : List (Stack Body)) (k n : ℕ) (stack : Stack Body) → eqb n k ≡ false → stack_at (slice_set stacks k stack) n ≡ stack_at stacks n
+  other_stack stacks k n stack t = get_or-set_other stacks k n stack Done (not_equal n k t)
 
-  pub own_frames : (stacks : List (List (Frame Body))) (k : ℕ) (frames : List (Frame Body)) → k < length stacks → frames_of (slice_set stacks k frames) k ≡ frames
-  own_frames stacks k frames h = get_or-set_same stacks k frames [] h
+  pub own_stack : (stacks : List (Stack Body)) (k : ℕ) (stack : Stack Body) → k < length stacks → stack_at (slice_set stacks k stack) k ≡ stack
+  own_stack stacks k stack h = get_or-set_same stacks k stack Done h
 
-  same_on : (stacks : List (List (Frame Body))) (k n : ℕ) (own instance : Option ℕ) (frames : List (Frame Body)) → k < length stacks → IsOn own (frames_of stacks k) → IsOn own frames → IsOn instance (frames_of stacks n) → IsOn instance (frames_of (slice_set stacks k frames) n)
-  same_on stacks k n own instance frames h was now a =
+  same_on : (stacks : List (Stack Body)) (k n : ℕ) (own instance : Option ℕ) (stack : Stack Body) → k < length stacks → IsOn own (stack_at stacks k) → IsOn own stack → IsOn instance (stack_at stacks n) → IsOn instance (stack_at (slice_set stacks k stack) n)
+  same_on stacks k n own instance stack h was now a =
       elim (same_or_not n k) [
         | inl (p, t) ↦
-            let before : IsOn instance (frames_of stacks k) = subst (λ m. IsOn instance (frames_of stacks m)) p a in
-            let after : IsOn instance frames = on_as instance own (frames_of stacks k) frames was now before in
-            subst (λ m. IsOn instance (frames_of (slice_set stacks k frames) m)) (sym p) (subst (λ fs. IsOn instance fs) (sym (own_frames stacks k frames h)) after)
-        | inr (p, t) ↦ subst (λ fs. IsOn instance fs) (sym (other_frames stacks k n frames t)) a
+            let before : IsOn instance (stack_at stacks k) = subst (λ m. IsOn instance (stack_at stacks m)) p a in
+            let after : IsOn instance stack = on_as instance own (stack_at stacks k) stack was now before in
+            subst (λ m. IsOn instance (stack_at (slice_set stacks k stack) m)) (sym p) (subst (λ st. IsOn instance st) (sym (own_stack stacks k stack h)) after)
+        | inr (p, t) ↦ subst (λ st. IsOn instance st) (sym (other_stack stacks k n stack t)) a
       ]
 
   -- the innermost frame keeps its instance
-  pub kept_stands : (world : World) (stacks : List (List (Frame Body))) (k : ℕ) (own : Option ℕ) (frames : List (Frame Body)) → runs world k → IsOn own (frames_of stacks k) → IsOn own frames → OthersWait frames → StandsBut [] world stacks → StandsBut [] world (slice_set stacks k frames)
-  kept_stands world stacks k own frames r was now w s =
+  pub kept_stands : (world : World) (stacks : List (Stack Body)) (k : ℕ) (own : Option ℕ) (stack : Stack Body) → runs world k → IsOn own (stack_at stacks k) → IsOn own stack → StandsBut [] world stacks → StandsBut [] world (slice_set stacks k stack)
+  kept_stands world stacks k own stack r was now s =
       let started : k < world.started = has_started world stacks k s (omega (arith, r)) in
       let o = s.once k started in
       let inside : k < length stacks = omega (arith, s.count) in
       let not_done : how_many (is_number k) world.done ≡ 0 = omega (arith, r) in
       let not_asleep : how_many (first_is k) world.asleep ≡ 0 = omega (arith, r) in
-      let on = λ (n : ℕ) (instance : Option ℕ). same_on stacks k n own instance frames inside was now in record {
+      let on = λ (n : ℕ) (instance : Option ℕ). same_on stacks k n own instance stack inside was now in record {
         one_owner = s.one_owner;
-        count = length-set stacks k frames ∙ s.count;
+        count = length-set stacks k stack ∙ s.count;
         once = s.once;
         none_else = s.none_else;
         owners = all_step world.owners (λ p a. on p.1 (Some p.0) a) s.owners;
         waiters = all_step world.waiters (λ p a. on p.1 (Some p.0) a) s.waiters;
         free = all_step world.free (λ n a. on n None a) s.free;
-        asleep = all_others (first_is k) world.asleep not_asleep (λ p t a. subst (λ fs. HasReply fs) (sym (other_frames stacks k p.0 frames t)) a) s.asleep;
-        done = all_others (is_number k) world.done not_done (λ n t a. ap length (other_frames stacks k n frames t) ∙ a) s.done;
-        waiting = all-set OthersWait stacks k frames s.waiting w;
+        asleep = all_others (first_is k) world.asleep not_asleep (λ p t a. subst (λ st. HasReply st) (sym (other_stack stacks k p.0 stack t)) a) s.asleep;
+        done = all_others (is_number k) world.done not_done (λ n t a. other_stack stacks k n stack t ∙ a) s.done;
       }
 
   -- a stack that stands nowhere may have any frames
-  pub away_stands : (world : World) (stacks : List (List (Frame Body))) (k : ℕ) (frames : List (Frame Body)) → k < world.started → OthersWait frames → StandsBut (k ∷ []) world stacks → StandsBut (k ∷ []) world (slice_set stacks k frames)
-  away_stands world stacks k frames started w s =
+  pub away_stands : (world : World) (stacks : List (Stack Body)) (k : ℕ) (stack : Stack Body) → k < world.started → StandsBut (k ∷ []) world stacks → StandsBut (k ∷ []) world (slice_set stacks k stack)
+  away_stands world stacks k stack started s =
       let t = self_equal k in
       let o : standings world k + (cond true 1 0 + 0) ≡ 1 = subst (λ b. standings world k + (cond b 1 0 + 0) ≡ 1) t (s.once k started) in
       let no_owner : how_many (second_is k) world.owners ≡ 0 = omega (arith, o) in
@@ -352,13 +342,12 @@ module _ {Body : Type 0} where
       let not_asleep : how_many (first_is k) world.asleep ≡ 0 = omega (arith, o) in
       let not_done : how_many (is_number k) world.done ≡ 0 = omega (arith, o) in record {
         one_owner = s.one_owner;
-        count = length-set stacks k frames ∙ s.count;
+        count = length-set stacks k stack ∙ s.count;
         once = s.once;
         none_else = s.none_else;
-        owners = all_others (second_is k) world.owners no_owner (λ p t a. subst (λ fs. IsOn (Some p.0) fs) (sym (other_frames stacks k p.1 frames t)) a) s.owners;
-        waiters = all_others (second_is k) world.waiters no_waiter (λ p t a. subst (λ fs. IsOn (Some p.0) fs) (sym (other_frames stacks k p.1 frames t)) a) s.waiters;
-        free = all_others (is_number k) world.free not_free (λ n t a. subst (λ fs. IsOn None fs) (sym (other_frames stacks k n frames t)) a) s.free;
-        asleep = all_others (first_is k) world.asleep not_asleep (λ p t a. subst (λ fs. HasReply fs) (sym (other_frames stacks k p.0 frames t)) a) s.asleep;
-        done = all_others (is_number k) world.done not_done (λ n t a. ap length (other_frames stacks k n frames t) ∙ a) s.done;
-        waiting = all-set OthersWait stacks k frames s.waiting w;
+        owners = all_others (second_is k) world.owners no_owner (λ p t a. subst (λ st. IsOn (Some p.0) st) (sym (other_stack stacks k p.1 stack t)) a) s.owners;
+        waiters = all_others (second_is k) world.waiters no_waiter (λ p t a. subst (λ st. IsOn (Some p.0) st) (sym (other_stack stacks k p.1 stack t)) a) s.waiters;
+        free = all_others (is_number k) world.free not_free (λ n t a. subst (λ st. IsOn None st) (sym (other_stack stacks k n stack t)) a) s.free;
+        asleep = all_others (first_is k) world.asleep not_asleep (λ p t a. subst (λ st. HasReply st) (sym (other_stack stacks k p.0 stack t)) a) s.asleep;
+        done = all_others (is_number k) world.done not_done (λ n t a. other_stack stacks k n stack t ∙ a) s.done;
       }

@@ -8,9 +8,9 @@ use Rattle.core_tree.specs.declared.value.Value.TheVariants.{NoneValue}
 use Rattle.core_tree.specs.Scenes.{SceneShape}
 use Rattle.script_meaning.specs.Locks.{let_go, goes_to_wait, rests, same_instance, moves, waited_for, becomes_owner, takes}
 use Rattle.script_meaning.specs.Requests.{Sight, Request, Method, ParentMethod, GlobalFunction, GlobalNative, Get, Set, LoopPass, Return, binding_in, is_prompt, latency_of, performed_at, first_argument}
-use Rattle.script_meaning.specs.Stacks.{Way, ByMethod, ByGlobal, ByGet, BySet, Frame, ToEnter, Running, Entered, Opened, NativeThere, ReadThere, WriteThere, NothingThere, Stop, Engine, State, frame_instance, inner_instance, frames_of}
+use Rattle.script_meaning.specs.Stacks.{Way, ByMethod, ByGlobal, ByGet, BySet, Frame, Stack, Done, ToEnter, Running, Entered, Opened, NativeThere, ReadThere, WriteThere, NothingThere, Stop, Engine, State, stack_at, inner_instance}
 use Rattle.script_meaning.specs.Touch.{with_instances, state_with, instance_in_turn, but_for, SameAt, DifferElsewhere}
-use Rattle.script_meaning.specs.Turns.{sight_of, with_sight, Turn, After, with_reply, called, returned, native_done, acted, run_on, stopped, ran, native_entered, entered, in_turn, setting_of, turn_of, after_turn, turn_ended, turned, instance_script}
+use Rattle.script_meaning.specs.Turns.{sight_of, with_sight, Turn, After, called, answered, returned, native_done, acted, run_on, stopped, ran, native_entered, entered, in_turn, setting_of, turn_of, after_turn, turn_ended, turned, instance_script}
 use Rattle.script_meaning.specs.World.{World, Instance, title, no_instance, variable_of, with_variable}
 use Rattle.script_meaning.proofs.Standing.{started_or_not}
 
@@ -63,9 +63,9 @@ module _ (own : Option ℕ) (others : List Instance) where
   waits_other k None world = refl
   waits_other k (Some i) world = refl
 
-  rests_other : (k : ℕ) (to : Option ℕ) (latency : ℕ) (world : World) → rests k to latency (other own others world) ≡ other own others (rests k to latency world)
-  rests_other k to zero world = waits_other k to world
-  rests_other k to (suc latency) world = refl
+  rests_other : (k latency : ℕ) (to : Option ℕ) (world : World) → rests k latency to (other own others world) ≡ other own others (rests k latency to world)
+  rests_other k zero to world = waits_other k to (let_go k world)
+  rests_other k (suc latency) to world = refl
 
   moved_other : (same : Bool) (k : ℕ) (to : Option ℕ) (world : World) → cond same (other own others world) (goes_to_wait k to (let_go k (other own others world))) ≡ other own others (cond same world (goes_to_wait k to (let_go k world)))
   moved_other true k to world = refl
@@ -79,21 +79,25 @@ module _ {Body : Type 0} where
   abbrev pub there : Option ℕ → List Instance → After Body → After Body
   there own others after = (other own others after.0, after.1)
 
+  answered_other : (turn : Turn) (others : List Instance) (goes_on : Option ℕ → World → World) (value : Value) (below : List (Frame Body)) (world : World) → ((to : Option ℕ) → goes_on to (other turn.own others world) ≡ other turn.own others (goes_on to world)) → answered turn goes_on value below (other turn.own others world) ≡ there turn.own others (answered turn goes_on value below world)
+  answered_other turn others goes_on value [] world same = refl
+  answered_other turn others goes_on value (caller ∷ below) world same =
+      ap (λ (w : World). (w, Running caller (Some value) below)) (same caller.instance)
+
   returned_other : (turn : Turn) (others : List Instance) (value : Value) (below : List (Frame Body)) (world : World) → returned turn value below (other turn.own others world) ≡ there turn.own others (returned turn value below world)
-  returned_other turn others value [] world = refl
-  returned_other turn others value (caller ∷ below) world =
-      ap (λ (w : World). (w, with_reply value caller ∷ below)) (moves_other turn.own others turn.stack turn.own (frame_instance caller) world)
+  returned_other turn others value below world =
+      answered_other turn others (moves turn.stack turn.own) value below world (λ to. moves_other turn.own others turn.stack turn.own to world)
 
-  native_other : (turn : Turn) (others : List Instance) (at : FunctionPlace) (arguments : List Value) (frames : List (Frame Body)) (world : World) → length others ≡ length world.instances → native_done turn at arguments frames (other turn.own others world) ≡ there turn.own others (native_done turn at arguments frames world)
-  native_other turn others at arguments [] world c = refl
-  native_other turn others at arguments (waiting ∷ below) world c =
-      let rest : World → World = λ w. rests turn.stack (frame_instance waiting) (latency_of (binding_in turn.setting.natives at) arguments) (let_go turn.stack w) in
+  native_other : (turn : Turn) (others : List Instance) (at : FunctionPlace) (arguments : List Value) (below : List (Frame Body)) (world : World) → length others ≡ length world.instances → native_done turn at arguments below (other turn.own others world) ≡ there turn.own others (native_done turn at arguments below world)
+  native_other turn others at arguments below world c =
+      let latency : ℕ = latency_of (binding_in turn.setting.natives at) arguments in
       let done : Value × Sight = performed_at turn.setting at arguments (sight_of world turn.own) in
-      ap (λ (s : Sight). let d : Value × Sight = performed_at turn.setting at arguments s in (rest (with_sight (other turn.own others world) turn.own d.1), with_reply d.0 waiting ∷ below)) (same_sight turn.own others world c) ∙ (ap (λ (w : World). (rest w, with_reply done.0 waiting ∷ below)) (same_after_sight turn.own others world done.1 c) ∙ ap (λ (w : World). (w, with_reply done.0 waiting ∷ below)) (rests_other turn.own others turn.stack (frame_instance waiting) (latency_of (binding_in turn.setting.natives at) arguments) (let_go turn.stack (with_sight world turn.own done.1))))
+      let after : World = with_sight world turn.own done.1 in
+      ap (λ (s : Sight). let d : Value × Sight = performed_at turn.setting at arguments s in answered turn (rests turn.stack latency) d.0 below (with_sight (other turn.own others world) turn.own d.1)) (same_sight turn.own others world c) ∙ (ap (λ (w : World). answered turn (rests turn.stack latency) done.0 below w) (same_after_sight turn.own others world done.1 c) ∙ answered_other turn others (rests turn.stack latency) done.0 below after (λ to. rests_other turn.own others turn.stack latency to after))
 
-  called_other : (turn : Turn) (others : List Instance) (target : Option ℕ) (way : Way) (arguments : List Value) (frames : List (Frame Body)) (world : World) → called turn target way arguments frames (other turn.own others world) ≡ there turn.own others (called turn target way arguments frames world)
-  called_other turn others target way arguments frames world =
-      ap (λ (w : World). (w, ToEnter target way arguments ∷ frames)) (moves_other turn.own others turn.stack turn.own target world)
+  called_other : (turn : Turn) (others : List Instance) (target : Option ℕ) (way : Way) (arguments : List Value) (below : List (Frame Body)) (world : World) → called turn target way arguments below (other turn.own others world) ≡ there turn.own others (called turn target way arguments below world)
+  called_other turn others target way arguments below world =
+      ap (λ (w : World). (w, ToEnter target way arguments below)) (moves_other turn.own others turn.stack turn.own target world)
 
   acted_other : (turn : Turn) (others : List Instance) (request : Request) (frame : Frame Body) (below : List (Frame Body)) (world : World) → length others ≡ length world.instances → acted turn request frame below (other turn.own others world) ≡ there turn.own others (acted turn request frame below world)
   acted_other turn others (Method target name arguments otherwise) frame below world c = called_other turn others (Some target) (ByMethod name) arguments (frame ∷ below) world
@@ -110,7 +114,8 @@ module _ {Body : Type 0} where
   ran_other scene engine turn others world below body reply c =
       let run : Sight → Stop Body = λ s. run_on engine turn.setting (pred scene.quantum) body reply s in
       let stop : Stop Body = run (sight_of world turn.own) in
-      ap (λ (s : Sight). stopped turn (other turn.own others world) below (run s)) (same_sight turn.own others world c) ∙ (ap (λ (w : World). acted turn stop.request (Running turn.own stop.body None) below w) (same_after_sight turn.own others world stop.sight c) ∙ acted_other turn others stop.request (Running turn.own stop.body None) below (with_sight world turn.own stop.sight) (length_after turn.own others world stop.sight c))
+      let frame : Frame Body = record { instance = turn.own; body = stop.body } in
+      ap (λ (s : Sight). stopped turn (other turn.own others world) below (run s)) (same_sight turn.own others world c) ∙ (ap (λ (w : World). acted turn stop.request frame below w) (same_after_sight turn.own others world stop.sight c) ∙ acted_other turn others stop.request frame below (with_sight world turn.own stop.sight) (length_after turn.own others world stop.sight c))
 
   native_entered_other : (turn : Turn) (others : List Instance) (at : FunctionPlace) (arguments : List Value) (world : World) (below : List (Frame Body)) (prompt : Bool) → length others ≡ length world.instances → native_entered turn at arguments (other turn.own others world) below prompt ≡ there turn.own others (native_entered turn at arguments world below prompt)
   native_entered_other turn others at arguments world below true c =
@@ -129,12 +134,13 @@ module _ {Body : Type 0} where
       ap (λ (s : Sight). returned turn NoneValue below (with_sight (other turn.own others world) turn.own (after s))) (same_sight turn.own others world c) ∙ (ap (λ (w : World). returned turn NoneValue below w) (same_after_sight turn.own others world (after (sight_of world turn.own)) c) ∙ returned_other turn others NoneValue below (with_sight world turn.own (after (sight_of world turn.own))))
   entered_other scene engine turn others world below arguments NothingThere c = returned_other turn others NoneValue below world
 
-  in_turn_other : (scene : SceneShape) (engine : Engine Body) (turn : Turn) (others : List Instance) (world : World) (innermost : Frame Body) (below : List (Frame Body)) → turn.own ≡ frame_instance innermost → length others ≡ length world.instances → in_turn scene engine turn (other turn.own others world) innermost below ≡ there turn.own others (in_turn scene engine turn world innermost below)
-  in_turn_other scene engine turn others world (ToEnter instance way arguments) below e c =
+  in_turn_other : (scene : SceneShape) (engine : Engine Body) (turn : Turn) (others : List Instance) (world : World) (stack : Stack Body) → turn.own ≡ inner_instance stack → length others ≡ length world.instances → in_turn scene engine turn (other turn.own others world) stack ≡ there turn.own others (in_turn scene engine turn world stack)
+  in_turn_other scene engine turn others world Done e c = refl
+  in_turn_other scene engine turn others world (ToEnter instance way arguments below) e c =
       let script : instance_script (other turn.own others world) instance ≡ instance_script world instance = subst (λ o. instance_script (other turn.own others world) o ≡ instance_script world o) e (script_same turn.own others world c) in
       let sight : sight_of (other turn.own others world) instance ≡ sight_of world instance = subst (λ o. sight_of (other turn.own others world) o ≡ sight_of world o) e (same_sight turn.own others world c) in
       ap (λ (s : Option ℕ). entered scene engine turn (other turn.own others world) below arguments (engine.enter s (sight_of (other turn.own others world) instance).state way arguments)) script ∙ (ap (λ (s : Sight). entered scene engine turn (other turn.own others world) below arguments (engine.enter (instance_script world instance) s.state way arguments)) sight ∙ entered_other scene engine turn others world below arguments (engine.enter (instance_script world instance) (sight_of world instance).state way arguments) c)
-  in_turn_other scene engine turn others world (Running instance body reply) below e c = ran_other scene engine turn others world below body reply c
+  in_turn_other scene engine turn others world (Running innermost reply below) e c = ran_other scene engine turn others world below innermost.body reply c
 
 -- ---- the whole turn
 names_length : (a b : List Instance) → map title b ≡ map title a → length b ≡ length a
@@ -158,17 +164,16 @@ same_here None instances = tt
 same_here (Some i) instances = refl
 
 module _ {Body : Type 0} where
-  after_other : (scene : SceneShape) (engine : Engine Body) (world : World) (stacks : List (List (Frame Body))) (k : ℕ) (others : List Instance) (frames : List (Frame Body)) → map title (but_for (inner_instance frames) others world.instances) ≡ map title world.instances → length others ≡ length world.instances → after_turn scene engine (other (inner_instance frames) others world) stacks k frames ≡ there (inner_instance frames) others (after_turn scene engine world stacks k frames)
-  after_other scene engine world stacks k others [] e c = refl
-  after_other scene engine world stacks k others (innermost ∷ below) e c =
-      let own : Option ℕ = frame_instance innermost in
-      ap (λ (names : List (ℕ × List ℕ)). in_turn scene engine (record { stack = k; own = own; setting = record (setting_of scene world stacks k own) { instances = names } }) (other own others world) innermost below) e ∙ in_turn_other scene engine (turn_of scene world stacks k own) others world innermost below refl c
+  after_other : (scene : SceneShape) (engine : Engine Body) (world : World) (stacks : List (Stack Body)) (k : ℕ) (others : List Instance) (stack : Stack Body) → map title (but_for (inner_instance stack) others world.instances) ≡ map title world.instances → length others ≡ length world.instances → after_turn scene engine (other (inner_instance stack) others world) stacks k stack ≡ there (inner_instance stack) others (after_turn scene engine world stacks k stack)
+  after_other scene engine world stacks k others stack e c =
+      let own : Option ℕ = inner_instance stack in
+      ap (λ (names : List (ℕ × List ℕ)). in_turn scene engine (record { stack = k; own = own; setting = record (setting_of scene world stacks k own) { instances = names } }) (other own others world) stack) e ∙ in_turn_other scene engine (turn_of scene world stacks k own) others world stack refl c
 
   -- a turn from the world with the other instances
   pub turned_other : (scene : SceneShape) (engine : Engine Body) (state : State Body) (k : ℕ) (others : List Instance) → DifferElsewhere (instance_in_turn state k) state.world.instances others → turned scene engine (state_with others state) k ≡ state_with (but_for (instance_in_turn state k) others (turned scene engine state k).world.instances) (turned scene engine state k)
   turned_other scene engine state k others d =
       let own : Option ℕ = instance_in_turn state k in
-      let frames : List (Frame Body) = frames_of state.stacks k in
+      let stack : Stack Body = stack_at state.stacks k in
       let world : World = takes k state.world in
       let same : world.instances ≡ state.world.instances = takes_instances k (waited_for k state.world.waiters) state.world in
       let start : but_for own others state.world.instances ≡ others = same_start own state.world.instances others d.same in
@@ -176,7 +181,7 @@ module _ {Body : Type 0} where
       let count : length others ≡ length world.instances = names_length state.world.instances others d.names ∙ ap length (sym same) in
       let taken : takes k (with_instances others state.world) ≡ other own others world = ap (λ is. takes k (with_instances is state.world)) (sym start) ∙ takes_by own others k (waited_for k state.world.waiters) state.world in
       let finish : After Body → State Body = λ after. record { world = turn_ended after.0 k; stacks = slice_set state.stacks k after.1 } in
-      ap (λ (w : World). finish (after_turn scene engine w state.stacks k frames)) taken ∙ ap finish (after_other scene engine world state.stacks k others frames names count)
+      ap (λ (w : World). finish (after_turn scene engine w state.stacks k stack)) taken ∙ ap finish (after_other scene engine world state.stacks k others stack names count)
 
   pub turned_keeps : (scene : SceneShape) (engine : Engine Body) (state : State Body) (k : ℕ) → (turned scene engine state k).world.instances ≡ but_for (instance_in_turn state k) state.world.instances (turned scene engine state k).world.instances
   turned_keeps scene engine state k =

@@ -1,9 +1,9 @@
--- That each stack stands in one place and has the frames that it needs there, and no two stacks own one
--- instance.
+-- That each stack stands in one place, on the instance and with the reply that it needs there, and no two stacks
+-- own one instance.
 use Rattle.std.specs.Prelude.{◌≡◌, ℕ, ◌+◌, ◌==◌, ◌<◌, ◌≤◌, Bool, cond, List, [], ◌∷◌, length, Option, Some, None}
 use Rattle.std.specs.List.{AllByRecursion}
 use Rattle.script_meaning.specs.Locks.{second_is}
-use Rattle.script_meaning.specs.Stacks.{Frame, ToEnter, Running, State, frame_instance, frames_of}
+use Rattle.script_meaning.specs.Stacks.{Stack, Done, ToEnter, Running, State, stack_at}
 use Rattle.script_meaning.specs.World.{World}
 
 abbrev pub is_number : ℕ → ℕ → Bool
@@ -23,40 +23,30 @@ abbrev pub standings : World → ℕ → ℕ
 standings world k =
     how_many (second_is k) world.owners + how_many (second_is k) world.waiters + how_many (is_number k) world.free + how_many (first_is k) world.asleep + how_many (is_number k) world.done
 
--- a stack has frames, and the innermost one has this instance, or none
-abbrev pub IsOn : {Body : Type 0} → Option ℕ → List (Frame Body) → Type 0
-IsOn instance [] = ⊥
-IsOn instance (innermost ∷ below) = frame_instance innermost ≡ instance
+-- a stack isn't done, and its innermost frame has this instance, or none
+abbrev pub IsOn : {Body : Type 0} → Option ℕ → Stack Body → Type 0
+IsOn instance Done = ⊥
+IsOn instance (ToEnter own way arguments below) = own ≡ instance
+IsOn instance (Running innermost reply below) = innermost.instance ≡ instance
 
-abbrev pub IsOnInstance : {Body : Type 0} → List (List (Frame Body)) → ℕ × ℕ → Type 0
-IsOnInstance stacks pair = IsOn (Some pair.0) (frames_of stacks pair.1)
+abbrev pub IsOnInstance : {Body : Type 0} → List (Stack Body) → ℕ × ℕ → Type 0
+IsOnInstance stacks pair = IsOn (Some pair.0) (stack_at stacks pair.1)
 
-abbrev pub IsOnNone : {Body : Type 0} → List (List (Frame Body)) → ℕ → Type 0
-IsOnNone stacks k = IsOn None (frames_of stacks k)
+abbrev pub IsOnNone : {Body : Type 0} → List (Stack Body) → ℕ → Type 0
+IsOnNone stacks k = IsOn None (stack_at stacks k)
 
 -- the innermost frame of a stack is a running one, to which a reply is to be given
-abbrev pub HasReply : {Body : Type 0} → List (Frame Body) → Type 0
-HasReply [] = ⊥
-HasReply (ToEnter instance way arguments ∷ below) = ⊥
-HasReply (Running instance body None ∷ below) = ⊥
-HasReply (Running instance body (Some reply) ∷ below) = Unit {0}
+abbrev pub HasReply : {Body : Type 0} → Stack Body → Type 0
+HasReply Done = ⊥
+HasReply (ToEnter instance way arguments below) = ⊥
+HasReply (Running innermost None below) = ⊥
+HasReply (Running innermost (Some reply) below) = Unit {0}
 
-abbrev pub SleepsWithReply : {Body : Type 0} → List (List (Frame Body)) → ℕ × ℕ → Type 0
-SleepsWithReply stacks sleeper = HasReply (frames_of stacks sleeper.0)
+abbrev pub SleepsWithReply : {Body : Type 0} → List (Stack Body) → ℕ × ℕ → Type 0
+SleepsWithReply stacks sleeper = HasReply (stack_at stacks sleeper.0)
 
-abbrev pub IsEmpty : {Body : Type 0} → List (List (Frame Body)) → ℕ → Type 0
-IsEmpty stacks k = length (frames_of stacks k) ≡ 0
-
--- a frame that waits for what the frame above it gives
-abbrev pub IsWaiting : {Body : Type 0} → Frame Body → Type 0
-IsWaiting (ToEnter instance way arguments) = ⊥
-IsWaiting (Running instance body None) = Unit {0}
-IsWaiting (Running instance body (Some reply)) = ⊥
-
--- each frame of a stack but the innermost
-abbrev pub OthersWait : {Body : Type 0} → List (Frame Body) → Type 0
-OthersWait [] = Unit {0}
-OthersWait (innermost ∷ below) = AllByRecursion IsWaiting below
+abbrev pub IsDone : {Body : Type 0} → List (Stack Body) → ℕ → Type 0
+IsDone stacks k = stack_at stacks k ≡ Done
 
 pub record Exclusive {Body : Type 0} (state : State Body) : Type 0 where
   -- no two stacks own one instance
@@ -71,8 +61,6 @@ pub record Exclusive {Body : Type 0} (state : State Body) : Type 0 where
   pub free : AllByRecursion (IsOnNone state.stacks) state.world.free
   -- a stack that sleeps goes on with a reply
   pub asleep : AllByRecursion (SleepsWithReply state.stacks) state.world.asleep
-  -- a stack has no frame exactly where it is done
-  pub done : AllByRecursion (IsEmpty state.stacks) state.world.done
-  pub ended : (k : ℕ) → k < state.world.started → IsEmpty state.stacks k → how_many (is_number k) state.world.done ≡ 1
-  -- all frames of a stack but the innermost wait
-  pub waiting : AllByRecursion OthersWait state.stacks
+  -- the stacks that are done are those without a frame
+  pub done : AllByRecursion (IsDone state.stacks) state.world.done
+  pub ended : (k : ℕ) → k < state.world.started → IsDone state.stacks k → how_many (is_number k) state.world.done ≡ 1

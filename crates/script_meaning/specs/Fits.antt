@@ -13,7 +13,7 @@ use Rattle.core_tree.specs.Outlines.{ScriptShape, FunctionShape}
 use Rattle.core_tree.specs.Scenes.{SceneShape}
 use Rattle.script_meaning.specs.Locks.{takes}
 use Rattle.script_meaning.specs.Requests.{Sight, Setting, binding_in, functions_in, result_of}
-use Rattle.script_meaning.specs.Stacks.{Way, Frame, ToEnter, Running, State, inner_instance, frames_of}
+use Rattle.script_meaning.specs.Stacks.{Way, Stack, Done, ToEnter, Running, State, stack_at, inner_instance}
 use Rattle.script_meaning.specs.Turns.{sight_of, setting_of, instance_script, begun}
 use Rattle.script_meaning.specs.Values.{is_child, lineage, element_kind}
 use Rattle.script_meaning.specs.World.{World, ArrayState}
@@ -186,18 +186,18 @@ abbrev pub by_types : {Body : Type 0} → Types Body → Fitting Body
 by_types types =
     record { sight = SightFits types.outline; body = BodyFits types; arguments = ArgumentsFit types }
 
--- the innermost of these frames
-abbrev pub InnermostFits : {Body : Type 0} → Fitting Body → Setting → World → List (Frame Body) → Type 0
-InnermostFits fitting setting world [] = Unit {0}
-InnermostFits fitting setting world (ToEnter instance way arguments ∷ below) =
+-- the innermost frame of a stack
+abbrev pub InnermostFits : {Body : Type 0} → Fitting Body → Setting → World → Stack Body → Type 0
+InnermostFits fitting setting world Done = Unit {0}
+InnermostFits fitting setting world (ToEnter instance way arguments below) =
     fitting.sight setting (sight_of world instance) × fitting.arguments setting (sight_of world instance) (instance_script world instance) way arguments
-InnermostFits fitting setting world (Running instance body reply ∷ below) =
-    fitting.sight setting (sight_of world instance) × fitting.body setting (sight_of world instance) body reply
+InnermostFits fitting setting world (Running innermost reply below) =
+    fitting.sight setting (sight_of world innermost.instance) × fitting.body setting (sight_of world innermost.instance) innermost.body reply
 
 -- what stack k goes on with if it has its turn
 abbrev pub TurnFits : {Body : Type 0} → Fitting Body → SceneShape → State Body → ℕ → Type 0
 TurnFits fitting scene state k =
-    InnermostFits fitting (setting_of scene (takes k state.world) state.stacks k (inner_instance (frames_of state.stacks k))) (takes k state.world) (frames_of state.stacks k)
+    InnermostFits fitting (setting_of scene (takes k state.world) state.stacks k (inner_instance (stack_at state.stacks k))) (takes k state.world) (stack_at state.stacks k)
 
 -- whichever stack is chosen in the next turn goes on with what fits
 abbrev pub NextTurnFits : {Body : Type 0} → Fitting Body → SceneShape → State Body → Type 0

@@ -10,7 +10,7 @@ use Rattle.script_meaning.specs.Arrays.{element_of}
 use Rattle.script_meaning.specs.Evaluation.{Home, Inner, Pending, Operand, EffectOperand, AndThen, OrElse, PropertyTarget, PropertyOld, PropertyRight, ElementArray, ElementIndex, ElementRight, Test, LoopTest, LoopBody, Loop, Statements, Outcome, Gives, Stops, ask, noted, at_line, evaluated, done, all_done, given}
 use Rattle.script_meaning.specs.Requests.{Sight, Setting, Request, get_of, LoopPass}
 use Rattle.script_meaning.specs.Source.{Body, home_of, reply_or_none, run_body}
-use Rattle.script_meaning.specs.Stacks.{Frame, ToEnter, Running, Entered, Opened, NativeThere, ReadThere, WriteThere, NothingThere, Stop, State}
+use Rattle.script_meaning.specs.Stacks.{Frame, Stack, Done, ToEnter, Running, Entered, Opened, NativeThere, ReadThere, WriteThere, NothingThere, Stop, State}
 use Rattle.script_meaning.specs.Values.{instance_of, array_of, number_of, default_of, is_true}
 
 -- ---- the number of nodes
@@ -189,12 +189,16 @@ abbrev pub FitsIn : ℕ → Body → Type 0
 FitsIn most body = grown body.pending 0 ≤ suc most
 
 abbrev pub FrameFits : ℕ → Frame Body → Type 0
-FrameFits most (ToEnter instance way arguments) = Unit {0}
-FrameFits most (Running instance body reply) = FitsIn most body
+FrameFits most frame = FitsIn most frame.body
 
--- so did each running body of the stacks
+-- so did the body of each frame of a stack
+abbrev pub StackFits : ℕ → Stack Body → Type 0
+StackFits most Done = Unit {0}
+StackFits most (ToEnter instance way arguments below) = AllByRecursion (FrameFits most) below
+StackFits most (Running innermost reply below) = FrameFits most innermost × AllByRecursion (FrameFits most) below
+
 abbrev pub StateFits : ℕ → State Body → Type 0
-StateFits most state = AllByRecursion (AllByRecursion (FrameFits most)) state.stacks
+StateFits most state = AllByRecursion (StackFits most) state.stacks
 
 -- so did a body that was opened
 abbrev pub EnteredFits : ℕ → Entered Body → Type 0

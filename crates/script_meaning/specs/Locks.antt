@@ -39,10 +39,10 @@ sleeps k due world = record world { asleep = with_pair (k, due) world.asleep }
 abbrev pub ends : ℕ → World → World
 ends k world = record world { done = with_number k world.done }
 
--- after a native that isn't prompt: it goes to wait, or it sleeps for so many turns after this one
-abbrev pub rests : ℕ → Option ℕ → ℕ → World → World
-rests k instance zero world = goes_to_wait k instance world
-rests k instance (suc latency) world = sleeps k (world.turn + 1 + suc latency) world
+-- after a native that isn't prompt: it lets go, and goes to wait or sleeps for so many turns after this one
+abbrev pub rests : ℕ → ℕ → Option ℕ → World → World
+rests k zero instance world = goes_to_wait k instance (let_go k world)
+rests k (suc latency) instance world = sleeps k (world.turn + 1 + suc latency) (let_go k world)
 
 abbrev pub same_instance : Option ℕ → Option ℕ → Bool
 same_instance (Some a) (Some b) = a == b

@@ -1,5 +1,5 @@
 -- Stacks of frames, and engines: what opens a body and lets it run to its next act.
-use Rattle.std.specs.Prelude.{ℕ, ◌-◌, ◌&&◌, Bool, nat_lt, List, [], ◌∷◌, length, map, sum, Option, None, slice_index_or}
+use Rattle.std.specs.Prelude.{ℕ, suc, ◌&&◌, Bool, nat_lt, List, [], length, map, sum, Option, None, slice_index_or}
 use Rattle.core_tree.specs.declared.expression.FunctionPlace.{FunctionPlace}
 use Rattle.core_tree.specs.declared.value.Value.{Value}
 use Rattle.script_meaning.specs.Requests.{Sight, Setting, Request}
@@ -14,10 +14,18 @@ pub data Way : Type 0 where
   ByGet : (name : List ℕ) → Way
   BySet : (name : List ℕ) → Way
 
-pub data Frame (Body : Type 0) : Type 0 where
-  ToEnter : (instance : Option ℕ) (way : Way) (arguments : List Value) → Frame Body
-  -- `reply` waits to be given to the body
-  Running : (instance : Option ℕ) (body : Body) (reply : Option Value) → Frame Body
+-- an open body, and the instance that it is on
+pub record Frame (Body : Type 0) : Type 0 where
+  pub instance : Option ℕ
+  pub body : Body
+
+-- `below` are the frames below the innermost one, from the inside out. Each waits for what the one above it gives
+pub data Stack (Body : Type 0) : Type 0 where
+  Done : Stack Body
+  -- the innermost frame is still a call
+  ToEnter : (instance : Option ℕ) (way : Way) (arguments : List Value) (below : List (Frame Body)) → Stack Body
+  -- `reply` waits to be given to the innermost frame
+  Running : (innermost : Frame Body) (reply : Option Value) (below : List (Frame Body)) → Stack Body
 
 -- what a look-up finds: a body, which is then open, a native function, or the variable of an Auto
 -- property
@@ -40,31 +48,33 @@ pub record Engine (Body : Type 0) : Type 0 where
   -- the body, given a reply where one waits, up to its next act
   pub run : Setting → Body → Option Value → Sight → Stop Body
 
--- a world and the stacks beside it, each with its innermost frame first
+-- a world and the stacks beside it, by number
 pub record State (Body : Type 0) : Type 0 where
   pub world : World
-  pub stacks : List (List (Frame Body))
+  pub stacks : List (Stack Body)
 
-abbrev pub frame_instance : {Body : Type 0} → Frame Body → Option ℕ
-frame_instance (ToEnter instance way arguments) = instance
-frame_instance (Running instance body reply) = instance
+abbrev pub stack_at : {Body : Type 0} → List (Stack Body) → ℕ → Stack Body
+stack_at stacks k = slice_index_or stacks k Done
 
 -- the instance of a stack's innermost frame
-abbrev pub inner_instance : {Body : Type 0} → List (Frame Body) → Option ℕ
-inner_instance [] = None
-inner_instance (innermost ∷ below) = frame_instance innermost
-
-abbrev pub frames_of : {Body : Type 0} → List (List (Frame Body)) → ℕ → List (Frame Body)
-frames_of stacks k = slice_index_or stacks k []
+abbrev pub inner_instance : {Body : Type 0} → Stack Body → Option ℕ
+inner_instance Done = None
+inner_instance (ToEnter instance way arguments below) = instance
+inner_instance (Running innermost reply below) = innermost.instance
 
 -- ---- room for one more frame
 abbrev pub stack_limit : ℕ
 stack_limit = 128
 
--- of all frames but the first of each stack
+-- of all frames but the innermost of each stack
 abbrev pub frame_limit : ℕ
 frame_limit = 512
 
-abbrev pub has_room : {Body : Type 0} → List (List (Frame Body)) → ℕ → Bool
+abbrev pub frames_below : {Body : Type 0} → Stack Body → List (Frame Body)
+frames_below Done = []
+frames_below (ToEnter instance way arguments below) = below
+frames_below (Running innermost reply below) = below
+
+abbrev pub has_room : {Body : Type 0} → List (Stack Body) → ℕ → Bool
 has_room stacks k =
-    nat_lt (length (frames_of stacks k)) stack_limit && nat_lt (sum (map (λ frames. length frames - 1) stacks)) frame_limit
+    nat_lt (suc (length (frames_below (stack_at stacks k)))) stack_limit && nat_lt (sum (map (λ stack. length (frames_below stack)) stacks)) frame_limit

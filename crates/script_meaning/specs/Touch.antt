@@ -1,7 +1,7 @@
 -- That a turn touches no variable and no state of an instance that its stack doesn't own, and that all
 -- else depends on them in nothing.
 use Rattle.std.specs.Prelude.{◌≡◌, ℕ, List, map, Option, Some, None, slice_index_or, slice_set}
-use Rattle.script_meaning.specs.Stacks.{State, inner_instance, frames_of}
+use Rattle.script_meaning.specs.Stacks.{State, stack_at, inner_instance}
 use Rattle.script_meaning.specs.World.{World, Instance, title, no_instance}
 
 abbrev pub with_instances : List Instance → World → World
@@ -12,7 +12,7 @@ state_with instances state = record state { world = with_instances instances sta
 
 -- the instance that a stack is on in its turn: that of its innermost frame
 abbrev pub instance_in_turn : {Body : Type 0} → State Body → ℕ → Option ℕ
-instance_in_turn state k = inner_instance (frames_of state.stacks k)
+instance_in_turn state k = inner_instance (stack_at state.stacks k)
 
 -- these instances, but for one that is taken from others
 abbrev pub but_for : Option ℕ → List Instance → List Instance → List Instance

@@ -7,7 +7,7 @@ use Rattle.core_tree.specs.declared.value.Value.TheVariants.{NoneValue}
 use Rattle.core_tree.specs.Scenes.{SceneShape, CallShape, OrderShape, Round, Listed}
 use Rattle.script_meaning.specs.Locks.{let_go, goes_to_wait, ends, rests, moves, takes, is_ready}
 use Rattle.script_meaning.specs.Requests.{Sight, Setting, Request, Method, ParentMethod, GlobalFunction, GlobalNative, Get, Set, LoopPass, Return, binding_in, is_prompt, latency_of, performed_at, first_argument}
-use Rattle.script_meaning.specs.Stacks.{Way, ByMethod, ByParent, ByGlobal, ByGet, BySet, Frame, ToEnter, Running, Entered, Opened, NativeThere, ReadThere, WriteThere, NothingThere, Stop, Engine, State, frame_instance, inner_instance, frames_of, has_room}
+use Rattle.script_meaning.specs.Stacks.{Way, ByMethod, ByParent, ByGlobal, ByGet, BySet, Frame, Stack, Done, ToEnter, Running, Entered, Opened, NativeThere, ReadThere, WriteThere, NothingThere, Stop, Engine, State, stack_at, inner_instance, has_room}
 use Rattle.script_meaning.specs.World.{World, Instance, title, instance_at, variable_of, with_variable}
 
 -- ---- what a frame on this instance sees of a world, and the world after it changed that
@@ -33,47 +33,44 @@ pub record Turn : Type 0 where
   pub own : Option ℕ
   pub setting : Setting
 
--- the world and the frames of the stack after an act
+-- the world and the stack after an act
 abbrev pub After : Type 0 → Type 0
-After Body = World × List (Frame Body)
+After Body = World × Stack Body
 
--- a frame below another is a running one (`waiting` of `Exclusive`), so no run comes to the first case
-abbrev pub with_reply : {Body : Type 0} → Value → Frame Body → Frame Body
-with_reply value (ToEnter instance way arguments) = ToEnter instance way arguments
-with_reply value (Running instance body reply) = Running instance body (Some value)
-
--- a call to enter is added
+-- a call to enter is added above these frames
 abbrev pub called : {Body : Type 0} → Turn → Option ℕ → Way → List Value → List (Frame Body) → World → After Body
-called turn target way arguments frames world =
-    (moves turn.stack turn.own target world, ToEnter target way arguments ∷ frames)
+called turn target way arguments below world =
+    (moves turn.stack turn.own target world, ToEnter target way arguments below)
 
--- the innermost frame was taken off, and its value waits in the caller
+-- the innermost of the frames below is given a value, and the stack goes on from its instance. Where there is no
+-- frame the stack ends
+abbrev pub answered : {Body : Type 0} → Turn → (Option ℕ → World → World) → Value → List (Frame Body) → World → After Body
+answered turn goes_on value [] world = (ends turn.stack (let_go turn.stack world), Done)
+answered turn goes_on value (caller ∷ below) world = (goes_on caller.instance world, Running caller (Some value) below)
+
+-- the innermost frame was taken off, and gives a value
 abbrev pub returned : {Body : Type 0} → Turn → Value → List (Frame Body) → World → After Body
-returned turn value [] world = (ends turn.stack (let_go turn.stack world), [])
-returned turn value (caller ∷ below) world =
-    (moves turn.stack turn.own (frame_instance caller) world, with_reply value caller ∷ below)
+returned turn value below world = answered turn (moves turn.stack turn.own) value below world
 
--- a native that isn't prompt is performed, and its reply waits in the innermost of the frames. A scene calls
--- functions with bodies, so no run of a bound scene comes to the case without frames
+-- a native that isn't prompt is performed
 abbrev pub native_done : {Body : Type 0} → Turn → FunctionPlace → List Value → List (Frame Body) → World → After Body
-native_done turn at arguments [] world = (ends turn.stack (let_go turn.stack world), [])
-native_done turn at arguments (waiting ∷ below) world =
+native_done turn at arguments below world =
     let done = performed_at turn.setting at arguments (sight_of world turn.own) in
-    (rests turn.stack (frame_instance waiting) (latency_of (binding_in turn.setting.natives at) arguments) (let_go turn.stack (with_sight world turn.own done.1)), with_reply done.0 waiting ∷ below)
+    answered turn (rests turn.stack (latency_of (binding_in turn.setting.natives at) arguments)) done.0 below (with_sight world turn.own done.1)
 
--- the acts of a running body. `frames` begins with its frame
+-- the acts of the body that runs, whose frame this is
 abbrev pub acted : {Body : Type 0} → Turn → Request → Frame Body → List (Frame Body) → World → After Body
 acted turn (Method target name arguments otherwise) frame below world =
     called turn (Some target) (ByMethod name) arguments (frame ∷ below) world
 acted turn (ParentMethod script name arguments otherwise) frame below world =
-    (world, ToEnter turn.own (ByParent script name) arguments ∷ frame ∷ below)
+    (world, ToEnter turn.own (ByParent script name) arguments (frame ∷ below))
 acted turn (GlobalFunction script name arguments otherwise) frame below world =
     called turn None (ByGlobal script name) arguments (frame ∷ below) world
 acted turn (GlobalNative at arguments) frame below world = native_done turn at arguments (frame ∷ below) world
 acted turn (Get target name otherwise) frame below world = called turn (Some target) (ByGet name) [] (frame ∷ below) world
 acted turn (Set target name value) frame below world =
     called turn (Some target) (BySet name) (value ∷ []) (frame ∷ below) world
-acted turn LoopPass frame below world = (world, frame ∷ below)
+acted turn LoopPass frame below world = (world, Running frame None below)
 acted turn (Return value) frame below world = returned turn value below world
 
 -- ---- inner steps up to the act that ends the turn
@@ -91,7 +88,7 @@ run_on engine setting (suc left) body reply sight =
 -- the body runs to an act, which is done
 abbrev pub stopped : {Body : Type 0} → Turn → World → List (Frame Body) → Stop Body → After Body
 stopped turn world below stop =
-    acted turn stop.request (Running turn.own stop.body None) below (with_sight world turn.own stop.sight)
+    acted turn stop.request (record { instance = turn.own; body = stop.body }) below (with_sight world turn.own stop.sight)
 
 abbrev pub ran : {Body : Type 0} → SceneShape → Engine Body → Turn → World → List (Frame Body) → Body → Option Value → After Body
 ran scene engine turn world below body reply =
@@ -120,22 +117,23 @@ instance_script world None = None
 instance_script world (Some instance) = Some (instance_at world instance).script
 
 -- ---- a turn
-abbrev pub in_turn : {Body : Type 0} → SceneShape → Engine Body → Turn → World → Frame Body → List (Frame Body) → After Body
-in_turn scene engine turn world (ToEnter instance way arguments) below =
+-- no run comes to the turn of a stack that is done, since such a stack is never ready
+abbrev pub in_turn : {Body : Type 0} → SceneShape → Engine Body → Turn → World → Stack Body → After Body
+in_turn scene engine turn world Done = (world, Done)
+in_turn scene engine turn world (ToEnter instance way arguments below) =
     entered scene engine turn world below arguments (engine.enter (instance_script world instance) (sight_of world instance).state way arguments)
-in_turn scene engine turn world (Running instance body reply) below = ran scene engine turn world below body reply
+in_turn scene engine turn world (Running innermost reply below) = ran scene engine turn world below innermost.body reply
 
-abbrev pub setting_of : {Body : Type 0} → SceneShape → World → List (List (Frame Body)) → ℕ → Option ℕ → Setting
+abbrev pub setting_of : {Body : Type 0} → SceneShape → World → List (Stack Body) → ℕ → Option ℕ → Setting
 setting_of scene world stacks k own =
     record { stack = k; self = own; outline = world.outline; instances = map title world.instances; natives = scene.natives; has_room = has_room stacks k }
 
-abbrev pub turn_of : {Body : Type 0} → SceneShape → World → List (List (Frame Body)) → ℕ → Option ℕ → Turn
+abbrev pub turn_of : {Body : Type 0} → SceneShape → World → List (Stack Body) → ℕ → Option ℕ → Turn
 turn_of scene world stacks k own = record { stack = k; own = own; setting = setting_of scene world stacks k own }
 
-abbrev pub after_turn : {Body : Type 0} → SceneShape → Engine Body → World → List (List (Frame Body)) → ℕ → List (Frame Body) → After Body
-after_turn scene engine world stacks k [] = (world, [])
-after_turn scene engine world stacks k (innermost ∷ below) =
-    in_turn scene engine (turn_of scene world stacks k (frame_instance innermost)) world innermost below
+abbrev pub after_turn : {Body : Type 0} → SceneShape → Engine Body → World → List (Stack Body) → ℕ → Stack Body → After Body
+after_turn scene engine world stacks k stack =
+    in_turn scene engine (turn_of scene world stacks k (inner_instance stack)) world stack
 
 abbrev pub turn_ended : World → ℕ → World
 turn_ended world k = record world { turn = world.turn + 1; last = Some k }
@@ -143,7 +141,7 @@ turn_ended world k = record world { turn = world.turn + 1; last = Some k }
 -- stack k has its turn
 abbrev pub turned : {Body : Type 0} → SceneShape → Engine Body → State Body → ℕ → State Body
 turned scene engine state k =
-    let after = after_turn scene engine (takes k state.world) state.stacks k (frames_of state.stacks k) in record {
+    let after = after_turn scene engine (takes k state.world) state.stacks k (stack_at state.stacks k) in record {
       world = turn_ended after.0 k;
       stacks = slice_set state.stacks k after.1;
     }
@@ -152,7 +150,7 @@ turned scene engine state k =
 abbrev pub call_started : {Body : Type 0} → State Body → CallShape → State Body
 call_started state call = record {
   world = goes_to_wait state.world.started (Some call.instance) (record state.world { started = state.world.started + 1 });
-  stacks = state.stacks ++ (ToEnter (Some call.instance) (ByMethod call.function) call.arguments ∷ []) ∷ [];
+  stacks = state.stacks ++ ToEnter (Some call.instance) (ByMethod call.function) call.arguments [] ∷ [];
 }
 
 -- the scene's calls of this turn start, in order
@@ -168,10 +166,10 @@ abbrev pub not_due : ℕ → ℕ × ℕ → Bool
 not_due turn sleeper = not (is_due turn sleeper)
 
 -- these sleepers go to wait, in order
-abbrev pub all_wait : {Body : Type 0} → List (List (Frame Body)) → List (ℕ × ℕ) → World → World
+abbrev pub all_wait : {Body : Type 0} → List (Stack Body) → List (ℕ × ℕ) → World → World
 all_wait stacks [] world = world
 all_wait stacks (sleeper ∷ rest) world =
-    all_wait stacks rest (goes_to_wait sleeper.0 (inner_instance (frames_of stacks sleeper.0)) world)
+    all_wait stacks rest (goes_to_wait sleeper.0 (inner_instance (stack_at stacks sleeper.0)) world)
 
 abbrev pub awoken : {Body : Type 0} → State Body → State Body
 awoken state =
