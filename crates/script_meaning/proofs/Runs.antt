@@ -7,7 +7,7 @@ use Rattle.std.proofs.Math.Dec.{eqb}
 use Rattle.core_tree.specs.declared.DeviceKind.{DeviceKind}
 use Rattle.core_tree.specs.Outlines.{ScriptShape}
 use Rattle.core_tree.specs.Scenes.{SceneShape, CallShape, OrderShape, Round, Listed}
-use Rattle.script_meaning.specs.Exclusive.{how_many, is_number, first_is, standings, IsOn, HasReply, SleepsWithReply, Exclusive}
+use Rattle.script_meaning.specs.Exclusive.{how_many, is_number, first_is, standings, IsOn, HasReply, SleepsWithReply, is_done, Exclusive}
 use Rattle.script_meaning.specs.First.{first_state}
 use Rattle.script_meaning.specs.Locks.{second_is, goes_to_wait, waited_for, stack_of, is_owned, is_stack, is_next, is_ready}
 use Rattle.script_meaning.specs.Stacks.{ByMethod, Stack, ToEnter, Engine, State, stack_at, inner_instance}
@@ -55,7 +55,7 @@ module _ {Body : Type 0} where
         waiters = all_others (second_is world.started) world.waiters no_waiter (λ p t a. subst (λ st. IsOn (Some p.0) st) (sym (same_before world stacks stack p.1 s.count t)) a) s.waiters;
         free = all_others (is_number world.started) world.free not_free (λ n t a. subst (λ st. IsOn None st) (sym (same_before world stacks stack n s.count t)) a) s.free;
         asleep = all_others (first_is world.started) world.asleep not_asleep (λ p t a. subst (λ st. HasReply st) (sym (same_before world stacks stack p.0 s.count t)) a) s.asleep;
-        done = all_others (is_number world.started) world.done not_done (λ n t a. same_before world stacks stack n s.count t ∙ a) s.done;
+        done = all_others (is_number world.started) world.done not_done (λ n t a. ap is_done (same_before world stacks stack n s.count t) ∙ a) s.done;
       }
 
   abbrev pub Stands : State Body → Type 0

@@ -1,12 +1,12 @@
 -- Each stack stands once, but for some that stand nowhere while they go from one place to another.
-use Rattle.std.proofs.Common.{◌≡◌, ◌≢◌, ℕ, ◌+◌, ◌<◌, ◌≤◌, Bool, true, false, cond, not, ◌&&◌, ◌||◌, ◌⊎◌, List, [], ◌∷◌, Option, Some, None, refl, sym, subst, ◌∙◌, inl, inr, arith}
+use Rattle.std.proofs.Common.{◌≡◌, ◌≢◌, ℕ, ◌+◌, ◌<◌, ◌≤◌, Bool, true, false, cond, not, ◌&&◌, ◌||◌, ◌⊎◌, List, [], ◌∷◌, Option, Some, None, refl, sym, ap, subst, ◌∙◌, inl, inr, arith}
 use Rattle.std.specs.Prelude.{length, slice_set}
 use Rattle.std.specs.List.{list_any, AllByRecursion}
 use Rattle.std.proofs.lemmas.Bool.{eqb-true, eqb-false, ltb-true, ltb-false}
 use Rattle.std.proofs.lemmas.List.{get_or-set_other, get_or-set_same, length-set}
 use Rattle.std.proofs.Math.Dec.{eqb, ltb}
 use Rattle.core_tree.specs.Device.{DeviceState}
-use Rattle.script_meaning.specs.Exclusive.{how_many, is_number, first_is, standings, IsOn, IsOnInstance, IsOnNone, HasReply, SleepsWithReply, IsDone, Exclusive}
+use Rattle.script_meaning.specs.Exclusive.{how_many, is_number, first_is, standings, IsOn, IsOnInstance, IsOnNone, HasReply, SleepsWithReply, is_done, IsDone, Exclusive}
 use Rattle.script_meaning.specs.Locks.{with_pair, is_other, second_is, second_is_other, let_go, goes_to_wait, sleeps, ends, waited_for, becomes_owner, takes, stack_of, is_owned, is_stack, is_next, is_ready}
 use Rattle.script_meaning.specs.Stacks.{Stack, Done, ToEnter, Running, State, stack_at, inner_instance}
 use Rattle.script_meaning.specs.World.{World, Instance, ArrayState, Line}
@@ -46,6 +46,11 @@ inner_on instance (Running innermost reply below) h e = e
 
 pub is_on_inner : {Body : Type 0} (stack : Stack Body) → stack ≢ Done → IsOn (inner_instance stack) stack
 is_on_inner stack h = inner_on (inner_instance stack) stack h refl
+
+done_of : {Body : Type 0} (stack : Stack Body) → is_done stack ≡ true → stack ≡ Done
+done_of Done e = refl
+done_of (ToEnter instance way arguments below) e = absurd (cc)
+done_of (Running innermost reply below) e = absurd (cc)
 
 -- what an innermost frame is on, the innermost frame with the same instance is on
 pub on_as : {Body : Type 0} (instance own : Option ℕ) (stack other : Stack Body) → IsOn own stack → IsOn own other → IsOn instance stack → IsOn instance other
@@ -90,12 +95,12 @@ module _ {Body : Type 0} where
   pub runs_open : (world : World) (stacks : List (Stack Body)) (k : ℕ) → StandsBut [] world stacks → runs world k → stack_at stacks k ≢ Done
   runs_open world stacks k s r = is_open world stacks k s (omega (arith, r))
 
-  ended_done : (world : World) (stacks : List (Stack Body)) (k : ℕ) → StandsBut [] world stacks → k < world.started → stack_at stacks k ≡ Done → how_many (is_number k) world.done ≡ 1
+  ended_done : (world : World) (stacks : List (Stack Body)) (k : ℕ) → StandsBut [] world stacks → k < world.started → IsDone stacks k → how_many (is_number k) world.done ≡ 1
   ended_done world stacks k s started e =
       let o = s.once k started in
       elim (same_or_not (how_many (is_number k) world.done) 1) [
         | inl (p, t) ↦ p
-        | inr (d, t) ↦ let h = is_open world stacks k s (omega (arith, o, d)) in absurd (h e)
+        | inr (d, t) ↦ let h = is_open world stacks k s (omega (arith, o, d)) in absurd (h (done_of (stack_at stacks k) e))
       ]
 
   pub to_exclusive : (state : State Body) → StandsBut [] state.world state.stacks → Exclusive state
@@ -328,7 +333,7 @@ module _ {Body : Type 0} where
         waiters = all_step world.waiters (λ p a. on p.1 (Some p.0) a) s.waiters;
         free = all_step world.free (λ n a. on n None a) s.free;
         asleep = all_others (first_is k) world.asleep not_asleep (λ p t a. subst (λ st. HasReply st) (sym (other_stack stacks k p.0 stack t)) a) s.asleep;
-        done = all_others (is_number k) world.done not_done (λ n t a. other_stack stacks k n stack t ∙ a) s.done;
+        done = all_others (is_number k) world.done not_done (λ n t a. ap is_done (other_stack stacks k n stack t) ∙ a) s.done;
       }
 
   -- a stack that stands nowhere may have any frames
@@ -349,5 +354,5 @@ module _ {Body : Type 0} where
         waiters = all_others (second_is k) world.waiters no_waiter (λ p t a. subst (λ st. IsOn (Some p.0) st) (sym (other_stack stacks k p.1 stack t)) a) s.waiters;
         free = all_others (is_number k) world.free not_free (λ n t a. subst (λ st. IsOn None st) (sym (other_stack stacks k n stack t)) a) s.free;
         asleep = all_others (first_is k) world.asleep not_asleep (λ p t a. subst (λ st. HasReply st) (sym (other_stack stacks k p.0 stack t)) a) s.asleep;
-        done = all_others (is_number k) world.done not_done (λ n t a. other_stack stacks k n stack t ∙ a) s.done;
+        done = all_others (is_number k) world.done not_done (λ n t a. ap is_done (other_stack stacks k n stack t) ∙ a) s.done;
       }

@@ -6,7 +6,7 @@ use Rattle.core_tree.specs.declared.expression.FunctionPlace.{FunctionPlace}
 use Rattle.core_tree.specs.declared.value.Value.{Value}
 use Rattle.core_tree.specs.declared.value.Value.TheVariants.{NoneValue}
 use Rattle.core_tree.specs.Scenes.{SceneShape}
-use Rattle.script_meaning.specs.Exclusive.{IsOn, HasReply}
+use Rattle.script_meaning.specs.Exclusive.{IsOn, HasReply, is_done}
 use Rattle.script_meaning.specs.Locks.{let_go, goes_to_wait, ends, rests, same_instance, moves, takes, is_ready}
 use Rattle.script_meaning.specs.Requests.{Sight, Request, Method, ParentMethod, GlobalFunction, GlobalNative, Get, Set, LoopPass, Return, binding_in, is_prompt, latency_of, performed_at}
 use Rattle.script_meaning.specs.Stacks.{ByMethod, ByParent, ByGlobal, ByGet, BySet, Frame, Stack, Done, ToEnter, Running, Entered, Opened, NativeThere, ReadThere, WriteThere, NothingThere, Stop, Engine, State, stack_at, inner_instance}
@@ -64,7 +64,7 @@ module _ {Body : Type 0} where
 
   ends_good : (world : World) (stacks : List (Stack Body)) (k : ℕ) (own : Option ℕ) → InTurn world stacks k own → StandsBut [] (ends k (let_go k world)) (slice_set stacks k Done)
   ends_good world stacks k own i =
-      end_stands (let_go k world) (slice_set stacks k Done) k [] (now_there world stacks k own Done i) (gone world stacks k own Done i)
+      end_stands (let_go k world) (slice_set stacks k Done) k [] (ap is_done (now_there world stacks k own Done i)) (gone world stacks k own Done i)
 
   -- ---- acts
   -- what a body sees and changes has no part in this

@@ -1,6 +1,6 @@
 -- That each stack stands in one place, on the instance and with the reply that it needs there, and no two stacks
 -- own one instance.
-use Rattle.std.specs.Prelude.{◌≡◌, ℕ, ◌+◌, ◌==◌, ◌<◌, ◌≤◌, Bool, cond, List, [], ◌∷◌, length, Option, Some, None}
+use Rattle.std.specs.Prelude.{◌≡◌, ℕ, ◌+◌, ◌==◌, ◌<◌, ◌≤◌, Bool, true, false, cond, List, [], ◌∷◌, length, Option, Some, None}
 use Rattle.std.specs.List.{AllByRecursion}
 use Rattle.script_meaning.specs.Locks.{second_is}
 use Rattle.script_meaning.specs.Stacks.{Stack, Done, ToEnter, Running, State, stack_at}
@@ -45,8 +45,13 @@ HasReply (Running innermost (Some reply) below) = Unit {0}
 abbrev pub SleepsWithReply : {Body : Type 0} → List (Stack Body) → ℕ × ℕ → Type 0
 SleepsWithReply stacks sleeper = HasReply (stack_at stacks sleeper.0)
 
+-- a stack without a frame
+abbrev pub is_done : {Body : Type 0} → Stack Body → Bool
+is_done Done = true
+is_done _ = false
+
 abbrev pub IsDone : {Body : Type 0} → List (Stack Body) → ℕ → Type 0
-IsDone stacks k = stack_at stacks k ≡ Done
+IsDone stacks k = is_done (stack_at stacks k) ≡ true
 
 pub record Exclusive {Body : Type 0} (state : State Body) : Type 0 where
   -- no two stacks own one instance
@@ -61,6 +66,6 @@ pub record Exclusive {Body : Type 0} (state : State Body) : Type 0 where
   pub free : AllByRecursion (IsOnNone state.stacks) state.world.free
   -- a stack that sleeps goes on with a reply
   pub asleep : AllByRecursion (SleepsWithReply state.stacks) state.world.asleep
-  -- the stacks that are done are those without a frame
+  -- a stack has no frame exactly where it is done
   pub done : AllByRecursion (IsDone state.stacks) state.world.done
   pub ended : (k : ℕ) → k < state.world.started → IsDone state.stacks k → how_many (is_number k) state.world.done ≡ 1

@@ -14,7 +14,7 @@ pub data Way : Type 0 where
   ByGet : (name : List ℕ) → Way
   BySet : (name : List ℕ) → Way
 
--- an open body, and the instance that it is on
+-- an open body, and the instance that it is on, or none
 pub record Frame (Body : Type 0) : Type 0 where
   pub instance : Option ℕ
   pub body : Body
