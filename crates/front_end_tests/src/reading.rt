@@ -1,4 +1,4 @@
-use line_parser::{LineForm, TypeWords, parse_form_with, parse_line, parse_line_with};
+use line_parser::{LineForm, parse_line};
 use papy_base::Text;
 use script_lexer::{Line, Lines, Token, lex};
 use script_parser::{ParseFault, Script, parse_script};
@@ -27,8 +27,6 @@ fn a_line_has_one_form(rt: HostRuntime) -> Result<(), Fail> {
     let lines = lex(rt.alloc(), b"Int x = 1 + y {doc}")?;
     let line = lines.lines.first().ok_or("no line")?;
     assert!(rt; defines_with_doc(rt.alloc(), line));
-    let types = TypeWords::new(rt.alloc())?;
-    assert!(rt; defines(rt.alloc(), &types, line));
     Ok(())
 }
 
@@ -36,15 +34,6 @@ fn defines_with_doc(alloc: Global, line: &Line) -> bool {
     match parse_line(alloc, line) {
         Ok(tree) => is_definition(&tree.form) && holds(&tree.doc, b"doc"),
         Err(_) => false,
-    }
-}
-
-fn defines(alloc: Global, types: &TypeWords, line: &Line) -> bool {
-    let tree = parse_line_with(alloc, types, line);
-    let form = parse_form_with(alloc, types, line);
-    match (&tree, &form) {
-        (Ok(tree), Ok(form)) => is_definition(&tree.form) && is_definition(form),
-        _ => false,
     }
 }
 

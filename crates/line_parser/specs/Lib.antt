@@ -1,4 +1,3 @@
 pub mod Blocks
 pub mod Fault
-pub mod Levels
 pub mod Nesting

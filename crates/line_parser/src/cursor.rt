@@ -1,11 +1,8 @@
 // Reads the tokens of a line from left to right.
 ghost use Rattle.std.specs.Prelude.{◌≡◌, ◌+◌, ◌<◌, ◌≤◌, length, IsTrue, IsSome, IfSome, OnSome, OnOk};
 ghost use Rattle.line_parser.specs.Blocks.{first_keyword, keyword_of};
-ghost use Rattle.line_parser.specs.Levels.{looseness};
 
 use crate::fault::FormFault;
-use crate::level::Level;
-use crate::type_words::TypeWords;
 use papy_base::Name;
 use script_lexer::{Keyword, Sign, Spanned, Token};
 use std::alloc::Global;
@@ -14,7 +11,6 @@ use std::alloc::Global;
 #[derive(Drop)]
 pub(crate) struct Cursor<'a> {
     pub(crate) alloc: Global,
-    pub(crate) types: &'a TypeWords,
     pub(crate) rest: &'a [Spanned],
 }
 
@@ -39,34 +35,19 @@ impl<'a> Cursor<'a> {
         }
     }
 
-    /// Whether the next token is a word or a number that is an operand by itself: a sign that opens no
-    /// link and no call stands behind it, or nothing.
-    pub(crate) fn next_is_lone(&self) -> bool {
-        match self.rest {
-            [first] => is_plain(&first.token),
-            [first, second, ..] => is_plain(&first.token) && ends_operand(&second.token),
-            [] => false,
+    /// The next token, which has to be there.
+    pub(crate) fn next(&self) -> Result<&'a Token, FormFault>
+        ensures { OnOk result (0 < length self.now.rest.now) }
+    {
+        match self.rest.first() {
+            Some(first) => Ok(&first.token),
+            None => Err(FormFault::NoForm),
         }
     }
 
     /// Whether the next token is `.` or `[`.
     pub(crate) fn next_is_link(&self) -> bool {
-        match self.next_sign() {
-            Some(found) => matches!(found, Sign::Dot | Sign::OpenBracket),
-            None => false,
-        }
-    }
-
-    /// Whether the next tokens are `[` and `]`.
-    fn next_is_array_mark(&self) -> bool
-        ensures { IsTrue result → 2 ≤ length self.now.rest.now }
-    {
-        is_sign_at(self.rest, 0, Sign::OpenBracket) && is_sign_at(self.rest, 1, Sign::CloseBracket)
-    }
-
-    /// Whether the next tokens are a word and `=`.
-    fn next_is_argument_name(&self) -> bool {
-        is_word_at(self.rest, 0) && is_sign_at(self.rest, 1, Sign::Assign)
+        matches!(self.next_sign(), Some(Sign::Dot | Sign::OpenBracket))
     }
 
     /// Passes over the next token.
@@ -82,13 +63,11 @@ impl<'a> Cursor<'a> {
         ensures shorter { IsTrue result → length self.new.rest.now < length self.old.rest.now }
         ensures bound { length self.new.rest.now ≤ length self.old.rest.now }
     {
-        match self.next_sign() {
-            Some(found) if found == wanted => {
-                self.skip();
-                true
-            }
-            _ => false,
+        if is_sign_at(self.rest, 0, wanted) {
+            self.skip();
+            return true;
         }
+        false
     }
 
     /// Takes the next token where it is this keyword.
@@ -133,7 +112,9 @@ impl<'a> Cursor<'a> {
         ensures bound { length self.new.rest.now ≤ length self.old.rest.now }
     {
         let (first, others) = self.rest.split_first()?;
-        let name = word(&first.token)?;
+        let Token::Word(name) = &first.token else {
+            return None;
+        };
         self.rest = others;
         Some(name)
     }
@@ -152,31 +133,29 @@ impl<'a> Cursor<'a> {
     pub(crate) fn expect_int(&mut self) -> Result<i32, FormFault>
         ensures shorter { OnOk result (length self.new.rest.now < length self.old.rest.now) }
     {
-        let Some((first, others)) = self.rest.split_first() else {
+        let Token::Int(number) = self.next()? else {
             return Err(FormFault::NoForm);
         };
-        let number = int(&first.token)?;
-        self.rest = others;
-        Ok(number)
+        self.skip();
+        Ok(*number)
     }
 
     /// Takes `[` and `]` where they are next.
     pub(crate) fn take_array_mark(&mut self) -> bool
         ensures bound { length self.new.rest.now ≤ length self.old.rest.now }
     {
-        let found = self.next_is_array_mark();
+        let found = is_array_mark_at(self.rest, 0);
         if found {
-            self.skip();
-            self.skip();
+            self.rest = &self.rest[2..];
         }
         found
     }
 
-    /// Takes the name of an argument and its `=` where they are next.
+    /// Takes the name of an argument and its `=` where they are next: no expression goes on with `=`.
     pub(crate) fn take_argument_name(&mut self) -> Result<Option<Name>, FormFault>
         ensures bound { OnOk result (length self.new.rest.now ≤ length self.old.rest.now) }
     {
-        if !self.next_is_argument_name() {
+        if !is_sign_at(self.rest, 1, Sign::Assign) {
             return Ok(None);
         }
         let name = self.expect_word()?;
@@ -184,28 +163,20 @@ impl<'a> Cursor<'a> {
         Ok(Some(name))
     }
 
-    /// Whether a binary sign that binds no looser than this level is next.
-    pub(crate) fn next_is_binary(&self, loosest: Level) -> bool {
-        match self.next_sign() {
-            Some(sign) => binds_within(sign, loosest),
-            None => false,
-        }
-    }
-
-    /// Takes a binary sign that binds no looser than this level where it is next, and gives its level.
-    pub(crate) fn take_binary(&mut self, loosest: Level) -> Option<(Sign, Level)>
+    /// Takes a binary sign of at least this precedence where it is next, and gives its precedence.
+    pub(crate) fn take_binary(&mut self, least: u8) -> Option<(Sign, u8)>
         ensures shorter { OnSome result (length self.new.rest.now < length self.old.rest.now) }
         ensures bound { length self.new.rest.now ≤ length self.old.rest.now }
-        ensures level { IfSome result (λ found. 0 < looseness found.1) }
-        ensures tight { IfSome result (λ found. looseness found.1 ≤ looseness loosest) }
+        ensures least { IfSome result (λ found. least ≤ found.1) }
+        ensures most { IfSome result (λ found. found.1 ≤ 5) }
     {
         let sign = self.next_sign()?;
-        let level = Level::of(sign)?;
-        if level.looseness() > loosest.looseness() {
+        let found = precedence(sign)?;
+        if found < least {
             return None;
         }
         self.skip();
-        Some((sign, level))
+        Some((sign, found))
     }
 
     /// Takes `-` or `!` where it is next.
@@ -235,10 +206,22 @@ impl<'a> Cursor<'a> {
     }
 }
 
-fn binds_within(sign: Sign, loosest: Level) -> bool {
-    match Level::of(sign) {
-        Some(level) => level.looseness() <= loosest.looseness(),
-        None => false,
+// How tightly a binary sign binds, from 1 for the loosest.
+fn precedence(sign: Sign) -> Option<u8>
+    ensures { IfSome result (λ found. found ≤ 5) }
+{
+    match sign {
+        Sign::Or => Some(1),
+        Sign::And => Some(2),
+        Sign::Equal
+        | Sign::NotEqual
+        | Sign::Less
+        | Sign::Greater
+        | Sign::LessEqual
+        | Sign::GreaterEqual => Some(3),
+        Sign::Plus | Sign::Minus => Some(4),
+        Sign::Star | Sign::Slash | Sign::Percent => Some(5),
+        _ => None,
     }
 }
 
@@ -251,8 +234,8 @@ fn sign_at(tokens: &[Spanned], at: usize) -> Option<Sign>
     }
 }
 
-/// Whether this sign is at a place of the tokens.
-pub(crate) fn is_sign_at(tokens: &[Spanned], at: usize, wanted: Sign) -> bool
+// Whether this sign is at a place of the tokens.
+fn is_sign_at(tokens: &[Spanned], at: usize, wanted: Sign) -> bool
     ensures { IsTrue result → at < length tokens.now }
 {
     match sign_at(tokens, at) {
@@ -261,11 +244,11 @@ pub(crate) fn is_sign_at(tokens: &[Spanned], at: usize, wanted: Sign) -> bool
     }
 }
 
-fn is_word_at(tokens: &[Spanned], at: usize) -> bool {
-    match tokens.get(at) {
-        Some(spanned) => matches!(spanned.token, Token::Word(_)),
-        None => false,
-    }
+/// Whether `[` and `]` stand at a place of the tokens.
+pub(crate) fn is_array_mark_at(tokens: &[Spanned], at: usize) -> bool
+    ensures { IsTrue result → at + 2 ≤ length tokens.now }
+{
+    is_sign_at(tokens, at, Sign::OpenBracket) && is_sign_at(tokens, at + 1, Sign::CloseBracket)
 }
 
 fn sign(token: &Token) -> Option<Sign> {
@@ -281,31 +264,6 @@ fn keyword(token: &Token) -> Option<Keyword>
     match token {
         Token::Key(found) => Some(*found),
         _ => None,
-    }
-}
-
-fn word(token: &Token) -> Option<&Name> {
-    match token {
-        Token::Word(name) => Some(name),
-        _ => None,
-    }
-}
-
-fn is_plain(token: &Token) -> bool {
-    matches!(token, Token::Word(_) | Token::Int(_))
-}
-
-fn ends_operand(token: &Token) -> bool {
-    match token {
-        Token::Sign(found) => !matches!(found, Sign::Dot | Sign::OpenBracket | Sign::OpenParen),
-        _ => false,
-    }
-}
-
-fn int(token: &Token) -> Result<i32, FormFault> {
-    match token {
-        Token::Int(number) => Ok(*number),
-        _ => Err(FormFault::NoForm),
     }
 }
 

@@ -3,10 +3,9 @@ ghost use Rattle.std.specs.Prelude.{◌≡◌, ◌+◌, ◌<◌, ◌≤◌, leng
 
 use crate::cursor::Cursor;
 use crate::fault::FormFault;
-use crate::level::Level;
-use crate::simple::{leaf, lone, type_name};
+use crate::simple::{leaf, type_name};
 use crate::tree::{Argument, Expr};
-use papy_base::Name;
+use papy_base::{Name, OutOfMemory};
 use script_lexer::{Keyword, Sign};
 use std::alloc::Global;
 
@@ -15,36 +14,18 @@ use std::alloc::Global;
 pub(crate) fn expression(cursor: &mut Cursor<'_>, depth: u8) -> Result<Expr, FormFault>
     ensures shorter { OnOk result (length cursor.new.rest.now < length cursor.old.rest.now) }
 {
-    binary(cursor, Level::Or, depth)
+    binary(cursor, 1, depth)
 }
 
-// Operands with signs between them that bind no looser than this level. An operand behind a sign holds
-// only signs that bind tighter, so signs of one level group to the left.
+// Operands with signs of at least this precedence between them. An operand behind a sign holds only
+// signs that bind tighter, so signs of one precedence group to the left.
 #[cycle(expression)]
-fn binary(cursor: &mut Cursor<'_>, loosest: Level, depth: u8) -> Result<Expr, FormFault>
+fn binary(cursor: &mut Cursor<'_>, least: u8, depth: u8) -> Result<Expr, FormFault>
     ensures shorter { OnOk result (length cursor.new.rest.now < length cursor.old.rest.now) }
 {
-    let first = operand(cursor, depth)?;
-    if cursor.next_is_binary(loosest) {
-        operators(cursor, first, loosest, depth)
-    } else {
-        Ok(first)
-    }
-}
-
-// The signs behind the first operand, each with its right operand.
-#[cycle(expression)]
-fn operators(
-    cursor: &mut Cursor<'_>,
-    first: Expr,
-    loosest: Level,
-    depth: u8,
-) -> Result<Expr, FormFault>
-    ensures bound { OnOk result (length cursor.new.rest.now ≤ length cursor.old.rest.now) }
-{
-    let mut left = first;
-    'signs: while let Some((sign, level)) = cursor.take_binary(loosest) {
-        let right = binary(cursor, level.tighter(), depth)?;
+    let mut left = unary(cursor, depth)?;
+    'signs: while let Some((sign, precedence)) = cursor.take_binary(least) {
+        let right = binary(cursor, precedence + 1, depth)?;
         left = Expr::Binary {
             sign,
             left: boxed(cursor.alloc, left)?,
@@ -54,33 +35,13 @@ fn operators(
     Ok(left)
 }
 
-// An operand of binary signs. Most are a word or a number alone.
-#[cycle(expression)]
-fn operand(cursor: &mut Cursor<'_>, depth: u8) -> Result<Expr, FormFault>
-    ensures shorter { OnOk result (length cursor.new.rest.now < length cursor.old.rest.now) }
-{
-    if cursor.next_is_lone() {
-        lone(cursor)
-    } else {
-        unary(cursor, depth)
-    }
-}
-
 #[cycle(expression)]
 fn unary(cursor: &mut Cursor<'_>, depth: u8) -> Result<Expr, FormFault>
     ensures shorter { OnOk result (length cursor.new.rest.now < length cursor.old.rest.now) }
 {
-    match cursor.take_unary() {
-        Some(sign) => signed(cursor, sign, depth),
-        None => cast(cursor, depth),
-    }
-}
-
-// The operand of a unary sign; the sign is taken.
-#[cycle(expression)]
-fn signed(cursor: &mut Cursor<'_>, sign: Sign, depth: u8) -> Result<Expr, FormFault>
-    ensures shorter { OnOk result (length cursor.new.rest.now < length cursor.old.rest.now) }
-{
+    let Some(sign) = cursor.take_unary() else {
+        return cast(cursor, depth);
+    };
     let of = cast(cursor, depth)?;
     Ok(Expr::Unary {
         sign,
@@ -93,17 +54,9 @@ fn cast(cursor: &mut Cursor<'_>, depth: u8) -> Result<Expr, FormFault>
     ensures shorter { OnOk result (length cursor.new.rest.now < length cursor.old.rest.now) }
 {
     let of = chain(cursor, depth)?;
-    if cursor.take_keyword(Keyword::As) {
-        cast_to(cursor, of)
-    } else {
-        Ok(of)
+    if !cursor.take_keyword(Keyword::As) {
+        return Ok(of);
     }
-}
-
-// The type behind `As`, which is taken.
-fn cast_to(cursor: &mut Cursor<'_>, of: Expr) -> Result<Expr, FormFault>
-    ensures shorter { OnOk result (length cursor.new.rest.now < length cursor.old.rest.now) }
-{
     let to = type_name(cursor)?;
     Ok(Expr::Cast {
         of: boxed(cursor.alloc, of)?,
@@ -116,20 +69,7 @@ fn cast_to(cursor: &mut Cursor<'_>, of: Expr) -> Result<Expr, FormFault>
 fn chain(cursor: &mut Cursor<'_>, depth: u8) -> Result<Expr, FormFault>
     ensures shorter { OnOk result (length cursor.new.rest.now < length cursor.old.rest.now) }
 {
-    let first = atom(cursor, depth)?;
-    if cursor.next_is_link() {
-        links(cursor, first, depth)
-    } else {
-        Ok(first)
-    }
-}
-
-// Members, calls and indexes behind an atom.
-#[cycle(expression)]
-fn links(cursor: &mut Cursor<'_>, first: Expr, depth: u8) -> Result<Expr, FormFault>
-    ensures bound { OnOk result (length cursor.new.rest.now ≤ length cursor.old.rest.now) }
-{
-    let mut of = first;
+    let mut of = atom(cursor, depth)?;
     'links: while cursor.next_is_link() {
         of = link(cursor, of, depth)?;
     }
@@ -187,17 +127,9 @@ fn bracketed(cursor: &mut Cursor<'_>, close: Sign, depth: u8) -> Result<Expr, Fo
 fn atom(cursor: &mut Cursor<'_>, depth: u8) -> Result<Expr, FormFault>
     ensures shorter { OnOk result (length cursor.new.rest.now < length cursor.old.rest.now) }
 {
-    match cursor.take_word() {
-        Some(word) => word_or_call(cursor, word, depth),
-        None => other_atom(cursor, depth),
+    if let Some(word) = cursor.take_word() {
+        return word_or_call(cursor, word, depth);
     }
-}
-
-// An atom that begins with no word.
-#[cycle(expression)]
-fn other_atom(cursor: &mut Cursor<'_>, depth: u8) -> Result<Expr, FormFault>
-    ensures shorter { OnOk result (length cursor.new.rest.now < length cursor.old.rest.now) }
-{
     if cursor.take_sign(Sign::OpenParen) {
         bracketed(cursor, Sign::CloseParen, depth)
     } else if cursor.take_keyword(Keyword::Parent) {
@@ -224,18 +156,9 @@ fn word_or_call(cursor: &mut Cursor<'_>, word: &Name, depth: u8) -> Result<Expr,
     ensures bound { OnOk result (length cursor.new.rest.now ≤ length cursor.old.rest.now) }
 {
     let name = word.try_clone(cursor.alloc)?;
-    if cursor.take_sign(Sign::OpenParen) {
-        call(cursor, name, depth)
-    } else {
-        Ok(Expr::Word(name))
+    if !cursor.take_sign(Sign::OpenParen) {
+        return Ok(Expr::Word(name));
     }
-}
-
-// The arguments of a call; the name and the `(` are taken.
-#[cycle(expression)]
-fn call(cursor: &mut Cursor<'_>, name: Name, depth: u8) -> Result<Expr, FormFault>
-    ensures shorter { OnOk result (length cursor.new.rest.now < length cursor.old.rest.now) }
-{
     let arguments = arguments(cursor, depth)?;
     Ok(Expr::Call { name, arguments })
 }
@@ -271,6 +194,6 @@ fn one_deeper(depth: u8) -> Result<u8, FormFault>
     }
 }
 
-fn boxed(alloc: Global, of: Expr) -> Result<Box<Expr>, FormFault> {
+fn boxed(alloc: Global, of: Expr) -> Result<Box<Expr>, OutOfMemory> {
     Ok(Box::new(alloc, of)?)
 }

@@ -2,7 +2,7 @@
 ghost use Rattle.std.specs.Prelude.{◌≡◌};
 
 use papy_base::OutOfMemory;
-use std::alloc::{AllocError, AllocFailed};
+use std::alloc::AllocFailed;
 use thiserror::Error;
 
 /// The rules of lines and blocks.
@@ -47,16 +47,6 @@ impl From<OutOfMemory> for FormFault {
     }
 }
 
-impl From<AllocError> for FormFault {
-    ghost use Rattle.line_parser.specs.declared.fault.FormFault.TheVariants.{OutOfMemory};
-
-    ghost from_gives = { λ _ e. e ≡ OutOfMemory };
-
-    fn from(_e: AllocError) -> FormFault {
-        FormFault::OutOfMemory
-    }
-}
-
 impl<T: Drop> From<AllocFailed<T>> for FormFault {
     ghost use Rattle.line_parser.specs.declared.fault.FormFault.TheVariants.{OutOfMemory};
 
@@ -64,16 +54,6 @@ impl<T: Drop> From<AllocFailed<T>> for FormFault {
 
     fn from(_e: AllocFailed<T>) -> FormFault {
         FormFault::OutOfMemory
-    }
-}
-
-impl From<OutOfMemory> for LineFault {
-    ghost use Rattle.line_parser.specs.declared.fault.LineFault.TheVariants.{OutOfMemory};
-
-    ghost from_gives = { λ _ e. e ≡ OutOfMemory };
-
-    fn from(_e: OutOfMemory) -> LineFault {
-        LineFault::OutOfMemory
     }
 }
 

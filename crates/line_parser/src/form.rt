@@ -11,8 +11,7 @@ use crate::fault::{FormFault, LineFault, LineRule};
 use crate::nesting::{BRACKET_LIMIT, is_too_deep};
 use crate::simple::{begins_declaration, constant, flags, initial_constant, parameters, type_name};
 use crate::tree::{Heading, LineForm, LineTree, TypeName};
-use crate::type_words::TypeWords;
-use papy_base::Text;
+use papy_base::{OutOfMemory, Text};
 use script_lexer::{Keyword, Line, Sign, Spanned, Token};
 use std::alloc::Global;
 
@@ -24,46 +23,8 @@ use std::alloc::Global;
 pub fn parse_line(alloc: Global, line: &Line) -> Result<LineTree, LineFault>
     ensures too_deep { IsErrOf result (Broken TooDeep) ↔ IsTooDeep line.now.tokens.items }
     ensures no_block { result ≢ Err (Broken BadBlock) }
-{
-    let tokens = judged(line)?;
-    let types = TypeWords::new(alloc)?;
-    Ok(line_tree(alloc, &types, tokens)?)
-}
-
-/// As [`parse_line`], with the names of types that the lines of a file share.
-///
-/// # Errors
-/// As those of [`parse_line`].
-pub fn parse_line_with(alloc: Global, types: &TypeWords, line: &Line) -> Result<LineTree, LineFault>
-    ensures too_deep { IsErrOf result (Broken TooDeep) ↔ IsTooDeep line.now.tokens.items }
-    ensures no_block { result ≢ Err (Broken BadBlock) }
-{
-    let tokens = judged(line)?;
-    Ok(line_tree(alloc, types, tokens)?)
-}
-
-/// The form alone, as [`parse_line_with`] gives it.
-///
-/// # Errors
-/// As those of [`parse_line`].
-pub fn parse_form_with(alloc: Global, types: &TypeWords, line: &Line) -> Result<LineForm, LineFault>
-    ensures too_deep { IsErrOf result (Broken TooDeep) ↔ IsTooDeep line.now.tokens.items }
-    ensures no_block { result ≢ Err (Broken BadBlock) }
     // The form of `If` or `While` is that of a line that begins so.
-    ensures block { IfOk result (λ form. IsTrue (opens_block form) → IsTrue (begins_block line.now.tokens.items)) }
-{
-    let tokens = judged(line)?;
-    if let Some(form) = ending_form(tokens) {
-        return Ok(form);
-    }
-    Ok(whole_form(alloc, types, without_doc(tokens))?)
-}
-
-// The tokens of a line that is neither too long nor too deep.
-fn judged(line: &Line) -> Result<&[Spanned], LineFault>
-    ensures too_deep { IsErrOf result (Broken TooDeep) ↔ IsTooDeep line.now.tokens.items }
-    ensures no_block { result ≢ Err (Broken BadBlock) }
-    ensures tokens { IfOk result (λ tokens. tokens.now ≡ line.now.tokens.items) }
+    ensures block { IfOk result (λ tree. IsTrue (opens_block tree.form) → IsTrue (begins_block line.now.tokens.items)) }
 {
     let tokens = line.tokens.as_slice();
     if is_too_deep(tokens) {
@@ -71,26 +32,15 @@ fn judged(line: &Line) -> Result<&[Spanned], LineFault>
             rule: LineRule::TooDeep,
         });
     }
-    Ok(tokens)
-}
-
-// The form of a line that is one keyword, as most ends of blocks are.
-fn ending_form(tokens: &[Spanned]) -> Option<LineForm>
-    ensures { IfSome result (λ form. opens_block form ≡ false) }
-{
-    match tokens {
-        [only] => match only.token {
-            Token::Key(keyword) => word_form(keyword),
-            _ => None,
-        },
-        _ => None,
-    }
+    Ok(line_tree(alloc, tokens)?)
 }
 
 // A form, and a documentation text where one is last.
-fn line_tree(alloc: Global, types: &TypeWords, tokens: &[Spanned]) -> Result<LineTree, FormFault> {
+fn line_tree(alloc: Global, tokens: &[Spanned]) -> Result<LineTree, FormFault>
+    ensures { IfOk result (λ tree. IsTrue (opens_block tree.form) → IsTrue (begins_block tokens.now)) }
+{
     let doc = doc_at_end(alloc, tokens)?;
-    let form = whole_form(alloc, types, without_doc(tokens))?;
+    let form = whole_form(alloc, without_doc(tokens))?;
     Ok(LineTree { form, doc })
 }
 
@@ -108,27 +58,23 @@ fn is_doc(token: &Token) -> bool {
     matches!(token, Token::Doc(_))
 }
 
-fn doc_at_end(alloc: Global, tokens: &[Spanned]) -> Result<Option<Text>, FormFault> {
-    match tokens.last() {
-        Some(last) => doc_text(alloc, &last.token),
-        None => Ok(None),
-    }
-}
-
-fn doc_text(alloc: Global, token: &Token) -> Result<Option<Text>, FormFault> {
-    match token {
-        Token::Doc(text) => Ok(Some(text.try_clone(alloc)?)),
-        _ => Ok(None),
-    }
+/// The documentation text that is last of a line's tokens, where one is.
+pub fn doc_at_end(alloc: Global, tokens: &[Spanned]) -> Result<Option<Text>, OutOfMemory> {
+    let Some(last) = tokens.last() else {
+        return Ok(None);
+    };
+    let Token::Doc(text) = &last.token else {
+        return Ok(None);
+    };
+    Ok(Some(text.try_clone(alloc)?))
 }
 
 // The form that all of the tokens have.
-fn whole_form(alloc: Global, types: &TypeWords, tokens: &[Spanned]) -> Result<LineForm, FormFault>
+fn whole_form(alloc: Global, tokens: &[Spanned]) -> Result<LineForm, FormFault>
     ensures { IfOk result (λ form. IsTrue (opens_block form) → IsTrue (begins_block tokens.now)) }
 {
     let mut cursor = Cursor {
         alloc,
-        types,
         rest: tokens,
     };
     let form = form(&mut cursor)?;
@@ -143,11 +89,13 @@ fn whole_form(alloc: Global, types: &TypeWords, tokens: &[Spanned]) -> Result<Li
 fn form(cursor: &mut Cursor<'_>) -> Result<LineForm, FormFault>
     ensures { IfOk result (λ form. IsTrue (opens_block form) → IsTrue (begins_block cursor.old.rest.now)) }
 {
+    if begins_declaration(cursor.rest) {
+        return declaration(cursor);
+    }
     match cursor.next_keyword() {
-        Some(keyword) if !begins_declaration(cursor.rest) => keyword_form(cursor, keyword),
-        _ if cursor.is_at_end() => Ok(LineForm::DocOnly),
-        _ if begins_declaration(cursor.rest) => declaration(cursor),
-        _ => statement(cursor),
+        Some(keyword) => keyword_form(cursor, keyword),
+        None if cursor.is_at_end() => Ok(LineForm::DocOnly),
+        None => statement(cursor),
     }
 }
 
@@ -159,8 +107,7 @@ fn keyword_form(cursor: &mut Cursor<'_>, keyword: Keyword) -> Result<LineForm, F
         Keyword::ScriptName => script_name(cursor),
         Keyword::Import => import(cursor),
         Keyword::Auto | Keyword::State => state(cursor),
-        Keyword::Function => untyped_function(cursor),
-        Keyword::Event => event(cursor),
+        Keyword::Function | Keyword::Event => function(cursor, keyword, None),
         Keyword::If | Keyword::ElseIf | Keyword::While => test_line(cursor, keyword),
         Keyword::Return => return_line(cursor),
         _ => match word_form(keyword) {
@@ -253,7 +200,7 @@ fn declaration(cursor: &mut Cursor<'_>) -> Result<LineForm, FormFault>
     let kind = type_name(cursor)?;
     match cursor.next_keyword() {
         Some(Keyword::Property) => property(cursor, kind),
-        Some(Keyword::Function) => function(cursor, Some(kind)),
+        Some(Keyword::Function) => function(cursor, Keyword::Function, Some(kind)),
         _ => definition(cursor, kind),
     }
 }
@@ -300,59 +247,39 @@ fn property(cursor: &mut Cursor<'_>, kind: TypeName) -> Result<LineForm, FormFau
     })
 }
 
-fn untyped_function(cursor: &mut Cursor<'_>) -> Result<LineForm, FormFault>
+// What begins with `Function` or `Event`, whichever the keyword is.
+fn function(
+    cursor: &mut Cursor<'_>,
+    keyword: Keyword,
+    result_type: Option<TypeName>,
+) -> Result<LineForm, FormFault>
     ensures { IfOk result (λ form. opens_block form ≡ false) }
 {
-    function(cursor, None)
-}
-
-fn function(cursor: &mut Cursor<'_>, result_type: Option<TypeName>) -> Result<LineForm, FormFault>
-    ensures { IfOk result (λ form. opens_block form ≡ false) }
-{
-    cursor.expect_keyword(Keyword::Function)?;
+    cursor.expect_keyword(keyword)?;
     let name = cursor.expect_word()?;
     let parameters = parameters(cursor)?;
-    let (is_global, is_native) = global_and_native(cursor);
+    let is_event = keyword == Keyword::Event;
+    let (is_global, is_native) = global_and_native(cursor, is_event);
     let flags = flags(cursor)?;
     Ok(LineForm::Function(Heading {
         result: result_type,
         name,
         parameters,
-        is_event: false,
+        is_event,
         is_global,
         is_native,
         flags,
     }))
 }
 
-// `Global` and `Native`, each at most once, in either order.
-fn global_and_native(cursor: &mut Cursor<'_>) -> (bool, bool) {
-    let is_global = cursor.take_keyword(Keyword::Global);
+// `Global`, which no event is, and `Native`, each at most once, in either order.
+fn global_and_native(cursor: &mut Cursor<'_>, is_event: bool) -> (bool, bool) {
+    let is_global = !is_event && cursor.take_keyword(Keyword::Global);
     let is_native = cursor.take_keyword(Keyword::Native);
-    if !is_global && is_native {
-        let is_global = cursor.take_keyword(Keyword::Global);
-        return (is_global, true);
+    if is_native && !is_global && !is_event {
+        return (cursor.take_keyword(Keyword::Global), true);
     }
     (is_global, is_native)
-}
-
-fn event(cursor: &mut Cursor<'_>) -> Result<LineForm, FormFault>
-    ensures { IfOk result (λ form. opens_block form ≡ false) }
-{
-    cursor.expect_keyword(Keyword::Event)?;
-    let name = cursor.expect_word()?;
-    let parameters = parameters(cursor)?;
-    let is_native = cursor.take_keyword(Keyword::Native);
-    let flags = flags(cursor)?;
-    Ok(LineForm::Function(Heading {
-        result: None,
-        name,
-        parameters,
-        is_event: true,
-        is_global: false,
-        is_native,
-        flags,
-    }))
 }
 
 // An assignment, or an expression alone.

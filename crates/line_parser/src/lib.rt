@@ -6,13 +6,10 @@ mod cursor;
 mod expression;
 mod fault;
 mod form;
-mod level;
 mod nesting;
 mod simple;
 mod tree;
-mod type_words;
 
 pub use fault::{LineFault, LineRule};
-pub use form::{parse_form_with, parse_line, parse_line_with};
+pub use form::{doc_at_end, parse_line};
 pub use tree::{Argument, Constant, Expr, Heading, LineForm, LineTree, Parameter, TypeName};
-pub use type_words::TypeWords;

@@ -1,10 +1,10 @@
 // Types, constants and flags: the parts of a line that hold no expression.
 ghost use Rattle.std.specs.Prelude.{◌<◌, ◌≤◌, length, OnOk};
 
-use crate::cursor::{Cursor, is_sign_at};
+use crate::cursor::{Cursor, is_array_mark_at};
 use crate::fault::FormFault;
 use crate::tree::{Constant, Expr, Parameter, TypeName};
-use papy_base::{Name, Text, neg};
+use papy_base::{Name, neg};
 use script_lexer::{Keyword, Sign, Spanned, Token};
 use std::alloc::Global;
 
@@ -12,15 +12,14 @@ use std::alloc::Global;
 pub(crate) fn type_word(cursor: &mut Cursor<'_>) -> Result<Name, FormFault>
     ensures shorter { OnOk result (length cursor.new.rest.now < length cursor.old.rest.now) }
 {
-    let types = cursor.types;
-    let word = match cursor.next_keyword() {
-        Some(Keyword::Int) => &types.int,
-        Some(Keyword::Bool) => &types.bool,
-        Some(Keyword::String) => &types.string,
+    let word: &[u8] = match cursor.next_keyword() {
+        Some(Keyword::Int) => b"Int",
+        Some(Keyword::Bool) => b"Bool",
+        Some(Keyword::String) => b"String",
         _ => return cursor.expect_word(),
     };
     cursor.skip();
-    Ok(word.try_clone(cursor.alloc)?)
+    Ok(Name::from_bytes(cursor.alloc, word)?)
 }
 
 /// A type, with `[]` for an array.
@@ -30,26 +29,6 @@ pub(crate) fn type_name(cursor: &mut Cursor<'_>) -> Result<TypeName, FormFault>
     let word = type_word(cursor)?;
     let is_array = cursor.take_array_mark();
     Ok(TypeName { word, is_array })
-}
-
-/// A word or a number that is an operand by itself.
-pub(crate) fn lone(cursor: &mut Cursor<'_>) -> Result<Expr, FormFault>
-    ensures shorter { OnOk result (length cursor.new.rest.now < length cursor.old.rest.now) }
-{
-    let Some((first, others)) = cursor.rest.split_first() else {
-        return Err(FormFault::NoForm);
-    };
-    let found = lone_value(cursor.alloc, &first.token)?;
-    cursor.rest = others;
-    Ok(found)
-}
-
-fn lone_value(alloc: Global, token: &Token) -> Result<Expr, FormFault> {
-    match token {
-        Token::Word(name) => Ok(Expr::Word(name.try_clone(alloc)?)),
-        Token::Int(number) => Ok(Expr::Int(*number)),
-        _ => Err(FormFault::NoForm),
-    }
 }
 
 /// An atom that holds no expression: `Self`, a new array, or a constant without `-`.
@@ -65,35 +44,17 @@ pub(crate) fn leaf(cursor: &mut Cursor<'_>) -> Result<Expr, FormFault>
             cursor.skip();
             new_array(cursor)
         }
-        _ => written_value(cursor),
+        _ => Ok(value_of(plain_constant(cursor)?)),
     }
 }
 
-// The expression of a constant without `-`.
-fn written_value(cursor: &mut Cursor<'_>) -> Result<Expr, FormFault>
-    ensures shorter { OnOk result (length cursor.new.rest.now < length cursor.old.rest.now) }
-{
-    let Some((first, others)) = cursor.rest.split_first() else {
-        return Err(FormFault::NoForm);
-    };
-    let found = value_of(cursor.alloc, &first.token)?;
-    cursor.rest = others;
-    Ok(found)
-}
-
-fn value_of(alloc: Global, token: &Token) -> Result<Expr, FormFault> {
-    match token {
-        Token::Int(number) => Ok(Expr::Int(*number)),
-        Token::Quoted(text) => quoted_value(alloc, text),
-        Token::Key(Keyword::True) => Ok(Expr::Bool(true)),
-        Token::Key(Keyword::False) => Ok(Expr::Bool(false)),
-        Token::Key(Keyword::None) => Ok(Expr::NoneValue),
-        _ => Err(FormFault::NoForm),
+fn value_of(constant: Constant) -> Expr {
+    match constant {
+        Constant::Int(number) => Expr::Int(number),
+        Constant::Bool(truth) => Expr::Bool(truth),
+        Constant::Quoted(text) => Expr::Quoted(text),
+        Constant::NoneValue => Expr::NoneValue,
     }
-}
-
-fn quoted_value(alloc: Global, text: &Text) -> Result<Expr, FormFault> {
-    Ok(Expr::Quoted(text.try_clone(alloc)?))
 }
 
 fn new_array(cursor: &mut Cursor<'_>) -> Result<Expr, FormFault>
@@ -110,27 +71,20 @@ fn new_array(cursor: &mut Cursor<'_>) -> Result<Expr, FormFault>
 fn plain_constant(cursor: &mut Cursor<'_>) -> Result<Constant, FormFault>
     ensures shorter { OnOk result (length cursor.new.rest.now < length cursor.old.rest.now) }
 {
-    let Some((first, others)) = cursor.rest.split_first() else {
-        return Err(FormFault::NoForm);
-    };
-    let found = constant_of(cursor.alloc, &first.token)?;
-    cursor.rest = others;
+    let found = constant_of(cursor.alloc, cursor.next()?)?;
+    cursor.skip();
     Ok(found)
 }
 
 fn constant_of(alloc: Global, token: &Token) -> Result<Constant, FormFault> {
     match token {
         Token::Int(number) => Ok(Constant::Int(*number)),
-        Token::Quoted(text) => quoted(alloc, text),
+        Token::Quoted(text) => Ok(Constant::Quoted(text.try_clone(alloc)?)),
         Token::Key(Keyword::True) => Ok(Constant::Bool(true)),
         Token::Key(Keyword::False) => Ok(Constant::Bool(false)),
         Token::Key(Keyword::None) => Ok(Constant::NoneValue),
         _ => Err(FormFault::NoForm),
     }
-}
-
-fn quoted(alloc: Global, text: &Text) -> Result<Constant, FormFault> {
-    Ok(Constant::Quoted(text.try_clone(alloc)?))
 }
 
 /// A constant. The least number's negation is itself.
@@ -189,14 +143,6 @@ const CONDITIONAL: u32 = 2;
 
 /// The flags `Hidden` and `Conditional`, each at most once.
 pub(crate) fn flags(cursor: &mut Cursor<'_>) -> Result<u32, FormFault> {
-    if cursor.is_at_end() {
-        Ok(0)
-    } else {
-        written_flags(cursor)
-    }
-}
-
-fn written_flags(cursor: &mut Cursor<'_>) -> Result<u32, FormFault> {
     let mut bits = 0;
     'flags: while let Some((first, others)) = cursor.rest.split_first() {
         let Token::Word(name) = &first.token else {
@@ -224,32 +170,23 @@ fn flag_bit(name: &Name) -> Result<u32, FormFault> {
 
 /// Whether the tokens begin a declaration: a type, and behind it `Property`, `Function` or a word.
 pub(crate) fn begins_declaration(tokens: &[Spanned]) -> bool {
-    let behind = if is_sign_at(tokens, 1, Sign::OpenBracket)
-        && is_sign_at(tokens, 2, Sign::CloseBracket)
-    {
-        3
-    } else {
-        1
-    };
-    is_type_word_at(tokens, 0) && is_declared_at(tokens, behind)
-}
-
-fn is_type_word_at(tokens: &[Spanned], at: usize) -> bool {
-    match tokens.get(at) {
-        Some(spanned) => matches!(
-            spanned.token,
-            Token::Word(_) | Token::Key(Keyword::Int | Keyword::Bool | Keyword::String)
-        ),
-        None => false,
+    let behind = if is_array_mark_at(tokens, 1) { 3 } else { 1 };
+    match (tokens.first(), tokens.get(behind)) {
+        (Some(kind), Some(declared)) => is_type_word(&kind.token) && is_declared(&declared.token),
+        _ => false,
     }
 }
 
-fn is_declared_at(tokens: &[Spanned], at: usize) -> bool {
-    match tokens.get(at) {
-        Some(spanned) => matches!(
-            spanned.token,
-            Token::Word(_) | Token::Key(Keyword::Property | Keyword::Function)
-        ),
-        None => false,
-    }
+fn is_type_word(token: &Token) -> bool {
+    matches!(
+        token,
+        Token::Word(_) | Token::Key(Keyword::Int | Keyword::Bool | Keyword::String)
+    )
+}
+
+fn is_declared(token: &Token) -> bool {
+    matches!(
+        token,
+        Token::Word(_) | Token::Key(Keyword::Property | Keyword::Function)
+    )
 }

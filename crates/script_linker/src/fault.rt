@@ -3,7 +3,6 @@ ghost use Rattle.script_linker.specs.Rules.{rule_number};
 ghost use Rattle.script_linker.specs.declared.fault.LinkFault.TheVariants.{OutOfMemory as LinkOutOfMemory};
 
 use papy_base::OutOfMemory;
-use std::alloc::{AllocError, AllocFailed};
 use thiserror::Error;
 
 /// The rules of a set of scripts, in the order of their numbers, N1 to N12.
@@ -77,22 +76,6 @@ impl From<OutOfMemory> for LinkFault {
     ghost from_gives = { λ _ fault. fault ≡ LinkOutOfMemory };
 
     fn from(_error: OutOfMemory) -> LinkFault {
-        LinkFault::OutOfMemory
-    }
-}
-
-impl From<AllocError> for LinkFault {
-    ghost from_gives = { λ _ fault. fault ≡ LinkOutOfMemory };
-
-    fn from(_error: AllocError) -> LinkFault {
-        LinkFault::OutOfMemory
-    }
-}
-
-impl<T: Drop> From<AllocFailed<T>> for LinkFault {
-    ghost from_gives = { λ _ fault. fault ≡ LinkOutOfMemory };
-
-    fn from(_error: AllocFailed<T>) -> LinkFault {
         LinkFault::OutOfMemory
     }
 }

@@ -7,33 +7,23 @@ use crate::fault::BlockFault;
 use crate::reader::Reader;
 use crate::script::{Statement, StatementForm};
 use line_parser::{Expr, LineForm, LineRule};
+use script_lexer::Keyword;
 
 /// The most `If` and `While` that may be open.
 pub(crate) const OPEN_LIMIT: u8 = 64;
 
-/// Statements in a row, and the line that ends them.
+// Statements in a row, and the line that ends them: the first whose form is none of a statement.
 #[derive(Drop)]
-pub(crate) struct Block {
-    pub(crate) statements: Vec<Statement>,
-    pub(crate) end: EndKind,
-    pub(crate) end_at: usize,
-    pub(crate) end_line: u16,
+struct Block {
+    statements: Vec<Statement>,
+    end: LineForm,
+    end_at: usize,
+    end_line: u16,
 }
 
-/// What ends a row of statements.
-#[derive(Drop)]
-pub(crate) enum EndKind {
-    ElseIf(Expr),
-    Else,
-    EndIf,
-    EndWhile,
-    EndFunction,
-    EndEvent,
-}
-
-/// The statements up to the line that ends them. At most `depth` blocks may be open in them.
+// The statements up to the line that ends them. At most `depth` blocks may be open in them.
 #[cycle(statements)]
-pub(crate) fn statements(reader: &mut Reader<'_>, depth: u8) -> Result<Block, BlockFault>
+fn statements(reader: &mut Reader<'_>, depth: u8) -> Result<Block, BlockFault>
     requires { 64 ≤ blocks_before reader.old + depth }
     ensures nearer { OnOk result (left reader.new < left reader.old) }
     ensures onward { OnOk result (GoesOn reader.old reader.new) }
@@ -65,45 +55,16 @@ pub(crate) fn statements(reader: &mut Reader<'_>, depth: u8) -> Result<Block, Bl
             LineForm::Return(value) => StatementForm::Return(value),
             LineForm::If(test) => if_block(reader, line, test, inner_depth(at, depth)?)?,
             LineForm::While(test) => while_block(reader, test, inner_depth(at, depth)?)?,
-            other => return ended(found, other, at, line),
+            end => {
+                return Ok(Block {
+                    statements: found,
+                    end,
+                    end_at: at,
+                    end_line: line,
+                });
+            }
         };
         found.push(Statement { line, form })?;
-    }
-}
-
-// The block of these statements, whose next line isn't one of them.
-fn ended(
-    statements: Vec<Statement>,
-    form: LineForm,
-    end_at: usize,
-    end_line: u16,
-) -> Result<Block, BlockFault>
-    ensures { (lines : List Line) → IfErr result (IsBlockFault lines) }
-{
-    match end_of(form) {
-        Some(end) => Ok(Block {
-            statements,
-            end,
-            end_at,
-            end_line,
-        }),
-        None => Err(BlockFault::bad_block(end_at)),
-    }
-}
-
-// What ends statements with this form, if it does.
-fn end_of(form: LineForm) -> Option<EndKind> {
-    match form {
-        LineForm::ElseIf(test) => Some(EndKind::ElseIf(test)),
-        LineForm::Else => Some(EndKind::Else),
-        LineForm::EndIf => Some(EndKind::EndIf),
-        LineForm::EndWhile => Some(EndKind::EndWhile),
-        LineForm::EndFunction => Some(EndKind::EndFunction),
-        LineForm::EndEvent => Some(EndKind::EndEvent),
-        other => {
-            drop(other);
-            None
-        }
     }
 }
 
@@ -146,12 +107,12 @@ fn if_block(
         let (line, test) = next;
         tests.push((line, test, body))?;
         match end {
-            EndKind::ElseIf(test) => next = (end_line, test),
-            EndKind::Else => {
-                let otherwise = else_block(reader, depth)?;
+            LineForm::ElseIf(test) => next = (end_line, test),
+            LineForm::Else => {
+                let (otherwise, _) = closed_block(reader, Keyword::EndIf, depth)?;
                 return Ok(StatementForm::If { tests, otherwise });
             }
-            EndKind::EndIf => {
+            LineForm::EndIf => {
                 let otherwise = Vec::new(reader.alloc);
                 return Ok(StatementForm::If { tests, otherwise });
             }
@@ -163,32 +124,13 @@ fn if_block(
     }
 }
 
-// The statements behind `Else`, up to `EndIf`.
+/// The statements up to the line that ends them, which has to be this keyword, and its number.
 #[cycle(statements)]
-fn else_block(reader: &mut Reader<'_>, depth: u8) -> Result<Vec<Statement>, BlockFault>
-    requires { 64 ≤ blocks_before reader.old + depth }
-    ensures nearer { OnOk result (left reader.new < left reader.old) }
-    ensures onward { OnOk result (GoesOn reader.old reader.new) }
-    ensures fault { IfErr result (IsBlockFault reader.old.lines.now) }
-{
-    let Block {
-        statements: body,
-        end,
-        end_at,
-        end_line: _,
-    } = statements(reader, depth)?;
-    match end {
-        EndKind::EndIf => Ok(body),
-        other => {
-            drop(other);
-            Err(BlockFault::bad_block(end_at))
-        }
-    }
-}
-
-// The body of a `While` behind its first line, up to `EndWhile`.
-#[cycle(statements)]
-fn while_block(reader: &mut Reader<'_>, test: Expr, depth: u8) -> Result<StatementForm, BlockFault>
+pub(crate) fn closed_block(
+    reader: &mut Reader<'_>,
+    keyword: Keyword,
+    depth: u8,
+) -> Result<(Vec<Statement>, u16), BlockFault>
     requires { 64 ≤ blocks_before reader.old + depth }
     ensures nearer { OnOk result (left reader.new < left reader.old) }
     ensures onward { OnOk result (GoesOn reader.old reader.new) }
@@ -200,15 +142,39 @@ fn while_block(reader: &mut Reader<'_>, test: Expr, depth: u8) -> Result<Stateme
         end_at,
         end_line,
     } = statements(reader, depth)?;
-    match end {
-        EndKind::EndWhile => Ok(StatementForm::While {
-            test,
-            body,
-            end_line,
-        }),
-        other => {
-            drop(other);
-            Err(BlockFault::bad_block(end_at))
-        }
+    let is_closed = is_keyword(&end, keyword);
+    drop(end);
+    if is_closed {
+        Ok((body, end_line))
+    } else {
+        drop(body);
+        Err(BlockFault::bad_block(end_at))
     }
+}
+
+// Whether the form is that of this keyword alone, one that ends a block of statements.
+fn is_keyword(form: &LineForm, keyword: Keyword) -> bool {
+    match form {
+        LineForm::EndIf => keyword == Keyword::EndIf,
+        LineForm::EndWhile => keyword == Keyword::EndWhile,
+        LineForm::EndFunction => keyword == Keyword::EndFunction,
+        LineForm::EndEvent => keyword == Keyword::EndEvent,
+        _ => false,
+    }
+}
+
+// The body of a `While` behind its first line, up to `EndWhile`.
+#[cycle(statements)]
+fn while_block(reader: &mut Reader<'_>, test: Expr, depth: u8) -> Result<StatementForm, BlockFault>
+    requires { 64 ≤ blocks_before reader.old + depth }
+    ensures nearer { OnOk result (left reader.new < left reader.old) }
+    ensures onward { OnOk result (GoesOn reader.old reader.new) }
+    ensures fault { IfErr result (IsBlockFault reader.old.lines.now) }
+{
+    let (body, end_line) = closed_block(reader, Keyword::EndWhile, depth)?;
+    Ok(StatementForm::While {
+        test,
+        body,
+        end_line,
+    })
 }

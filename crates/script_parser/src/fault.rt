@@ -3,7 +3,7 @@ ghost use Rattle.std.specs.Prelude.{◌≡◌, ℕ, List};
 
 use line_parser::{LineFault, LineRule};
 use papy_base::OutOfMemory;
-use std::alloc::{AllocError, AllocFailed};
+use std::alloc::AllocFailed;
 use thiserror::Error;
 
 /// Why [`parse_script`](crate::parse_script) gives no script.
@@ -19,7 +19,7 @@ pub enum ParseFault {
 }
 
 /// As `ParseFault`, with the bad line's place among the logical lines: their number at the end.
-#[derive(Clone, Copy, PartialEq, Eq)]
+#[derive(Clone, Copy)]
 pub(crate) enum BlockFault {
     Broken { at: usize, rule: LineRule },
     OutOfMemory,
@@ -58,16 +58,6 @@ impl From<OutOfMemory> for BlockFault {
     ghost from_gives = { λ _ fault. fault ≡ NoMemory };
 
     fn from(_error: OutOfMemory) -> BlockFault {
-        BlockFault::OutOfMemory
-    }
-}
-
-impl From<AllocError> for BlockFault {
-    ghost use Rattle.script_parser.specs.declared.fault.BlockFault.TheVariants.{OutOfMemory as NoMemory};
-
-    ghost from_gives = { λ _ fault. fault ≡ NoMemory };
-
-    fn from(_error: AllocError) -> BlockFault {
         BlockFault::OutOfMemory
     }
 }

@@ -4,13 +4,13 @@ ghost use Rattle.script_lexer.specs.declared.line.Line.{Line};
 ghost use Rattle.script_parser.specs.Reader.{GoesOn, IsBlockFault, StandsAt, left};
 ghost use Rattle.script_parser.specs.Stands.{AccessorsStand, FunctionsStand, PropertyStands, ScriptStands};
 
-use crate::block::{Block, EndKind, OPEN_LIMIT, statements};
+use crate::block::{OPEN_LIMIT, closed_block};
 use crate::fault::BlockFault;
 use crate::reader::{LineAt, Reader};
 use crate::script::{Body, Function, Property, PropertyForm, Script, State, Variable};
 use line_parser::{Constant, Expr, Heading, LineForm, LineTree, TypeName};
 use papy_base::{Name, Text, neg};
-use script_lexer::Sign;
+use script_lexer::{Keyword, Sign};
 
 /// Puts the member that begins with this line into the script.
 pub(crate) fn member(
@@ -52,7 +52,7 @@ pub(crate) fn member(
             script.states.push(State {
                 name,
                 is_auto,
-                functions: state_functions(reader)?,
+                functions: functions_until(reader, Keyword::EndState)?,
                 line,
             })?,
         ),
@@ -97,7 +97,7 @@ fn property(
             kind,
             name,
             doc: reader.own_doc(doc)?,
-            form: PropertyForm::Full(property_functions(reader)?),
+            form: PropertyForm::Full(functions_until(reader, Keyword::EndProperty)?),
             flags,
             line,
         }),
@@ -185,15 +185,12 @@ fn function(
             end_line: line,
         });
     }
-    let Block {
-        statements: body,
-        end,
-        end_at,
-        end_line,
-    } = statements(reader, OPEN_LIMIT)?;
-    if !ends_function(&end, heading.is_event) {
-        return Err(BlockFault::bad_block(end_at));
-    }
+    let end = if heading.is_event {
+        Keyword::EndEvent
+    } else {
+        Keyword::EndFunction
+    };
+    let (body, end_line) = closed_block(reader, end, OPEN_LIMIT)?;
     Ok(Function {
         heading,
         doc,
@@ -203,16 +200,9 @@ fn function(
     })
 }
 
-fn ends_function(kind: &EndKind, is_event: bool) -> bool {
-    match kind {
-        EndKind::EndFunction => !is_event,
-        EndKind::EndEvent => is_event,
-        _ => false,
-    }
-}
-
-// The functions of a state up to its end.
-fn state_functions(reader: &mut Reader<'_>) -> Result<Vec<Function>, BlockFault>
+// The functions of a state or of a property up to the keyword that ends it. A property has at least
+// one.
+fn functions_until(reader: &mut Reader<'_>, end: Keyword) -> Result<Vec<Function>, BlockFault>
     ensures bound { OnOk result (left reader.new ≤ left reader.old) }
     ensures onward { OnOk result (GoesOn reader.old reader.new) }
     ensures fault { IfErr result (IsBlockFault reader.old.lines.now) }
@@ -225,30 +215,10 @@ fn state_functions(reader: &mut Reader<'_>) -> Result<Vec<Function>, BlockFault>
         let line = first.line.number;
         match form {
             LineForm::Function(heading) => functions.push(function(reader, line, heading, doc)?)?,
-            LineForm::EndState => return Ok(functions),
-            other => {
-                drop(other);
-                return Err(BlockFault::bad_block(first.at));
+            LineForm::EndState if end == Keyword::EndState => return Ok(functions),
+            LineForm::EndProperty if end == Keyword::EndProperty && !functions.is_empty() => {
+                return Ok(functions);
             }
-        }
-    }
-}
-
-// The functions of a property up to its end, at least one.
-fn property_functions(reader: &mut Reader<'_>) -> Result<Vec<Function>, BlockFault>
-    ensures bound { OnOk result (left reader.new ≤ left reader.old) }
-    ensures onward { OnOk result (GoesOn reader.old reader.new) }
-    ensures fault { IfErr result (IsBlockFault reader.old.lines.now) }
-    ensures stands { IfOk result (λ functions. FunctionsStand reader.old.lines.now functions.items) }
-{
-    let mut functions = Vec::new(reader.alloc);
-    'functions: loop {
-        let first = reader.next_in_block()?;
-        let LineTree { form, doc } = reader.tree(&first)?;
-        let line = first.line.number;
-        match form {
-            LineForm::Function(heading) => functions.push(function(reader, line, heading, doc)?)?,
-            LineForm::EndProperty if !functions.is_empty() => return Ok(functions),
             other => {
                 drop(other);
                 return Err(BlockFault::bad_block(first.at));

@@ -3,8 +3,8 @@ ghost use Rattle.std.specs.Prelude.{◌≡◌, ◌<◌, ◌≤◌, IfErr, IfOk, 
 ghost use Rattle.line_parser.specs.Blocks.{begins_block, opens_block};
 
 use crate::fault::BlockFault;
-use line_parser::{LineForm, LineTree, TypeWords, parse_form_with, parse_line_with};
-use papy_base::{OutOfMemory, Text};
+use line_parser::{LineForm, LineTree, doc_at_end, parse_line};
+use papy_base::Text;
 use script_lexer::{Line, Spanned, Token};
 use std::alloc::Global;
 
@@ -12,7 +12,6 @@ use std::alloc::Global;
 #[derive(Drop)]
 pub(crate) struct Reader<'a> {
     pub(crate) alloc: Global,
-    types: TypeWords,
     lines: &'a [Line],
     /// The place of the next line.
     at: usize,
@@ -28,25 +27,23 @@ pub(crate) struct LineAt<'a> {
 impl<'a> Reader<'a> {
     ghost use Rattle.script_parser.specs.Reader.{Found, GoesOn, IsBlockFault, StandsAt, left};
 
-    pub(crate) fn new(alloc: Global, lines: &'a [Line]) -> Result<Self, BlockFault>
-        ensures lines { IfOk result (λ reader. reader.lines.now ≡ lines.now) }
-        ensures fault { IfErr result (IsBlockFault lines.now) }
+    pub(crate) fn new(alloc: Global, lines: &'a [Line]) -> Self
+        ensures { result.lines.now ≡ lines.now }
     {
-        let types = TypeWords::new(alloc)?;
-        Ok(Reader {
+        Reader {
             alloc,
-            types,
             lines,
             at: 0,
-        })
+        }
     }
 
     /// The form of a line, and the documentation text at its end.
     pub(crate) fn tree(&self, found: &LineAt<'_>) -> Result<LineTree, BlockFault>
         requires { StandsAt self.now.lines.now found.now }
-        ensures { IfErr result (IsBlockFault self.now.lines.now) }
+        ensures block { IfOk result (λ tree. IsTrue (opens_block tree.form) → IsTrue (begins_block found.now.line.now.tokens.items)) }
+        ensures fault { IfErr result (IsBlockFault self.now.lines.now) }
     {
-        match parse_line_with(self.alloc, &self.types, found.line) {
+        match parse_line(self.alloc, found.line) {
             Ok(tree) => Ok(tree),
             Err(fault) => Err(BlockFault::of_line(found.at, fault)),
         }
@@ -58,10 +55,9 @@ impl<'a> Reader<'a> {
         ensures block { IfOk result (λ form. IsTrue (opens_block form) → IsTrue (begins_block found.now.line.now.tokens.items)) }
         ensures fault { IfErr result (IsBlockFault self.now.lines.now) }
     {
-        match parse_form_with(self.alloc, &self.types, found.line) {
-            Ok(form) => Ok(form),
-            Err(fault) => Err(BlockFault::of_line(found.at, fault)),
-        }
+        let LineTree { form, doc } = self.tree(found)?;
+        drop(doc);
+        Ok(form)
     }
 
     /// The next line, also where it is a documentation text alone, or none at the end.
@@ -118,11 +114,11 @@ impl<'a> Reader<'a> {
         let Some(line) = self.lines.get(self.at) else {
             return Ok(None);
         };
-        let doc = lone_doc(self.alloc, line.tokens.as_slice())?;
-        if doc.is_some() {
-            self.at += 1;
+        if !is_doc_only(line.tokens.as_slice()) {
+            return Ok(None);
         }
-        Ok(doc)
+        self.at += 1;
+        Ok(doc_at_end(self.alloc, line.tokens.as_slice())?)
     }
 }
 
@@ -131,20 +127,5 @@ fn is_doc_only(tokens: &[Spanned]) -> bool {
         [] => true,
         [only] => matches!(only.token, Token::Doc(_)),
         _ => false,
-    }
-}
-
-// The documentation text that is the only token.
-fn lone_doc(alloc: Global, tokens: &[Spanned]) -> Result<Option<Text>, OutOfMemory> {
-    match tokens {
-        [only] => doc_text(alloc, &only.token),
-        _ => Ok(None),
-    }
-}
-
-fn doc_text(alloc: Global, token: &Token) -> Result<Option<Text>, OutOfMemory> {
-    match token {
-        Token::Doc(text) => Ok(Some(text.try_clone(alloc)?)),
-        _ => Ok(None),
     }
 }

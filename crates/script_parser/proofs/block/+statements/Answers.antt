@@ -3,24 +3,18 @@ use Rattle.std.proofs.lemmas.Result.{err_from_is_err_and}
 use Rattle.script_parser.proofs.Depth.{block-found, block-inside, blocks-onward}
 use Rattle.script_parser.proofs.block.+statements.Goals as goal
 
-pub else_block-returns-in_default : goal.else_block-returns-in_default
-else_block-returns-in_default t c = record { nearer = tt; onward = tt; fault = c.bad_block.ensures c.args.reader.now.lines.now }
-
-pub while_block-returns-in_default : goal.while_block-returns-in_default
-while_block-returns-in_default t c = record { nearer = tt; onward = tt; fault = c.bad_block.ensures c.args.reader.now.lines.now }
+pub closed_block-returns-else-is_closed-clause-fault : goal.closed_block-returns-else-is_closed-clause-fault
+closed_block-returns-else-is_closed-clause-fault t c = c.bad_block.ensures c.args.reader.now.lines.now
 
 pub if_block-returns-in_default-clause-fault : goal.if_block-returns-in_default-clause-fault
 if_block-returns-in_default-clause-fault t c = c.bad_block.ensures c.args.reader.now.lines.now
-
-pub statements-returns-in_default-clause-fault : goal.statements-returns-in_default-clause-fault
-statements-returns-in_default-clause-fault t c = c.ended.ensures c.args.reader.now.lines.now
 
 pub if_block-statements-requires : goal.if_block-statements-requires
 if_block-statements-requires t c =
     (omega arith, blocks-onward c.args.reader.now c.tests.reader c.args.depth c.tests.invariant.onward c.requires)
 
-pub if_block-else_block-requires : goal.if_block-else_block-requires
-if_block-else_block-requires t c =
+pub if_block-closed_block-requires : goal.if_block-closed_block-requires
+if_block-closed_block-requires t c =
     let before = c.tests.reader in
     let many = blocks-onward c.args.reader.now before c.args.depth c.tests.invariant.onward c.requires in
     (omega arith, blocks-onward before c.statements.new.reader c.args.depth c.in_ok-body.ensures.onward many)

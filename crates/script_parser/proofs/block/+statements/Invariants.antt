@@ -6,8 +6,8 @@ use Rattle.script_parser.proofs.block.+statements.Given as goal
 abbrev pub decreases-statements : goal.decreases-statements
 decreases-statements l = 3 * l.depth
 
-abbrev pub decreases-else_block : goal.decreases-else_block
-decreases-else_block l = 3 * l.depth + 1
+abbrev pub decreases-closed_block : goal.decreases-closed_block
+decreases-closed_block l = 3 * l.depth + 1
 
 abbrev pub decreases-if_block : goal.decreases-if_block
 decreases-if_block l = 3 * l.depth + 2

@@ -60,7 +60,7 @@ returns-in_ok-push-in-State-clause-stands c = λ s.
       variables = s.variables;
       properties = s.properties;
       functions = s.functions;
-      states = rw c.in_ok-push-in-State.ensures.items (All-push (StateStands lines) c.args.script.now.states.items _ s.states (record { line = here; functions = c.in_ok-state_functions-in-State.ensures.stands }));
+      states = rw c.in_ok-push-in-State.ensures.items (All-push (StateStands lines) c.args.script.now.states.items _ s.states (record { line = here; functions = c.in_ok-functions_until-in-State.ensures.stands }));
     }
 
 pub returns-in_ok-push-in_default : goal.returns-in_ok-push-in_default

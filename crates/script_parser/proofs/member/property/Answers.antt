@@ -15,12 +15,12 @@ returns-in_ok-own_doc-in-AutoProperty-clause-stands c =
       accessors = c.in_ok-auto_form-in-AutoProperty.ensures.stands lines;
     }
 
-pub returns-in_ok-property_functions-in-FullProperty-clause-stands : goal.returns-in_ok-property_functions-in-FullProperty-clause-stands
-returns-in_ok-property_functions-in-FullProperty-clause-stands c =
+pub returns-in_ok-functions_until-in-FullProperty-clause-stands : goal.returns-in_ok-functions_until-in-FullProperty-clause-stands
+returns-in_ok-functions_until-in-FullProperty-clause-stands c =
     let lines = c.args.reader.now.lines.now in
     record {
       line = number-stands lines c.args.first.now.at c.args.first.now.line.now c.requires;
-      accessors = rw c.in_ok-own_doc-in-FullProperty.ensures.onward.lines at c.in_ok-property_functions-in-FullProperty.ensures.stands;
+      accessors = rw c.in_ok-own_doc-in-FullProperty.ensures.onward.lines at c.in_ok-functions_until-in-FullProperty.ensures.stands;
     }
 
 pub returns-in_default : goal.returns-in_default

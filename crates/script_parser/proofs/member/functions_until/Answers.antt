@@ -1,7 +1,7 @@
 use Rattle.std.proofs.Common.{arith}
 use Rattle.script_parser.proofs.Depth.{goes-further}
 use Rattle.script_parser.proofs.Standing.{found-number, functions-push}
-use Rattle.script_parser.proofs.member.state_functions.Goals as goal
+use Rattle.script_parser.proofs.member.functions_until.Goals as goal
 
 pub functions-preserved : goal.functions-preserved
 functions-preserved c =
@@ -17,5 +17,5 @@ functions-preserved c =
       stand = functions-push entry.lines.now c.functions.functions.items c.push.new.self.items function.field-0 c.in_ok-first.first.line.now.number c.in_ok-push-in-Function.ensures.items function.ensures.line number so_far.stand;
     }
 
-pub returns-in_default : goal.returns-in_default
-returns-in_default c = record { bound = tt; onward = tt; fault = c.bad_block.ensures c.args.reader.now.lines.now; stands = tt }
+pub returns-in_default-clause-fault : goal.returns-in_default-clause-fault
+returns-in_default-clause-fault c = c.bad_block.ensures c.args.reader.now.lines.now
