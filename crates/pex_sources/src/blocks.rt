@@ -1,16 +1,18 @@
-// Jumps, read into If and While.
-use crate::fault::{NOT_FOUND, SourceFault};
-use crate::lines::{Line, Numbered};
+// Jumps, read into If and While, and the definitions of locals in them.
+use crate::code::Code;
+use crate::fault::{Found, NOT_FOUND, SourceFault, check};
+use crate::lines::{Body, Line};
 use crate::opcodes::JMP;
-use crate::reader::{Outcome, Reader, Source};
-use crate::trees::Trees;
+use crate::reader::{Outcome, Reader};
 
-// What a block that is open belongs to, where it ends, and how many statements stand in it so far.
+// What a block that is open belongs to, where it ends, how many statements stand in it so far, and the first local that wasn't
+// defined when it began.
 #[derive(Clone, Copy)]
 struct Block {
     kind: BlockKind,
     end: usize,
     statements: usize,
+    defined_end: usize,
 }
 
 #[derive(Clone, Copy)]
@@ -26,99 +28,69 @@ enum BlockKind {
     While,
 }
 
-/// The lines of a function's body, and its expressions.
-#[derive(Drop)]
-pub(crate) struct Body {
-    pub lines: Vec<Numbered>,
-    pub trees: Trees,
-}
-
 #[derive(Drop)]
 struct Blocks<'w, 'f> {
-    source: Source<'w, 'f>,
+    code: &'f Code<'w>,
     reader: Reader<'w, 'f>,
-    lines: Vec<Numbered>,
+    lines: Vec<Line>,
     open: Vec<Block>,
     // Whether a statement or a test has begun, and the jump back of the While whose test it is.
     begun: bool,
     back: Option<usize>,
 }
 
-/// The body of a function whose slots from `first` on are temporaries.
-pub(crate) fn read_body(source: Source<'_, '_>, first: usize) -> Result<Body, SourceFault> {
-    let alloc = source.alloc;
-    let count = source.code.steps.len();
-    let function = Block {
-        kind: BlockKind::Function,
-        end: count,
-        statements: 0,
-    };
-    let open = vec![in alloc; function]?;
+/// The body of a function. A file doesn't tell how many of its locals were locals of the source, so the numbers are tried in
+/// turn, the least first: it has the fewest lines. `NotFound` comes where none of them gives a body.
+pub(crate) fn body_of(code: &Code<'_>) -> Found<Body> {
+    for first in code.function.parameters.len()..code.locals_end.saturating_add(1) {
+        match read_body(code, first) {
+            Err(SourceFault::NotFound) => {}
+            ended => return ended,
+        }
+    }
+    Err(NOT_FOUND)
+}
+
+// The body of a function whose slots from `first` on are temporaries.
+fn read_body(code: &Code<'_>, first: usize) -> Found<Body> {
+    let alloc = code.world.alloc;
     let mut blocks = Blocks {
-        source,
-        reader: Reader::new(source, first)?,
+        code,
+        reader: Reader::new(code, first)?,
         lines: Vec::new(alloc),
-        open,
+        open: Vec::new(alloc),
         begun: false,
         back: None,
     };
     blocks.read()?;
-    Ok(blocks.into_body())
+    Ok(Body {
+        lines: blocks.lines,
+        trees: blocks.reader.trees,
+    })
 }
 
 impl<'w, 'f> Blocks<'w, 'f> {
     // Each turn goes behind an instruction, ends the right side of And or Or, or ends a block, of which an instruction opens
     // two at most.
-    fn read(&mut self) -> Result<(), SourceFault> {
-        let turns = self
-            .source
-            .code
-            .steps
-            .len()
-            .saturating_mul(4)
-            .saturating_add(8);
+    fn read(&mut self) -> Found<()> {
+        let count = self.code.steps.len();
+        self.open_block(BlockKind::Function, count)?;
         let mut at = 0usize;
-        for _ in 0..turns {
+        for _ in 0..count.saturating_mul(4).saturating_add(8) {
             match self.turn(at)? {
                 Some(next) => at = next,
-                None => return self.check_slots(),
+                None => return check(self.reader.slots.are_all_used()),
             }
         }
         Err(NOT_FOUND)
     }
 
-    fn check_slots(&self) -> Result<(), SourceFault> {
-        if self.reader.has_all_slots() {
-            Ok(())
-        } else {
-            Err(NOT_FOUND)
-        }
-    }
-
-    fn into_body(self) -> Body {
-        let Blocks {
-            source: _,
-            reader,
-            lines,
-            open: _,
-            begun: _,
-            back: _,
-        } = self;
-        Body {
-            lines,
-            trees: reader.into_trees(),
-        }
-    }
-
-    fn innermost(&self) -> Result<Block, SourceFault> {
-        match self.open.last() {
-            Some(block) => Ok(*block),
-            None => Err(NOT_FOUND),
-        }
+    fn innermost(&self) -> Found<Block> {
+        self.open.last().copied().ok_or(NOT_FOUND)
     }
 
     // What stands at a place is read. Gives the place behind it, and none at the function's end.
-    fn turn(&mut self, at: usize) -> Result<Option<usize>, SourceFault> {
+    fn turn(&mut self, at: usize) -> Found<Option<usize>> {
         if self.reader.side_end() == Some(at) {
             let outcome = self.reader.end_side(at)?;
             self.take(outcome, at, at)?;
@@ -128,9 +100,7 @@ impl<'w, 'f> Blocks<'w, 'f> {
         if !self.begun && block.end == at {
             return self.end_block(block, at);
         }
-        if at >= block.end {
-            return Err(NOT_FOUND);
-        }
+        check(at < block.end)?;
         self.begin(block, at)?;
         let outcome = self.reader.step(at, block.end)?;
         let next = at.saturating_add(1);
@@ -139,29 +109,30 @@ impl<'w, 'f> Blocks<'w, 'f> {
     }
 
     // A statement or a test begins here, unless one has.
-    fn begin(&mut self, block: Block, at: usize) -> Result<(), SourceFault> {
-        let back = self.source.uses.back_to(at);
+    fn begin(&mut self, block: Block, at: usize) -> Found<()> {
+        let back = self.code.landing(at)?.back;
         if self.begun {
-            return match back {
-                Some(_) => Err(NOT_FOUND),
-                None => Ok(()),
-            };
+            return check(back.is_none());
         }
-        if let Some(jump) = back {
-            if jump >= block.end {
-                return Err(NOT_FOUND);
-            }
-        }
+        check(back.is_none_or(|jump| jump < block.end))?;
         self.begun = true;
         self.back = back;
         Ok(())
     }
 
-    fn put(&mut self, line: Line) -> Result<(), SourceFault> {
-        self.lines.push(Numbered {
-            line,
-            nodes: self.reader.trees.count(),
-        })?;
+    // Appends a line. The first assignment to a local is its definition.
+    fn put(&mut self, line: Line) -> Found<()> {
+        let line = match line {
+            Line::Set(target, value) => match self.reader.slots.undefined(target) {
+                Some(slot) => {
+                    self.reader.slots.define(slot)?;
+                    Line::Define(slot, value)
+                }
+                None => line,
+            },
+            _ => line,
+        };
+        self.lines.push(line)?;
         Ok(())
     }
 
@@ -172,96 +143,95 @@ impl<'w, 'f> Blocks<'w, 'f> {
         }
     }
 
-    fn take(&mut self, outcome: Outcome, at: usize, next: usize) -> Result<(), SourceFault> {
+    fn take(&mut self, outcome: Outcome, at: usize, next: usize) -> Found<()> {
         match outcome {
-            Outcome::Open => Ok(()),
+            Outcome::Open => return Ok(()),
             Outcome::Done(line) => {
-                if self.back.is_some() {
-                    return Err(NOT_FOUND);
-                }
-                self.begun = false;
+                check(self.back.is_none())?;
                 self.put(line)?;
                 self.count_statement();
-                Ok(())
             }
-            Outcome::Test(node) => {
-                self.begun = false;
-                match self.back.take() {
-                    Some(back) => self.open_while(node, at, back),
-                    None => self.open_if(node, at, next),
-                }
-            }
+            Outcome::Test(node) => match self.back.take() {
+                Some(back) => self.open_while(node, at, back)?,
+                None => self.open_if(node, at, next)?,
+            },
         }
+        self.begun = false;
+        Ok(())
     }
 
     // The test of a While ends with the jump at this place.
-    fn open_while(&mut self, node: usize, at: usize, back: usize) -> Result<(), SourceFault> {
-        if at >= back || self.source.uses.target(at)? != back.saturating_add(1) {
-            return Err(NOT_FOUND);
-        }
+    fn open_while(&mut self, node: usize, at: usize, back: usize) -> Found<()> {
+        let target = self.code.step(at)?.target;
+        check(at < back && target == Some(back.saturating_add(1)))?;
         self.put(Line::While(node))?;
         self.open_block(BlockKind::While, back)
     }
 
     // The test of an If ends with the jump at this place.
-    fn open_if(&mut self, node: usize, at: usize, next: usize) -> Result<(), SourceFault> {
-        let over = self.source.uses.target(at)?;
+    fn open_if(&mut self, node: usize, at: usize, next: usize) -> Found<()> {
+        let over = self.code.step(at)?.target.ok_or(NOT_FOUND)?;
         let limit = self.innermost()?.end;
-        if over <= at || over > limit {
-            return Err(NOT_FOUND);
-        }
+        check(over > at && over <= limit)?;
         self.put(Line::If(node))?;
         match self.own_exit(at, next, over)? {
             None => self.open_block(BlockKind::Then, over),
-            Some(end) if end <= limit => {
+            Some(end) => {
+                check(end <= limit)?;
                 self.open_block(BlockKind::ThenElse { over, end }, over.saturating_sub(1))
             }
-            Some(_) => Err(NOT_FOUND),
         }
     }
 
     // Where the jump before the target of a test's jump leads, if it leads ahead and belongs to that If: no test inside has the
     // same target.
-    fn own_exit(&self, at: usize, next: usize, over: usize) -> Result<Option<usize>, SourceFault> {
+    fn own_exit(&self, at: usize, next: usize, over: usize) -> Found<Option<usize>> {
         let last = over.saturating_sub(1);
-        if last < next || self.source.code.step(last)?.opcode != JMP {
-            return Ok(None);
+        let jump = self.code.step(last)?;
+        let is_own = last >= next
+            && jump.opcode == JMP
+            && self.code.landing(over)?.skip == Some(at);
+        match jump.target {
+            Some(end) if is_own && end >= over => Ok(Some(end)),
+            _ => Ok(None),
         }
-        let end = self.source.uses.target(last)?;
-        if end < over || self.source.uses.last_skip(over) != Some(at) {
-            return Ok(None);
-        }
-        Ok(Some(end))
     }
 
-    fn open_block(&mut self, kind: BlockKind, end: usize) -> Result<(), SourceFault> {
+    fn open_block(&mut self, kind: BlockKind, end: usize) -> Found<()> {
         self.open.push(Block {
             kind,
             end,
             statements: 0,
+            defined_end: self.reader.slots.defined_end(),
         })?;
         Ok(())
     }
 
-    fn end_block(&mut self, block: Block, at: usize) -> Result<Option<usize>, SourceFault> {
+    fn end_block(&mut self, block: Block, at: usize) -> Found<Option<usize>> {
         let _ = self.open.pop();
-        match block.kind {
+        self.reader.slots.end_block(block.defined_end);
+        let next = match block.kind {
             BlockKind::Function => return Ok(None),
-            BlockKind::Then => self.put(Line::EndIf)?,
             BlockKind::ThenElse { over, end } => return self.open_else(over, end),
-            BlockKind::Else { line } => self.end_else(line, block.statements)?,
+            BlockKind::Then => {
+                self.put(Line::EndIf)?;
+                at
+            }
+            BlockKind::Else { line } => {
+                self.end_else(line, block.statements)?;
+                at
+            }
             BlockKind::While => {
                 self.put(Line::EndWhile)?;
-                self.count_statement();
-                return Ok(Some(at.saturating_add(1)));
+                at.saturating_add(1)
             }
-        }
+        };
         self.count_statement();
-        Ok(Some(at))
+        Ok(Some(next))
     }
 
     // An Else whose statements have no code has one that does nothing.
-    fn open_else(&mut self, over: usize, end: usize) -> Result<Option<usize>, SourceFault> {
+    fn open_else(&mut self, over: usize, end: usize) -> Found<Option<usize>> {
         let line = self.lines.len();
         self.put(Line::Else)?;
         if end == over {
@@ -272,29 +242,22 @@ impl<'w, 'f> Blocks<'w, 'f> {
     }
 
     // An If that is all of an Else is an ElseIf, and the end of that If is the end of this one.
-    fn end_else(&mut self, line: usize, statements: usize) -> Result<(), SourceFault> {
+    fn end_else(&mut self, line: usize, statements: usize) -> Found<()> {
         let behind = line.saturating_add(1);
-        if statements == 1 {
-            if let Some(test) = self.test_at(behind) {
+        match self.lines.get(behind) {
+            Some(Line::If(test)) if statements == 1 => {
+                let test = *test;
                 self.set(line, Line::Skipped);
                 self.set(behind, Line::ElseIf(test));
-                return Ok(());
+                Ok(())
             }
-        }
-        self.put(Line::EndIf)
-    }
-
-    // The test of the If that begins with the line at this place.
-    fn test_at(&self, at: usize) -> Option<usize> {
-        match self.lines.get(at)?.line {
-            Line::If(test) => Some(test),
-            _ => None,
+            _ => self.put(Line::EndIf),
         }
     }
 
     fn set(&mut self, at: usize, line: Line) {
-        if let Some(numbered) = self.lines.get_mut(at) {
-            numbered.line = line;
+        if let Some(old) = self.lines.get_mut(at) {
+            *old = line;
         }
     }
 }

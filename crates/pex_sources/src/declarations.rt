@@ -1,16 +1,14 @@
 // The text of a script: its heading, variables, properties, functions and states.
-use crate::blocks::Body;
+use crate::blocks::body_of;
 use crate::code::Code;
-use crate::definitions::body_of;
-use crate::expressions::{Speaker, put_slot_name};
-use crate::fault::{NOT_FOUND, SourceFault};
+use crate::expressions::Speaker;
+use crate::fault::{Found, NOT_FOUND, check};
 use crate::imports::put_imports;
+use crate::opcodes::RETURN;
 use crate::page::Page;
-use crate::reader::Source;
-use crate::script::Script;
-use crate::uses::Uses;
+use crate::script::{Script, Slot};
 use crate::world::World;
-use papy_base::{OutOfMemory, Text};
+use papy_base::Text;
 use pex_values::{
     Datum, Instruction, PexFunction, PexProperty, PexState, PexVariable, has_variable,
 };
@@ -20,39 +18,27 @@ const GLOBAL: u8 = 1;
 
 const NATIVE: u8 = 2;
 
-/// The flags of a script or a member.
-const HIDDEN: u32 = 1;
-
-const CONDITIONAL: u32 = 2;
-
 /// The most bytes and lines of a script.
 const BYTE_LIMIT: usize = 1 << 20;
 
 const LINE_LIMIT: usize = 65_535;
 
-// The script that is written, with its number.
+// The script that is written.
 #[derive(Clone, Copy)]
 struct Author<'a> {
     world: &'a World<'a>,
-    number: usize,
     script: &'a Script<'a>,
 }
 
 /// The text of the script of this number, without indentation where it would be too long with it. `NotFound` comes where there is
 /// no such script, or where it has what no compiler writes.
-pub(crate) fn script_text(world: &World<'_>, number: usize) -> Result<Text, SourceFault> {
+pub(crate) fn script_text(world: &World<'_>, number: usize) -> Found<Text> {
     let script = world.script(number)?;
-    let author = Author {
-        world,
-        number,
-        script,
-    };
-    let bytes = author.bytes(true)?;
-    if fits(&bytes) {
-        return Ok(Text::try_from_bytes(world.alloc, &bytes)?);
+    let author = Author { world, script };
+    let mut bytes = author.bytes(true)?;
+    if !fits(&bytes) {
+        bytes = author.bytes(false)?;
     }
-    drop(bytes);
-    let bytes = author.bytes(false)?;
     Ok(Text::try_from_bytes(world.alloc, &bytes)?)
 }
 
@@ -62,42 +48,45 @@ fn fits(bytes: &[u8]) -> bool {
 }
 
 impl<'a> Author<'a> {
-    fn bytes(self, is_indented: bool) -> Result<Vec<u8>, SourceFault> {
+    fn bytes(self, is_indented: bool) -> Found<Vec<u8>> {
         let mut page = Page::new(self.world.alloc, is_indented);
         self.put_script(&mut page)?;
         Ok(page.bytes)
     }
 
-    fn put_script(self, page: &mut Page) -> Result<(), SourceFault> {
+    fn put_script(self, page: &mut Page) -> Found<()> {
         self.put_heading(page)?;
         put_imports(page, self.world, self.script)?;
         page.blank()?;
         self.put_fields(page)?;
-        let mut is_first = true;
-        for state in &self.script.object.states {
-            self.put_state(page, state, is_first)?;
-            is_first = false;
+        for (place, state) in self.script.object.states.iter().enumerate() {
+            self.put_state(page, state, place == 0)?;
         }
         Ok(())
     }
 
-    fn put_heading(self, page: &mut Page) -> Result<(), SourceFault> {
+    fn put_heading(self, page: &mut Page) -> Found<()> {
         let object = self.script.object;
         page.begin()?;
-        page.put(b"ScriptName ")?;
-        page.put(self.script.text(object.name))?;
-        let above = self.script.text(object.parent);
-        if !above.is_empty() {
-            page.put(b" Extends ")?;
-            page.put(above)?;
+        page.put_all(&[b"ScriptName ", self.script.text(object.name)])?;
+        if self.has_parent() {
+            page.put_all(&[b" Extends ", self.script.text(object.parent)])?;
         }
-        put_flags(page, object.flags)?;
-        page.end_heading(self.script.text(object.doc))?;
-        Ok(())
+        self.end_heading(page, object.flags, object.doc)
+    }
+
+    fn has_parent(self) -> bool {
+        !self.script.text(self.script.object.parent).is_empty()
+    }
+
+    // Ends a heading with flags and documentation.
+    fn end_heading(self, page: &mut Page, flags: u32, doc: u16) -> Found<()> {
+        put_flags(page, flags)?;
+        page.end_heading(self.script.text(doc))
     }
 
     // Variables and properties: each variable before the first Auto property whose variable stands behind it.
-    fn put_fields(self, page: &mut Page) -> Result<(), SourceFault> {
+    fn put_fields(self, page: &mut Page) -> Found<()> {
         let mut written = 0usize;
         for property in &self.script.object.properties {
             if let Some(name) = property.variable {
@@ -110,15 +99,13 @@ impl<'a> Author<'a> {
         self.put_variables(page, written, self.script.object.variables.len())
     }
 
-    fn variable_place(self, name: u16) -> Result<usize, SourceFault> {
-        match self.script.variable_place(self.script.number(name)) {
-            Some(place) => Ok(place),
-            None => Err(NOT_FOUND),
-        }
+    fn variable_place(self, name: u16) -> Found<usize> {
+        let name = self.script.number(name);
+        self.script.variable_place(name).ok_or(NOT_FOUND)
     }
 
     // The variables from one place up to another, but for those of Auto properties.
-    fn put_variables(self, page: &mut Page, from: usize, to: usize) -> Result<(), SourceFault> {
+    fn put_variables(self, page: &mut Page, from: usize, to: usize) -> Found<()> {
         for place in from..to {
             let variable = self.script.variable(place)?;
             if self.script.auto_property(variable).is_none() {
@@ -128,91 +115,70 @@ impl<'a> Author<'a> {
         Ok(())
     }
 
-    fn put_variable(self, page: &mut Page, variable: &PexVariable) -> Result<(), SourceFault> {
+    fn put_variable(self, page: &mut Page, variable: &PexVariable) -> Found<()> {
+        let script = self.script;
         page.begin()?;
-        page.put(self.script.text(variable.kind))?;
-        page.put(b" ")?;
-        page.put(self.script.text(variable.name))?;
+        page.put_all(&[script.text(variable.kind), b" ", script.text(variable.name)])?;
         self.put_initial(page, variable)?;
         put_flags(page, variable.flags)?;
-        page.end()?;
-        Ok(())
+        page.end()
     }
 
     // The value with which a variable begins, unless it is that of its type.
-    fn put_initial(self, page: &mut Page, variable: &PexVariable) -> Result<(), SourceFault> {
-        let is_default = match variable.value {
-            Datum::NoneValue | Datum::Int(0) | Datum::Bool(0) => true,
-            Datum::Quoted(text) => self.script.text(text).is_empty(),
-            _ => false,
-        };
-        if is_default {
-            return Ok(());
+    fn put_initial(self, page: &mut Page, variable: &PexVariable) -> Found<()> {
+        match variable.value {
+            Datum::NoneValue | Datum::Int(0) | Datum::Bool(0) => Ok(()),
+            Datum::Quoted(text) if self.script.text(text).is_empty() => Ok(()),
+            value => self.put_literal(page, value),
         }
+    }
+
+    fn put_literal(self, page: &mut Page, value: Datum) -> Found<()> {
         page.put(b" = ")?;
-        self.put_literal(page, variable.value)
-    }
-
-    fn put_literal(self, page: &mut Page, value: Datum) -> Result<(), SourceFault> {
         match value {
-            Datum::NoneValue => page.put(b"None")?,
-            Datum::Int(number) => page.put_int(number)?,
-            Datum::Bool(0) => page.put(b"False")?,
-            Datum::Bool(_) => page.put(b"True")?,
-            Datum::Quoted(text) => page.put_text(self.script.text(text))?,
-            Datum::Word(_) | Datum::Float(_) => return Err(NOT_FOUND),
+            Datum::NoneValue => page.put(b"None"),
+            Datum::Int(number) => page.put_int(number),
+            Datum::Bool(0) => page.put(b"False"),
+            Datum::Bool(_) => page.put(b"True"),
+            Datum::Quoted(text) => page.put_text(self.script.text(text)),
+            Datum::Word(_) | Datum::Float(_) => Err(NOT_FOUND),
         }
-        Ok(())
     }
 
-    fn put_property(self, page: &mut Page, property: &'a PexProperty) -> Result<(), SourceFault> {
+    fn put_property(self, page: &mut Page, property: &'a PexProperty) -> Found<()> {
+        let script = self.script;
         page.begin()?;
-        page.put(self.script.text(property.kind))?;
-        page.put(b" Property ")?;
-        page.put(self.script.text(property.name))?;
+        page.put_all(&[
+            script.text(property.kind),
+            b" Property ",
+            script.text(property.name),
+        ])?;
         if has_variable(property.bits) {
-            return self.put_auto(page, property);
+            let place = self.variable_place(property.variable.ok_or(NOT_FOUND)?)?;
+            self.put_initial(page, script.variable(place)?)?;
+            page.put(b" Auto")?;
+            return self.end_heading(page, property.flags, property.doc);
         }
         if let Some(value) = self.constant(property) {
-            page.put(b" = ")?;
             self.put_literal(page, value)?;
             page.put(b" AutoReadOnly")?;
-            put_flags(page, property.flags)?;
-            page.end_heading(self.script.text(property.doc))?;
-            return Ok(());
+            return self.end_heading(page, property.flags, property.doc);
         }
-        put_flags(page, property.flags)?;
-        page.end_heading(self.script.text(property.doc))?;
+        self.end_heading(page, property.flags, property.doc)?;
         page.indent();
-        self.put_accessor(page, b"Get", &property.read)?;
-        self.put_accessor(page, b"Set", &property.write)?;
+        if let Some(function) = &property.read {
+            self.put_function(page, b"Get", function)?;
+        }
+        if let Some(function) = &property.write {
+            self.put_function(page, b"Set", function)?;
+        }
         page.outdent();
-        page.line(b"EndProperty")?;
-        Ok(())
-    }
-
-    fn put_auto(self, page: &mut Page, property: &PexProperty) -> Result<(), SourceFault> {
-        let Some(name) = property.variable else {
-            return Err(NOT_FOUND);
-        };
-        let variable = self.script.variable(self.variable_place(name)?)?;
-        self.put_initial(page, variable)?;
-        page.put(b" Auto")?;
-        put_flags(page, property.flags)?;
-        page.end_heading(self.script.text(property.doc))?;
-        Ok(())
+        page.line(&[b"EndProperty"])
     }
 
     // What a property gives that is only read, where it is a constant of its type.
     fn constant(self, property: &PexProperty) -> Option<Datum> {
         let read = property.read.as_ref()?;
-        if property.write.is_some()
-            || !self.is_bare(read)
-            || !read.parameters.is_empty()
-            || !read.locals.is_empty()
-        {
-            return None;
-        }
         let value = returned(&read.code)?;
         let kind = self.script.number(property.kind);
         let words = &self.world.words;
@@ -221,11 +187,16 @@ impl<'a> Author<'a> {
             Datum::Bool(_) => kind == words.bool_type,
             Datum::Quoted(_) => kind == words.string_type,
             Datum::NoneValue => {
-                kind != words.int_type && kind != words.bool_type && kind != words.string_type
+                ![words.int_type, words.bool_type, words.string_type].contains(&kind)
             }
             _ => false,
         };
-        if fits { Some(value) } else { None }
+        let is_bare = self.is_bare(read) && read.parameters.is_empty() && read.locals.is_empty();
+        if fits && is_bare && property.write.is_none() {
+            Some(value)
+        } else {
+            None
+        }
     }
 
     // Whether a function has neither documentation nor flags, and is neither Global nor Native.
@@ -233,74 +204,39 @@ impl<'a> Author<'a> {
         self.script.text(function.doc).is_empty() && function.flags == 0 && function.bits == 0
     }
 
-    fn put_accessor(
-        self,
-        page: &mut Page,
-        name: &[u8],
-        function: &'a Option<PexFunction>,
-    ) -> Result<(), SourceFault> {
-        match function {
-            Some(function) => self.put_function(page, name, function),
-            None => Ok(()),
-        }
-    }
-
-    fn put_state(
-        self,
-        page: &mut Page,
-        state: &'a PexState,
-        is_first: bool,
-    ) -> Result<(), SourceFault> {
+    fn put_state(self, page: &mut Page, state: &'a PexState, is_first: bool) -> Found<()> {
         let name = self.script.text(state.name);
         if name.is_empty() {
-            return if is_first {
-                self.put_functions(page, &state.functions, true)
-            } else {
-                Err(NOT_FOUND)
-            };
+            check(is_first)?;
+            let count = state
+                .functions
+                .len()
+                .saturating_sub(self.generated_count(state));
+            return self.put_functions(page, state, count);
         }
+        let is_auto = name == self.script.text(self.script.object.auto_state);
+        let auto: &[u8] = if is_auto { b"Auto " } else { b"" };
         page.blank()?;
-        page.begin()?;
-        if name == self.script.text(self.script.object.auto_state) {
-            page.put(b"Auto ")?;
-        }
-        page.put(b"State ")?;
-        page.put(name)?;
-        page.end()?;
+        page.line(&[auto, b"State ", name])?;
         page.indent();
-        self.put_functions(page, &state.functions, false)?;
+        self.put_functions(page, state, state.functions.len())?;
         page.outdent();
-        page.line(b"EndState")?;
-        Ok(())
+        page.line(&[b"EndState"])
     }
 
-    // The functions of a state, without those at the end of the empty one that a compiler adds.
-    fn put_functions(
-        self,
-        page: &mut Page,
-        functions: &'a [(u16, PexFunction)],
-        is_empty_state: bool,
-    ) -> Result<(), SourceFault> {
-        let has_parent = !self.script.text(self.script.object.parent).is_empty();
-        let generated = if is_empty_state && !has_parent {
-            self.generated_count(functions)
-        } else {
-            0
-        };
-        let count = functions.len().saturating_sub(generated);
-        for (place, (name, function)) in functions.iter().enumerate() {
-            if place < count {
-                self.put_function(page, self.script.text(*name), function)?;
-            }
+    // The first functions of a state, so many.
+    fn put_functions(self, page: &mut Page, state: &'a PexState, count: usize) -> Found<()> {
+        for (name, function) in state.functions.iter().take(count) {
+            self.put_function(page, self.script.text(*name), function)?;
         }
         Ok(())
     }
 
-    // How many functions stand at the end that a compiler adds.
-    fn generated_count(self, functions: &[(u16, PexFunction)]) -> usize {
+    // How many functions stand at the end of the empty state that a compiler adds.
+    fn generated_count(self, state: &PexState) -> usize {
         let mut count = 0usize;
-        for (name, function) in functions.iter().rev() {
-            if !self.is_generated(*name, function) {
+        for (name, function) in state.functions.iter().rev() {
+            if self.has_parent() || !self.is_generated(*name, function) {
                 return count;
             }
             count = count.saturating_add(1);
@@ -319,133 +255,92 @@ impl<'a> Author<'a> {
         }
     }
 
-    fn put_function(
-        self,
-        page: &mut Page,
-        name: &[u8],
-        function: &'a PexFunction,
-    ) -> Result<(), SourceFault> {
+    fn put_function(self, page: &mut Page, name: &[u8], function: &'a PexFunction) -> Found<()> {
         page.blank()?;
         page.begin()?;
-        let end: &[u8] = if self.is_event(name, function) {
-            page.put(b"Event ")?;
-            b"EndEvent"
-        } else {
-            self.put_result(page, function)?;
-            b"EndFunction"
-        };
-        page.put(name)?;
+        let end = self.put_kind(page, name, function)?;
+        page.put_all(&[name, b"("])?;
         self.put_parameters(page, function)?;
-        put_bits(page, function.bits)?;
-        put_flags(page, function.flags)?;
-        page.end_heading(self.script.text(function.doc))?;
+        page.put(b")")?;
+        put_bits(page, u32::from(function.bits), [b" Global", b" Native"])?;
+        self.end_heading(page, function.flags, function.doc)?;
         if function.bits & NATIVE != 0 {
             return Ok(());
         }
         page.indent();
         self.put_body(page, function)?;
         page.outdent();
-        page.line(end)?;
-        Ok(())
+        page.line(&[end])
     }
 
-    // Functions without result whose names begin with `On` are events.
-    fn is_event(self, name: &[u8], function: &PexFunction) -> bool {
-        let begins = match name {
-            [first, second, ..] => first.eq_ignore_ascii_case(&b'o')
-                && second.eq_ignore_ascii_case(&b'n'),
-            _ => false,
-        };
-        begins && function.bits & GLOBAL == 0 && self.has_no_result(function)
-    }
-
-    fn has_no_result(self, function: &PexFunction) -> bool {
-        self.script.number(function.result) == self.world.words.none_type
-    }
-
-    fn put_result(self, page: &mut Page, function: &PexFunction) -> Result<(), OutOfMemory> {
-        if !self.has_no_result(function) {
-            page.put(self.script.text(function.result))?;
-            page.put(b" ")?;
+    // Appends what kind of function it is, and gives what ends it. Those without result whose names begin with `On` are events.
+    fn put_kind(
+        self,
+        page: &mut Page,
+        name: &[u8],
+        function: &PexFunction,
+    ) -> Found<&'static [u8]> {
+        let has_result = self.script.number(function.result) != self.world.words.none_type;
+        let begins = matches!(name, [b'O' | b'o', b'N' | b'n', ..]);
+        if begins && function.bits & GLOBAL == 0 && !has_result {
+            page.put(b"Event ")?;
+            return Ok(b"EndEvent");
         }
-        page.put(b"Function ")
+        if has_result {
+            page.put_all(&[self.script.text(function.result), b" "])?;
+        }
+        page.put(b"Function ")?;
+        Ok(b"EndFunction")
     }
 
-    fn put_parameters(self, page: &mut Page, function: &PexFunction) -> Result<(), SourceFault> {
-        page.put(b"(")?;
+    fn put_parameters(self, page: &mut Page, function: &PexFunction) -> Found<()> {
         for (place, pair) in function.parameters.iter().enumerate() {
             if place > 0 {
                 page.put(b", ")?;
             }
-            page.put(self.script.text(pair.1))?;
-            page.put(b" ")?;
-            put_slot_name(page, self.world, self.number, *pair, place)?;
+            page.put_all(&[self.script.text(pair.1), b" "])?;
+            let slot = Slot {
+                script: self.script,
+                pair: *pair,
+                place,
+            };
+            self.world.put_slot(page, slot)?;
         }
-        page.put(b")")?;
         Ok(())
     }
 
-    fn put_body(self, page: &mut Page, function: &'a PexFunction) -> Result<(), SourceFault> {
+    fn put_body(self, page: &mut Page, function: &'a PexFunction) -> Found<()> {
         let code = Code::of(self.world, self.script, function)?;
-        let body = self.body(&code)?;
+        let body = body_of(&code)?;
         let speaker = Speaker {
-            world: self.world,
-            number: self.number,
-            script: self.script,
-            function,
             code: &code,
             trees: &body.trees,
         };
         speaker.put_lines(page, &body.lines)
     }
-
-    fn body(self, code: &Code) -> Result<Body, SourceFault> {
-        let alloc = self.world.alloc;
-        let uses = Uses::of(alloc, code)?;
-        body_of(Source {
-            alloc,
-            world: self.world,
-            script: self.script,
-            code,
-            uses: &uses,
-        })
-    }
 }
 
 // What code returns that does nothing else.
 fn returned(code: &[Instruction]) -> Option<Datum> {
-    let [only] = code else {
-        return None;
-    };
-    if only.opcode != crate::opcodes::RETURN {
-        return None;
+    match code {
+        [only] if only.opcode == RETURN => only.fixed.first().copied(),
+        _ => None,
     }
-    only.fixed.first().copied()
 }
 
-// What the bits of a function say.
-fn put_bits(page: &mut Page, bits: u8) -> Result<(), SourceFault> {
-    if bits > GLOBAL | NATIVE {
-        return Err(NOT_FOUND);
+// The words for the two lowest of some bits, which are all that may be set.
+fn put_bits(page: &mut Page, bits: u32, words: [&[u8]; 2]) -> Found<()> {
+    let [first, second] = words;
+    check(bits <= 3)?;
+    if bits & 1 != 0 {
+        page.put(first)?;
     }
-    if bits & GLOBAL != 0 {
-        page.put(b" Global")?;
-    }
-    if bits & NATIVE != 0 {
-        page.put(b" Native")?;
+    if bits & 2 != 0 {
+        page.put(second)?;
     }
     Ok(())
 }
 
-fn put_flags(page: &mut Page, flags: u32) -> Result<(), SourceFault> {
-    if flags > HIDDEN | CONDITIONAL {
-        return Err(NOT_FOUND);
-    }
-    if flags & HIDDEN != 0 {
-        page.put(b" Hidden")?;
-    }
-    if flags & CONDITIONAL != 0 {
-        page.put(b" Conditional")?;
-    }
-    Ok(())
+fn put_flags(page: &mut Page, flags: u32) -> Found<()> {
+    put_bits(page, flags, [b" Hidden", b" Conditional"])
 }

@@ -19,6 +19,14 @@ pub enum SourceFault {
 /// What is read isn't what a compiler writes, or not in this way.
 pub(crate) const NOT_FOUND: SourceFault = SourceFault::NotFound;
 
+/// What was found, or why nothing was.
+pub(crate) type Found<T> = Result<T, SourceFault>;
+
+/// `NotFound` comes unless this holds.
+pub(crate) fn check(holds: bool) -> Found<()> {
+    if holds { Ok(()) } else { Err(NOT_FOUND) }
+}
+
 impl From<OutOfMemory> for SourceFault {
     ghost from_gives = { λ _ given. given ≡ fault.OutOfMemory };
 

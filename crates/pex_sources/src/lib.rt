@@ -4,7 +4,6 @@
 mod blocks;
 mod code;
 mod declarations;
-mod definitions;
 mod expressions;
 mod fault;
 mod imports;
@@ -13,11 +12,10 @@ mod opcodes;
 mod page;
 mod reader;
 mod script;
+mod slots;
 mod source_texts;
 mod statements;
-mod temporaries;
 mod trees;
-mod uses;
 mod words;
 mod world;
 

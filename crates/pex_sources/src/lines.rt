@@ -1,5 +1,6 @@
 // The lines of a function's body.
 use crate::code::Operand;
+use crate::trees::Trees;
 
 /// A line, whose expressions are given by their numbers among those of the function.
 #[derive(Clone, Copy)]
@@ -9,11 +10,8 @@ pub(crate) enum Line {
     Set(Operand, usize),
     /// The name of a property, whose it is, and the value.
     SetProperty(u16, usize, usize),
-    /// The same for an assignment that also computes, with the opcode and the right side.
-    ChangeProperty(u16, usize, u8, usize),
     /// An array, an index and the value.
     SetElement(usize, usize, usize),
-    ChangeElement(usize, usize, u8, usize),
     Plain(usize),
     Return(usize),
     If(usize),
@@ -28,9 +26,9 @@ pub(crate) enum Line {
     Skipped,
 }
 
-/// A line, and how many expressions the function has up to its end.
-#[derive(Clone, Copy)]
-pub(crate) struct Numbered {
-    pub line: Line,
-    pub nodes: usize,
+/// The lines of a function's body, and its expressions.
+#[derive(Drop)]
+pub(crate) struct Body {
+    pub lines: Vec<Line>,
+    pub trees: Trees,
 }

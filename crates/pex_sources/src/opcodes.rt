@@ -51,51 +51,36 @@ pub(crate) fn names_of(opcode: u8) -> usize {
     }
 }
 
-/// The place of the operand that is written.
+/// The place of the operand that is written, among those that are no such names.
 pub(crate) fn result_of(opcode: u8) -> Option<usize> {
     match opcode {
-        0x01..=0x13 | ARRAY_CREATE | ARRAY_LENGTH | ARRAY_GETELEMENT => Some(0),
-        STRCAT => Some(0),
-        CALL_PARENT | ARRAY_FINDELEMENT | ARRAY_RFINDELEMENT => Some(1),
-        CALL_METHOD | CALL_STATIC | PROPGET => Some(2),
+        0x01..=0x13 | STRCAT | ARRAY_CREATE | ARRAY_LENGTH | ARRAY_GETELEMENT => Some(0),
+        CALL_PARENT | CALL_STATIC => Some(0),
+        CALL_METHOD | PROPGET | ARRAY_FINDELEMENT | ARRAY_RFINDELEMENT => Some(1),
         _ => None,
     }
 }
 
-/// The place of the operand that says how far a jump leads.
-pub(crate) fn offset_of(opcode: u8) -> Option<usize> {
-    match opcode {
-        JMP => Some(0),
-        JMPT | JMPF => Some(1),
-        _ => None,
-    }
-}
-
-/// The sign of an operation on two values, and the level of its grammar.
+/// The sign of an operation on two values, and the level of its grammar. And and Or have the opcodes of their jumps.
 pub(crate) fn sign_of(opcode: u8) -> Option<(&'static [u8], u8)> {
     match opcode {
-        0x01 | STRCAT => Some((b" + ", 3)),
-        0x03 => Some((b" - ", 3)),
-        0x05 => Some((b" * ", 4)),
-        0x07 => Some((b" / ", 4)),
-        0x09 => Some((b" % ", 4)),
-        CMP_EQ => Some((b" == ", 2)),
-        0x10 => Some((b" < ", 2)),
-        0x11 => Some((b" <= ", 2)),
-        0x12 => Some((b" > ", 2)),
-        0x13 => Some((b" >= ", 2)),
+        JMPT => Some((b"||", 0)),
+        JMPF => Some((b"&&", 1)),
+        CMP_EQ => Some((b"==", 2)),
+        0x10 => Some((b"<", 2)),
+        0x11 => Some((b"<=", 2)),
+        0x12 => Some((b">", 2)),
+        0x13 => Some((b">=", 2)),
+        0x01 | STRCAT => Some((b"+", 3)),
+        0x03 => Some((b"-", 3)),
+        0x05 => Some((b"*", 4)),
+        0x07 => Some((b"/", 4)),
+        0x09 => Some((b"%", 4)),
         _ => None,
     }
 }
 
-/// The sign of an assignment that also computes.
-pub(crate) fn change_sign_of(opcode: u8) -> Option<&'static [u8]> {
-    match opcode {
-        0x01 | STRCAT => Some(b" += "),
-        0x03 => Some(b" -= "),
-        0x05 => Some(b" *= "),
-        0x07 => Some(b" /= "),
-        0x09 => Some(b" %= "),
-        _ => None,
-    }
+/// Whether an assignment may also make this operation.
+pub(crate) fn is_arithmetic(opcode: u8) -> bool {
+    matches!(opcode, 0x01 | 0x03 | 0x05 | 0x07 | 0x09 | STRCAT)
 }

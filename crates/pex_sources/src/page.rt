@@ -1,5 +1,5 @@
 // The text of a script while it is written.
-use papy_base::OutOfMemory;
+use crate::fault::Found;
 use std::alloc::Global;
 
 /// The bytes so far. Where lines are indented, documentation stands on lines of its own. What appends fails where no memory is
@@ -30,13 +30,21 @@ impl Page {
     }
 
     /// Appends bytes to the line.
-    pub(crate) fn put(&mut self, bytes: &[u8]) -> Result<(), OutOfMemory> {
+    pub(crate) fn put(&mut self, bytes: &[u8]) -> Found<()> {
         self.bytes.extend_from_slice(bytes)?;
         Ok(())
     }
 
+    /// Appends these bytes one after the other.
+    pub(crate) fn put_all(&mut self, parts: &[&[u8]]) -> Found<()> {
+        for part in parts {
+            self.put(part)?;
+        }
+        Ok(())
+    }
+
     /// Begins a line.
-    pub(crate) fn begin(&mut self) -> Result<(), OutOfMemory> {
+    pub(crate) fn begin(&mut self) -> Found<()> {
         self.is_at_start = false;
         if self.is_indented {
             for _ in 0..self.depth {
@@ -47,41 +55,38 @@ impl Page {
     }
 
     /// Ends a line.
-    pub(crate) fn end(&mut self) -> Result<(), OutOfMemory> {
+    pub(crate) fn end(&mut self) -> Found<()> {
         self.put(b"\n")
     }
 
     /// An empty line before the next part, unless a block has just begun or the line before is empty.
-    pub(crate) fn blank(&mut self) -> Result<(), OutOfMemory> {
+    pub(crate) fn blank(&mut self) -> Found<()> {
         if self.is_indented && !self.is_at_start {
-            self.put(b"\n")?;
+            self.end()?;
         }
         self.is_at_start = true;
         Ok(())
     }
 
     /// A whole line.
-    pub(crate) fn line(&mut self, bytes: &[u8]) -> Result<(), OutOfMemory> {
+    pub(crate) fn line(&mut self, parts: &[&[u8]]) -> Found<()> {
         self.begin()?;
-        self.put(bytes)?;
+        self.put_all(parts)?;
         self.end()
     }
 
     /// Ends the heading of what has this documentation.
-    pub(crate) fn end_heading(&mut self, doc: &[u8]) -> Result<(), OutOfMemory> {
+    pub(crate) fn end_heading(&mut self, doc: &[u8]) -> Found<()> {
         if doc.is_empty() {
             return self.end();
         }
         if self.is_indented {
             self.end()?;
             self.begin()?;
-            self.put(b"{")?;
         } else {
-            self.put(b" {")?;
+            self.put(b" ")?;
         }
-        self.put(doc)?;
-        self.put(b"}")?;
-        self.end()
+        self.put_all(&[b"{", doc, b"}\n"])
     }
 
     /// The lines from now on stand in one block more.
@@ -96,7 +101,7 @@ impl Page {
     }
 
     /// Appends a number, below 0 in hexadecimal.
-    pub(crate) fn put_int(&mut self, number: i32) -> Result<(), OutOfMemory> {
+    pub(crate) fn put_int(&mut self, number: i32) -> Found<()> {
         let text = if number < 0 {
             let bits = i64::from(number) & 0xFFFF_FFFF;
             format!(in self.alloc; "0x{bits:x}")?
@@ -106,14 +111,8 @@ impl Page {
         self.put(text.as_bytes())
     }
 
-    /// Appends a number of something.
-    pub(crate) fn put_count(&mut self, number: usize) -> Result<(), OutOfMemory> {
-        let text = format!(in self.alloc; "{number}")?;
-        self.put(text.as_bytes())
-    }
-
     /// Appends a text in quotes.
-    pub(crate) fn put_text(&mut self, text: &[u8]) -> Result<(), OutOfMemory> {
+    pub(crate) fn put_text(&mut self, text: &[u8]) -> Found<()> {
         self.put(b"\"")?;
         for byte in text {
             match *byte {

@@ -1,28 +1,14 @@
 // The instructions of a function, read one after another into expressions and simple statements.
 use crate::code::{Code, Operand, Step};
-use crate::fault::{NOT_FOUND, SourceFault};
+use crate::fault::{Found, NOT_FOUND, check};
 use crate::lines::Line;
 use crate::opcodes::{
-    ARRAY_CREATE, ARRAY_GETELEMENT, ARRAY_SETELEMENT, ASSIGN, CALL_METHOD, CALL_PARENT,
-    CALL_STATIC, CAST, JMP, JMPF, JMPT, PROPGET, PROPSET, RETURN, names_of, result_of,
+    ARRAY_GETELEMENT, ARRAY_SETELEMENT, ASSIGN, JMPF, JMPT, PROPGET, PROPSET, RETURN,
 };
-use crate::script::{Kind, Script};
-use crate::temporaries::Temporaries;
-use crate::trees::{Form, Part, Trees};
-use crate::uses::Uses;
-use crate::world::World;
+use crate::slots::Slots;
+use crate::trees::{Form, Input, Trees};
+use crate::words::unspelled;
 use papy_base::OutOfMemory;
-use std::alloc::Global;
-
-/// What a function is read with.
-#[derive(Clone, Copy)]
-pub(crate) struct Source<'w, 'f> {
-    pub alloc: Global,
-    pub world: &'w World<'w>,
-    pub script: &'w Script<'w>,
-    pub code: &'f Code,
-    pub uses: &'f Uses,
-}
 
 /// What an instruction ends.
 #[derive(Clone, Copy)]
@@ -38,277 +24,236 @@ pub(crate) enum Outcome {
 // The left side of And or Or, whose value stands in a slot, and the place behind its right side.
 #[derive(Clone, Copy)]
 struct Side {
-    form: Form,
+    opcode: u8,
     slot: usize,
-    left: usize,
+    left: Input,
     start: usize,
     end: usize,
 }
 
-/// The state of reading: the expressions whose value stands in a temporary that is still to be read.
+// The expression whose value a temporary has, and whether it was read and is to be read again.
+#[derive(Clone, Copy)]
+struct Value {
+    node: usize,
+    is_shared: bool,
+}
+
+/// The state of reading.
 #[derive(Drop)]
 pub(crate) struct Reader<'w, 'f> {
-    source: Source<'w, 'f>,
+    code: &'f Code<'w>,
     pub trees: Trees,
-    temporaries: Temporaries,
-    pending: Vec<Option<usize>>,
-    // What was read once and is to be read again.
-    held: Vec<Option<usize>>,
+    pub slots: Slots<'w, 'f>,
+    // For each temporary its value while it is still to be read.
+    values: Vec<Option<Value>>,
     sides: Vec<Side>,
-    // How many are pending, held or on a left side.
+    // How many values and sides there are.
     waiting: usize,
-    // The temporary that the instruction before assigned.
+    // The operands of the instruction, in the order of evaluation.
+    inputs: Vec<Input>,
+    // The temporary that the instruction before assigned to.
     fresh: Option<usize>,
 }
 
 impl<'w, 'f> Reader<'w, 'f> {
     /// A reader for which the slots from `first` on are temporaries.
-    pub(crate) fn new(source: Source<'w, 'f>, first: usize) -> Result<Reader<'w, 'f>, OutOfMemory> {
-        let alloc = source.alloc;
-        let slots = source.code.kinds.len();
+    pub(crate) fn new(code: &'f Code<'w>, first: usize) -> Result<Reader<'w, 'f>, OutOfMemory> {
+        let alloc = code.world.alloc;
+        let values = vec![in alloc; None; code.slot_count()]?;
         Ok(Reader {
-            source,
+            code,
             trees: Trees::new(alloc),
-            temporaries: Temporaries::new(alloc, first, source.world.words.none_type),
-            pending: vec![in alloc; None; slots]?,
-            held: vec![in alloc; None; slots]?,
+            slots: Slots::new(code, first)?,
+            values,
             sides: Vec::new(alloc),
             waiting: 0,
+            inputs: Vec::new(alloc),
             fresh: None,
         })
     }
 
-    /// The expressions that were read.
-    pub(crate) fn into_trees(self) -> Trees {
-        let Reader {
-            source: _,
-            trees,
-            temporaries: _,
-            pending: _,
-            held: _,
-            sides: _,
-            waiting: _,
-            fresh: _,
-        } = self;
-        trees
-    }
-
-    /// Whether each slot was handed out.
-    pub(crate) fn has_all_slots(&self) -> bool {
-        self.temporaries.next() == self.source.code.kinds.len()
-    }
-
     /// Where the right side of the innermost And or Or ends.
     pub(crate) fn side_end(&self) -> Option<usize> {
-        match self.sides.last() {
-            Some(side) => Some(side.end),
-            None => None,
-        }
-    }
-
-    fn is_temporary(&self, operand: Operand) -> bool {
-        match operand {
-            Operand::Slot(slot) => self.temporaries.has(slot),
-            _ => false,
-        }
-    }
-
-    // The type of what an operand stands for.
-    fn kind_of(&self, operand: Operand) -> Result<Kind, SourceFault> {
-        let words = &self.source.world.words;
-        match operand {
-            Operand::Slot(slot) => self.source.code.kind(slot),
-            Operand::Variable(place) => {
-                let variable = self.source.script.variable(place)?;
-                Ok(self.source.script.kind(variable.kind))
-            }
-            Operand::OwnInstance => Ok(self.source.script.kind(self.source.script.object.name)),
-            Operand::StateText | Operand::Text(_) => Ok(words.kind(words.string_type)),
-            Operand::Int(_) => Ok(words.kind(words.int_type)),
-            Operand::Bool(_) => Ok(words.kind(words.bool_type)),
-            Operand::NoneValue => Ok(words.kind(words.none_type)),
-            Operand::Name(_) => Err(NOT_FOUND),
-        }
-    }
-
-    // The expression that an operand is, by its place among those of the function. Only where it may be read again may the
-    // next instruction read it again.
-    fn read(&mut self, place: usize, again: bool) -> Result<usize, SourceFault> {
-        let operand = self.source.code.operand(place)?;
-        if !self.is_temporary(operand) {
-            let kind = self.kind_of(operand)?;
-            return self.trees.add_leaf(Form::Leaf(operand), kind, None);
-        }
-        let Operand::Slot(slot) = operand else {
-            return Err(NOT_FOUND);
-        };
-        if held_in(&self.held, slot).is_some() {
-            return Err(NOT_FOUND);
-        }
-        let Some(node) = take_from(&mut self.pending, slot) else {
-            return Err(NOT_FOUND);
-        };
-        if !self.source.uses.is_read_next(place) {
-            self.waiting = self.waiting.saturating_sub(1);
-            return Ok(node);
-        }
-        if !again {
-            return Err(NOT_FOUND);
-        }
-        put_into(&mut self.held, slot, node);
-        Ok(node)
-    }
-
-    // Takes back the temporary that an operand was, unless it is read again.
-    fn give_back(&mut self, place: usize) -> Result<(), SourceFault> {
-        if let Operand::Slot(slot) = self.source.code.operand(place)? {
-            if held_in(&self.held, slot).is_none() {
-                self.temporaries.give_back(self.source.code, slot)?;
-            }
-        }
-        Ok(())
-    }
-
-    // Notes that a temporary has this value from now on.
-    fn put(&mut self, slot: usize, node: usize) -> Result<(), SourceFault> {
-        if held_in(&self.held, slot).is_some() || held_in(&self.pending, slot).is_some() {
-            return Err(NOT_FOUND);
-        }
-        put_into(&mut self.pending, slot, node);
-        self.waiting = self.waiting.saturating_add(1);
-        Ok(())
-    }
-
-    fn clear(&self) -> Result<(), SourceFault> {
-        if self.waiting == 0 {
-            Ok(())
-        } else {
-            Err(NOT_FOUND)
-        }
-    }
-
-    // The value of the instruction before, whose target is the operand at this place. It is a statement where nobody reads it.
-    fn store(&mut self, place: usize, node: usize) -> Result<Outcome, SourceFault> {
-        let Operand::Slot(slot) = self.source.code.operand(place)? else {
-            return Err(NOT_FOUND);
-        };
-        let kind = self.source.code.kind(slot)?.number;
-        let is_none = kind == self.source.world.words.none_type;
-        if !is_none && self.source.uses.is_read_next(place) {
-            self.put(slot, node)?;
-            return Ok(Outcome::Open);
-        }
-        self.clear()?;
-        if !is_none {
-            self.temporaries.give_back(self.source.code, slot)?;
-        }
-        Ok(Outcome::Done(Line::Plain(node)))
-    }
-
-    /// Ends the innermost And or Or, whose right side ends before this place.
-    pub(crate) fn end_side(&mut self, at: usize) -> Result<Outcome, SourceFault> {
-        let Some(side) = self.sides.pop() else {
-            return Err(NOT_FOUND);
-        };
-        if self.fresh.take() != Some(side.slot) {
-            return Err(NOT_FOUND);
-        }
-        let Some(right) = take_from(&mut self.pending, side.slot) else {
-            return Err(NOT_FOUND);
-        };
-        self.waiting = self.waiting.saturating_sub(2);
-        let words = &self.source.world.words;
-        let kind = words.kind(words.bool_type);
-        let parts = [
-            Part {
-                node: side.left,
-                place: 0,
-            },
-            Part {
-                node: right,
-                place: 1,
-            },
-        ];
-        let last = at.saturating_sub(1);
-        let node = self.trees.add(side.form, kind, &parts, side.start, last)?;
-        let target = self.source.code.step(last)?.first;
-        self.store(target, node)
+        Some(self.sides.last()?.end)
     }
 
     /// Reads the instruction at a place of a block that ends at `limit`.
-    pub(crate) fn step(&mut self, at: usize, limit: usize) -> Result<Outcome, SourceFault> {
-        let before = self.fresh.take();
-        let step = self.source.code.step(at)?;
+    pub(crate) fn step(&mut self, at: usize, limit: usize) -> Found<Outcome> {
+        let fresh = self.fresh.take();
+        let step = self.code.step(at)?;
+        self.read_inputs(step)?;
         match step.opcode {
             ASSIGN => self.assign(at, step),
-            JMPF | JMPT => self.jump(at, step, limit, before),
-            RETURN => {
-                let node = self.read_last(step.first)?;
-                self.give_back(step.first)?;
-                Ok(Outcome::Done(Line::Return(node)))
-            }
+            JMPF | JMPT => self.jump(at, step, limit, fresh),
+            RETURN => Ok(Outcome::Done(Line::Return(self.end_with_one()?))),
             PROPSET => self.set_property(step),
-            ARRAY_SETELEMENT => self.set_element(step),
-            JMP | 0x00 => Err(NOT_FOUND),
-            _ => self.value(at, step),
+            ARRAY_SETELEMENT => self.set_element(),
+            _ => self.apply(at, step),
         }
     }
 
-    // The only operand of an instruction that ends a statement.
-    fn read_last(&mut self, place: usize) -> Result<usize, SourceFault> {
-        let node = self.read(place, false)?;
-        self.check_kept(&[node])?;
-        self.clear()?;
-        Ok(node)
-    }
-
-    fn jump(
-        &mut self,
-        at: usize,
-        step: Step,
-        limit: usize,
-        before: Option<usize>,
-    ) -> Result<Outcome, SourceFault> {
-        if let Operand::Slot(slot) = self.source.code.operand(step.first)? {
-            if self.temporaries.has(slot) && before == Some(slot) {
-                self.begin_side(at, step, slot, limit)?;
-                return Ok(Outcome::Open);
+    // Reads the operands of an instruction. Arguments are read as the parameters stand, where they can be evaluated so, and else
+    // those with code in the order of their code, then the others.
+    fn read_inputs(&mut self, step: Step) -> Found<()> {
+        self.inputs.clear();
+        for operand in step.first..step.end {
+            if step.result != Some(operand) {
+                let input = self.read(step, operand)?;
+                self.inputs.push(input)?;
             }
         }
-        if step.opcode != JMPF {
-            return Err(NOT_FOUND);
+        if !self.begins_change(step.opcode) && !self.is_in_order()? {
+            self.inputs.sort_by_key(|input| input.order)?;
+            check(self.is_in_order()?)?;
         }
-        let node = self.read_last(step.first)?;
-        self.give_back(step.first)?;
-        Ok(Outcome::Test(node))
+        Ok(())
     }
 
-    // The left side of And or Or ends with this jump.
-    fn begin_side(
-        &mut self,
-        at: usize,
-        step: Step,
-        slot: usize,
-        limit: usize,
-    ) -> Result<(), SourceFault> {
-        let end = self.source.uses.target(at)?;
-        let outer = match self.sides.last() {
-            Some(side) => side.end,
-            None => limit,
+    // Whether the instruction gets what an assignment computes with that sets it.
+    fn begins_change(&self, opcode: u8) -> bool {
+        is_get(opcode) && self.inputs.iter().any(|input| input.is_shared)
+    }
+
+    fn read(&mut self, step: Step, operand: usize) -> Found<Input> {
+        let value = match self.code.operand(operand)? {
+            Operand::Slot(slot) if self.slots.is_temporary(slot) => {
+                self.read_temporary(step.opcode, operand, slot)?
+            }
+            leaf => Value {
+                node: self.read_leaf(leaf)?,
+                is_shared: false,
+            },
         };
-        if end <= at.saturating_add(1) || end > outer {
-            return Err(NOT_FOUND);
+        let order = match self.trees.node(value.node)?.code {
+            _ if operand < step.arguments => 0,
+            Some((_, at)) => at,
+            None => usize::MAX,
+        };
+        Ok(Input {
+            node: value.node,
+            operand,
+            place: operand.saturating_sub(step.arguments),
+            is_shared: value.is_shared,
+            order,
+        })
+    }
+
+    fn read_leaf(&mut self, operand: Operand) -> Found<usize> {
+        check(self.slots.undefined(operand).is_none())?;
+        let kind = self.code.type_of(operand)?;
+        self.trees.add_leaf(operand, kind, None)
+    }
+
+    // What a get reads may be read once more by a set.
+    fn read_temporary(&mut self, opcode: u8, operand: usize, slot: usize) -> Found<Value> {
+        let value = self.take_value(slot)?;
+        if self.code.is_read_next(operand) {
+            check(is_get(opcode) && !value.is_shared)?;
+            return self.put_value(slot, value.node, true);
         }
-        let Some(left) = take_from(&mut self.pending, slot) else {
-            return Err(NOT_FOUND);
-        };
-        let form = if step.opcode == JMPF {
-            Form::And
-        } else {
-            Form::Or
-        };
+        check(!value.is_shared || matches!(opcode, PROPSET | ARRAY_SETELEMENT))?;
+        Ok(value)
+    }
+
+    fn take_value(&mut self, slot: usize) -> Found<Value> {
+        let value = self.values.get_mut(slot).ok_or(NOT_FOUND)?;
+        self.waiting = self.waiting.saturating_sub(1);
+        value.take().ok_or(NOT_FOUND)
+    }
+
+    // Notes that a temporary has this value from now on.
+    fn put_value(&mut self, slot: usize, node: usize, is_shared: bool) -> Found<Value> {
+        check(!has_value(&self.values, slot))?;
+        let value = Value { node, is_shared };
+        *self.values.get_mut(slot).ok_or(NOT_FOUND)? = Some(value);
+        self.waiting = self.waiting.saturating_add(1);
+        Ok(value)
+    }
+
+    // Whether the code of each input stands before that of the next, and a variable is kept exactly where a later one acts.
+    fn is_in_order(&self) -> Found<bool> {
+        let mut acts = false;
+        let mut behind = usize::MAX;
+        for input in self.inputs.iter().rev() {
+            let node = self.trees.node(input.node)?;
+            if node.varies() && node.code.is_some() != acts {
+                return Ok(false);
+            }
+            if let Some((start, at)) = node.code {
+                if at >= behind {
+                    return Ok(false);
+                }
+                behind = start;
+            }
+            acts = acts || node.acts;
+        }
+        Ok(true)
+    }
+
+    // Takes back the temporaries that are read no more.
+    fn give_back(&mut self) -> Found<()> {
+        for input in &self.inputs {
+            match self.code.operand(input.operand)? {
+                Operand::Slot(slot) if !has_value(&self.values, slot) => {
+                    self.slots.give_back(slot)?;
+                }
+                _ => {}
+            }
+        }
+        Ok(())
+    }
+
+    // A statement ends, with nothing left to be read.
+    fn end(&mut self) -> Found<()> {
+        check(self.waiting == 0)?;
+        self.give_back()
+    }
+
+    // A statement or a test ends, which has one value.
+    fn end_with_one(&mut self) -> Found<usize> {
+        self.end()?;
+        Ok(self.only_input()?.node)
+    }
+
+    // The operand that is read, which stands first where there is also how far a jump leads.
+    fn only_input(&self) -> Found<Input> {
+        self.inputs.first().copied().ok_or(NOT_FOUND)
+    }
+
+    // The value that an instruction has given to a temporary. It is a statement where nobody reads it.
+    fn store(&mut self, operand: usize, slot: usize, node: usize) -> Found<Outcome> {
+        let has_type = self.code.slot_type(slot)?.number != self.code.world.words.none_type;
+        if has_type && self.code.is_read_next(operand) {
+            self.put_value(slot, node, false)?;
+            return Ok(Outcome::Open);
+        }
+        check(self.waiting == 0)?;
+        self.slots.give_back(slot)?;
+        Ok(Outcome::Done(Line::Plain(node)))
+    }
+
+    // A jump: the left side of And or Or ends with it where the instruction before assigned what it tests, and else a test.
+    fn jump(&mut self, at: usize, step: Step, end: usize, fresh: Option<usize>) -> Found<Outcome> {
+        match self.code.operand(step.first)? {
+            Operand::Slot(slot) if fresh == Some(slot) => {
+                self.begin_side(at, step, slot, end)?;
+                Ok(Outcome::Open)
+            }
+            _ => {
+                check(step.opcode == JMPF)?;
+                Ok(Outcome::Test(self.end_with_one()?))
+            }
+        }
+    }
+
+    fn begin_side(&mut self, at: usize, step: Step, slot: usize, limit: usize) -> Found<()> {
+        let end = step.target.ok_or(NOT_FOUND)?;
+        let outer = self.side_end().unwrap_or(limit);
+        check(end > at.saturating_add(1) && end <= outer)?;
+        let left = self.only_input()?;
+        self.waiting = self.waiting.saturating_add(1);
         self.sides.push(Side {
-            form,
+            opcode: step.opcode,
             slot,
             left,
             start: at.saturating_sub(1),
@@ -317,49 +262,45 @@ impl<'w, 'f> Reader<'w, 'f> {
         Ok(())
     }
 
-    fn assign(&mut self, at: usize, step: Step) -> Result<Outcome, SourceFault> {
-        let source = step.first.saturating_add(1);
-        let target = self.source.code.operand(step.first)?;
-        let value = self.read(source, false)?;
-        if let Operand::Slot(slot) = target {
-            if self.temporaries.has(slot) {
-                return self.assign_temporary(at, step, slot, value);
-            }
-        }
-        self.assign_variable(step, target, value)
+    /// Ends the innermost And or Or, whose right side ends before this place.
+    pub(crate) fn end_side(&mut self, at: usize) -> Found<Outcome> {
+        let side = self.sides.pop().ok_or(NOT_FOUND)?;
+        check(self.fresh.take() == Some(side.slot))?;
+        let right = Input {
+            node: self.take_value(side.slot)?.node,
+            ..side.left
+        };
+        self.waiting = self.waiting.saturating_sub(1);
+        let kind = unspelled(self.code.world.words.bool_type);
+        let form = Form::Apply(side.opcode, (0, 0));
+        let last = at.saturating_sub(1);
+        let node = self
+            .trees
+            .add(form, kind, &[side.left, right], side.start, last)?;
+        self.store(self.code.step(last)?.first, side.slot, node)
     }
 
-    // A variable gets a value, which ends a statement.
-    fn assign_variable(
-        &mut self,
-        step: Step,
-        target: Operand,
-        value: usize,
-    ) -> Result<Outcome, SourceFault> {
-        self.check_kept(&[value])?;
-        self.clear()?;
-        self.give_back(step.first.saturating_add(1))?;
-        Ok(Outcome::Done(Line::Set(target, value)))
+    fn assign(&mut self, at: usize, step: Step) -> Found<Outcome> {
+        match self.code.operand(step.first)? {
+            Operand::Slot(slot) if self.slots.is_temporary(slot) => {
+                self.assign_temporary(at, step, slot)
+            }
+            target => Ok(Outcome::Done(Line::Set(target, self.end_with_one()?))),
+        }
     }
 
     // A temporary gets a value: a side of And or Or, or a variable that is kept.
-    fn assign_temporary(
-        &mut self,
-        at: usize,
-        step: Step,
-        slot: usize,
-        value: usize,
-    ) -> Result<Outcome, SourceFault> {
+    fn assign_temporary(&mut self, at: usize, step: Step, slot: usize) -> Found<Outcome> {
+        let input = self.only_input()?;
         let is_right = self.ends_side(slot, at);
-        if !is_right && !self.jumps_on(Operand::Slot(slot), at) {
-            return self.keep(at, step, slot, value);
+        if !is_right && !self.is_tested(slot, at) {
+            return self.keep(at, step, slot, input);
         }
-        self.check_kept(&[value])?;
         if !is_right {
-            self.temporaries.take(self.source.code, slot)?;
+            self.slots.take(slot)?;
         }
-        self.give_back(step.first.saturating_add(1))?;
-        self.put(slot, value)?;
+        self.give_back()?;
+        self.put_value(slot, input.node, false)?;
         self.fresh = Some(slot);
         Ok(Outcome::Open)
     }
@@ -372,368 +313,77 @@ impl<'w, 'f> Reader<'w, 'f> {
         }
     }
 
-    // Whether the instruction behind this place is a jump on the operand.
-    fn jumps_on(&self, operand: Operand, at: usize) -> bool {
-        let Ok(next) = self.source.code.step(at.saturating_add(1)) else {
-            return false;
-        };
-        (next.opcode == JMPF || next.opcode == JMPT)
-            && self.source.code.operand(next.first) == Ok(operand)
+    // Whether the instruction behind this place is a jump that tests the slot.
+    fn is_tested(&self, slot: usize, at: usize) -> bool {
+        match self.code.step(at.saturating_add(1)) {
+            Ok(next) => matches!(next.opcode, JMPF | JMPT)
+                && self.code.operand(next.first) == Ok(Operand::Slot(slot)),
+            Err(_) => false,
+        }
     }
 
-    // A variable whose value is kept while a later operand acts.
-    fn keep(
-        &mut self,
-        at: usize,
-        step: Step,
-        slot: usize,
-        value: usize,
-    ) -> Result<Outcome, SourceFault> {
-        let node = self.trees.node(value)?;
-        if !node.varies() || node.at.is_some() || !self.source.uses.is_read_next(step.first) {
-            return Err(NOT_FOUND);
-        }
-        self.temporaries.take(self.source.code, slot)?;
-        let kept = self.trees.add_leaf(node.form, node.kind, Some(at))?;
-        self.put(slot, kept)?;
+    // A variable is kept while a later operand acts.
+    fn keep(&mut self, at: usize, step: Step, slot: usize, input: Input) -> Found<Outcome> {
+        let variable = self.trees.node(input.node)?;
+        let is_read = self.code.is_read_next(step.first);
+        check(variable.varies() && variable.code.is_none() && is_read)?;
+        self.slots.take(slot)?;
+        let operand = self.code.operand(input.operand)?;
+        let node = self.trees.add_leaf(operand, variable.kind, Some(at))?;
+        self.put_value(slot, node, false)?;
         Ok(Outcome::Open)
     }
 
-    // Operands in the order in which they are evaluated: the code of each stands before that of the next, and a variable is
-    // kept exactly where a later one acts.
-    fn check_kept(&self, nodes: &[usize]) -> Result<(), SourceFault> {
-        let mut acts = false;
-        let mut after = None;
-        for number in nodes.iter().rev() {
-            let node = self.trees.node(*number)?;
-            if node.varies() && node.at.is_some() != acts {
-                return Err(NOT_FOUND);
-            }
-            if let Some(at) = node.at {
-                if stands_behind(at, after) {
-                    return Err(NOT_FOUND);
-                }
-                after = node.start;
-            }
-            acts = acts || node.acts;
-        }
-        Ok(())
-    }
-
-    // An instruction that gives a value.
-    fn value(&mut self, at: usize, step: Step) -> Result<Outcome, SourceFault> {
-        let Some(result_place) = result_of(step.opcode) else {
+    // An instruction that gives a value to a temporary.
+    fn apply(&mut self, at: usize, step: Step) -> Found<Outcome> {
+        let result = step.result.ok_or(NOT_FOUND)?;
+        let Operand::Slot(slot) = self.code.operand(result)? else {
             return Err(NOT_FOUND);
         };
-        let target = step.first.saturating_add(result_place);
-        let Operand::Slot(slot) = self.source.code.operand(target)? else {
+        check(self.slots.is_temporary(slot))?;
+        self.slots.take(slot)?;
+        self.give_back()?;
+        let kind = self.code.slot_type(slot)?;
+        let form = Form::Apply(step.opcode, step.names);
+        let node = self.trees.add(form, kind, &self.inputs, at, at)?;
+        self.store(result, slot, node)
+    }
+
+    fn set_property(&mut self, step: Step) -> Found<Outcome> {
+        self.end()?;
+        let [of, value] = *self.inputs.as_slice() else {
             return Err(NOT_FOUND);
         };
-        if !self.temporaries.has(slot) {
+        if of.is_shared {
+            self.check_change(value, Form::Apply(PROPGET, step.names), &[of.node])?;
+        }
+        let (_, name) = step.names;
+        Ok(Outcome::Done(Line::SetProperty(name, of.node, value.node)))
+    }
+
+    fn set_element(&mut self) -> Found<Outcome> {
+        self.end()?;
+        let [array, index, value] = *self.inputs.as_slice() else {
             return Err(NOT_FOUND);
+        };
+        if array.is_shared || index.is_shared {
+            let form = Form::Apply(ARRAY_GETELEMENT, (0, 0));
+            self.check_change(value, form, &[array.node, index.node])?;
         }
-        let mut reads = Vec::new(self.source.alloc);
-        let node = self.evaluate(at, step, (target, slot), &mut reads);
-        drop(reads);
-        self.store(target, node?)
+        let line = Line::SetElement(array.node, index.node, value.node);
+        Ok(Outcome::Done(line))
     }
 
-    // The expression of an instruction whose result goes to the target, an operand and its slot. Its operands are appended.
-    fn evaluate(
-        &mut self,
-        at: usize,
-        step: Step,
-        target: (usize, usize),
-        reads: &mut Vec<Read>,
-    ) -> Result<usize, SourceFault> {
-        self.read_operands(step, target.0, reads)?;
-        let is_old = self.holds_any(reads)?;
-        if !is_old {
-            self.check_reads(reads)?;
-        }
-        self.temporaries.take(self.source.code, target.1)?;
-        for read in reads.iter() {
-            self.give_back(read.operand)?;
-        }
-        self.add_value(at, step, target.1, reads, is_old)
-    }
-
-    fn check_reads(&self, reads: &[Read]) -> Result<(), SourceFault> {
-        let mut nodes = Vec::new(self.source.alloc);
-        for read in reads {
-            nodes.push(read.node)?;
-        }
-        self.check_kept(&nodes)
-    }
-
-    // Whether one of the operands is to be read again.
-    fn holds_any(&self, reads: &[Read]) -> Result<bool, SourceFault> {
-        for read in reads {
-            if let Operand::Slot(slot) = self.source.code.operand(read.operand)? {
-                if held_in(&self.held, slot).is_some() {
-                    return Ok(true);
-                }
-            }
-        }
-        Ok(false)
-    }
-
-    // Appends the operands that an instruction reads, in the order in which they are evaluated.
-    fn read_operands(
-        &mut self,
-        step: Step,
-        target: usize,
-        reads: &mut Vec<Read>,
-    ) -> Result<(), SourceFault> {
-        self.read_fixed(step, target, reads)?;
-        let mut arguments = Vec::new(self.source.alloc);
-        self.read_arguments(step, &mut arguments)?;
-        self.put_in_order(&arguments, reads)
-    }
-
-    fn read_fixed(
-        &mut self,
-        step: Step,
-        target: usize,
-        reads: &mut Vec<Read>,
-    ) -> Result<(), SourceFault> {
-        let again = step.opcode == PROPGET || step.opcode == ARRAY_GETELEMENT;
-        for operand in step.first.saturating_add(names_of(step.opcode))..step.fixed_end {
-            if operand != target {
-                let node = self.read(operand, again)?;
-                reads.push(Read {
-                    operand,
-                    node,
-                    place: reads.len(),
-                })?;
-            }
-        }
-        Ok(())
-    }
-
-    fn read_arguments(&mut self, step: Step, arguments: &mut Vec<Read>) -> Result<(), SourceFault> {
-        for (place, operand) in (step.fixed_end..step.end).enumerate() {
-            let node = self.read(operand, false)?;
-            arguments.push(Read {
-                operand,
-                node,
-                place,
-            })?;
-        }
-        Ok(())
-    }
-
-    // Appends arguments in the order of writing: those with code in the order of their code, then the others, so that a
-    // variable that was not kept stands behind all that acts. As the parameters stand, where that does.
-    fn put_in_order(&self, arguments: &[Read], reads: &mut Vec<Read>) -> Result<(), SourceFault> {
-        if self.is_in_order(arguments)? {
-            reads.extend_from_slice(arguments)?;
-            return Ok(());
-        }
-        let mut coded = Vec::new(self.source.alloc);
-        self.add_coded(arguments, &mut coded)?;
-        coded.sort_by_key(|pair| pair.0)?;
-        for (_, argument) in &coded {
-            reads.push(*argument)?;
-        }
-        self.add_others(arguments, reads)
-    }
-
-    // The arguments with code, each with the place of its last instruction.
-    fn add_coded(
-        &self,
-        arguments: &[Read],
-        coded: &mut Vec<(usize, Read)>,
-    ) -> Result<(), SourceFault> {
-        for argument in arguments {
-            if let Some(at) = self.trees.node(argument.node)?.at {
-                coded.push((at, *argument))?;
-            }
-        }
-        Ok(())
-    }
-
-    // The arguments without code.
-    fn add_others(&self, arguments: &[Read], reads: &mut Vec<Read>) -> Result<(), SourceFault> {
-        for argument in arguments {
-            if self.trees.node(argument.node)?.at.is_none() {
-                reads.push(*argument)?;
-            }
-        }
-        Ok(())
-    }
-
-    fn is_in_order(&self, arguments: &[Read]) -> Result<bool, SourceFault> {
-        let mut later_acts = false;
-        let mut later = None;
-        for argument in arguments.iter().rev() {
-            let node = self.trees.node(argument.node)?;
-            if let Some(at) = node.at {
-                if stands_behind(at, later) {
-                    return Ok(false);
-                }
-                later = Some(at);
-            } else if node.varies() && later_acts {
-                return Ok(false);
-            }
-            later_acts = later_acts || node.acts;
-        }
-        Ok(true)
-    }
-
-    // The expression of an instruction with these operands, whose result stands in this slot.
-    fn add_value(
-        &mut self,
-        at: usize,
-        step: Step,
-        slot: usize,
-        reads: &[Read],
-        is_old: bool,
-    ) -> Result<usize, SourceFault> {
-        let kind = self.source.code.kind(slot)?;
-        if is_old {
-            let form = self.old_form(step)?;
-            return self.trees.add_leaf(form, kind, Some(at));
-        }
-        let mut parts = Vec::new(self.source.alloc);
-        for read in reads {
-            parts.push(Part {
-                node: read.node,
-                place: read.place,
-            })?;
-        }
-        let form = self.form(step)?;
-        if step.opcode == ARRAY_CREATE {
-            parts.clear();
-        }
-        self.trees.add(form, kind, &parts, at, at)
-    }
-
-    fn old_form(&self, step: Step) -> Result<Form, SourceFault> {
-        let code = self.source.code;
-        if step.opcode == PROPGET {
-            let Operand::Name(name) = code.operand_of(step, 0)? else {
-                return Err(NOT_FOUND);
-            };
-            return Ok(Form::OldProperty(name, code.operand_of(step, 1)?));
-        }
-        Ok(Form::OldElement(code.operand_of(step, 1)?, code.operand_of(step, 2)?))
-    }
-
-    fn form(&self, step: Step) -> Result<Form, SourceFault> {
-        let code = self.source.code;
-        match step.opcode {
-            CAST => Ok(Form::Cast),
-            CALL_METHOD => Ok(Form::Method(self.name(step, 0)?)),
-            CALL_PARENT => Ok(Form::ParentMethod(self.name(step, 0)?)),
-            CALL_STATIC => Ok(Form::Static(self.name(step, 0)?, self.name(step, 1)?)),
-            PROPGET => Ok(Form::Property(self.name(step, 0)?)),
-            ARRAY_CREATE => match code.operand_of(step, 1)? {
-                Operand::Int(count) => Ok(Form::NewArray(count)),
-                _ => Err(NOT_FOUND),
-            },
-            opcode => Ok(Form::Apply(opcode)),
-        }
-    }
-
-    fn name(&self, step: Step, place: usize) -> Result<u16, SourceFault> {
-        match self.source.code.operand_of(step, place)? {
-            Operand::Name(name) => Ok(name),
-            _ => Err(NOT_FOUND),
-        }
-    }
-
-    // The target of an assignment, which a compound one has read before.
-    fn read_target(&mut self, place: usize) -> Result<(usize, bool), SourceFault> {
-        if let Operand::Slot(slot) = self.source.code.operand(place)? {
-            if let Some(node) = take_from(&mut self.held, slot) {
-                if self.source.uses.is_read_next(place) {
-                    return Err(NOT_FOUND);
-                }
-                self.waiting = self.waiting.saturating_sub(1);
-                return Ok((node, true));
-            }
-        }
-        Ok((self.read(place, false)?, false))
-    }
-
-    fn set_property(&mut self, step: Step) -> Result<Outcome, SourceFault> {
-        let name = self.name(step, 0)?;
-        let (target, source) = (step.first.saturating_add(1), step.first.saturating_add(2));
-        let value = self.read(source, false)?;
-        let (of, again) = self.read_target(target)?;
-        self.check_kept(&[of, value])?;
-        self.clear()?;
-        self.give_back(target)?;
-        self.give_back(source)?;
-        if !again {
-            return Ok(Outcome::Done(Line::SetProperty(name, of, value)));
-        }
-        let (opcode, right) = self.changed(
-            value,
-            Form::OldProperty(name, self.source.code.operand(target)?),
-        )?;
-        Ok(Outcome::Done(Line::ChangeProperty(name, of, opcode, right)))
-    }
-
-    fn set_element(&mut self, step: Step) -> Result<Outcome, SourceFault> {
-        let (index, source) = (step.first.saturating_add(1), step.first.saturating_add(2));
-        let value = self.read(source, false)?;
-        let (array, array_again) = self.read_target(step.first)?;
-        let (place, place_again) = self.read_target(index)?;
-        self.check_kept(&[array, place, value])?;
-        self.clear()?;
-        self.give_back(step.first)?;
-        self.give_back(index)?;
-        self.give_back(source)?;
-        if !array_again && !place_again {
-            return Ok(Outcome::Done(Line::SetElement(array, place, value)));
-        }
-        let code = self.source.code;
-        let old = Form::OldElement(code.operand(step.first)?, code.operand(index)?);
-        let (opcode, right) = self.changed(value, old)?;
-        Ok(Outcome::Done(Line::ChangeElement(array, place, opcode, right)))
-    }
-
-    // The opcode and the right side of an assignment that computes with this old value.
-    fn changed(&self, value: usize, old_form: Form) -> Result<(u8, usize), SourceFault> {
-        match self.trees.change(value)? {
-            Some((opcode, old, right)) if self.trees.node(old)?.form == old_form => Ok((
-                opcode, right,
-            )),
-            _ => Err(NOT_FOUND),
-        }
+    fn check_change(&self, value: Input, form: Form, of: &[usize]) -> Found<()> {
+        check(self.trees.change(value.node, form, of)?.is_some())
     }
 }
 
-// An operand that was read: its place among those of the function, its expression, and for an argument its parameter's place.
-#[derive(Clone, Copy)]
-struct Read {
-    operand: usize,
-    node: usize,
-    place: usize,
+fn has_value(values: &[Option<Value>], slot: usize) -> bool {
+    matches!(values.get(slot), Some(Some(_)))
 }
 
-fn stands_behind(at: usize, later: Option<usize>) -> bool {
-    match later {
-        Some(later) => at >= later,
-        None => false,
-    }
-}
-
-fn held_in(slots: &[Option<usize>], slot: usize) -> Option<usize> {
-    slots.get(slot).copied().flatten()
-}
-
-fn take_from(slots: &mut Vec<Option<usize>>, slot: usize) -> Option<usize> {
-    match slots.get_mut(slot) {
-        Some(found) => found.take(),
-        None => None,
-    }
-}
-
-fn put_into(slots: &mut Vec<Option<usize>>, slot: usize, node: usize) {
-    if let Some(found) = slots.get_mut(slot) {
-        *found = Some(node);
-    }
+// Whether the opcode gets a property or an element, which a later instruction may set.
+fn is_get(opcode: u8) -> bool {
+    matches!(opcode, PROPGET | ARRAY_GETELEMENT)
 }

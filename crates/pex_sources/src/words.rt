@@ -1,10 +1,9 @@
 // Words that Papyrus keeps for itself, and names that are made up.
-use crate::script::{Kind, Script};
+use crate::script::TypeName;
 use papy_base::OutOfMemory;
 use pex_set::NameTable;
 use pex_values::Pex;
 use std::alloc::Global;
-use std::collections::HashSet;
 
 /// The numbers of words that have a meaning in compiled files.
 #[derive(Clone, Copy)]
@@ -30,170 +29,97 @@ impl Words {
         })
     }
 
-    /// The type of this number, whose name no file needs to have.
-    pub(crate) fn kind(&self, number: usize) -> Kind {
-        Kind {
-            reference: 0,
-            number,
+    /// The beginning of a made up name for a value of this type.
+    pub(crate) fn stem(&self, kind: usize, is_script: bool) -> &'static str {
+        if kind == self.int_type {
+            "number"
+        } else if kind == self.bool_type {
+            "flag"
+        } else if kind == self.string_type {
+            "text"
+        } else if is_script {
+            "object"
+        } else {
+            "list"
         }
     }
+}
 
-    /// The beginning of a made up name for a value of this type.
-    pub(crate) fn stem(&self, kind: usize, is_script: bool) -> &'static [u8] {
-        if kind == self.int_type {
-            b"number"
-        } else if kind == self.bool_type {
-            b"flag"
-        } else if kind == self.string_type {
-            b"text"
-        } else if is_script {
-            b"object"
-        } else {
-            b"list"
-        }
+/// The type of this number, whose name no file needs to have.
+pub(crate) fn unspelled(number: usize) -> TypeName {
+    TypeName {
+        reference: 0,
+        number,
     }
 }
 
 /// The keywords, which name nothing.
-static KEYWORDS: [&str; 34] = [
-    "as",
-    "auto",
-    "autoreadonly",
-    "bool",
-    "else",
-    "elseif",
-    "endevent",
-    "endfunction",
-    "endif",
-    "endproperty",
-    "endstate",
-    "endwhile",
-    "event",
-    "extends",
-    "false",
-    "float",
-    "function",
-    "global",
-    "if",
-    "import",
-    "int",
-    "length",
-    "native",
-    "new",
-    "none",
-    "parent",
-    "property",
-    "return",
-    "scriptname",
-    "self",
-    "state",
-    "string",
-    "true",
-    "while",
+#[rattlefmt::skip]
+pub(crate) static KEYWORDS: [&str; 34] = [
+    "as", "auto", "autoreadonly", "bool", "else", "elseif", "endevent", "endfunction", "endif", "endproperty",
+    "endstate", "endwhile", "event", "extends", "false", "float", "function", "global", "if", "import", "int",
+    "length", "native", "new", "none", "parent", "property", "return", "scriptname", "self", "state", "string",
+    "true", "while",
 ];
-
-/// The names that no parameter or local may have: keywords, and those of scripts, variables and properties.
-pub(crate) fn taken_names(
-    alloc: Global,
-    table: &mut NameTable,
-    scripts: &[Script<'_>],
-) -> Result<HashSet<usize>, OutOfMemory> {
-    let mut taken = HashSet::new(alloc);
-    for keyword in KEYWORDS.iter() {
-        taken.insert(table.number(alloc, keyword.as_bytes())?)?;
-    }
-    for script in scripts {
-        add_names(script, &mut taken)?;
-    }
-    Ok(taken)
-}
-
-fn add_names(script: &Script<'_>, taken: &mut HashSet<usize>) -> Result<(), OutOfMemory> {
-    taken.insert(script.number(script.object.name))?;
-    for variable in &script.object.variables {
-        taken.insert(script.number(variable.name))?;
-    }
-    for property in &script.object.properties {
-        taken.insert(script.number(property.name))?;
-    }
-    Ok(())
-}
 
 /// Whether the bytes are a word.
 pub(crate) fn is_word(bytes: &[u8]) -> bool {
-    match bytes.first() {
-        Some(first) => {
-            !first.is_ascii_digit()
-                && bytes
-                    .iter()
-                    .all(|b| *b == b'_' || b.is_ascii_alphanumeric())
-        }
-        None => false,
+    match bytes {
+        [] | [b'0'..=b'9', ..] => false,
+        _ => bytes
+            .iter()
+            .all(|b| *b == b'_' || b.is_ascii_alphanumeric()),
     }
-}
-
-/// What stands between the stem and the place in a made up name, so that no string of the files is such a name: nothing, or
-/// where one is a number.
-pub(crate) fn free_infix(alloc: Global, files: &[Pex]) -> Result<Option<usize>, OutOfMemory> {
-    let mut used = HashSet::new(alloc);
-    let mut is_free = true;
-    for file in files {
-        for string in &file.strings {
-            let rest = behind_stem(string.as_bytes());
-            is_free = is_free && !is_number(rest);
-            if let Some(infix) = infix_of(rest) {
-                used.insert(infix)?;
-            }
-        }
-    }
-    Ok(if is_free {
-        None
-    } else {
-        Some(least_unused(&used))
-    })
-}
-
-// The least number that is none of these.
-fn least_unused(used: &HashSet<usize>) -> usize {
-    for infix in 0..used.len() {
-        if !used.contains(&infix) {
-            return infix;
-        }
-    }
-    used.len()
 }
 
 /// The beginnings of made up names.
 static STEMS: [&str; 5] = ["number", "flag", "text", "object", "list"];
 
-// What follows the stem in a string that begins with one, and nothing of every other string.
-fn behind_stem(string: &[u8]) -> &[u8] {
-    for stem in STEMS.iter() {
-        if let (Some(first), Some(rest)) = (string.get(..stem.len()), string.get(stem.len()..)) {
-            if first.eq_ignore_ascii_case(stem.as_bytes()) {
-                return rest;
-            }
+/// What stands between the stem and the place in a made up name, so that no string of the files is such a name: nothing, or
+/// where one is, a number between two `_`.
+pub(crate) fn free_infix(alloc: Global, files: &[Pex]) -> Result<String, OutOfMemory> {
+    let mut heads = NameTable::new(alloc)?;
+    for file in files {
+        add_heads(alloc, file, &mut heads)?;
+    }
+    least_free(alloc, &heads)
+}
+
+// Adds what stands before the last digits of each string that ends with any.
+fn add_heads(alloc: Global, file: &Pex, heads: &mut NameTable) -> Result<(), OutOfMemory> {
+    for string in &file.strings {
+        let bytes = string.as_bytes();
+        let digits = bytes
+            .iter()
+            .rev()
+            .position(|byte| !byte.is_ascii_digit())
+            .unwrap_or(0);
+        let end = bytes.len().saturating_sub(digits);
+        if let (true, Some(head)) = (digits > 0, bytes.get(..end)) {
+            heads.number(alloc, head)?;
         }
     }
-    b""
+    Ok(())
 }
 
-fn is_number(bytes: &[u8]) -> bool {
-    !bytes.is_empty() && bytes.iter().all(|byte| byte.is_ascii_digit())
+fn least_free(alloc: Global, heads: &NameTable) -> Result<String, OutOfMemory> {
+    let mut infix = String::new(alloc);
+    for number in 0..heads.count() {
+        if is_free(alloc, heads, &infix)? {
+            return Ok(infix);
+        }
+        infix = format!(in alloc; "_{number}_")?;
+    }
+    Ok(infix)
 }
 
-// The number between two `_` with a number behind it.
-fn infix_of(rest: &[u8]) -> Option<usize> {
-    let rest = rest.strip_prefix(b"_")?;
-    let end = rest.iter().position(|byte| *byte == b'_')?;
-    let (infix, place) = (rest.get(..end)?, rest.get(end.saturating_add(1)..)?);
-    if !is_number(infix) || !is_number(place) {
-        return None;
+// Whether no stem with this infix is among the heads.
+fn is_free(alloc: Global, heads: &NameTable, infix: &str) -> Result<bool, OutOfMemory> {
+    for stem in STEMS.iter() {
+        let head = format!(in alloc; "{stem}{infix}")?;
+        if heads.find(alloc, head.as_bytes())?.is_some() {
+            return Ok(false);
+        }
     }
-    let mut number = 0usize;
-    for digit in infix {
-        let digit = usize::from(digit.saturating_sub(b'0'));
-        number = number.saturating_mul(10).saturating_add(digit);
-    }
-    Some(number)
+    Ok(true)
 }

@@ -1,0 +1,115 @@
+// Which slots are locals of the source that may be used, and which temporaries a compiler hands out.
+ghost use Rattle.std.specs.Prelude.{◌<◌, length, IfSome};
+
+use crate::code::{Code, Operand};
+use crate::fault::{Found, check};
+use papy_base::OutOfMemory;
+
+/// The slots of a function: parameters, then locals of the source, and from `first` on temporaries.
+#[derive(Drop)]
+pub(crate) struct Slots<'w, 'f> {
+    code: &'f Code<'w>,
+    first: usize,
+    // The next local to be defined, and for each slot whether it is a local that is defined in a block that is open.
+    next_local: usize,
+    defined: Vec<bool>,
+    // The next temporary that wasn't handed out yet, and those that may be handed out again, each with the number of its type, in
+    // this order. That of the type of no value is never in use.
+    next_temporary: usize,
+    spare: Vec<(usize, usize)>,
+}
+
+impl<'w, 'f> Slots<'w, 'f> {
+    /// No local is defined and no temporary is handed out. The slots from `first` on are temporaries.
+    pub(crate) fn new(code: &'f Code<'w>, first: usize) -> Result<Slots<'w, 'f>, OutOfMemory> {
+        let alloc = code.world.alloc;
+        Ok(Slots {
+            code,
+            first,
+            next_local: code.function.parameters.len(),
+            defined: vec![in alloc; false; code.slot_count()]?,
+            next_temporary: first,
+            spare: Vec::new(alloc),
+        })
+    }
+
+    /// Whether a slot is a temporary.
+    pub(crate) fn is_temporary(&self, slot: usize) -> bool {
+        slot >= self.first
+    }
+
+    /// Whether each local was defined and each temporary handed out.
+    pub(crate) fn are_all_used(&self) -> bool {
+        self.next_local == self.first && self.next_temporary == self.code.slot_count()
+    }
+
+    /// The local that isn't defined in a block that is open, where the operand is such a local.
+    pub(crate) fn undefined(&self, operand: Operand) -> Option<usize> {
+        let Operand::Slot(slot) = operand else {
+            return None;
+        };
+        let is_local = slot >= self.code.function.parameters.len() && slot < self.first;
+        let is_defined = self.defined.get(slot).copied().unwrap_or(false);
+        if is_local && !is_defined {
+            Some(slot)
+        } else {
+            None
+        }
+    }
+
+    /// How many slots are parameters and locals that have been defined.
+    pub(crate) fn defined_end(&self) -> usize {
+        self.next_local
+    }
+
+    /// Defines a local. They are defined in the order of their slots.
+    pub(crate) fn define(&mut self, slot: usize) -> Found<()> {
+        check(slot == self.next_local)?;
+        self.next_local = slot.saturating_add(1);
+        self.mark(slot, true);
+        Ok(())
+    }
+
+    /// Ends the block in which the locals from this one on were defined.
+    pub(crate) fn end_block(&mut self, from: usize) {
+        for slot in from..self.next_local {
+            self.mark(slot, false);
+        }
+    }
+
+    fn mark(&mut self, slot: usize, is_defined: bool) {
+        if let Some(marked) = self.defined.get_mut(slot) {
+            *marked = is_defined;
+        }
+    }
+
+    /// Hands out this temporary, where it is the one that a compiler takes for a value of its type.
+    pub(crate) fn take(&mut self, slot: usize) -> Found<()> {
+        let kind = self.code.slot_type(slot)?.number;
+        let taken = match spare_place(&self.spare, kind) {
+            Some(at) => self.spare.remove(at).1,
+            None => self.next_temporary,
+        };
+        check(taken == slot)?;
+        self.next_temporary = self.next_temporary.max(slot.saturating_add(1));
+        if kind == self.code.world.words.none_type {
+            self.spare.push((kind, slot))?;
+        }
+        Ok(())
+    }
+
+    /// Takes a slot back, which is read no more, where it is a temporary.
+    pub(crate) fn give_back(&mut self, slot: usize) -> Found<()> {
+        let kind = self.code.slot_type(slot)?.number;
+        if self.is_temporary(slot) && kind != self.code.world.words.none_type {
+            self.spare.push((kind, slot))?;
+        }
+        Ok(())
+    }
+}
+
+fn spare_place(spare: &[(usize, usize)], kind: usize) -> Option<usize>
+    ensures { IfSome result (λ at. at < length spare.now) }
+{
+    spare.iter().position(|temporary| temporary.0 == kind)
+}
