@@ -53,7 +53,7 @@ impl MemberLists {
                 place,
             };
             self.properties
-                .add(self.alloc, (EMPTY_NAME, property.name), member, span)?;
+                .add((EMPTY_NAME, property.name), member, span)?;
         }
         Ok(())
     }
@@ -89,7 +89,8 @@ impl MemberLists {
                 state: state_place,
                 place,
             };
-            self.methods.add(self.alloc, (state_name, names.number(*name)), member, span)?;
+            self.methods
+                .add((state_name, names.number(*name)), member, span)?;
         }
         Ok(())
     }
@@ -111,7 +112,7 @@ impl MemberLists {
             };
             if let Some((name, _)) = members.list.get(*lacking) {
                 let names = (EMPTY_NAME, members.names.number(*name));
-                self.methods.add(self.alloc, names, member, span)?;
+                self.methods.add(names, member, span)?;
             }
         }
         Ok(())
