@@ -7,7 +7,7 @@ use Rattle.instance_store.specs.Instances.{InstanceState, instance_at, instance_
 use Rattle.pex_verify.specs.declared.loaded.LoadedInstruction.{LoadedInstruction}
 use Rattle.pex_verify.specs.declared.loaded.Operand.{Operand}
 use Rattle.pex_verify.specs.declared.loaded.Operand.TheVariants as operands
-use Rattle.stack_machine.specs.declared.operands.Work.{Work}
+use Rattle.stack_machine.specs.declared.operands.Executor.{Executor}
 use Rattle.stack_machine.specs.Settings.{type_of}
 
 -- ---- values
@@ -25,34 +25,34 @@ state_in instances (Some instance) =
     if nat_lt instance (length instances) then values.Text (instance_at instances instance).state else values.NoneValue
 
 -- what an operand is worth
-abbrev pub worth : Work → Operand → Value
-worth work operands.NoneValue = values.NoneValue
-worth work (operands.Word name) = values.NoneValue
-worth work (operands.Quoted text) = values.Text text
-worth work (operands.Int number) = values.Int number
-worth work (operands.Bool truth) = values.Bool truth
-worth work (operands.Slot number) = slice_index_or work.slots.now.items number values.NoneValue
-worth work (operands.Variable number) = variable_in work.store.now.instances work.instance work.script number
-worth work operands.Instance = own_instance work.instance
-worth work operands.State = state_in work.store.now.instances work.instance
+abbrev pub worth : Executor → Operand → Value
+worth executor operands.NoneValue = values.NoneValue
+worth executor (operands.Word name) = values.NoneValue
+worth executor (operands.Quoted text) = values.Text text
+worth executor (operands.Int number) = values.Int number
+worth executor (operands.Bool truth) = values.Bool truth
+worth executor (operands.Slot number) = slice_index_or executor.slots.now.items number values.NoneValue
+worth executor (operands.Variable number) = variable_in executor.store.now.instances executor.instance executor.script number
+worth executor operands.Instance = own_instance executor.instance
+worth executor operands.State = state_in executor.store.now.instances executor.instance
 
-abbrev pub worth_if : Work → Option Operand → Value
-worth_if work None = values.NoneValue
-worth_if work (Some operand) = worth work operand
+abbrev pub worth_if : Executor → Option Operand → Value
+worth_if executor None = values.NoneValue
+worth_if executor (Some operand) = worth executor operand
 
 -- what the fixed operand at a place is worth, None where there is none
-abbrev pub worth_at : Work → LoadedInstruction → ℕ → Value
-worth_at work instruction place = worth_if work (slice_get instruction.fixed.items place)
+abbrev pub worth_at : Executor → LoadedInstruction → ℕ → Value
+worth_at executor instruction place = worth_if executor (slice_get instruction.fixed.items place)
 
 -- ---- types
-abbrev pub type_if : Work → Option Operand → Option CoreType
-type_if work None = None
-type_if work (Some operand) =
-    type_of work.turn.now.setting.now.loaded.outline work.script work.function.now operand
+abbrev pub type_if : Executor → Option Operand → Option CoreType
+type_if executor None = None
+type_if executor (Some operand) =
+    type_of executor.turn.now.setting.now.loaded.outline executor.script executor.function.now operand
 
 -- the type of what the fixed operand at a place takes, none where it drops it
-abbrev pub type_at : Work → LoadedInstruction → ℕ → Option CoreType
-type_at work instruction place = type_if work (slice_get instruction.fixed.items place)
+abbrev pub type_at : Executor → LoadedInstruction → ℕ → Option CoreType
+type_at executor instruction place = type_if executor (slice_get instruction.fixed.items place)
 
 -- ---- stores
 abbrev pub slots_with : List Value → Operand → Value → List Value
@@ -80,27 +80,27 @@ instances_with instances instance script operands.State value = state_with insta
 instances_with instances instance script _ value = instances
 
 -- what a store in an operand leaves: the slots, the instances, and the arrays as they were
-pub record Stores (old new : Work) (operand : Operand) (value : Value) : Type 0 where
+pub record Stores (old new : Executor) (operand : Operand) (value : Value) : Type 0 where
   pub slots : new.slots.now.items ≡ slots_with old.slots.now.items operand value
   pub instances : new.store.now.instances ≡ instances_with old.store.now.instances old.instance old.script operand value
   pub arrays : new.store.now.arrays ≡ old.store.now.arrays
 
 -- what stays where nothing is stored
-pub record StoresNothing (old new : Work) : Type 0 where
+pub record StoresNothing (old new : Executor) : Type 0 where
   pub slots : new.slots.now.items ≡ old.slots.now.items
   pub instances : new.store.now.instances ≡ old.store.now.instances
   pub arrays : new.store.now.arrays ≡ old.store.now.arrays
 
 -- a store in an operand of this type, or of no type: then it is dropped
-abbrev pub StoresTyped : Work → Work → Option CoreType → Operand → Value → Type 0
+abbrev pub StoresTyped : Executor → Executor → Option CoreType → Operand → Value → Type 0
 StoresTyped old new None operand value = StoresNothing old new
 StoresTyped old new (Some kind) operand value = Stores old new operand value
 
-abbrev pub StoresIf : Work → Work → Option Operand → Value → Type 0
+abbrev pub StoresIf : Executor → Executor → Option Operand → Value → Type 0
 StoresIf old new None value = StoresNothing old new
 StoresIf old new (Some operand) value =
     StoresTyped old new (type_if old (Some operand)) operand value
 
 -- a store in the fixed operand at a place
-abbrev pub StoresAt : Work → Work → LoadedInstruction → ℕ → Value → Type 0
+abbrev pub StoresAt : Executor → Executor → LoadedInstruction → ℕ → Value → Type 0
 StoresAt old new instruction place value = StoresIf old new (slice_get instruction.fixed.items place) value

@@ -9,8 +9,8 @@ ghost use Rattle.stack_machine.specs.Instructions.{number_at, StoresComputed};
 ghost use Rattle.stack_machine.specs.Operands.{worth_at, StoresAt};
 ghost use Rattle.stack_machine.specs.Values.{is_true};
 
-use crate::operands::Work;
-use crate::values::are_equal;
+use crate::coercions::are_equal;
+use crate::operands::Executor;
 use core_tree::Value;
 use papy_base::{JoinFault, OutOfMemory, StackFault, Text, add, div, mul, neg, rem, sub};
 use pex_verify::LoadedInstruction;
@@ -30,7 +30,7 @@ const LESS_EQUAL: u8 = 0x11;
 
 const GREATER: u8 = 0x12;
 
-impl Work<'_> {
+impl Executor<'_> {
     /// iadd, isub, imul, idiv, imod: a result and two numbers.
     pub fn compute(
         &mut self,

@@ -3,16 +3,16 @@
 ghost use Rattle.std.specs.Prelude.{◌≡◌, ◌++◌, slice_get, IfOk, OnOk};
 ghost use Rattle.stack_machine.specs.Casts.{named, plain_text, text_of_bound, IsTextOf};
 
-use crate::operands::Work;
+use crate::coercions::{counts_as_true, number_of};
+use crate::operands::Executor;
 use crate::setting::Setting;
 use crate::store::Store;
-use crate::values::{counts_as_true, number_of};
 use core_tree::{CoreType, Value};
 use papy_base::{OutOfMemory, Text, read_int, write_int};
 use pex_verify::LoadedInstruction;
 use std::alloc::Global;
 
-impl Work<'_> {
+impl Executor<'_> {
     /// cast: a result and a value.
     pub fn cast(&mut self, instruction: &LoadedInstruction) -> Result<(), OutOfMemory> {
         let Some(kind) = self.type_of(instruction, 0) else {

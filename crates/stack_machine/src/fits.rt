@@ -1,7 +1,9 @@
 //! Which values fit which types in a state that is judged.
 
+use crate::array_instructions::element_type;
 use crate::sound::Judged;
 use core_tree::{CoreType, Value};
+use papy_base::TEXT_LIMIT;
 
 impl Judged<'_> {
     /// Whether a value fits a place of this type. A place without a type has None alone.
@@ -10,12 +12,22 @@ impl Judged<'_> {
             (Value::NoneValue, kind) => takes_none(kind),
             (Value::Int(_), Some(CoreType::Int)) => true,
             (Value::Bool(_), Some(CoreType::Bool)) => true,
-            (Value::Text(_), Some(CoreType::Text)) => true,
+            (Value::Text(_), Some(CoreType::Text)) => self.is_there(value),
             (Value::Instance(instance), Some(CoreType::Script(script))) => {
                 self.is_of(*instance, script)
             }
             (Value::Array(array), Some(kind)) => self.is_array_of(*array, kind),
             _ => false,
+        }
+    }
+
+    /// Whether the instance or array that a value names is there, and a text has at most 1,024 bytes.
+    pub fn is_there(&self, value: &Value) -> bool {
+        match value {
+            Value::Instance(instance) => usize::from(*instance) < self.state.instances.len(),
+            Value::Array(array) => usize::from(*array) < self.state.arrays.len(),
+            Value::Text(text) => text.as_bytes().len() <= TEXT_LIMIT,
+            Value::NoneValue | Value::Int(_) | Value::Bool(_) => true,
         }
     }
 
@@ -45,7 +57,10 @@ impl Judged<'_> {
     }
 
     fn is_array_of(&self, array: u16, kind: CoreType) -> bool {
-        match (self.state.arrays.get(usize::from(array)), element_of(kind)) {
+        match (
+            self.state.arrays.get(usize::from(array)),
+            element_type(Some(kind)),
+        ) {
             (Some(found), Some(element)) => found.0 == element,
             _ => false,
         }
@@ -54,14 +69,4 @@ impl Judged<'_> {
 
 fn takes_none(kind: Option<CoreType>) -> bool {
     !matches!(kind, Some(CoreType::Int | CoreType::Bool | CoreType::Text))
-}
-
-fn element_of(kind: CoreType) -> Option<CoreType> {
-    match kind {
-        CoreType::IntArray => Some(CoreType::Int),
-        CoreType::BoolArray => Some(CoreType::Bool),
-        CoreType::TextArray => Some(CoreType::Text),
-        CoreType::ScriptArray(script) => Some(CoreType::Script(script)),
-        _ => None,
-    }
 }

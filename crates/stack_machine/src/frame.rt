@@ -32,7 +32,7 @@ pub struct Call {
 
 /// Which body runs.
 #[derive(Clone, Copy, PartialEq, Eq)]
-pub enum Body {
+pub enum FunctionPlace {
     /// A function of a state.
     Method(MethodPlace),
     /// The function that reads a property.
@@ -41,25 +41,23 @@ pub enum Body {
     Writer(PropertyPlace),
 }
 
-impl Body {
+impl FunctionPlace {
     /// The number of the script in which the body stands.
     pub fn script(self) -> u16 {
         match self {
-            Body::Method(method) => method.script,
-            Body::Reader(property) | Body::Writer(property) => property.script,
+            FunctionPlace::Method(method) => method.script,
+            FunctionPlace::Reader(property) | FunctionPlace::Writer(property) => property.script,
         }
     }
-}
 
-impl Body {
     /// 0 for a function of a state, 1 for one that reads a property, 2 for one that writes it.
     pub fn kind(self) -> u8
         ensures { result ≤ 2 }
     {
         match self {
-            Body::Method(_) => 0,
-            Body::Reader(_) => 1,
-            Body::Writer(_) => 2,
+            FunctionPlace::Method(_) => 0,
+            FunctionPlace::Reader(_) => 1,
+            FunctionPlace::Writer(_) => 2,
         }
     }
 }
@@ -69,7 +67,7 @@ impl Body {
 pub struct Running {
     /// None in a global function.
     pub instance: Option<u16>,
-    pub body: Body,
+    pub body: FunctionPlace,
     /// The place of the instruction that comes next, or of the act whose reply is awaited.
     pub place: usize,
     /// The parameters, and the locals behind them.

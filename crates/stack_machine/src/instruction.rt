@@ -3,8 +3,9 @@
 ghost use Rattle.std.specs.Prelude.{OnOk};
 ghost use Rattle.stack_machine.specs.Operands.{worth_at, StoresAt};
 
+use crate::call_instructions::is_call;
 use crate::frame::Call;
-use crate::operands::Work;
+use crate::operands::Executor;
 use core_tree::Value;
 use papy_base::{OutOfMemory, StackFault};
 use pex_verify::{Action, LoadedInstruction, MethodPlace, action_of};
@@ -41,7 +42,7 @@ pub enum Event {
 // The opcode of jmpt.
 const JUMP_IF_TRUE: u8 = 0x15;
 
-impl Work<'_> {
+impl Executor<'_> {
     /// Runs an instruction, but for one that calls or returns.
     pub fn step(&mut self, instruction: &LoadedInstruction) -> Result<Step, OutOfMemory> {
         let Some(action) = action_of(instruction.opcode) else {
@@ -66,11 +67,7 @@ impl Work<'_> {
     /// What an instruction that calls or returns asks for. Any other would return its first operand, and is never asked.
     pub fn leave(&mut self, instruction: &LoadedInstruction) -> Result<Event, OutOfMemory> {
         match action_of(instruction.opcode) {
-            Some(Action::CallMethod) => self.call_method(instruction),
-            Some(Action::CallParent) => self.call_parent(instruction),
-            Some(Action::CallStatic) => self.call_static(instruction),
-            Some(Action::GetProperty) => self.get_property(instruction),
-            Some(Action::SetProperty) => self.set_property(instruction),
+            Some(action) if is_call(action) => self.call(action, instruction),
             _ => Ok(Event::Returned(self.value(instruction, 0)?)),
         }
     }

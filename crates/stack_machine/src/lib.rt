@@ -1,18 +1,18 @@
 //! The machine that runs loaded Papyrus scripts in turns: one stack runs at a time, from one act to the next.
 #![tactic(auto)]
 
-mod acts;
 mod arithmetic;
-mod array_work;
+mod array_instructions;
 mod ascending;
 mod begin;
-mod calls;
+mod call_instructions;
 mod casts;
-mod entry;
+mod coercions;
 mod fits;
 mod frame;
 mod instruction;
 mod lines;
+mod lookup;
 mod machine;
 mod named;
 mod natives;
@@ -42,7 +42,7 @@ mod threads;
 mod told_frames;
 mod told_store;
 mod told_threads;
-mod values;
+mod transfers;
 mod world;
 
 pub use lines::append_escaped;

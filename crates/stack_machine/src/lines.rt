@@ -4,29 +4,29 @@ ghost use Rattle.std.specs.Prelude.{◌≡◌, ◌++◌, ◌∷◌, IfOk, slice_
 ghost use Rattle.std.specs.Fmt.{decimal};
 ghost use Rattle.stack_machine.specs.Lines.{escaped, escaped_byte, fault_line, fault_name, line_in, name_in, trace_line};
 
-use crate::operands::Work;
+use crate::operands::Executor;
 use crate::setting::Setting;
 use papy_base::{OutOfMemory, StackFault, Text};
 use std::alloc::Global;
 
 /// The line of a fault of the instruction at a place: `!k Script.function:line Kind`.
 pub fn fault_line(
-    work: &Work<'_>,
+    executor: &Executor<'_>,
     place: usize,
     stack: u16,
     fault: StackFault,
 ) -> Result<Vec<u8>, OutOfMemory>
-    ensures { let script = name_in (slice_get work.now.turn.now.setting.now.loaded.outline work.now.script) in
-        let source = line_in (slice_get work.now.function.now.lines.items place) in
-        IfOk result (λ line. line.items ≡ fault_line stack script work.now.function.now.name source fault) }
+    ensures { let script = name_in (slice_get executor.now.turn.now.setting.now.loaded.outline executor.now.script) in
+        let source = line_in (slice_get executor.now.function.now.lines.items place) in
+        IfOk result (λ line. line.items ≡ fault_line stack script executor.now.function.now.name source fault) }
 {
-    let mut line = Vec::new(work.turn.alloc);
+    let mut line = Vec::new(executor.turn.alloc);
     append_number(&mut line, b'!', u32::from(stack))?;
     line.push(b' ')?;
-    line.extend_from_slice(script_name(work.turn.setting, work.script))?;
+    line.extend_from_slice(script_name(executor.turn.setting, executor.script))?;
     line.push(b'.')?;
-    line.extend_from_slice(work.function.name.as_bytes())?;
-    let source = source_line(work.function.lines.as_slice(), place);
+    line.extend_from_slice(executor.function.name.as_bytes())?;
+    let source = source_line(executor.function.lines.as_slice(), place);
     append_number(&mut line, b':', u32::from(source))?;
     line.push(b' ')?;
     line.extend_from_slice(fault_name(fault))?;

@@ -36,8 +36,6 @@ pub struct Machine {
     pub(crate) turns: u32,
     // The fault that was answered.
     pub(crate) fault: Option<TurnFault>,
-    // The state of an instance that isn't there.
-    pub(crate) no_state: Text,
 }
 
 impl Model for Machine {
@@ -84,7 +82,6 @@ impl Machine {
             world: first.world,
             turns: 0,
             fault: None,
-            no_state: first.no_state,
         })
     }
 
@@ -281,7 +278,7 @@ impl Machine {
         if self.world.store.has_instance(instance) {
             return self.world.store.instances.state_of(instance);
         }
-        &self.no_state
+        &self.setting.plan.no_state
     }
 
     /// The value of an instance's Auto property of this number, where those of the root script come first, each
@@ -335,7 +332,6 @@ impl Machine {
 struct FirstState {
     plan: Plan,
     world: World,
-    no_state: Text,
 }
 
 fn initial(
@@ -352,14 +348,9 @@ fn initial(
     ensures kinds { SameKinds (map (λ d. device_state d) devices.old.items) (map (λ d. device_state d) devices.new.items) }
 {
     load_devices(&scene.tapes, devices)?;
-    let no_state = Text::try_from_bytes(alloc, &[])?;
     let plan = Plan::of(alloc, loaded, scene)?;
     let world = initial_world(alloc, loaded, scene)?;
-    Ok(FirstState {
-        plan,
-        world,
-        no_state,
-    })
+    Ok(FirstState { plan, world })
 }
 
 fn initial_world(alloc: Global, loaded: &Loaded, scene: &Scene) -> Result<World, OutOfMemory>
@@ -369,7 +360,7 @@ fn initial_world(alloc: Global, loaded: &Loaded, scene: &Scene) -> Result<World,
     ensures room { IfOk result (λ world. world.threads.room ≡ vec_len scene.now.calls) }
 {
     let (instances, stacks) = (scene.instances.len() as u16, scene.calls.len() as u16);
-    let store = Store::create(alloc, loaded, loaded.outline(), scene)?;
+    let store = Store::create(alloc, loaded, scene)?;
     let threads = Threads::with_room(alloc, instances, stacks)?;
     Ok(World {
         alloc,

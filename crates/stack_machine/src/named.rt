@@ -3,7 +3,7 @@
 ghost use Rattle.std.specs.Prelude.{◌≡◌};
 ghost use Rattle.machine_state.specs.Savable.{name_of};
 
-use crate::frame::{Body, CallWay};
+use crate::frame::{CallWay, FunctionPlace};
 use crate::setting::Setting;
 use machine_state::{BodyPlace, Way};
 use papy_base::{Name, OutOfMemory};
@@ -11,7 +11,11 @@ use std::alloc::Global;
 
 impl Setting {
     /// The body that a place names, none where it isn't spelled as one is declared.
-    pub fn body_named(&self, alloc: Global, at: &BodyPlace) -> Result<Option<Body>, OutOfMemory> {
+    pub fn body_named(
+        &self,
+        alloc: Global,
+        at: &BodyPlace,
+    ) -> Result<Option<FunctionPlace>, OutOfMemory> {
         let state = self.loaded.name_number(alloc, at.state.as_bytes())?;
         let name = self.loaded.name_number(alloc, at.function.as_bytes())?;
         let (Some(state), Some(name)) = (state, name) else {
@@ -21,11 +25,11 @@ impl Setting {
     }
 
     // The body that look-ups find, where it is spelled as the place.
-    fn body_found(&self, at: &BodyPlace, state: usize, name: usize) -> Option<Body> {
+    fn body_found(&self, at: &BodyPlace, state: usize, name: usize) -> Option<FunctionPlace> {
         let body = match at.kind {
-            0 => Body::Method(self.loaded.find_method(at.script, Some(state), name)?),
-            1 => Body::Reader(self.loaded.find_property(at.script, name)?),
-            2 => Body::Writer(self.loaded.find_property(at.script, name)?),
+            0 => FunctionPlace::Method(self.loaded.find_method(at.script, Some(state), name)?),
+            1 => FunctionPlace::Reader(self.loaded.find_property(at.script, name)?),
+            2 => FunctionPlace::Writer(self.loaded.find_property(at.script, name)?),
             _ => return None,
         };
         if body.script() == at.script && self.is_spelled(at, body) {
@@ -35,26 +39,18 @@ impl Setting {
     }
 
     // Whether there is such a body, whose state and name are spelled as the place.
-    fn is_spelled(&self, at: &BodyPlace, body: Body) -> bool {
-        match self.function(body) {
-            Some(function) => {
-                !function.is_native
-                    && self.state_name(body) == at.state.as_bytes()
-                    && function.name.as_bytes() == at.function.as_bytes()
-            }
-            None => false,
-        }
-    }
-
-    /// The number of the name by which a call looks its function up, none where no file has the name.
-    pub fn number_named(&self, alloc: Global, way: &Way) -> Result<Option<usize>, OutOfMemory> {
-        let name = name_of(way);
-        self.loaded.name_number(alloc, name.as_bytes())
+    fn is_spelled(&self, at: &BodyPlace, body: FunctionPlace) -> bool {
+        self.function(body).is_some_and(|function| {
+            !function.is_native
+                && self.state_name(body) == at.state.as_bytes()
+                && function.name.as_bytes() == at.function.as_bytes()
+        })
     }
 
     /// How a call looks its function up, none where nothing has its name.
     pub fn way_named(&self, alloc: Global, way: &Way) -> Result<Option<CallWay>, OutOfMemory> {
-        let Some(name) = self.number_named(alloc, way)? else {
+        let spelled = name_of(way).as_bytes();
+        let Some(name) = self.loaded.name_number(alloc, spelled)? else {
             return Ok(None);
         };
         Ok(match way {
@@ -69,7 +65,9 @@ impl Setting {
         })
     }
 
+    // A function of the empty state, from the script upward.
     fn global_named(&self, script: u16, name: usize) -> Option<CallWay> {
+        self.loaded.outline().scripts.get(usize::from(script))?;
         let found = self.loaded.find_method(script, None, name)?;
         Some(CallWay::Global(found))
     }
@@ -80,10 +78,10 @@ pub fn name_of(way: &Way) -> &Name
     ensures { result.now ≡ name_of way.now }
 {
     match way {
-        Way::Method(name) => name,
-        Way::Parent { name, .. } => name,
-        Way::Global { name, .. } => name,
-        Way::Get(name) => name,
-        Way::Set(name) => name,
+        Way::Method(name)
+        | Way::Parent { name, .. }
+        | Way::Global { name, .. }
+        | Way::Get(name)
+        | Way::Set(name) => name,
     }
 }

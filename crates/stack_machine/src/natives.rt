@@ -12,11 +12,11 @@ ghost use Rattle.stack_machine.specs.Settings.{method_at};
 ghost use Rattle.stack_machine.specs.Values.{number_in};
 ghost use Rattle.stack_machine.specs.Written.{WritesLines};
 
+use crate::coercions::number_of;
 use crate::lines::trace_line;
 use crate::operands::Turn;
 use crate::setting::Setting;
 use crate::status::TurnFault;
-use crate::values::number_of;
 use core_tree::{Binding, CoreType, Value};
 use latent_natives::{Device, call_device};
 use papy_base::OutOfMemory;

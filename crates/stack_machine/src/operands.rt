@@ -2,15 +2,14 @@
 
 ghost use Rattle.std.specs.Prelude.{◌≡◌, IfOk, OnOk, map, slice_index_or, slice_set};
 ghost use Rattle.core_tree.specs.declared.value.Value.TheVariants as values;
-ghost use Rattle.stack_machine.specs.Operands.{own_instance, state_in, state_with, type_at, variable_in, variable_with, worth, worth_at, Stores, StoresAt, StoresTyped};
+ghost use Rattle.stack_machine.specs.Operands.{own_instance, state_in, state_with, type_at, variable_in, variable_with, worth, worth_at, Stores, StoresAt};
 ghost use Rattle.stack_machine.specs.Instructions.{number_at};
 ghost use Rattle.stack_machine.specs.Stores.{default_in};
-ghost use Rattle.stack_machine.specs.Settings.{slot_type};
 ghost use Rattle.stack_machine.specs.Values.{is_true};
 
-use crate::setting::{Setting, slot_type};
+use crate::coercions::{counts_as_true, number_of};
+use crate::setting::Setting;
 use crate::store::{Store, default_of};
-use crate::values::{counts_as_true, number_of};
 use core_tree::{CoreType, Value};
 use papy_base::OutOfMemory;
 use pex_verify::{LoadedFunction, LoadedInstruction, Operand};
@@ -30,7 +29,7 @@ pub struct Turn<'a> {
 
 /// A body that runs, and what it works on.
 #[derive(Drop)]
-pub struct Work<'a> {
+pub struct Executor<'a> {
     pub turn: &'a Turn<'a>,
     pub function: &'a LoadedFunction,
     pub store: &'a mut Store,
@@ -46,7 +45,7 @@ pub struct Work<'a> {
     pub place: usize,
 }
 
-impl Work<'_> {
+impl Executor<'_> {
     /// The value of a fixed operand.
     pub fn value(&self, instruction: &LoadedInstruction, place: usize) -> Result<Value, OutOfMemory>
         ensures { IfOk result (λ value. value ≡ worth_at self.now instruction.now place) }
@@ -176,23 +175,10 @@ impl Work<'_> {
         let Some(operand) = instruction.fixed.get(place) else {
             return Ok(());
         };
-        if let Operand::Slot(number) = operand {
-            self.keep_slot(usize::from(*number), value);
-            return Ok(());
-        }
         let setting = self.turn.setting;
         match setting.type_of(self.script, self.function, operand) {
             Some(_) => self.keep(operand, value),
             None => Ok(()),
-        }
-    }
-
-    // Stores a value in a parameter or local. A local of the type None drops it.
-    fn keep_slot(&mut self, number: usize, value: Value)
-        ensures { StoresTyped self.old self.new (slot_type self.old.function.now number) (Operand.Slot number) value }
-    {
-        if let Some(_) = slot_type(self.function, number) {
-            self.write_slot(number, value);
         }
     }
 

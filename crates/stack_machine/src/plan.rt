@@ -5,8 +5,8 @@ ghost use Rattle.std.specs.List.{All};
 ghost use Rattle.stack_machine.specs.Natives.{binding_in};
 ghost use Rattle.stack_machine.specs.Plans.{ArePlanned};
 
-use core_tree::{Binding, BoundCall, BoundNative, Outline, OutlineProperty, Scene};
-use papy_base::OutOfMemory;
+use core_tree::{Binding, BoundCall, BoundNative, Outline, Scene};
+use papy_base::{OutOfMemory, Text};
 use pex_verify::{Loaded, MethodPlace};
 use std::alloc::Global;
 
@@ -26,8 +26,8 @@ pub struct Plan {
     pub calls: Vec<PlannedCall>,
     // For each script, what each function of its empty state does where it is a native.
     natives: Vec<Vec<Option<Binding>>>,
-    // For each script, how many Auto properties the scripts above it have.
-    above: Vec<u32>,
+    /// The state of an instance that isn't there.
+    pub no_state: Text,
 }
 
 impl Plan {
@@ -35,20 +35,15 @@ impl Plan {
     pub fn of(alloc: Global, loaded: &Loaded, scene: &Scene) -> Result<Plan, OutOfMemory>
         ensures { IfOk result (λ plan. ArePlanned plan.calls.items scene.now.calls.items) }
     {
+        let no_state = Text::try_from_bytes(alloc, &[])?;
         let calls = calls_in_order(alloc, loaded, &scene.calls)?;
         let mut natives = no_bindings(alloc, loaded.outline())?;
         bind_natives(&mut natives, &scene.natives);
-        let above = counts_above(alloc, loaded.outline())?;
         Ok(Plan {
             calls,
             natives,
-            above,
+            no_state,
         })
-    }
-
-    /// How many Auto properties the scripts above a script have.
-    pub fn properties_above(&self, script: u16) -> Option<u32> {
-        Some(*self.above.get(usize::from(script))?)
     }
 
     /// What a native function does.
@@ -111,66 +106,6 @@ fn bind_native(natives: &mut Vec<Vec<Option<Binding>>>, native: &BoundNative) {
     if let Some(functions) = natives.get_mut(usize::from(native.script)) {
         if let Some(binding) = functions.get_mut(usize::from(native.function)) {
             *binding = Some(native.binding);
-        }
-    }
-}
-
-// For each script how many Auto properties those above it have. Each script is climbed over once, since what is known
-// ends a climb.
-fn counts_above(alloc: Global, outline: &Outline) -> Result<Vec<u32>, OutOfMemory> {
-    let mut known = vec![in alloc; None; outline.scripts.len()]?;
-    let mut climbed = Vec::new(alloc);
-    for script in 0..outline.scripts.len() {
-        let count = climb(outline, known.as_slice(), &mut climbed, script)?;
-        descend(outline, known.as_mut_slice(), climbed.as_slice(), count);
-        climbed.clear();
-    }
-    let mut above = Vec::with_capacity(alloc, known.len())?;
-    for count in known {
-        above.push(count.unwrap_or(0))?;
-    }
-    Ok(above)
-}
-
-fn count_of(properties: &[OutlineProperty]) -> u32 {
-    u32::try_from(properties.len()).unwrap_or(u32::MAX)
-}
-
-// Notes the scripts from this one upward whose counts aren't known, and gives how many Auto properties those above the last
-// of them have.
-fn climb(
-    outline: &Outline,
-    known: &[Option<u32>],
-    climbed: &mut Vec<usize>,
-    first: usize,
-) -> Result<u32, OutOfMemory> {
-    let mut next = first;
-    for _ in 0..outline.scripts.len() {
-        let Some(script) = outline.scripts.get(next) else {
-            break;
-        };
-        if let Some(Some(above)) = known.get(next) {
-            return Ok(above.saturating_add(count_of(&script.properties)));
-        }
-        climbed.push(next)?;
-        let Some(parent) = script.parent else {
-            break;
-        };
-        next = usize::from(parent);
-    }
-    Ok(0)
-}
-
-// Gives the scripts that were climbed over their counts, from the last one down.
-fn descend(outline: &Outline, known: &mut [Option<u32>], climbed: &[usize], count: u32) {
-    let mut above = count;
-    for number in climbed.iter().rev() {
-        if let (Some(script), Some(place)) = (
-            outline.scripts.get(*number),
-            known.get_mut(*number),
-        ) {
-            *place = Some(above);
-            above = above.saturating_add(count_of(&script.properties));
         }
     }
 }

@@ -16,7 +16,7 @@ use crate::world::World;
 use core_tree::{DeviceKind, Scene};
 use latent_natives::{Device, load_device};
 use machine_state::MachineState;
-use papy_base::{OutOfMemory, Text};
+use papy_base::OutOfMemory;
 use pex_verify::Loaded;
 use std::alloc::Global;
 
@@ -57,12 +57,11 @@ impl Machine {
         let revived = revive(alloc, &setting, &mut state, devices);
         drop(state);
         match revived {
-            Ok(parts) => Ok(Machine {
+            Ok(world) => Ok(Machine {
                 setting,
-                world: parts.world,
+                world,
                 turns,
                 fault: None,
-                no_state: parts.no_state,
             }),
             Err(fault) => {
                 drop(setting);
@@ -72,27 +71,20 @@ impl Machine {
     }
 }
 
-// What a state makes of a machine.
-#[derive(Drop)]
-struct Revived {
-    world: World,
-    no_state: Text,
-}
-
-// The state's vectors of values are emptied.
+// The world that a state makes. The state's vectors of values are emptied.
 #[tactic(auto, using(crate::proofs::Begun::has_begun))]
 fn revive(
     alloc: Global,
     setting: &Setting,
     state: &mut MachineState,
     devices: &mut Vec<Box<dyn Device>>,
-) -> Result<Revived, RestoreFault>
+) -> Result<World, RestoreFault>
     requires planned { ArePlanned setting.now.plan.calls.items setting.now.scene.calls.items }
     requires instances { vec_len setting.now.scene.instances < 65536 }
     requires calls { vec_len setting.now.scene.calls < 65536 }
     ensures turn { IfOk result (λ _. state.old.turn ≤ setting.now.scene.turns) }
-    ensures started { IfOk result (λ parts. parts.world.threads.started ≡ vec_len state.old.stacks) }
-    ensures begun { IfOk result (λ parts. HasBegun setting.now.plan.calls.items setting.now.scene.calls.items parts.world.threads state.old.turn) }
+    ensures started { IfOk result (λ world. world.threads.started ≡ vec_len state.old.stacks) }
+    ensures begun { IfOk result (λ world. HasBegun setting.now.plan.calls.items setting.now.scene.calls.items world.threads state.old.turn) }
     ensures devices { IfErr result (λ fault. LeavesDevices fault (map (λ d. device_state d) devices.old.items) (map (λ d. device_state d) devices.new.items)) }
     ensures kinds { SameKinds (map (λ d. device_state d) devices.old.items) (map (λ d. device_state d) devices.new.items) }
 {
@@ -102,13 +94,11 @@ fn revive(
     if !are_of_kinds(&state.devices, devices) {
         return Err(RestoreFault::OtherDevices);
     }
-    let no_state = Text::try_from_bytes(alloc, &[])?;
     let world = revived_world(alloc, setting, state)?;
     match load_devices(&state.devices, devices) {
-        Ok(()) => Ok(Revived { world, no_state }),
+        Ok(()) => Ok(world),
         Err(_) => {
             drop(world);
-            drop(no_state);
             Err(RestoreFault::OutOfMemory)
         }
     }

@@ -4,7 +4,6 @@ ghost use Rattle.std.specs.Prelude.{◌≡◌};
 ghost use Rattle.stack_machine.specs.declared.restore_fault.RestoreFault.TheVariants.{OutOfMemory as NoMemory};
 
 use papy_base::OutOfMemory;
-use std::alloc::{AllocError, AllocFailed};
 use thiserror::Error;
 
 /// Why a state gives no machine.
@@ -25,22 +24,6 @@ impl From<OutOfMemory> for RestoreFault {
     ghost from_gives = { λ _ fault. fault ≡ NoMemory };
 
     fn from(_error: OutOfMemory) -> RestoreFault {
-        RestoreFault::OutOfMemory
-    }
-}
-
-impl From<AllocError> for RestoreFault {
-    ghost from_gives = { λ _ fault. fault ≡ NoMemory };
-
-    fn from(_error: AllocError) -> RestoreFault {
-        RestoreFault::OutOfMemory
-    }
-}
-
-impl<T: Drop> From<AllocFailed<T>> for RestoreFault {
-    ghost from_gives = { λ _ fault. fault ≡ NoMemory };
-
-    fn from(_error: AllocFailed<T>) -> RestoreFault {
         RestoreFault::OutOfMemory
     }
 }

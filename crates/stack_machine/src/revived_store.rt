@@ -12,9 +12,9 @@ use std::alloc::Global;
 use std::mem;
 
 /// The most arrays, and the most elements of one.
-const ARRAY_LIMIT: u16 = 4096;
+pub const ARRAY_LIMIT: u16 = 4096;
 
-const ELEMENT_LIMIT: usize = 128;
+pub const ELEMENT_LIMIT: usize = 128;
 
 /// The values of the state, which are taken out of it.
 pub fn revived_store(

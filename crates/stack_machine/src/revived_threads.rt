@@ -95,9 +95,7 @@ fn revived_frame(
             way,
             arguments,
         } => {
-            let Some(way) = setting.way_named(alloc, way)? else {
-                return Err(OutOfMemory);
-            };
+            let way = setting.way_named(alloc, way)?.ok_or(OutOfMemory)?;
             Ok(Frame::Pending(Call {
                 instance: *instance,
                 way,
@@ -111,9 +109,7 @@ fn revived_frame(
             slots,
             reply,
         } => {
-            let Some(body) = setting.body_named(alloc, at)? else {
-                return Err(OutOfMemory);
-            };
+            let body = setting.body_named(alloc, at)?.ok_or(OutOfMemory)?;
             Ok(Frame::Running(Running {
                 instance: *instance,
                 body,

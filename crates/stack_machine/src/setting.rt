@@ -5,7 +5,7 @@ ghost use Rattle.std.specs.Option.{option_copied, option_map};
 ghost use Rattle.instance_store.specs.Instances.{parent_of};
 ghost use Rattle.stack_machine.specs.Settings.{function_of, is_above, method_at, property_at, slot_type, type_of};
 
-use crate::frame::Body;
+use crate::frame::FunctionPlace;
 use crate::plan::Plan;
 use core_tree::{CoreType, Scene};
 use pex_verify::{Loaded, LoadedFunction, LoadedProperty, MethodPlace, Operand, PropertyPlace};
@@ -20,13 +20,13 @@ pub struct Setting {
 
 impl Setting {
     /// The function of a body.
-    pub fn function(&self, body: Body) -> Option<&LoadedFunction>
+    pub fn function(&self, body: FunctionPlace) -> Option<&LoadedFunction>
         ensures { option_copied result ≡ function_of self.now.loaded.scripts body }
     {
         match body {
-            Body::Method(place) => self.method(place),
-            Body::Reader(place) => self.property(place)?.read.as_ref(),
-            Body::Writer(place) => self.property(place)?.write.as_ref(),
+            FunctionPlace::Method(place) => self.method(place),
+            FunctionPlace::Reader(place) => self.property(place)?.read.as_ref(),
+            FunctionPlace::Writer(place) => self.property(place)?.write.as_ref(),
         }
     }
 
@@ -42,8 +42,8 @@ impl Setting {
     }
 
     /// The name of the state that declares a body. A property stands in none.
-    pub fn state_name(&self, body: Body) -> &[u8] {
-        let Body::Method(at) = body else {
+    pub fn state_name(&self, body: FunctionPlace) -> &[u8] {
+        let FunctionPlace::Method(at) = body else {
             return &[];
         };
         if usize::from(at.script) >= self.loaded.outline().scripts.len() {
@@ -140,16 +140,34 @@ pub fn slot_type(function: &LoadedFunction, number: usize) -> Option<CoreType>
 impl Setting {
     /// The script and the variable of an instance's Auto property of this number, in the order of the report.
     pub fn property_place(&self, instance: u16, property: u32) -> Option<(u16, u16)> {
-        let mut script = self.script_of(instance)?;
-        for _ in 0..self.loaded.outline().scripts.len() {
-            let above = self.plan.properties_above(script)?;
+        let scripts = &self.loaded.outline().scripts;
+        let (mut script, property) = (self.script_of(instance)?, property as usize);
+        let mut above = self.properties_upward(script);
+        for _ in 0..scripts.len() {
+            let found = scripts.get(usize::from(script))?;
+            above = above.saturating_sub(found.properties.len());
             if property >= above {
-                let place = (property - above) as usize;
-                let outline = self.loaded.outline().scripts.get(usize::from(script))?;
-                return Some((script, outline.properties.get(place)?.variable));
+                return Some((script, found.properties.get(property - above)?.variable));
             }
-            script = self.parent_of(script)?;
+            script = found.parent?;
         }
         None
+    }
+
+    // How many Auto properties a script and those above it have.
+    fn properties_upward(&self, script: u16) -> usize {
+        let scripts = &self.loaded.outline().scripts;
+        let (mut count, mut next) = (0usize, Some(script));
+        for _ in 0..scripts.len() {
+            let Some(number) = next else {
+                break;
+            };
+            let Some(found) = scripts.get(usize::from(number)) else {
+                break;
+            };
+            count = count.saturating_add(found.properties.len());
+            next = found.parent;
+        }
+        count
     }
 }

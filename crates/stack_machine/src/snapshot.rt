@@ -8,7 +8,7 @@ use crate::machine::Machine;
 use crate::savable::is_savable;
 use crate::told_frames::FrameTeller;
 use crate::told_store::{tell_arrays, tell_devices, tell_instances};
-use crate::told_threads::{tell_asleep, tell_free, tell_owners, tell_waiters};
+use crate::told_threads::{tell_free_and_asleep, tell_owners, tell_waiters};
 use latent_natives::Device;
 use machine_state::MachineState;
 use papy_base::OutOfMemory;
@@ -58,8 +58,7 @@ impl Machine {
         tell_instances(alloc, store, instances, &mut state.instances)?;
         tell_owners(threads, instances, &mut state.owners)?;
         tell_waiters(threads, &mut state.waiters)?;
-        tell_free(threads, &mut state.free)?;
-        tell_asleep(threads, &mut state.asleep)?;
+        tell_free_and_asleep(threads, &mut state.free, &mut state.asleep)?;
         tell_arrays(alloc, &store.arrays, &mut state.arrays)?;
         tell_devices(alloc, devices, &mut state.devices)?;
         let teller = FrameTeller {

@@ -5,12 +5,10 @@ ghost use Rattle.std.specs.Prelude.{◌≡◌, ◌≤◌, true, IfOk, vec_len};
 ghost use Rattle.stack_machine.specs.Plans.{calls_before};
 
 use crate::setting::Setting;
-use crate::sound_bodies::{has_fitting_reply, has_sound_body};
-use crate::sound_calls::has_sound_call;
 use crate::sound_locks::has_sound_locks;
-use crate::sound_numbers::{has_numbers_in_range, has_sound_numbers};
+use crate::sound_numbers::has_sound_numbers;
 use crate::sound_stacks::has_sound_stacks;
-use crate::sound_values::{has_fitting_slots, has_sound_values};
+use crate::sound_values::has_sound_values;
 use machine_state::{FrameState, MachineState};
 use papy_base::OutOfMemory;
 use pex_set::Descent;
@@ -24,15 +22,6 @@ pub struct Judged<'a> {
     pub state: &'a MachineState,
     /// Which scripts stand below which.
     pub descent: Descent,
-}
-
-/// A frame of a stack where it stands.
-#[derive(Clone, Copy)]
-pub struct Standing<'a> {
-    pub frame: &'a FrameState,
-    /// The frame that it called, none of the innermost one.
-    pub above: Option<&'a FrameState>,
-    pub is_first: bool,
 }
 
 /// Whether the state is sound for the scene of the loaded scripts.
@@ -65,10 +54,10 @@ fn descent_of(alloc: Global, setting: &Setting) -> Result<Descent, OutOfMemory> 
 impl Judged<'_> {
     // What is sound beside the numbers of turns, stacks and instances.
     fn is_sound(&self) -> Result<bool, OutOfMemory> {
-        if !has_numbers_in_range(self) || !has_sound_locks(self.alloc, self.state)? {
-            return Ok(false);
-        }
-        if !has_sound_values(self) || !has_sound_stacks(self.state) {
+        if !has_sound_values(self)
+            || !has_sound_stacks(self.state)
+            || !has_sound_locks(self.alloc, self.state)?
+        {
             return Ok(false);
         }
         for frames in &self.state.stacks {
@@ -81,24 +70,28 @@ impl Judged<'_> {
 
     fn has_sound_frames(&self, frames: &[FrameState]) -> Result<bool, OutOfMemory> {
         for (place, frame) in frames.iter().enumerate() {
-            let standing = Standing {
-                frame,
-                above: frames.get(place.saturating_add(1)),
-                is_first: place == 0,
-            };
-            if !self.is_sound_frame(standing)? {
+            let above = frames.get(place.saturating_add(1));
+            if !self.is_sound_frame(frame, above, place == 0)? {
                 return Ok(false);
             }
         }
         Ok(true)
     }
 
-    fn is_sound_frame(&self, standing: Standing<'_>) -> Result<bool, OutOfMemory> {
-        Ok(
-            has_fitting_slots(self, standing.frame)?
-                && has_sound_body(self, standing)?
-                && has_fitting_reply(self, standing)?
-                && has_sound_call(self, standing)?,
-        )
+    // A frame, with the one that it called, none of the innermost one.
+    fn is_sound_frame(
+        &self,
+        frame: &FrameState,
+        above: Option<&FrameState>,
+        is_first: bool,
+    ) -> Result<bool, OutOfMemory> {
+        match frame {
+            FrameState::ToEnter {
+                instance,
+                way,
+                arguments,
+            } => self.is_sound_call(*instance, way, arguments, is_first),
+            FrameState::Running { .. } => self.is_sound_body(frame, above),
+        }
     }
 }

@@ -1,77 +1,55 @@
 //! Whether the running frames of a state stand in bodies of the set, and take what they wait for.
 
-use crate::calls::result_place;
-use crate::sound::{Judged, Standing};
+use crate::call_instructions::{is_call, result_place};
+use crate::sound::Judged;
 use core_tree::{CoreType, Value};
 use machine_state::{BodyPlace, FrameState};
 use papy_base::OutOfMemory;
-use pex_verify::{Action, LoadedFunction, action_of};
+use pex_verify::{LoadedFunction, LoadedInstruction, action_of};
 
-/// Whether a running frame stands in a body of the set, has an instance of the body's script exactly where the function
-/// isn't Global, and has come to an instruction that calls, where a frame above is open or a reply waits.
-pub fn has_sound_body(judged: &Judged<'_>, standing: Standing<'_>) -> Result<bool, OutOfMemory> {
-    let FrameState::Running {
-        instance,
-        at,
-        instruction,
-        reply,
-        ..
-    } = standing.frame
-    else {
-        return Ok(true);
-    };
-    let Some(function) = judged.function_of(at)? else {
-        return Ok(false);
-    };
-    let waits = standing.above.is_some() || reply.is_some();
-    Ok(
-        judged.is_on_script(*instance, at.script, function)
-            && usize::from(*instruction) <= function.code.len()
-            && (!waits || calls_at(function, *instruction)),
-    )
-}
-
-/// Whether the reply of a running frame, and what the frame above it gives, fit the operand that takes the result.
-pub fn has_fitting_reply(judged: &Judged<'_>, standing: Standing<'_>) -> Result<bool, OutOfMemory> {
-    let FrameState::Running {
-        at,
-        instruction,
-        reply,
-        ..
-    } = standing.frame
-    else {
-        return Ok(true);
-    };
-    let Some(function) = judged.function_of(at)? else {
-        return Ok(false);
-    };
-    let Some(kind) = judged.taken_type(at.script, function, *instruction) else {
-        return Ok(true);
-    };
-    if !judged.reply_fits(reply.as_ref(), kind) {
-        return Ok(false);
+fn calls(instruction: &LoadedInstruction) -> bool {
+    match action_of(instruction.opcode) {
+        Some(action) => is_call(action),
+        None => false,
     }
-    judged.frame_fits(standing.above, kind)
-}
-
-// The instruction at a place is a call or the use of a property.
-fn calls_at(function: &LoadedFunction, instruction: u16) -> bool {
-    let Some(found) = function.code.get(usize::from(instruction)) else {
-        return false;
-    };
-    matches!(
-        action_of(found.opcode),
-        Some(
-            Action::CallMethod
-                | Action::CallParent
-                | Action::CallStatic
-                | Action::GetProperty
-                | Action::SetProperty
-        )
-    )
 }
 
 impl Judged<'_> {
+    /// Whether a running frame stands in a body of the set, has slots of the types of its function's parameters and locals,
+    /// and an instance of the body's script exactly where the function isn't Global. Where a frame above is open or a reply
+    /// waits, it has come to an instruction that calls, and the operand that takes the result takes these.
+    pub fn is_sound_body(
+        &self,
+        frame: &FrameState,
+        above: Option<&FrameState>,
+    ) -> Result<bool, OutOfMemory> {
+        let FrameState::Running {
+            instance,
+            at,
+            instruction,
+            slots,
+            reply,
+        } = frame
+        else {
+            return Ok(true);
+        };
+        let Some(function) = self.function_of(at)? else {
+            return Ok(false);
+        };
+        let place = usize::from(*instruction);
+        let waits = above.is_some() || reply.is_some();
+        let comes_to = function.code.get(place);
+        if place > function.code.len()
+            || !self.is_on_script(*instance, at.script, function)
+            || !self.fit_places(slots, function)
+            || (waits && !comes_to.is_some_and(|found| calls(found)))
+        {
+            return Ok(false);
+        }
+        let taken = self.taken_type(at.script, function, comes_to);
+        Ok(self.reply_fits(reply.as_ref(), taken) && self.frame_fits(above, taken)?)
+    }
+
     fn is_on_script(&self, instance: Option<u16>, script: u16, function: &LoadedFunction) -> bool {
         match instance {
             Some(instance) => !function.is_global && self.is_of(instance, script),
@@ -79,44 +57,47 @@ impl Judged<'_> {
         }
     }
 
-    // The type of what takes the result of the instruction at a place, none where anything is taken.
+    // The type of what takes the result of an instruction, none where anything is taken.
     fn taken_type(
         &self,
         script: u16,
         function: &LoadedFunction,
-        instruction: u16,
+        instruction: Option<&LoadedInstruction>,
     ) -> Option<CoreType> {
-        let found = function.code.get(usize::from(instruction))?;
+        let found = instruction?;
         let operand = found.fixed.get(result_place(found)?)?;
         self.setting.type_of(script, function, operand)
     }
 
-    fn reply_fits(&self, reply: Option<&Value>, kind: CoreType) -> bool {
-        match reply {
-            Some(value) => self.fits(value, Some(kind)),
-            None => true,
+    fn reply_fits(&self, reply: Option<&Value>, taken: Option<CoreType>) -> bool {
+        match (reply, taken) {
+            (Some(value), Some(kind)) => self.fits(value, Some(kind)),
+            (Some(value), None) => self.is_there(value),
+            (None, _) => true,
         }
     }
 
-    // Whether what a frame will give is of the type, if there is a frame.
-    fn frame_fits(&self, above: Option<&FrameState>, kind: CoreType) -> Result<bool, OutOfMemory> {
-        match above {
-            Some(FrameState::Running { at, .. }) => Ok(match self.function_of(at)? {
-                Some(function) => self.result_fits(function.result, kind),
-                None => false,
-            }),
-            Some(FrameState::ToEnter { instance, way, .. }) => {
-                Ok(match self.callee_of(*instance, way)? {
-                    Some(callee) => self.result_fits(callee.result(), kind),
-                    None => false,
-                })
+    // Whether what a frame will give is of the type, if there are both.
+    fn frame_fits(
+        &self,
+        above: Option<&FrameState>,
+        taken: Option<CoreType>,
+    ) -> Result<bool, OutOfMemory> {
+        let (Some(frame), Some(kind)) = (above, taken) else {
+            return Ok(true);
+        };
+        let result = match frame {
+            FrameState::Running { at, .. } => self.function_of(at)?.map(|function| function.result),
+            FrameState::ToEnter { instance, way, .. } => {
+                self.callee_of(*instance, way)?
+                    .map(|callee| callee.result())
             }
-            None => Ok(true),
-        }
+        };
+        Ok(result.is_some_and(|given| self.result_fits(given, kind)))
     }
 
-    /// The function of the body that a place names.
-    pub fn function_of(&self, at: &BodyPlace) -> Result<Option<&LoadedFunction>, OutOfMemory> {
+    // The function of the body that a place names.
+    fn function_of(&self, at: &BodyPlace) -> Result<Option<&LoadedFunction>, OutOfMemory> {
         Ok(match self.setting.body_named(self.alloc, at)? {
             Some(body) => self.setting.function(body),
             None => None,

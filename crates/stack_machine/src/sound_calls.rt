@@ -1,8 +1,10 @@
 //! Whether the pending calls of a state find what they may enter.
 
-use crate::sound::{Judged, Standing};
+use crate::frame::CallWay;
+use crate::lookup::{Found, look_up};
+use crate::sound::Judged;
 use core_tree::{CoreType, Value};
-use machine_state::{FrameState, Way};
+use machine_state::Way;
 use papy_base::OutOfMemory;
 use pex_verify::{LoadedFunction, LoadedProperty};
 
@@ -26,6 +28,18 @@ impl Callee<'_> {
             Callee::AutoSet(_) => None,
         }
     }
+
+    // A Global function with a body exactly for the way `Global`, else one with a body, or a native one where a frame stands
+    // below.
+    fn may_be_entered(self, is_global: bool, is_first: bool) -> bool {
+        match self {
+            Callee::Function(function) => {
+                function.is_global == is_global
+                    && (!function.is_native || (!is_global && !is_first))
+            }
+            Callee::AutoGet(_) | Callee::AutoSet(_) => true,
+        }
+    }
 }
 
 // The bits of a property that may be read, and of one that may be written.
@@ -33,41 +47,28 @@ const READ: u8 = 1;
 
 const WRITE: u8 = 2;
 
-/// Whether a frame to be entered finds a function that it may enter: a Global one with a body exactly for the way `Global`,
-/// else one with a body, or a native one where a frame stands below. Its arguments are of the types of the
-/// function's parameters. It has no instance exactly for the way `Global`.
-pub fn has_sound_call(judged: &Judged<'_>, standing: Standing<'_>) -> Result<bool, OutOfMemory> {
-    let FrameState::ToEnter {
-        instance,
-        way,
-        arguments,
-    } = standing.frame
-    else {
-        return Ok(true);
-    };
-    let is_global = matches!(way, Way::Global { .. });
-    if instance.is_none() != is_global || !judged.is_below_way(*instance, way) {
-        return Ok(false);
-    }
-    Ok(match judged.callee_of(*instance, way)? {
-        Some(callee) => {
-            may_be_entered(callee, is_global, standing.is_first)
-                && judged.fit_callee(arguments, callee)
-        }
-        None => false,
-    })
-}
-
-fn may_be_entered(callee: Callee<'_>, is_global: bool, is_first: bool) -> bool {
-    match callee {
-        Callee::Function(function) => {
-            function.is_global == is_global && (!function.is_native || (!is_global && !is_first))
-        }
-        Callee::AutoGet(_) | Callee::AutoSet(_) => true,
-    }
-}
-
 impl Judged<'_> {
+    /// Whether a call finds a function that it may enter. Its arguments are of the types of the function's parameters, and it
+    /// has no instance exactly for the way `Global`.
+    pub fn is_sound_call(
+        &self,
+        instance: Option<u16>,
+        way: &Way,
+        arguments: &[Value],
+        is_first: bool,
+    ) -> Result<bool, OutOfMemory> {
+        let is_global = matches!(way, Way::Global { .. });
+        if instance.is_none() != is_global || !self.is_below_way(instance, way) {
+            return Ok(false);
+        }
+        Ok(match self.callee_of(instance, way)? {
+            Some(callee) => {
+                callee.may_be_entered(is_global, is_first) && self.fit_callee(arguments, callee)
+            }
+            None => false,
+        })
+    }
+
     // A parent call stands in a script of its instance.
     fn is_below_way(&self, instance: Option<u16>, way: &Way) -> bool {
         match (instance, way) {
@@ -95,11 +96,11 @@ impl Judged<'_> {
         instance: Option<u16>,
         way: &Way,
     ) -> Result<Option<Callee<'_>>, OutOfMemory> {
-        let Some(name) = self.setting.number_named(self.alloc, way)? else {
+        let Some(way) = self.setting.way_named(self.alloc, way)? else {
             return Ok(None);
         };
         let state = self.state_number(instance)?;
-        Ok(self.found_callee(instance, way, state, name))
+        Ok(self.callee(state, instance, way))
     }
 
     // The number of the name of an instance's state, none where no file has it.
@@ -116,58 +117,24 @@ impl Judged<'_> {
         }
     }
 
-    fn found_callee(
+    fn callee(
         &self,
-        instance: Option<u16>,
-        way: &Way,
         state: Option<usize>,
-        name: usize,
+        instance: Option<u16>,
+        way: CallWay,
     ) -> Option<Callee<'_>> {
-        let script = self.first_script(instance, way)?;
-        match way {
-            Way::Method(_) | Way::Parent { .. } => self.found_method(script, state, name),
-            Way::Global { .. } => self.found_method(script, None, name),
-            Way::Get(_) => reading(self.found_property(script, name)?),
-            Way::Set(_) => writing(self.found_property(script, name)?),
+        match look_up(self.setting, state, instance, way)? {
+            Found::Body(body) => Some(Callee::Function(self.setting.function(body)?)),
+            Found::Native(at) => Some(Callee::Function(self.setting.method(at)?)),
+            Found::Variable { property, .. } => auto_callee(self.setting.property(property)?, way),
         }
-    }
-
-    // The script from which a call looks upward.
-    fn first_script(&self, instance: Option<u16>, way: &Way) -> Option<u16> {
-        match way {
-            Way::Global { script, .. } => Some(*script),
-            Way::Parent { script, .. } => self.setting.parent_of(*script),
-            Way::Method(_) | Way::Get(_) | Way::Set(_) => self.setting.script_of(instance?),
-        }
-    }
-
-    fn found_method(&self, script: u16, state: Option<usize>, name: usize) -> Option<Callee<'_>> {
-        let at = self.setting.loaded.find_method(script, state, name)?;
-        Some(Callee::Function(self.setting.method(at)?))
-    }
-
-    fn found_property(&self, script: u16, name: usize) -> Option<&LoadedProperty> {
-        let at = self.setting.loaded.find_property(script, name)?;
-        self.setting.property(at)
     }
 }
 
-fn reading(property: &LoadedProperty) -> Option<Callee<'_>> {
-    if property.variable.is_none() {
-        return Some(Callee::Function(property.read.as_ref()?));
+fn auto_callee(property: &LoadedProperty, way: CallWay) -> Option<Callee<'_>> {
+    match way {
+        CallWay::Get(_) if property.bits & READ != 0 => Some(Callee::AutoGet(property.kind)),
+        CallWay::Set(_) if property.bits & WRITE != 0 => Some(Callee::AutoSet(property.kind)),
+        _ => None,
     }
-    if property.bits & READ == 0 {
-        return None;
-    }
-    Some(Callee::AutoGet(property.kind))
-}
-
-fn writing(property: &LoadedProperty) -> Option<Callee<'_>> {
-    if property.variable.is_none() {
-        return Some(Callee::Function(property.write.as_ref()?));
-    }
-    if property.bits & WRITE == 0 {
-        return None;
-    }
-    Some(Callee::AutoSet(property.kind))
 }

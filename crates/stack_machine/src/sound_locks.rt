@@ -8,54 +8,42 @@ use std::alloc::Global;
 /// Whether each stack stands exactly once among owners, waiters, free stacks, sleepers and those that are done, the
 /// innermost frame of each is one that may stand there, and the lists ascend that are in order of numbers.
 pub fn has_sound_locks(alloc: Global, state: &MachineState) -> Result<bool, OutOfMemory> {
-    if !pairs_ascend(&state.owners)
-        || !stacks_ascend(&state.free)
-        || !sleepers_ascend(&state.asleep)
-    {
-        return Ok(false);
-    }
-    if !are_listed_once(alloc, state)? {
-        return Ok(false);
-    }
+    let mut listed = vec![in alloc; false; state.stacks.len()]?;
+    let are_placed = are_with_instances(state, &state.owners, &mut listed)
+        && are_with_instances(state, &state.waiters, &mut listed)
+        && are_with_none(state, &mut listed)
+        && have_replies(state, &mut listed);
     Ok(
-        are_on_their_instances(state, &state.owners)
-            && are_on_their_instances(state, &state.waiters)
-            && are_on_none(state, &state.free)
-            && have_replies(state, &state.asleep),
+        are_placed
+            && have_frames(&listed, &state.stacks)
+            && pairs_ascend(&state.owners)
+            && stacks_ascend(&state.free)
+            && sleepers_ascend(&state.asleep),
     )
 }
 
-// No stack is listed twice, and one has frames exactly where it is listed.
-fn are_listed_once(alloc: Global, state: &MachineState) -> Result<bool, OutOfMemory> {
-    let mut listed = vec![in alloc; false; state.stacks.len()]?;
-    let are_new = list_pairs(&mut listed, &state.owners)
-        && list_pairs(&mut listed, &state.waiters)
-        && list_stacks(&mut listed, &state.free)
-        && list_sleepers(&mut listed, &state.asleep);
-    Ok(are_new && have_frames(&listed, &state.stacks))
-}
-
-fn list_pairs(listed: &mut Vec<bool>, pairs: &[(u16, u16)]) -> bool {
+// Lists stacks. The innermost frame of each has the instance that the stack stands with.
+fn are_with_instances(state: &MachineState, pairs: &[(u16, u16)], listed: &mut Vec<bool>) -> bool {
     for pair in pairs {
-        if !list(listed, pair.1) {
+        if !is_with(state, pair.1, Some(pair.0)) || !list(listed, pair.1) {
             return false;
         }
     }
     true
 }
 
-fn list_stacks(listed: &mut Vec<bool>, stacks: &[u16]) -> bool {
-    for stack in stacks {
-        if !list(listed, *stack) {
+fn are_with_none(state: &MachineState, listed: &mut Vec<bool>) -> bool {
+    for stack in &state.free {
+        if !is_with(state, *stack, None) || !list(listed, *stack) {
             return false;
         }
     }
     true
 }
 
-fn list_sleepers(listed: &mut Vec<bool>, sleepers: &[(u16, u32)]) -> bool {
-    for sleeper in sleepers {
-        if !list(listed, sleeper.0) {
+fn have_replies(state: &MachineState, listed: &mut Vec<bool>) -> bool {
+    for sleeper in &state.asleep {
+        if !has_reply(state, sleeper.0) || !list(listed, sleeper.0) {
             return false;
         }
     }
@@ -74,44 +62,15 @@ fn list(listed: &mut Vec<bool>, stack: u16) -> bool {
     }
 }
 
+// A stack has frames exactly where it is listed.
 fn have_frames(listed: &[bool], stacks: &[Vec<FrameState>]) -> bool {
-    for (is_listed, frames) in listed.iter().zip(stacks) {
-        if *is_listed == frames.is_empty() {
-            return false;
-        }
-    }
-    true
+    listed
+        .iter()
+        .zip(stacks)
+        .all(|(is_listed, frames)| *is_listed != frames.is_empty())
 }
 
-// The innermost frame of each stack has the instance that the stack stands with.
-fn are_on_their_instances(state: &MachineState, pairs: &[(u16, u16)]) -> bool {
-    for pair in pairs {
-        if !is_on(state, pair.1, Some(pair.0)) {
-            return false;
-        }
-    }
-    true
-}
-
-fn are_on_none(state: &MachineState, stacks: &[u16]) -> bool {
-    for stack in stacks {
-        if !is_on(state, *stack, None) {
-            return false;
-        }
-    }
-    true
-}
-
-fn have_replies(state: &MachineState, sleepers: &[(u16, u32)]) -> bool {
-    for sleeper in sleepers {
-        if !has_reply(state, sleeper.0) {
-            return false;
-        }
-    }
-    true
-}
-
-fn is_on(state: &MachineState, stack: u16, instance: Option<u16>) -> bool {
+fn is_with(state: &MachineState, stack: u16, instance: Option<u16>) -> bool {
     match innermost(state, stack) {
         Some(frame) => instance_of(frame) == instance,
         None => false,

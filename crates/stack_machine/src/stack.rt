@@ -8,7 +8,7 @@ use papy_base::OutOfMemory;
 use std::alloc::Global;
 
 /// The most frames of one stack.
-const FRAME_LIMIT: usize = 128;
+pub const FRAME_LIMIT: usize = 128;
 
 /// The frames of one stack, innermost first.
 #[derive(Drop)]

@@ -2,10 +2,10 @@
 
 ghost use Rattle.std.specs.Prelude.{◌≡◌};
 ghost use Rattle.stack_machine.specs.Faults.{fault_of_sink};
-ghost use Rattle.stack_machine.specs.declared.status.TurnFault.TheVariants.{OutOfMemory as TurnOutOfMemory, WriteFault};
+ghost use Rattle.stack_machine.specs.declared.status.TurnFault.TheVariants.{OutOfMemory as TurnOutOfMemory};
 
 use papy_base::OutOfMemory;
-use papy_io::{Failed, IoFault};
+use papy_io::IoFault;
 use std::alloc::{AllocError, AllocFailed};
 use thiserror::Error;
 
@@ -65,14 +65,6 @@ impl<T: Drop> From<AllocFailed<T>> for TurnFault {
 
     fn from(_error: AllocFailed<T>) -> TurnFault {
         TurnFault::OutOfMemory
-    }
-}
-
-impl From<Failed> for TurnFault {
-    ghost from_gives = { λ _ fault. fault ≡ WriteFault };
-
-    fn from(_error: Failed) -> TurnFault {
-        TurnFault::WriteFault
     }
 }
 

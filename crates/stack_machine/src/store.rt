@@ -5,7 +5,7 @@ ghost use Rattle.instance_store.specs.Arrays.{array_at, read};
 ghost use Rattle.instance_store.specs.Instances.{instance_at, instance_with, variable_of};
 ghost use Rattle.stack_machine.specs.Stores.{array_in, default_in, value_or_none};
 
-use core_tree::{CoreType, Outline, Scene, Value};
+use core_tree::{CoreType, Scene, Value};
 use instance_store::{Arrays, Instances, StoreFault};
 use papy_base::{OutOfMemory, Text};
 use pex_verify::Loaded;
@@ -23,23 +23,14 @@ pub struct Store {
 
 impl Store {
     /// The values at the start.
-    pub fn create(
-        alloc: Global,
-        loaded: &Loaded,
-        outline: &Outline,
-        scene: &Scene,
-    ) -> Result<Store, OutOfMemory>
+    pub fn create(alloc: Global, loaded: &Loaded, scene: &Scene) -> Result<Store, OutOfMemory>
         requires { vec_len scene.now.instances < 65536 }
         ensures count { IfOk result (λ store. length store.instances ≡ vec_len scene.now.instances) }
         ensures arrays { IfOk result (λ store. store.arrays ≡ []) }
     {
-        let instances = Instances::create(alloc, outline, scene)?;
-        let states = first_states(alloc, loaded, &instances, scene.instances.len())?;
-        Ok(Store {
-            instances,
-            states,
-            arrays: Arrays::new(alloc),
-        })
+        let instances = Instances::create(alloc, loaded.outline(), scene)?;
+        let count = scene.instances.len();
+        Store::of(alloc, loaded, instances, Arrays::new(alloc), count)
     }
 
     /// The values of these instances and arrays.
@@ -52,7 +43,8 @@ impl Store {
     ) -> Result<Store, OutOfMemory>
         requires all { count ≡ length instances }
         requires few { count < 65536 }
-        ensures { IfOk result (λ store. length store.instances ≡ count) }
+        ensures count { IfOk result (λ store. length store.instances ≡ count) }
+        ensures arrays { IfOk result (λ store. store.arrays ≡ arrays) }
     {
         let states = first_states(alloc, loaded, &instances, count)?;
         Ok(Store {
@@ -62,9 +54,9 @@ impl Store {
         })
     }
 
-    /// The number of the name of an instance's state.
-    pub fn state_number(&self, instance: u16) -> Option<usize> {
-        *self.states.get(usize::from(instance))?
+    /// The number of the name of an instance's state, none where there is no instance.
+    pub fn state_number(&self, instance: Option<u16>) -> Option<usize> {
+        *self.states.get(usize::from(instance?))?
     }
 
     /// Whether there is such an instance.

@@ -8,7 +8,7 @@ ghost use Rattle.lock_queue.specs.LockTable.{seat_of, waits_for, is_ready, ready
 ghost use Rattle.stack_machine.specs.Moves.{AddsSome, AreWakes, Begins, Noted, Takes};
 ghost use Rattle.stack_machine.specs.Threads.{GoesToWait, HasGrown, IsOn, IsSameSize, due_after, let_go, put_to_sleep, taken};
 
-use crate::frame::Frame;
+use crate::frame::{Call, Frame};
 use crate::notes::{Notes, note_any};
 use crate::place::Place;
 use crate::stack::Stack;
@@ -22,7 +22,7 @@ use std::alloc::Global;
 use std::marker::Model;
 
 /// The most frames of all stacks beyond the first of each.
-const ALL_FRAMES: u16 = 512;
+pub const ALL_FRAMES: u16 = 512;
 
 /// The stacks that have started, numbered in order of start.
 #[derive(Drop)]
@@ -98,23 +98,12 @@ impl Threads {
 
     /// The instance of a stack's innermost frame.
     pub fn instance_of(&self, stack: u16) -> Option<u16> {
-        self.stacks.get(usize::from(stack))?.instance()
-    }
-
-    /// Whether a stack's innermost frame is a call that is pending.
-    pub fn is_pending(&self, stack: u16) -> bool {
-        match self.stacks.get(usize::from(stack)) {
-            Some(found) => matches!(found.innermost(), Some(Frame::Pending(_))),
-            None => false,
-        }
+        self.stack(stack)?.instance()
     }
 
     /// Whether a stack may push a further frame.
     pub fn has_room(&self, stack: u16) -> bool {
-        match self.stacks.get(usize::from(stack)) {
-            Some(found) => found.has_room() && self.extra < ALL_FRAMES,
-            None => false,
-        }
+        self.extra < ALL_FRAMES && self.stack(stack).is_some_and(|found| found.has_room())
     }
 
     /// Pushes a frame.
@@ -141,6 +130,22 @@ impl Threads {
             self.extra = self.extra.saturating_sub(1);
         }
         frame
+    }
+
+    /// Takes the innermost frame away where it is a call that is pending.
+    pub fn pop_call(&mut self, stack: u16) -> Option<Call>
+        ensures { IsSameSize self.old self.new }
+    {
+        let Some(Frame::Pending(_)) = self.stack(stack)?.innermost() else {
+            return None;
+        };
+        match self.pop(stack)? {
+            Frame::Pending(call) => Some(call),
+            running => {
+                drop(running);
+                None
+            }
+        }
     }
 
     /// Hands the innermost frame the reply to its act.
@@ -194,16 +199,6 @@ impl Threads {
         self.locks.waits_for(stack)
     }
 
-    /// The turn at which a stack that sleeps is due.
-    pub fn due_at(&self, stack: u16) -> Option<u32>
-        ensures { result ≡ slice_index_or self.now.sleepers stack None }
-    {
-        if stack >= self.room {
-            return None;
-        }
-        self.sleepers.until(stack)
-    }
-
     /// The stack that holds an instance.
     pub fn owner_of(&self, instance: u16) -> Option<u16> {
         if instance >= self.instances {
@@ -231,19 +226,11 @@ impl Threads {
 
     /// What a stack that has started is doing.
     pub fn status_of(&self, stack: u16) -> Status {
-        match self.stacks.get(usize::from(stack)) {
-            Some(found) if !found.is_done() => {}
-            _ => return Status::Done,
-        }
-        if let Some(until) = self.due_at(stack) {
-            return Status::Asleep(until);
-        }
-        if self.is_ready(stack) {
-            return Status::Ready;
-        }
-        match self.waits_for(stack) {
-            Some(instance) => Status::Waits(instance),
-            None => Status::Ready,
+        match self.place_of(stack) {
+            Place::Done => Status::Done,
+            Place::Asleep(until) => Status::Asleep(until),
+            Place::Waits(instance) if !self.is_ready(stack) => Status::Waits(instance),
+            Place::Free | Place::Waits(_) | Place::Holds(_) => Status::Ready,
         }
     }
 
@@ -360,10 +347,7 @@ impl Threads {
 
     /// Whether a stack's first call has returned.
     pub fn is_done(&self, stack: u16) -> bool {
-        match self.stacks.get(usize::from(stack)) {
-            Some(found) => found.is_done(),
-            None => true,
-        }
+        self.stack(stack).is_none_or(|found| found.is_done())
     }
 
     /// Notes that a stack's first call has returned.

@@ -3,7 +3,7 @@
 ghost use Rattle.std.specs.Prelude.{◌≡◌, ◌+◌, OnOk, vec_len};
 
 use crate::begin::copies;
-use crate::frame::{Body, Call, CallWay, Frame, Running};
+use crate::frame::{Call, CallWay, Frame, FunctionPlace, Running};
 use crate::named::name_of;
 use crate::setting::Setting;
 use crate::world::World;
@@ -99,20 +99,15 @@ impl FrameTeller<'_> {
 
     // The first call of a stack is one of the scene's.
     fn way_of_scene(&self, stack: u16) -> Result<Way, OutOfMemory> {
-        let Some(planned) = self.setting.plan.calls.get(usize::from(stack)) else {
-            return Err(OutOfMemory);
-        };
-        let Some(call) = self.setting.scene.calls.get(planned.number) else {
-            return Err(OutOfMemory);
-        };
+        let (plan, scene) = (&self.setting.plan, &self.setting.scene);
+        let planned = plan.calls.get(usize::from(stack)).ok_or(OutOfMemory)?;
+        let call = scene.calls.get(planned.number).ok_or(OutOfMemory)?;
         Ok(Way::Method(call.function.try_clone(self.alloc)?))
     }
 
     // Another call is that of the instruction at which the frame below it halts.
     fn way_of_instruction(&self, below: &Frame, way: CallWay) -> Result<Way, OutOfMemory> {
-        let Some(instruction) = self.calling(below) else {
-            return Err(OutOfMemory);
-        };
+        let instruction = self.calling(below).ok_or(OutOfMemory)?;
         let place = usize::from(matches!(way, CallWay::Global(_)));
         let Some(Operand::Word(word)) = instruction.fixed.get(place) else {
             return Err(OutOfMemory);
@@ -144,18 +139,14 @@ impl FrameTeller<'_> {
             return at.script;
         };
         let scripts = &self.setting.loaded.outline().scripts;
-        for (number, script) in scripts.iter().enumerate() {
-            if script.name.same(name) {
-                return u16::try_from(number).unwrap_or(at.script);
-            }
-        }
-        at.script
+        let found = scripts.iter().position(|script| script.name.same(name));
+        found
+            .and_then(|number| u16::try_from(number).ok())
+            .unwrap_or(at.script)
     }
 
     fn told_body(&self, running: &Running) -> Result<FrameState, OutOfMemory> {
-        let Ok(instruction) = u16::try_from(running.place) else {
-            return Err(OutOfMemory);
-        };
+        let instruction = u16::try_from(running.place).ok().ok_or(OutOfMemory)?;
         let reply = copy_if(self.alloc, running.reply.as_ref())?;
         let slots = copies(self.alloc, running.slots.as_slice())?;
         let at = self.told_place(running.body)?;
@@ -169,10 +160,8 @@ impl FrameTeller<'_> {
     }
 
     // Where a body stands, spelled as it is declared.
-    fn told_place(&self, body: Body) -> Result<BodyPlace, OutOfMemory> {
-        let Some(function) = self.setting.function(body) else {
-            return Err(OutOfMemory);
-        };
+    fn told_place(&self, body: FunctionPlace) -> Result<BodyPlace, OutOfMemory> {
+        let function = self.setting.function(body).ok_or(OutOfMemory)?;
         let state = Text::try_from_bytes(self.alloc, self.setting.state_name(body))?;
         Ok(BodyPlace {
             script: body.script(),

@@ -33,21 +33,17 @@ pub fn tell_waiters(threads: &Threads, waiters: &mut Vec<(u16, u16)>) -> Result<
     Ok(())
 }
 
-/// Tells the stacks that run free.
-pub fn tell_free(threads: &Threads, free: &mut Vec<u16>) -> Result<(), OutOfMemory> {
+/// Tells the stacks that run free, and those that sleep with the turns at which they are due.
+pub fn tell_free_and_asleep(
+    threads: &Threads,
+    free: &mut Vec<u16>,
+    asleep: &mut Vec<(u16, u32)>,
+) -> Result<(), OutOfMemory> {
     for stack in 0..threads.count() {
-        if matches!(threads.place_of(stack), Place::Free) {
-            free.push(stack)?;
-        }
-    }
-    Ok(())
-}
-
-/// Tells the stacks that sleep, with the turns at which they are due.
-pub fn tell_asleep(threads: &Threads, asleep: &mut Vec<(u16, u32)>) -> Result<(), OutOfMemory> {
-    for stack in 0..threads.count() {
-        if let Place::Asleep(until) = threads.place_of(stack) {
-            asleep.push((stack, until))?;
+        match threads.place_of(stack) {
+            Place::Free => free.push(stack)?,
+            Place::Asleep(until) => asleep.push((stack, until))?,
+            Place::Waits(_) | Place::Holds(_) | Place::Done => {}
         }
     }
     Ok(())

@@ -10,8 +10,8 @@ ghost use Rattle.stack_machine.specs.Threads.{IsSameSize};
 ghost use Rattle.stack_machine.specs.Written.{WritesLines};
 
 use crate::begin::{begin, choose};
-use crate::entry::{Found, look_up, open};
-use crate::frame::{Body, Call, CallWay, Frame};
+use crate::frame::{Call, Frame, FunctionPlace};
+use crate::lookup::{Found, look_up, open};
 use crate::natives::{Performed, perform};
 use crate::notes::{Notes, note_any};
 use crate::operands::Turn;
@@ -132,26 +132,8 @@ impl World {
         notes.note(arrival)
     }
 
-    // Enters the stack's call where one is pending, and runs its body.
+    // Enters the stack's call where one is pending, and runs its body where the entry didn't end the turn.
     fn run_stack<S: Sink>(
-        &mut self,
-        turn: &Turn<'_>,
-        sink: &mut S,
-        devices: &mut Vec<Box<dyn Device>>,
-    ) -> Result<(), TurnFault>
-        ensures appended { WritesLines result (S.written sink.old) (S.written sink.new) }
-        ensures count { CountsTurn result (S.faults sink.old) (S.faults sink.new) }
-        ensures kinds { SameKinds (map (λ d. device_state d) devices.old.items) (map (λ d. device_state d) devices.new.items) }
-        ensures size { IsSameSize self.old.threads self.new.threads }
-    {
-        if self.threads.is_pending(turn.stack) {
-            return self.enter_and_run(turn, sink, devices);
-        }
-        self.run_and_act(turn, sink, devices)
-    }
-
-    // Enters the pending call, and runs its body where the entry didn't end the turn.
-    fn enter_and_run<S: Sink>(
         &mut self,
         turn: &Turn<'_>,
         sink: &mut S,
@@ -185,7 +167,7 @@ impl World {
         Ok(())
     }
 
-    // Enters the pending call. It is false where the entry ended the turn.
+    // Enters the pending call, if there is one. It is false where the entry ended the turn.
     fn enter<S: Sink>(
         &mut self,
         turn: &Turn<'_>,
@@ -197,14 +179,11 @@ impl World {
         ensures kinds { SameKinds (map (λ d. device_state d) devices.old.items) (map (λ d. device_state d) devices.new.items) }
         ensures size { IsSameSize self.old.threads self.new.threads }
     {
+        let Some(call) = self.threads.pop_call(turn.stack) else {
+            return Ok(true);
+        };
         self.forget_way(turn.stack);
-        match self.threads.pop(turn.stack) {
-            Some(Frame::Pending(call)) => self.enter_call(turn, call, sink, devices),
-            other => {
-                drop(other);
-                Ok(false)
-            }
-        }
+        self.enter_call(turn, call, sink, devices)
     }
 
     // The stack's pending call is entered.
@@ -229,10 +208,11 @@ impl World {
         ensures kinds { SameKinds (map (λ d. device_state d) devices.old.items) (map (λ d. device_state d) devices.new.items) }
         ensures size { IsSameSize self.old.threads self.new.threads }
     {
-        match look_up(turn.setting, &self.store, &call) {
+        let state = self.store.state_number(call.instance);
+        match look_up(turn.setting, state, call.instance, call.way) {
             Some(Found::Body(body)) => Ok(self.enter_body(turn, call, body)?),
-            Some(Found::Variable { script, variable }) => {
-                Ok(self.enter_variable(turn.stack, call, script, variable)?)
+            Some(Found::Variable { property, variable }) => {
+                Ok(self.enter_variable(turn.stack, call, property.script, variable)?)
             }
             Some(Found::Native(native)) => {
                 let entered = self.enter_native(turn, native, &call, sink, devices);
@@ -250,7 +230,12 @@ impl World {
     }
 
     // The body's frame takes the place of the call's.
-    fn enter_body(&mut self, turn: &Turn<'_>, call: Call, body: Body) -> Result<bool, OutOfMemory>
+    fn enter_body(
+        &mut self,
+        turn: &Turn<'_>,
+        call: Call,
+        body: FunctionPlace,
+    ) -> Result<bool, OutOfMemory>
         ensures size { IsSameSize self.old.threads self.new.threads }
     {
         let running = open(turn.alloc, turn.setting, call, body)?;
@@ -301,20 +286,13 @@ impl World {
     ) -> Result<bool, OutOfMemory>
         ensures size { IsSameSize self.old.threads self.new.threads }
     {
-        let (instance, way) = (call.instance, call.way);
-        let last = call.arguments.pop();
+        let (instance, written) = (call.instance, call.arguments.pop());
         drop(call);
         let Some(instance) = instance else {
-            drop(last);
+            drop(written);
             return Ok(false);
         };
-        let value = match way {
-            CallWay::Set(_) => self.set_or_get(instance, script, variable, last)?,
-            _ => {
-                drop(last);
-                self.store.variable(instance, script, variable)?
-            }
-        };
+        let value = self.set_or_get(instance, script, variable, written)?;
         self.threads.return_from(stack, Some(instance), value);
         Ok(false)
     }

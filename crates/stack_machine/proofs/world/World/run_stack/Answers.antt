@@ -1,5 +1,5 @@
 use Rattle.stack_machine.proofs.Sinks.{lines_before}
-use Rattle.stack_machine.proofs.world.World.enter_and_run.Goals as goal
+use Rattle.stack_machine.proofs.world.World.run_stack.Goals as goal
 
 pub returns-then-branch-clause-appended : goal.returns-then-branch-clause-appended
 returns-then-branch-clause-appended g c =

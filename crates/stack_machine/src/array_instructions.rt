@@ -10,7 +10,7 @@ ghost use Rattle.stack_machine.specs.Instructions.{number_at, StoresNumber, Stor
 ghost use Rattle.stack_machine.specs.Operands.{worth_at};
 ghost use Rattle.stack_machine.specs.Stores.{array_in};
 
-use crate::operands::Work;
+use crate::operands::Executor;
 use core_tree::{CoreType, Value};
 use instance_store::StoreFault;
 use papy_base::{OutOfMemory, StackFault};
@@ -19,7 +19,7 @@ use pex_verify::{LoadedInstruction, Operand};
 // The opcode of array_rfindelement.
 const FIND_BACK: u8 = 0x23;
 
-impl Work<'_> {
+impl Executor<'_> {
     /// array_create: a result, and the size, which stands in the code.
     pub fn create_array(
         &mut self,
@@ -136,8 +136,8 @@ impl Work<'_> {
     }
 }
 
-// The type of the elements of an array type.
-fn element_type(kind: Option<CoreType>) -> Option<CoreType>
+/// The type of the elements of an array type.
+pub fn element_type(kind: Option<CoreType>) -> Option<CoreType>
     ensures element { result ≡ option_and_then element_of kind }
     ensures no_array { IfSome result (λ element. IsTrue (not (is_array_type element))) }
 {

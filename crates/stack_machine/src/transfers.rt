@@ -21,59 +21,31 @@ impl Threads {
                 Ok(())
             }
             Ending::Returned(value) => {
-                self.return_innermost(stack, value);
+                let instance = self.instance_of(stack);
+                drop(self.pop(stack));
+                self.return_from(stack, instance, value);
                 Ok(())
             }
         }
     }
 
-    // Returns a value from the innermost frame, which is popped.
-    fn return_innermost(&mut self, stack: u16, value: Value)
-        ensures { IsSameSize self.old self.new }
-    {
-        match self.pop(stack) {
-            Some(frame) => {
-                let instance = frame.instance();
-                drop(frame);
-                self.return_from(stack, instance, value);
-            }
-            None => drop(value),
-        }
-    }
-
-    // A call that needs a frame.
+    // A call that needs a frame. The stack keeps its lock where the call is on the frame's own instance, and a global function
+    // runs free.
     fn call(&mut self, stack: u16, call: Call) -> Result<(), OutOfMemory>
         ensures { IsSameSize self.old self.new }
     {
-        match call.way {
-            CallWay::Global(_) => self.call_global(stack, call),
-            CallWay::Parent { .. } => self.push(stack, Frame::Pending(call)),
-            CallWay::Method(_) | CallWay::Get(_) | CallWay::Set(_) => self.call_instance(
-                stack, call,
-            ),
-        }
-    }
-
-    // A method or property: on the frame's own instance it keeps the lock.
-    fn call_instance(&mut self, stack: u16, call: Call) -> Result<(), OutOfMemory>
-        ensures { IsSameSize self.old self.new }
-    {
-        let is_own = self.instance_of(stack) == call.instance;
+        let is_own = match call.way {
+            CallWay::Global(_) => false,
+            CallWay::Parent { .. } => true,
+            CallWay::Method(_) | CallWay::Get(_) | CallWay::Set(_) => {
+                self.instance_of(stack) == call.instance
+            }
+        };
         self.push(stack, Frame::Pending(call))?;
         if !is_own {
             self.let_go(stack);
             self.go_to_wait(stack);
         }
-        Ok(())
-    }
-
-    // A global function with a body runs free.
-    fn call_global(&mut self, stack: u16, call: Call) -> Result<(), OutOfMemory>
-        ensures { IsSameSize self.old self.new }
-    {
-        self.push(stack, Frame::Pending(call))?;
-        self.let_go(stack);
-        self.go_to_wait(stack);
         Ok(())
     }
 
