@@ -2,7 +2,7 @@
 
 ghost use Rattle.std.specs.Prelude.{◌≡◌, OnOk, true, slice_set};
 ghost use Rattle.run_replay.specs.Lines.{LineFits};
-ghost use Rattle.run_replay.specs.Book.{Standing, start, place_of, nobody_due, nobody_holds, is_ready, before_run, after_run, between_turns, in_turn, is_start, is_instances, just_ran, acts, begins, wakes, arrives, is_settled, stage_after, may_stand, move_may_stand, is_allowed, move_is_allowed, joined, settled_at, moved, after};
+ghost use Rattle.run_replay.specs.Book.{Standing, start, place_of, nobody_due, nobody_holds, is_ready, before_run, after_run, between_turns, in_turn, just_ran, acts, begins, wakes, arrives, is_settled, stage_after, may_stand, move_may_stand, is_allowed, move_is_allowed, joined, settled_at, moved, after};
 
 use crate::line::Line;
 use crate::lock_move::LockMove;
@@ -43,29 +43,23 @@ pub(crate) enum Stage {
 fn between_turns(stage: Stage) -> bool
     ensures { result ≡ between_turns stage }
 {
-    match stage {
-        Stage::Instances | Stage::Ran(_) | Stage::Acting(_) | Stage::Left(_) | Stage::Idle => true,
-        Stage::Start | Stage::Begun | Stage::Woken(_) | Stage::Ended => false,
-    }
+    !matches!(
+        stage,
+        Stage::Start | Stage::Begun | Stage::Woken(_) | Stage::Ended
+    )
 }
 
 // A turn has begun, and it isn't said yet whose it is.
 fn before_run(stage: Stage) -> bool
     ensures { result ≡ before_run stage }
 {
-    match stage {
-        Stage::Begun | Stage::Woken(_) => true,
-        _ => false,
-    }
+    matches!(stage, Stage::Begun | Stage::Woken(_))
 }
 
 fn after_run(stage: Stage) -> bool
     ensures { result ≡ after_run stage }
 {
-    match stage {
-        Stage::Ran(_) | Stage::Acting(_) | Stage::Left(_) => true,
-        _ => false,
-    }
+    matches!(stage, Stage::Ran(_) | Stage::Acting(_) | Stage::Left(_))
 }
 
 fn in_turn(stage: Stage) -> bool
@@ -74,42 +68,18 @@ fn in_turn(stage: Stage) -> bool
     before_run(stage) || after_run(stage)
 }
 
-fn is_start(stage: Stage) -> bool
-    ensures { result ≡ is_start stage }
-{
-    match stage {
-        Stage::Start => true,
-        _ => false,
-    }
-}
-
-fn is_instances(stage: Stage) -> bool
-    ensures { result ≡ is_instances stage }
-{
-    match stage {
-        Stage::Instances => true,
-        _ => false,
-    }
-}
-
 // The turn is this stack's, as the line before says.
 fn just_ran(stage: Stage, stack: u16) -> bool
     ensures { result ≡ just_ran stage stack }
 {
-    match stage {
-        Stage::Ran(runner) => runner == stack,
-        _ => false,
-    }
+    matches!(stage, Stage::Ran(runner) if runner == stack)
 }
 
 // The turn is this stack's, and it hasn't let go of its place.
 fn acts(stage: Stage, stack: u16) -> bool
     ensures { result ≡ acts stage stack }
 {
-    match stage {
-        Stage::Ran(runner) | Stage::Acting(runner) => runner == stack,
-        _ => false,
-    }
+    matches!(stage, Stage::Ran(runner) | Stage::Acting(runner) if runner == stack)
 }
 
 // The stage after a stack was woken, or found a place again.
@@ -226,8 +196,10 @@ impl Book {
         ensures { result ≡ may_stand self.now (seen line.entry) }
     {
         match line {
-            Line::Heading => is_start(self.stage),
-            Line::Instance(_) => is_instances(self.stage) && self.instances.len() < INSTANCE_LIMIT,
+            Line::Heading => matches!(self.stage, Stage::Start),
+            Line::Instance(_) => {
+                matches!(self.stage, Stage::Instances if self.instances.len() < INSTANCE_LIMIT)
+            }
             Line::Turn(turn) => between_turns(self.stage) && turn == self.turns,
             Line::End(turns) => between_turns(self.stage) && turns == self.turns,
             Line::Move(moved) => self.move_may_stand(moved),
@@ -260,10 +232,7 @@ impl Book {
     fn begins(&self, stack: u16) -> bool
         ensures { result ≡ begins self.now self.now.stage stack }
     {
-        match self.stage {
-            Stage::Begun => usize::from(stack) == self.places.len(),
-            _ => false,
-        }
+        matches!(self.stage, Stage::Begun if usize::from(stack) == self.places.len())
     }
 
     // It let go of its place in this turn, and has no other yet.
@@ -398,10 +367,7 @@ impl Book {
     pub(crate) fn has_ended(&self) -> bool
         ensures { IsTrue result ↔ self.now.stage ≡ stages.Ended }
     {
-        match self.stage {
-            Stage::Ended => true,
-            _ => false,
-        }
+        matches!(self.stage, Stage::Ended)
     }
 
     /// What is counted of the journal, with those that wait to its end.

@@ -23,53 +23,35 @@ pub(crate) enum Place {
 pub(crate) fn is_due(place: Option<Place>, turns: u32) -> bool
     ensures { result ≡ is_due turns place }
 {
-    match place {
-        Some(Place::Asleep(until)) => until < turns,
-        _ => false,
-    }
+    matches!(place, Some(Place::Asleep(until)) if until < turns)
 }
 
 pub(crate) fn is_between(place: Option<Place>) -> bool
     ensures { result ≡ is_between place }
 {
-    match place {
-        Some(Place::Between) => true,
-        _ => false,
-    }
+    matches!(place, Some(Place::Between))
 }
 
 pub(crate) fn is_free(place: Option<Place>) -> bool
     ensures { result ≡ is_free place }
 {
-    match place {
-        Some(Place::Free) => true,
-        _ => false,
-    }
+    matches!(place, Some(Place::Free))
 }
 
 pub(crate) fn holds(place: Option<Place>, instance: u16) -> bool
     ensures { result ≡ holds instance place }
 {
-    match place {
-        Some(Place::Holds(held)) => held == instance,
-        _ => false,
-    }
+    matches!(place, Some(Place::Holds(held)) if held == instance)
 }
 
 pub(crate) fn waits(place: Option<Place>, instance: u16) -> bool
     ensures { result ≡ waits instance place }
 {
-    match place {
-        Some(Place::Waits(awaited)) => awaited == instance,
-        _ => false,
-    }
+    matches!(place, Some(Place::Waits(awaited)) if awaited == instance)
 }
 
 pub(crate) fn is_waiting(place: Option<Place>) -> bool
     ensures { result ≡ is_waiting place }
 {
-    match place {
-        Some(Place::Waits(_)) => true,
-        _ => false,
-    }
+    matches!(place, Some(Place::Waits(_)))
 }
