@@ -12,7 +12,7 @@ use Rattle.core_tree.specs.declared.scene.BoundInstance.{BoundInstance}
 use Rattle.core_tree.specs.declared.scene.Scene.{Scene}
 use Rattle.core_tree.specs.declared.scene_tree.SceneInstance.{SceneInstance}
 use Rattle.core_tree.specs.declared.value.Value.{Value}
-use Rattle.scene_binder.specs.declared.members.Members.{Members}
+use Rattle.scene_binder.specs.declared.members.ScriptMembers.{ScriptMembers}
 use Rattle.scene_binder.specs.Bound.{AreBoundNatives, AreOfTypes, IsBound, IsBoundCall, IsBoundInstance, IsOfType, script_of}
 use Rattle.scene_binder.specs.Instances.{tree_script}
 use Rattle.scene_binder.specs.Keys.{function_key, property_key}
@@ -28,33 +28,33 @@ AreOfTypes-push scripts instances [] (w ∷ vs) k v h own = absurd h
 AreOfTypes-push scripts instances (l ∷ ks) [] k v h own = absurd h
 AreOfTypes-push scripts instances (l ∷ ks) (w ∷ vs) k v h own = (h.0, AreOfTypes-push scripts instances ks vs k v h.1 own)
 
-abbrev pub scripts_in : List Members → List OutlineScript
+abbrev pub scripts_in : List ScriptMembers → List OutlineScript
 scripts_in list = map (λ members. members.script.now) list
 
-script_at : (list : List Members) (n : ℕ) (m : Members) → slice_get list n ≡ Some m → slice_get (scripts_in list) n ≡ Some m.script.now
+script_at : (list : List ScriptMembers) (n : ℕ) (m : ScriptMembers) → slice_get list n ≡ Some m → slice_get (scripts_in list) n ≡ Some m.script.now
 script_at list n m is = slice_get-map (λ members. members.script.now) list n ∙ ap (option_map (λ members. members.script.now)) is
 
 -- a member of a script is one of the script of its number
-pub HasFunction-from : (list : List Members) (n : ℕ) (m : Members) (f : OutlineFunction) → slice_get list n ≡ Some m → Contains m.script.now.functions.items f → HasFunction (scripts_in list) n f
+pub HasFunction-from : (list : List ScriptMembers) (n : ℕ) (m : ScriptMembers) (f : OutlineFunction) → slice_get list n ≡ Some m → Contains m.script.now.functions.items f → HasFunction (scripts_in list) n f
 HasFunction-from list n m f is own = subst (λ o. Contains (functions_in o) f) (sym (script_at list n m is)) own
 
-pub HasProperty-from : (list : List Members) (n : ℕ) (m : Members) (p : OutlineProperty) → slice_get list n ≡ Some m → Contains m.script.now.properties.items p → HasProperty (scripts_in list) n p
+pub HasProperty-from : (list : List ScriptMembers) (n : ℕ) (m : ScriptMembers) (p : OutlineProperty) → slice_get list n ≡ Some m → Contains m.script.now.properties.items p → HasProperty (scripts_in list) n p
 HasProperty-from list n m p is own = subst (λ o. Contains (properties_in o) p) (sym (script_at list n m is)) own
 
 -- what the script of a number has of its own under a name
-pub own_property-there : (list : List Members) (n : ℕ) (m : Members) (bytes : List ℕ) → slice_get list n ≡ Some m → own_property (scripts_in list) bytes n ≡ first_of property_key m.script.now.properties.items bytes
+pub own_property-there : (list : List ScriptMembers) (n : ℕ) (m : ScriptMembers) (bytes : List ℕ) → slice_get list n ≡ Some m → own_property (scripts_in list) bytes n ≡ first_of property_key m.script.now.properties.items bytes
 own_property-there list n m bytes is = ap (λ o. first_of property_key (properties_in o) bytes) (script_at list n m is)
 
-pub own_function-there : (list : List Members) (n : ℕ) (m : Members) (bytes : List ℕ) → slice_get list n ≡ Some m → own_function (scripts_in list) bytes n ≡ first_of function_key m.script.now.functions.items bytes
+pub own_function-there : (list : List ScriptMembers) (n : ℕ) (m : ScriptMembers) (bytes : List ℕ) → slice_get list n ≡ Some m → own_function (scripts_in list) bytes n ≡ first_of function_key m.script.now.functions.items bytes
 own_function-there list n m bytes is = ap (λ o. first_of function_key (functions_in o) bytes) (script_at list n m is)
 
-no_script : (list : List Members) (n : ℕ) → length list ≤ n → slice_get (scripts_in list) n ≡ None
+no_script : (list : List ScriptMembers) (n : ℕ) → length list ≤ n → slice_get (scripts_in list) n ≡ None
 no_script list n past = slice_get_past (scripts_in list) n (simp length-map past)
 
-pub own_property-nowhere : (list : List Members) (n : ℕ) (bytes : List ℕ) → length list ≤ n → own_property (scripts_in list) bytes n ≡ None
+pub own_property-nowhere : (list : List ScriptMembers) (n : ℕ) (bytes : List ℕ) → length list ≤ n → own_property (scripts_in list) bytes n ≡ None
 own_property-nowhere list n bytes past = ap (λ o. first_of property_key (properties_in o) bytes) (no_script list n past)
 
-pub own_function-nowhere : (list : List Members) (n : ℕ) (bytes : List ℕ) → length list ≤ n → own_function (scripts_in list) bytes n ≡ None
+pub own_function-nowhere : (list : List ScriptMembers) (n : ℕ) (bytes : List ℕ) → length list ≤ n → own_function (scripts_in list) bytes n ≡ None
 own_function-nowhere list n bytes past = ap (λ o. first_of function_key (functions_in o) bytes) (no_script list n past)
 
 -- a walk from the first script upward, past scripts that have nothing of their own

@@ -10,9 +10,9 @@ ghost use Rattle.scene_binder.specs.Meant.{IsMeant, IsNativeMeant};
 use crate::calls::bind_calls;
 use crate::instances::Instances;
 use crate::natives::Natives;
-use crate::scripts::Scripts;
+use crate::scripts::OutlineScripts;
 use crate::sets::bind_instances;
-use crate::values::Scope;
+use crate::values::Known;
 use core_tree::{BoundNative, Outline, Scene, SceneTree};
 use scene_reader::{SceneFault, SceneRule};
 use std::alloc::Global;
@@ -38,9 +38,9 @@ pub fn bind(
     ensures meant { IfOk result (IsMeant tree outline.now.scripts.items) }
     ensures limits { IfOk result (λ scene. KeepsLimits tree → SceneKeepsLimits scene) }
 {
-    let scripts = Scripts::new(alloc, outline)?;
+    let scripts = OutlineScripts::new(alloc, outline)?;
     let instances = Instances::new(alloc, &scripts, &tree.instances)?;
-    let scope = Scope {
+    let scope = Known {
         scripts: &scripts,
         instances: &instances,
     };

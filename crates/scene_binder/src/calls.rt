@@ -7,7 +7,7 @@ ghost use Rattle.scene_binder.specs.Instances.{tree_call_parts};
 ghost use Rattle.scene_binder.specs.Limits.{CallKeepsLimits, IsShortValue};
 ghost use Rattle.scene_binder.specs.Scope.{CallIs, CallsAre, ValuesAre};
 
-use crate::values::{Scope, value_for};
+use crate::values::{Known, value_for};
 use core_tree::{BoundCall, CoreType, OutlineFunction, SceneCall, SceneValue, Value};
 use papy_base::Name;
 use scene_reader::{SceneFault, SceneRule};
@@ -16,7 +16,7 @@ use std::alloc::Global;
 /// The calls. `NoFunction` and `Arguments` come by the first call that breaks one of them.
 pub(crate) fn bind_calls(
     alloc: Global,
-    scope: Scope<'_, '_>,
+    scope: Known<'_, '_>,
     calls: &[SceneCall],
 ) -> Result<Vec<BoundCall>, SceneFault>
     ensures bound { IfOk result (λ bound. All (IsBoundCall scope.entry.scripts.now scope.entry.instances.now.scripts.items) bound.items) }
@@ -31,7 +31,7 @@ pub(crate) fn bind_calls(
     Ok(bound)
 }
 
-fn bind_call(alloc: Global, scope: Scope<'_, '_>, call: &SceneCall) -> Result<BoundCall, SceneFault>
+fn bind_call(alloc: Global, scope: Known<'_, '_>, call: &SceneCall) -> Result<BoundCall, SceneFault>
     ensures bound { IfOk result (IsBoundCall scope.entry.scripts.now scope.entry.instances.now.scripts.items) }
     ensures parts { IfOk result (λ bound. call_parts bound ≡ tree_call_parts call.now) }
     ensures limits { IfOk result (λ bound. CallKeeps call.now → CallKeepsLimits bound) }
@@ -54,7 +54,7 @@ fn bind_call(alloc: Global, scope: Scope<'_, '_>, call: &SceneCall) -> Result<Bo
 /// The function that a call of this name on the instance means.
 fn called_function<'a>(
     alloc: Global,
-    scope: Scope<'_, 'a>,
+    scope: Known<'_, 'a>,
     instance: u16,
     name: &[u8],
 ) -> Result<&'a OutlineFunction, SceneFault>
@@ -71,7 +71,7 @@ fn called_function<'a>(
 
 fn bind_arguments(
     alloc: Global,
-    scope: Scope<'_, '_>,
+    scope: Known<'_, '_>,
     parameters: &[CoreType],
     arguments: &[SceneValue],
 ) -> Result<Vec<Value>, SceneFault>

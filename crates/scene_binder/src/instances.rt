@@ -8,7 +8,7 @@ ghost use Rattle.scene_binder.specs.Names.{number_in};
 ghost use Rattle.scene_binder.specs.Scope.{AreNamed};
 
 use crate::name_table::NameTable;
-use crate::scripts::Scripts;
+use crate::scripts::OutlineScripts;
 use core_tree::SceneInstance;
 use papy_base::{OutOfMemory, Text};
 use scene_reader::{SceneFault, SceneRule};
@@ -26,7 +26,7 @@ impl Instances {
     /// one of them.
     pub(crate) fn new(
         alloc: Global,
-        scripts: &Scripts<'_>,
+        scripts: &OutlineScripts<'_>,
         instances: &[SceneInstance],
     ) -> Result<Instances, SceneFault>
         ensures count { IfOk result (λ found. length found.scripts.items ≡ length instances.now) }
@@ -68,7 +68,7 @@ impl Instances {
 
 fn script_of(
     alloc: Global,
-    scripts: &Scripts<'_>,
+    scripts: &OutlineScripts<'_>,
     instance: &SceneInstance,
 ) -> Result<u16, SceneFault>
     ensures there { IfOk result (IsInstantiable scripts.now) }

@@ -11,7 +11,7 @@ use std::alloc::Global;
 
 /// A script with tables of its members. A name that two members bear means the first.
 #[derive(Drop)]
-pub(crate) struct Members<'a> {
+pub(crate) struct ScriptMembers<'a> {
     pub(crate) script: &'a OutlineScript,
     properties: NameTable,
     functions: NameTable,
@@ -19,14 +19,17 @@ pub(crate) struct Members<'a> {
     ghost named_functions: { IsTableOf function_key script.now.functions.items functions },
 }
 
-impl<'a> Members<'a> {
+impl<'a> ScriptMembers<'a> {
     /// The members of this script.
-    pub(crate) fn new(alloc: Global, script: &'a OutlineScript) -> Result<Members<'a>, OutOfMemory>
+    pub(crate) fn new(
+        alloc: Global,
+        script: &'a OutlineScript,
+    ) -> Result<ScriptMembers<'a>, OutOfMemory>
         ensures { IfOk result (λ members. members.script.now ≡ script.now) }
     {
         let properties = property_table(alloc, &script.properties)?;
         let functions = function_table(alloc, &script.functions)?;
-        Ok(Members {
+        Ok(ScriptMembers {
             script,
             properties,
             functions,

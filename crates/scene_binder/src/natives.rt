@@ -7,7 +7,7 @@ ghost use Rattle.core_tree.specs.declared.scene_tree.Binding.{Binding as NativeB
 ghost use Rattle.scene_reader.specs.Limits.{BindingKeeps, NativeKeeps};
 ghost use Rattle.scene_binder.specs.Bound.{AreBoundNatives};
 ghost use Rattle.scene_binder.specs.Limits.{NativeKeepsLimits, NativesKeepLimits};
-ghost use Rattle.scene_binder.specs.Natives.{AllowsBinding, BeginsWithText, HasDevice, IsCell, IsReply, MayCall, MaySleep, MayTrace, native_place_here, native_places_from, native_places_in};
+ghost use Rattle.scene_binder.specs.Natives.{AllowsBinding, HasDevice, IsCell, IsReply, MayCall, MaySleep, MayTrace, native_place_here, native_places_from, native_places_in};
 ghost use Rattle.scene_binder.specs.Meant.{IsNativeMeant, binding_in, default_entries, full_name as named_in};
 ghost use Rattle.scene_binder.specs.Names.{number_in};
 ghost use Rattle.scene_binder.specs.NativeList.{Adds, AreBoundBy, AreMeant, AreNatives, IsFunctionOf, IsUnbound};
@@ -271,43 +271,13 @@ fn types_allow(function: &OutlineFunction, binding: Binding) -> bool
 fn may_sleep(parameters: &[CoreType], outcome: Option<CoreType>) -> bool
     ensures { IsTrue result → MaySleep parameters.now outcome }
 {
-    is_one_int(parameters) && outcome.is_none()
-}
-
-fn is_one_int(parameters: &[CoreType]) -> bool
-    ensures { IsTrue result → parameters.now ≡ CoreType.Int ∷ [] }
-{
-    match parameters {
-        [kind] => is_int(*kind),
-        _ => false,
-    }
-}
-
-fn is_int(kind: CoreType) -> bool
-    ensures { IsTrue result → kind ≡ CoreType.Int }
-{
-    matches!(kind, CoreType::Int)
+    matches!((parameters, outcome), ([CoreType::Int], None))
 }
 
 fn may_trace(parameters: &[CoreType], outcome: Option<CoreType>) -> bool
     ensures { IsTrue result → MayTrace parameters.now outcome }
 {
-    begins_with_text(parameters) && outcome.is_none()
-}
-
-fn begins_with_text(parameters: &[CoreType]) -> bool
-    ensures { IsTrue result → BeginsWithText parameters.now }
-{
-    match parameters {
-        [first, ..] => is_text(*first),
-        [] => false,
-    }
-}
-
-fn is_text(kind: CoreType) -> bool
-    ensures { IsTrue result → kind ≡ CoreType.Text }
-{
-    matches!(kind, CoreType::Text)
+    matches!((parameters, outcome), ([CoreType::Text, ..], None))
 }
 
 // Whether a device may be called with these.
@@ -338,8 +308,5 @@ fn is_cell(kind: CoreType) -> bool
 fn is_reply(outcome: Option<CoreType>) -> bool
     ensures { IsTrue result ↔ IsReply outcome }
 {
-    match outcome {
-        Some(kind) => is_cell(kind),
-        None => true,
-    }
+    matches!(outcome, None | Some(CoreType::Int | CoreType::Bool))
 }

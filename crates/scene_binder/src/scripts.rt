@@ -4,7 +4,7 @@ ghost use Rattle.scene_binder.specs.Instances.{IsInstantiable};
 ghost use Rattle.scene_binder.specs.Keys.{function_key};
 ghost use Rattle.scene_binder.specs.Members.{StandsAbove, HasFunction, HasFunctionNamed, HasProperty, IsNearestProperty, own_function, own_property, parent_in, script_named};
 
-use crate::members::Members;
+use crate::members::ScriptMembers;
 use crate::name_table::{NameTable, folded};
 use core_tree::{Outline, OutlineFunction, OutlineProperty};
 use papy_base::OutOfMemory;
@@ -16,12 +16,12 @@ const LIBRARY_COUNT: usize = 3;
 
 /// The scripts of an outline. A name that two scripts bear means the first. Contracts see the list of them.
 #[derive(Drop)]
-pub(crate) struct Scripts<'a> {
-    scripts: Vec<Members<'a>>,
+pub(crate) struct OutlineScripts<'a> {
+    scripts: Vec<ScriptMembers<'a>>,
     numbers: NameTable,
 }
 
-impl<'a> Model for Scripts<'a> {
+impl<'a> Model for OutlineScripts<'a> {
     ghost use Rattle.std.specs.Prelude.{List, map};
     ghost use Rattle.core_tree.specs.declared.outline.OutlineScript.{OutlineScript};
 
@@ -35,18 +35,21 @@ impl<'a> Model for Scripts<'a> {
     ghost invariant = { λ s. IsTableOf script_key (map (λ members. members.script.now) s.scripts.items) s.numbers };
 }
 
-impl<'a> Scripts<'a> {
+impl<'a> OutlineScripts<'a> {
     /// The scripts of this outline.
-    pub(crate) fn new(alloc: Global, outline: &'a Outline) -> Result<Scripts<'a>, OutOfMemory>
+    pub(crate) fn new(
+        alloc: Global,
+        outline: &'a Outline,
+    ) -> Result<OutlineScripts<'a>, OutOfMemory>
         ensures { IfOk result (λ scripts. scripts ≡ outline.now.scripts.items) }
     {
         let mut numbers = NameTable::new(alloc);
         let mut scripts = Vec::with_capacity(alloc, outline.scripts.len())?;
         for (number, script) in outline.scripts.iter().enumerate() {
             numbers.note(alloc, script.name.as_bytes(), number)?;
-            scripts.push(Members::new(alloc, script)?)?;
+            scripts.push(ScriptMembers::new(alloc, script)?)?;
         }
-        Ok(Scripts { scripts, numbers })
+        Ok(OutlineScripts { scripts, numbers })
     }
 
     /// The number of the script of this name, where it may have instances.

@@ -8,7 +8,7 @@ ghost use Rattle.scene_binder.specs.Limits.{InstanceKeepsLimits, IsShortEntry};
 ghost use Rattle.scene_binder.specs.Scope.{EntriesAre, EntryIs, SetIs, SetsAre};
 
 use crate::name_table::NameTable;
-use crate::values::{Scope, value_for};
+use crate::values::{Known, value_for};
 use core_tree::{BoundInstance, SceneInstance, SceneValue, Value};
 use papy_base::Text;
 use scene_reader::{SceneFault, SceneRule};
@@ -18,7 +18,7 @@ use std::alloc::Global;
 /// the first entry that breaks one of them.
 pub(crate) fn bind_instances(
     alloc: Global,
-    scope: Scope<'_, '_>,
+    scope: Known<'_, '_>,
     instances: &[SceneInstance],
 ) -> Result<Vec<BoundInstance>, SceneFault>
     requires count { length scope.instances.now.scripts.items ≡ length instances.now }
@@ -39,7 +39,7 @@ pub(crate) fn bind_instances(
 
 fn bind_instance(
     alloc: Global,
-    scope: Scope<'_, '_>,
+    scope: Known<'_, '_>,
     script: u16,
     instance: &SceneInstance,
 ) -> Result<BoundInstance, SceneFault>
@@ -59,7 +59,7 @@ fn bind_instance(
 
 fn bind_entries(
     alloc: Global,
-    scope: Scope<'_, '_>,
+    scope: Known<'_, '_>,
     script: u16,
     entries: &[(Text, SceneValue)],
 ) -> Result<Vec<(u16, u16, Value)>, SceneFault>
@@ -80,7 +80,7 @@ fn bind_entries(
 
 fn bind_entry(
     alloc: Global,
-    scope: Scope<'_, '_>,
+    scope: Known<'_, '_>,
     script: u16,
     name: &Text,
     value: &SceneValue,

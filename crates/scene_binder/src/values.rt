@@ -6,7 +6,7 @@ ghost use Rattle.scene_binder.specs.Limits.{IsShortValue};
 ghost use Rattle.scene_binder.specs.Scope.{InstanceIs, ValueIs};
 
 use crate::instances::Instances;
-use crate::scripts::Scripts;
+use crate::scripts::OutlineScripts;
 use core_tree::{CoreType, SceneValue, Value};
 use papy_base::Text;
 use scene_reader::{SceneFault, SceneRule};
@@ -14,19 +14,15 @@ use std::alloc::Global;
 
 /// What values may name.
 #[derive(Clone, Copy)]
-pub(crate) struct Scope<'s, 'a> {
-    pub(crate) scripts: &'s Scripts<'a>,
+pub(crate) struct Known<'s, 'a> {
+    pub(crate) scripts: &'s OutlineScripts<'a>,
     pub(crate) instances: &'s Instances,
-}
-
-fn type_fault() -> SceneFault {
-    SceneFault::of(SceneRule::Arguments)
 }
 
 /// The value where a type is asked for. `Arguments` comes where it isn't of the type.
 pub(crate) fn value_for(
     alloc: Global,
-    scope: Scope<'_, '_>,
+    scope: Known<'_, '_>,
     kind: CoreType,
     value: &SceneValue,
 ) -> Result<Value, SceneFault>
@@ -42,27 +38,20 @@ pub(crate) fn value_for(
             instance_for(alloc, scope, script, name)
         }
         (_, SceneValue::NoneValue) if may_be_none(kind) => Ok(Value::NoneValue),
-        _ => Err(type_fault()),
+        _ => Err(SceneFault::of(SceneRule::Arguments)),
     }
 }
 
 fn may_be_none(kind: CoreType) -> bool
     ensures { IsTrue result ↔ MayBeNone kind }
 {
-    match kind {
-        CoreType::Int | CoreType::Bool | CoreType::Text => false,
-        CoreType::Script(_)
-        | CoreType::IntArray
-        | CoreType::BoolArray
-        | CoreType::TextArray
-        | CoreType::ScriptArray(_) => true,
-    }
+    !matches!(kind, CoreType::Int | CoreType::Bool | CoreType::Text)
 }
 
 /// The instance of this name, where it is one of the script or of one below it.
 fn instance_for(
     alloc: Global,
-    scope: Scope<'_, '_>,
+    scope: Known<'_, '_>,
     script: u16,
     name: &Text,
 ) -> Result<Value, SceneFault>
@@ -72,11 +61,11 @@ fn instance_for(
 {
     match scope.instances.find(alloc, name)? {
         Some(instance) if is_instance_of(scope, instance, script) => Ok(Value::Instance(instance)),
-        _ => Err(type_fault()),
+        _ => Err(SceneFault::of(SceneRule::Arguments)),
     }
 }
 
-fn is_instance_of(scope: Scope<'_, '_>, instance: u16, script: u16) -> bool
+fn is_instance_of(scope: Known<'_, '_>, instance: u16, script: u16) -> bool
     ensures { IsTrue result → IsInstanceOf scope.entry.scripts.now scope.entry.instances.now.scripts.items instance script }
 {
     match scope.instances.script_of(usize::from(instance)) {

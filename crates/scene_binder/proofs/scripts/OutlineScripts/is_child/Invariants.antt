@@ -1,6 +1,6 @@
 use Rattle.std.proofs.Common.{ℕ, IfSome}
 use Rattle.scene_binder.specs.Members.{StandsAbove}
-use Rattle.scene_binder.proofs.scripts.Scripts.is_child.Given as goal
+use Rattle.scene_binder.proofs.scripts.OutlineScripts.is_child.Given as goal
 
 -- what stands above the script that is next stands above the first one
 abbrev pub invariant-upward : goal.invariant-upward

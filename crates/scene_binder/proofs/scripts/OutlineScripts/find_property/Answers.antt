@@ -4,7 +4,7 @@ use Rattle.core_tree.specs.declared.outline.OutlineProperty.{OutlineProperty}
 use Rattle.papy_base.specs.Case.{folded}
 use Rattle.scene_binder.specs.Members.{own_property}
 use Rattle.scene_binder.proofs.BoundLemmas.{nearest-here, nearest-next, upward-here, upward-next}
-use Rattle.scene_binder.proofs.scripts.Scripts.find_property.Goals as goal
+use Rattle.scene_binder.proofs.scripts.OutlineScripts.find_property.Goals as goal
 
 pub returns-in-Some-own_property-clause-there : goal.returns-in-Some-own_property-clause-there
 returns-in-Some-own_property-clause-there c = (

@@ -1,7 +1,7 @@
 use Rattle.std.proofs.Common.{ℕ, IfSome}
 use Rattle.core_tree.specs.declared.outline.OutlineProperty.{OutlineProperty}
 use Rattle.scene_binder.specs.Members.{IsNearestProperty, StandsAbove}
-use Rattle.scene_binder.proofs.scripts.Scripts.find_property.Given as goal
+use Rattle.scene_binder.proofs.scripts.OutlineScripts.find_property.Given as goal
 
 -- what stands above the script that is next stands above the first one, and what is nearest to it is nearest to the first one
 abbrev pub invariant-upward : goal.invariant-upward

@@ -1,7 +1,7 @@
 use Rattle.std.proofs.Common.{◌≡◌, map, take}
 use Rattle.scene_binder.specs.Keys.{script_key}
 use Rattle.scene_binder.specs.Names.{IsTableOf}
-use Rattle.scene_binder.proofs.scripts.Scripts.new.Given as goal
+use Rattle.scene_binder.proofs.scripts.OutlineScripts.new.Given as goal
 
 abbrev pub invariant-loop-number : goal.invariant-loop-number
 invariant-loop-number l = record {

@@ -4,7 +4,7 @@ use Rattle.papy_base.specs.Case.{folded}
 use Rattle.scene_binder.specs.Keys.{script_key}
 use Rattle.scene_binder.specs.Names.{Notes}
 use Rattle.scene_binder.proofs.NameLemmas.{IsTableOf-notes_next}
-use Rattle.scene_binder.proofs.scripts.Scripts.new.Goals as goal
+use Rattle.scene_binder.proofs.scripts.OutlineScripts.new.Goals as goal
 
 pub loop-number-preserved : goal.loop-number-preserved
 loop-number-preserved c =

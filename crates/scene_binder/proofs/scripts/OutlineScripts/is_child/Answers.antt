@@ -1,7 +1,7 @@
 use Rattle.std.proofs.Common.{subst}
 use Rattle.scene_binder.specs.Members.{StandsAbove}
 use Rattle.scene_binder.proofs.BoundLemmas.{upward-here, upward-next}
-use Rattle.scene_binder.proofs.scripts.Scripts.is_child.Goals as goal
+use Rattle.scene_binder.proofs.scripts.OutlineScripts.is_child.Goals as goal
 
 pub returns-then-script-parent : goal.returns-then-script-parent
 returns-then-script-parent c = λ _.

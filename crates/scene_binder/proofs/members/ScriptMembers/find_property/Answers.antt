@@ -3,7 +3,7 @@ use Rattle.std.specs.List.{slice_get}
 use Rattle.std.specs.Option.{option_and_then, option_copied}
 use Rattle.scene_binder.specs.Keys.{property_key}
 use Rattle.scene_binder.proofs.NameLemmas.{IsTableOf-first, copied_read}
-use Rattle.scene_binder.proofs.members.Members.find_property.Goals as goal
+use Rattle.scene_binder.proofs.members.ScriptMembers.find_property.Goals as goal
 
 pub returns-in_err-place-clause-first : goal.returns-in_err-place-clause-first
 returns-in_err-place-clause-first c =

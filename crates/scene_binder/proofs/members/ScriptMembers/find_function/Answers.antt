@@ -4,7 +4,7 @@ use Rattle.std.specs.Option.{option_and_then, option_copied}
 use Rattle.std.proofs.lemmas.Option.{IfSome_then}
 use Rattle.scene_binder.specs.Keys.{function_key}
 use Rattle.scene_binder.proofs.NameLemmas.{IsTableOf-first, IsTableOf-key, copied_read}
-use Rattle.scene_binder.proofs.members.Members.find_function.Goals as goal
+use Rattle.scene_binder.proofs.members.ScriptMembers.find_function.Goals as goal
 
 pub returns-in_err-place-clause-first : goal.returns-in_err-place-clause-first
 returns-in_err-place-clause-first c =

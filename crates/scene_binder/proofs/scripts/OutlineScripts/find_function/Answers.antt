@@ -4,7 +4,7 @@ use Rattle.papy_base.specs.Case.{folded}
 use Rattle.core_tree.specs.declared.outline.OutlineFunction.{OutlineFunction}
 use Rattle.scene_binder.specs.Members.{own_function}
 use Rattle.scene_binder.proofs.BoundLemmas.{nearest-here, nearest-next, upward-here, upward-next}
-use Rattle.scene_binder.proofs.scripts.Scripts.find_function.Goals as goal
+use Rattle.scene_binder.proofs.scripts.OutlineScripts.find_function.Goals as goal
 
 pub returns-in-Some-own_function : goal.returns-in-Some-own_function
 returns-in-Some-own_function c =
