@@ -16,6 +16,9 @@ use std::alloc::Global;
 // The first scripts of a set, Debug, Utility and Scene, are no types.
 const LIBRARY_COUNT: u16 = 3;
 
+// Among so many scripts the name of each is compared, which takes less time than to hash one.
+const COMPARED_LIMIT: usize = 16;
+
 /// A function that a call means.
 #[derive(Clone, Copy)]
 pub struct Callee<'a> {
@@ -55,7 +58,16 @@ impl<'a> Catalog<'a> {
         ensures found { result ≡ script_named self.now.set.now name.now }
         ensures within { IfSome result (λ n. n < length self.now.set.now) }
     {
-        number_below(self.numbers.find(name), self.set.count())
+        let count = self.set.count();
+        if usize::from(count) > COMPARED_LIMIT {
+            return number_below(self.numbers.find(name), count);
+        }
+        for number in 0..count {
+            if self.set.script(number).name.same(name) {
+                return Some(number);
+            }
+        }
+        None
     }
 
     /// The script of this number.

@@ -6,6 +6,9 @@ use papy_base::{Name, OutOfMemory};
 use std::alloc::Global;
 use std::collections::HashMap;
 
+// Among so many names each is compared, which takes less time than to hash one.
+const COMPARED_LIMIT: usize = 16;
+
 /// A parameter or a local: its number, and its type where that is known.
 #[derive(Clone, Copy, PartialEq, Eq)]
 pub struct Local {
@@ -20,10 +23,10 @@ pub struct Locals {
     alloc: Global,
     /// The types of all that were added, none where a type isn't known.
     pub kinds: Vec<Option<CoreType>>,
-    // The names that are seen, in the order in which they were added.
-    seen: Vec<Name>,
-    // The numbers of these, by their names with A to Z read as a to z.
-    numbers: HashMap<Vec<u8>, usize>,
+    // The names that are seen with their numbers, in the order in which they were added.
+    seen: Vec<(Name, usize)>,
+    // The numbers of those behind the first 16, by their names with A to Z read as a to z.
+    further: HashMap<Vec<u8>, usize>,
 }
 
 impl Locals {
@@ -35,7 +38,7 @@ impl Locals {
             alloc,
             kinds: Vec::new(alloc),
             seen: Vec::new(alloc),
-            numbers: HashMap::new(alloc),
+            further: HashMap::new(alloc),
         }
     }
 
@@ -43,15 +46,7 @@ impl Locals {
     pub fn find(&self, name: &Name) -> Option<Local>
         ensures { IfSome result (λ local. slice_get self.now.kinds.items local.number ≡ Some local.kind) }
     {
-        let number = self.numbers.get(name.folded()).copied()?;
-        if number < self.kinds.len() {
-            Some(Local {
-                number,
-                kind: self.kinds[number],
-            })
-        } else {
-            None
-        }
+        self.local(self.number_of(name)?)
     }
 
     /// Adds a local, which is seen from now on, and gives its number.
@@ -61,9 +56,11 @@ impl Locals {
     {
         let number = self.kinds.len();
         self.kinds.push(kind)?;
-        self.numbers
-            .insert(name.folded().to_vec(self.alloc)?, number)?;
-        self.seen.push(name.try_clone(self.alloc)?)?;
+        if self.seen.len() >= COMPARED_LIMIT {
+            self.further
+                .insert(name.folded().to_vec(self.alloc)?, number)?;
+        }
+        self.seen.push((name.try_clone(self.alloc)?, number))?;
         Ok(number)
     }
 
@@ -77,9 +74,50 @@ impl Locals {
         ensures { self.new.kinds ≡ self.old.kinds }
     {
         'names: while self.seen.len() > mark {
-            if let Some(name) = self.seen.pop() {
-                let _number = self.numbers.remove(name.folded());
+            if let Some((name, _)) = self.seen.pop()
+                && self.seen.len() >= COMPARED_LIMIT
+            {
+                let _number = self.further.remove(name.folded());
             }
         }
     }
+
+    // The number of the last name that is seen and is the same.
+    fn number_of(&self, name: &Name) -> Option<usize> {
+        if self.seen.len() > COMPARED_LIMIT
+            && let Some(number) = self.further_number(name)
+        {
+            return Some(number);
+        }
+        let compared = self.seen.len().min(COMPARED_LIMIT);
+        number_among(&self.seen[..compared], name)
+    }
+
+    // Few functions have so many names: the search is kept out of the common one's frame.
+    #[inline(never)]
+    fn further_number(&self, name: &Name) -> Option<usize> {
+        self.further.get(name.folded()).copied()
+    }
+
+    fn local(&self, number: usize) -> Option<Local>
+        ensures { IfSome result (λ local. slice_get self.now.kinds.items local.number ≡ Some local.kind) }
+    {
+        if number < self.kinds.len() {
+            Some(Local {
+                number,
+                kind: self.kinds[number],
+            })
+        } else {
+            None
+        }
+    }
+}
+
+fn number_among(seen: &[(Name, usize)], name: &Name) -> Option<usize> {
+    for (other, number) in seen.iter().rev() {
+        if other.same(name) {
+            return Some(*number);
+        }
+    }
+    None
 }
