@@ -40,7 +40,6 @@ impl OwnMembers {
     /// same names, the first counts.
     pub fn add(
         &mut self,
-        _alloc: Global,
         names: MemberNames,
         member: MemberPlace,
         span: Span,
