@@ -1,6 +1,7 @@
 // Which objects stand above themselves.
-ghost use Rattle.std.specs.Prelude.{◌≡◌, length, vec_len, IfOk, slice_index_or, None};
+ghost use Rattle.std.specs.Prelude.{◌≡◌, length, vec_len, IfOk};
 
+use crate::descent::item_at;
 use papy_base::OutOfMemory;
 use std::alloc::Global;
 
@@ -32,7 +33,7 @@ fn walk(parents: &[Option<usize>], walks: &mut [Option<usize>], start: usize) ->
             break;
         }
         walks[here] = Some(start);
-        here = parent_of(parents, here)?;
+        here = item_at(parents, here)?;
     }
     if here < walks.len() && walks[here] == Some(start) {
         Some(here)
@@ -47,18 +48,9 @@ fn mark_circle(parents: &[Option<usize>], is_above_itself: &mut [bool], start: u
         if here < is_above_itself.len() {
             is_above_itself[here] = true;
         }
-        match parent_of(parents, here) {
+        match item_at(parents, here) {
             Some(parent) if parent != start => here = parent,
             _ => return,
         }
-    }
-}
-
-fn parent_of(parents: &[Option<usize>], object: usize) -> Option<usize>
-    ensures { result ≡ slice_index_or parents.now object None }
-{
-    match parents.get(object) {
-        Some(parent) => *parent,
-        None => None,
     }
 }

@@ -124,7 +124,7 @@ fn replace_at(list: &mut [Option<usize>], place: usize, object: usize) -> Option
 fn parent_among(parents: &[Option<usize>], object: usize) -> Option<usize>
     ensures { IfSome result (λ parent. parent < length parents.now) }
 {
-    let parent = (*parents.get(object)?)?;
+    let parent = item_at(parents, object)?;
     if parent < parents.len() {
         Some(parent)
     } else {
@@ -177,6 +177,7 @@ impl Walk<'_> {
     }
 }
 
-fn item_at(list: &[Option<usize>], place: usize) -> Option<usize> {
+/// What stands at the place, and none past the list.
+pub(crate) fn item_at(list: &[Option<usize>], place: usize) -> Option<usize> {
     *list.get(place)?
 }

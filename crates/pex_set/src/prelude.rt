@@ -20,70 +20,15 @@ pub struct Prelude {
     pub members: Vec<(u16, PexFunction)>,
 }
 
-// The strings of the prelude, each at the place that its constant has.
+// The strings of the prelude.
 #[rattlefmt::skip]
-static STRINGS: [&str; 24] = [
+static STRINGS: [&str; 27] = [
     "", "None", "Int", "String", "Debug", "Utility", "Scene", "Form", "Quest", "ObjectReference",
     "Trace", "asTextToPrint", "aiSeverity", "RandomInt", "aiMin", "aiMax", "Sleep", "turns", "OnInit",
-    "GotoState", "GetState", "OnBeginState", "OnEndState", "asNewState",
+    "GotoState", "GetState", "OnBeginState", "OnEndState", "asNewState", "self", "::State", "::NoneVar",
 ];
 
-// Those that only the code of the members names.
-static CODE_STRINGS: [&str; 3] = ["self", "::State", "::NoneVar"];
-
 const EMPTY: u16 = 0;
-
-const NONE: u16 = 1;
-
-const INT: u16 = 2;
-
-const STRING: u16 = 3;
-
-const DEBUG: u16 = 4;
-
-const UTILITY: u16 = 5;
-
-const SCENE: u16 = 6;
-
-const FORM: u16 = 7;
-
-const QUEST: u16 = 8;
-
-const OBJECT_REFERENCE: u16 = 9;
-
-const TRACE: u16 = 10;
-
-const TEXT_TO_PRINT: u16 = 11;
-
-const SEVERITY: u16 = 12;
-
-const RANDOM_INT: u16 = 13;
-
-const LEAST: u16 = 14;
-
-const MOST: u16 = 15;
-
-const SLEEP: u16 = 16;
-
-const TURNS: u16 = 17;
-
-const ON_INIT: u16 = 18;
-
-const GOTO_STATE: u16 = 19;
-
-const GET_STATE: u16 = 20;
-
-const ON_BEGIN_STATE: u16 = 21;
-
-const ON_END_STATE: u16 = 22;
-
-const NEW_STATE: u16 = 23;
-
-const SELF_WORD: u16 = 24;
-
-const STATE_WORD: u16 = 25;
-
-const NONE_VARIABLE: u16 = 26;
 
 // The opcodes of the members.
 const ASSIGN: u8 = 0x0D;
@@ -120,39 +65,53 @@ impl Prelude {
 }
 
 fn strings(alloc: Global) -> Result<Vec<Text>, OutOfMemory> {
-    let mut strings = Vec::with_capacity(alloc, STRINGS.len() + CODE_STRINGS.len())?;
-    for string in STRINGS.iter().chain(CODE_STRINGS.iter()) {
+    let mut strings = Vec::with_capacity(alloc, STRINGS.len())?;
+    for string in &STRINGS {
         strings.push(Text::try_from_bytes(alloc, string.as_bytes())?)?;
     }
     Ok(strings)
 }
 
+// The reference to one of these strings.
+fn reference(wanted: &str) -> u16 {
+    for (place, string) in STRINGS.iter().enumerate() {
+        if *string == wanted {
+            return place as u16;
+        }
+    }
+    0
+}
+
 fn objects(alloc: Global) -> Result<Vec<PexObject>, OutOfMemory>
     ensures { IfOk result (λ objects. vec_len objects ≡ 6) }
 {
-    let trace = native(alloc, NONE, &[(TEXT_TO_PRINT, STRING), (SEVERITY, INT)])?;
-    let random_int = native(alloc, INT, &[(LEAST, INT), (MOST, INT)])?;
-    let sleep = native(alloc, NONE, &[(TURNS, INT)])?;
+    let trace = native(
+        alloc,
+        "None",
+        &[("asTextToPrint", "String"), ("aiSeverity", "Int")],
+    )?;
+    let random_int = native(alloc, "Int", &[("aiMin", "Int"), ("aiMax", "Int")])?;
+    let sleep = native(alloc, "None", &[("turns", "Int")])?;
     let mut objects = Vec::with_capacity(alloc, PRELUDE_COUNT)?;
-    objects.push(with_function(alloc, DEBUG, EMPTY, TRACE, trace)?)?;
-    objects.push(with_function(alloc, UTILITY, EMPTY, RANDOM_INT, random_int)?)?;
-    objects.push(with_function(alloc, SCENE, EMPTY, SLEEP, sleep)?)?;
-    objects.push(object(FORM, EMPTY, Vec::new(alloc), alloc))?;
-    objects.push(with_function(alloc, QUEST, FORM, ON_INIT, event(alloc))?)?;
-    objects.push(with_function(alloc, OBJECT_REFERENCE, FORM, ON_INIT, event(alloc))?)?;
+    objects.push(with_function(alloc, "Debug", "", "Trace", trace)?)?;
+    objects.push(with_function(alloc, "Utility", "", "RandomInt", random_int)?)?;
+    objects.push(with_function(alloc, "Scene", "", "Sleep", sleep)?)?;
+    objects.push(object("Form", "", Vec::new(alloc), alloc))?;
+    objects.push(with_function(alloc, "Quest", "Form", "OnInit", event(alloc))?)?;
+    objects.push(with_function(alloc, "ObjectReference", "Form", "OnInit", event(alloc))?)?;
     Ok(objects)
 }
 
 // An object with one function, in its empty state.
 fn with_function(
     alloc: Global,
-    name: u16,
-    parent: u16,
-    function_name: u16,
+    name: &str,
+    parent: &str,
+    function_name: &str,
     function: PexFunction,
 ) -> Result<PexObject, OutOfMemory> {
     let mut functions = Vec::with_capacity(alloc, 1)?;
-    functions.push((function_name, function))?;
+    functions.push((reference(function_name), function))?;
     let mut states = Vec::with_capacity(alloc, 1)?;
     states.push(PexState {
         name: EMPTY,
@@ -161,11 +120,11 @@ fn with_function(
     Ok(object(name, parent, states, alloc))
 }
 
-fn object(name: u16, parent: u16, states: Vec<PexState>, alloc: Global) -> PexObject {
+fn object(name: &str, parent: &str, states: Vec<PexState>, alloc: Global) -> PexObject {
     PexObject {
-        name,
+        name: reference(name),
         size_form: SizeForm::Counted,
-        parent,
+        parent: reference(parent),
         doc: EMPTY,
         flags: 0,
         auto_state: EMPTY,
@@ -176,28 +135,35 @@ fn object(name: u16, parent: u16, states: Vec<PexState>, alloc: Global) -> PexOb
 }
 
 // A global native function with a result of this type.
-fn native(alloc: Global, kind: u16, parameters: &[(u16, u16)]) -> Result<PexFunction, OutOfMemory> {
-    let parameters = parameters.to_vec(alloc)?;
+fn native(
+    alloc: Global,
+    kind: &str,
+    parameters: &[(&str, &str)],
+) -> Result<PexFunction, OutOfMemory> {
+    let mut pairs = Vec::with_capacity(alloc, parameters.len())?;
+    for (name, declared) in parameters {
+        pairs.push((reference(*name), reference(*declared)))?;
+    }
     Ok(PexFunction {
         bits: GLOBAL_NATIVE,
-        ..function(kind, parameters, Vec::new(alloc), alloc)
+        ..function(kind, pairs, Vec::new(alloc), alloc)
     })
 }
 
 // An event without parameters that does nothing.
 fn event(alloc: Global) -> PexFunction {
-    function(NONE, Vec::new(alloc), Vec::new(alloc), alloc)
+    function("None", Vec::new(alloc), Vec::new(alloc), alloc)
 }
 
 // A function without locals, with a result of this type.
 fn function(
-    kind: u16,
+    kind: &str,
     parameters: Vec<(u16, u16)>,
     code: Vec<Instruction>,
     alloc: Global,
 ) -> PexFunction {
     PexFunction {
-        result: kind,
+        result: reference(kind),
         doc: EMPTY,
         flags: 0,
         bits: 0,
@@ -211,47 +177,43 @@ fn members(alloc: Global) -> Result<Vec<(u16, PexFunction)>, OutOfMemory>
     ensures { IfOk result (λ members. vec_len members ≡ 4) }
 {
     let mut members = Vec::with_capacity(alloc, 4)?;
-    members.push((GOTO_STATE, goto_state(alloc)?))?;
-    members.push((GET_STATE, get_state(alloc)?))?;
-    members.push((ON_BEGIN_STATE, event(alloc)))?;
-    members.push((ON_END_STATE, event(alloc)))?;
+    members.push((reference("GotoState"), goto_state(alloc)?))?;
+    members.push((reference("GetState"), get_state(alloc)?))?;
+    members.push((reference("OnBeginState"), event(alloc)))?;
+    members.push((reference("OnEndState"), event(alloc)))?;
     Ok(members)
 }
 
 // Calls OnEndState, changes the state, and calls OnBeginState.
 fn goto_state(alloc: Global) -> Result<PexFunction, OutOfMemory> {
     let mut code = Vec::with_capacity(alloc, 3)?;
-    code.push(call(alloc, ON_END_STATE)?)?;
-    let change = [Datum::Word(STATE_WORD), Datum::Word(NEW_STATE)];
-    code.push(instruction(alloc, ASSIGN, &change)?)?;
-    code.push(call(alloc, ON_BEGIN_STATE)?)?;
-    let parameters = [(NEW_STATE, STRING)].to_vec(alloc)?;
-    let mut goto_state = function(NONE, parameters, code, alloc);
-    goto_state.locals.push((NONE_VARIABLE, NONE))?;
+    code.push(instruction(alloc, CALL_METHOD, &["OnEndState", "self", "::NoneVar"])?)?;
+    code.push(instruction(alloc, ASSIGN, &["::State", "asNewState"])?)?;
+    code.push(instruction(alloc, CALL_METHOD, &["OnBeginState", "self", "::NoneVar"])?)?;
+    let parameters = [(reference("asNewState"), reference("String"))].to_vec(alloc)?;
+    let mut goto_state = function("None", parameters, code, alloc);
+    goto_state
+        .locals
+        .push((reference("::NoneVar"), reference("None")))?;
     Ok(goto_state)
 }
 
 // Gives the name of the state.
 fn get_state(alloc: Global) -> Result<PexFunction, OutOfMemory> {
     let mut code = Vec::with_capacity(alloc, 1)?;
-    code.push(instruction(alloc, RETURN, &[Datum::Word(STATE_WORD)])?)?;
-    Ok(function(STRING, Vec::new(alloc), code, alloc))
+    code.push(instruction(alloc, RETURN, &["::State"])?)?;
+    Ok(function("String", Vec::new(alloc), code, alloc))
 }
 
-// A call of a method without parameters and result on the instance itself.
-fn call(alloc: Global, name: u16) -> Result<Instruction, OutOfMemory> {
-    let operands = [
-        Datum::Word(name),
-        Datum::Word(SELF_WORD),
-        Datum::Word(NONE_VARIABLE),
-    ];
-    instruction(alloc, CALL_METHOD, &operands)
-}
-
-fn instruction(alloc: Global, opcode: u8, fixed: &[Datum]) -> Result<Instruction, OutOfMemory> {
+// An instruction of which each operand is a name.
+fn instruction(alloc: Global, opcode: u8, names: &[&str]) -> Result<Instruction, OutOfMemory> {
+    let mut fixed = Vec::with_capacity(alloc, names.len())?;
+    for name in names {
+        fixed.push(Datum::Word(reference(*name)))?;
+    }
     Ok(Instruction {
         opcode,
-        fixed: fixed.to_vec(alloc)?,
+        fixed,
         more: Vec::new(alloc),
     })
 }
