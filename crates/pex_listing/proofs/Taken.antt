@@ -4,8 +4,8 @@ use Rattle.std.specs.Prelude.{Option, Some, None, IfSome, IsTrue, codes}
 use Rattle.std.specs.List.{flat_map}
 use Rattle.std.specs.Fmt.{decimal}
 use Rattle.std.proofs.lemmas.List.{flat_map_more}
-use Rattle.pex_listing.specs.declared.keyword.Keyword.{Keyword}
-use Rattle.pex_listing.specs.declared.keyword.Keyword.TheVariants as word
+use Rattle.pex_listing.specs.declared.first_word.FirstWord.{FirstWord}
+use Rattle.pex_listing.specs.declared.first_word.FirstWord.TheVariants as word
 use Rattle.pex_listing.specs.declared.listing.Listing.{Listing}
 use Rattle.std.proofs.lemmas.Bool.{and_parts, not-true, cond-false}
 use Rattle.pex_values.specs.Plain.{PlainPex}
@@ -29,7 +29,7 @@ takes_one_more f xs x old between new a b =
     subst (λ lines. TakesLines lines old new) (flat_map_more f [] xs x) (takes_more (flat_map f xs) (f x) old between new a b)
 
 -- the fields of the open line were read to its end, and the next line was opened
-pub takes_line : (word fields : List ℕ) (old last new : Listing) → word_of old.keyword ≡ Some word → fields_left old ≡ fields → last.rest.now ≡ old.rest.now → Opens last.rest.now new → TakesLines (word ++ (fields ++ 10 ∷ [])) old new
+pub takes_line : (word fields : List ℕ) (old last new : Listing) → word_of old.first_word ≡ Some word → fields_left old ≡ fields → last.rest.now ≡ old.rest.now → Opens last.rest.now new → TakesLines (word ++ (fields ++ 10 ∷ [])) old new
 takes_line word fields old last new is_word left same opened text opens =
     let P : Option (List ℕ) → Type 0 = λ o. IfSome o (λ w. text ≡ w ++ (fields_left old ++ 10 ∷ old.rest.now)) in
     let whole : text ≡ word ++ (fields_left old ++ 10 ∷ old.rest.now) = subst P is_word opens in
@@ -41,34 +41,34 @@ takes_line word fields old last new is_word left same opened text opens =
     }
 
 -- a line with a string
-pub takes_string : (keyword : Keyword) (text : List ℕ) (old last new : Listing) → old.keyword ≡ keyword → TakesField (quoted text) old last → fields_left last ≡ [] → IsTrue last.is_canonical → Opens last.rest.now new → IfSome (word_of keyword) (λ word. TakesLines (string_line word text) old new)
-takes_string keyword text old last new is_keyword field none canonical opened = by_word (word_of keyword) refl
+pub takes_string : (first_word : FirstWord) (text : List ℕ) (old last new : Listing) → old.first_word ≡ first_word → TakesField (quoted text) old last → fields_left last ≡ [] → IsTrue last.is_canonical → Opens last.rest.now new → IfSome (word_of first_word) (λ word. TakesLines (string_line word text) old new)
+takes_string first_word text old last new is_first_word field none canonical opened = by_word (word_of first_word) refl
   where
     left : fields_left old ≡ 32 ∷ quoted text
     left = field.taken canonical ∙ (ap (λ f. 32 ∷ quoted text ++ f) none ∙ append-nil (32 ∷ quoted text))
 
-    by_word : (o : Option (List ℕ)) → word_of keyword ≡ o → IfSome o (λ word. TakesLines (string_line word text) old new)
+    by_word : (o : Option (List ℕ)) → word_of first_word ≡ o → IfSome o (λ word. TakesLines (string_line word text) old new)
     by_word None e = tt
     by_word (Some word) e =
         subst (λ lines. TakesLines lines old new) (sym (append_assoc word (32 ∷ quoted text) (10 ∷ [])))
-        (takes_line word (32 ∷ quoted text) old last new (ap word_of is_keyword ∙ e) left field.rest opened)
+        (takes_line word (32 ∷ quoted text) old last new (ap word_of is_first_word ∙ e) left field.rest opened)
 
 -- the first line
-pub takes_version : (minor time : ℕ) (old between last new : Listing) → old.keyword ≡ word.Pex → TakesField (decimal minor) old between → TakesField (decimal time) between last → fields_left last ≡ [] → IsTrue last.is_canonical → Opens last.rest.now new → TakesLines (first_line minor time) old new
-takes_version minor time old between last new is_keyword first second none canonical opened =
+pub takes_version : (minor time : ℕ) (old between last new : Listing) → old.first_word ≡ word.Pex → TakesField (decimal minor) old between → TakesField (decimal time) between last → fields_left last ≡ [] → IsTrue last.is_canonical → Opens last.rest.now new → TakesLines (first_line minor time) old new
+takes_version minor time old between last new is_first_word first second none canonical opened =
     let behind : fields_left between ≡ 32 ∷ decimal time = second.taken canonical ∙ (ap (λ f. 32 ∷ decimal time ++ f) none ∙ append-nil (32 ∷ decimal time)) in
     let left : fields_left old ≡ 32 ∷ decimal minor ++ 32 ∷ decimal time = first.taken (second.canonical canonical) ∙ ap (λ f. 32 ∷ decimal minor ++ f) behind in
-    let lines = takes_line (codes "pex") (32 ∷ decimal minor ++ 32 ∷ decimal time) old last new (ap word_of is_keyword) left (second.rest ∙ first.rest) opened in
+    let lines = takes_line (codes "pex") (32 ∷ decimal minor ++ 32 ∷ decimal time) old last new (ap word_of is_first_word) left (second.rest ∙ first.rest) opened in
     subst (λ lines. TakesLines lines old new) (ap (λ t. codes "pex " ++ t) (append_assoc (decimal minor) (32 ∷ decimal time) (10 ∷ []))) lines
 
 -- a number without sign
 pub takes_number : (field digits : List ℕ) (is_negative : Bool) (n : ℕ) (old between new : Listing)
-    → fields_left old ≡ 32 ∷ field ++ fields_left between → between.keyword ≡ old.keyword → between.is_canonical ≡ old.is_canonical → between.rest.now ≡ old.rest.now
+    → fields_left old ≡ 32 ∷ field ++ fields_left between → between.first_word ≡ old.first_word → between.is_canonical ≡ old.is_canonical → between.rest.now ≡ old.rest.now
     → field ≡ cond is_negative (45 ∷ digits) digits → are_digits digits ≡ true → decimal_number digits ≡ Some n
     → new.is_canonical ≡ (between.is_canonical && (not is_negative && not (has_leading_zero digits)))
-    → new.keyword ≡ between.keyword → fields_left new ≡ fields_left between → new.rest.now ≡ between.rest.now → TakesField (decimal n) old new
-takes_number field digits is_negative n old between new left keyword canonical rest signed are number noted keyword-2 left-2 rest-2 = record {
-  keyword = keyword-2 ∙ keyword;
+    → new.first_word ≡ between.first_word → fields_left new ≡ fields_left between → new.rest.now ≡ between.rest.now → TakesField (decimal n) old new
+takes_number field digits is_negative n old between new left first_word canonical rest signed are number noted first_word-2 left-2 rest-2 = record {
+  first_word = first_word-2 ∙ first_word;
   rest = rest-2 ∙ rest;
   canonical = λ (is : IsTrue new.is_canonical). sym canonical ∙ (and_parts _ _ (sym noted ∙ is)).0;
   taken = λ (is : IsTrue new.is_canonical).

@@ -3,12 +3,12 @@ use Rattle.std.specs.Prelude.{◌≡◌, ℕ, ◌+◌, ◌<◌, ◌≤◌, ◌^�
 use Rattle.pex_values.specs.Bits.{has_variable, has_read, has_write}
 use Rattle.pex_values.specs.Shape.{IsReference}
 use Rattle.pex_values.specs.Spelling.{optional, two_bytes}
-use Rattle.pex_listing.specs.declared.functions.Heading.{Heading}
+use Rattle.pex_listing.specs.declared.functions.FunctionHeading.{FunctionHeading}
 use Rattle.pex_listing.specs.declared.objects.PropertyHeading.{PropertyHeading}
 use Rattle.pex_listing.specs.declared.objects.ObjectHeading.{ObjectHeading}
 use Rattle.pex_listing.specs.Reading.{least_function}
 
-pub record IsFunctionHeading (strings : ℕ) (h : Heading) : Type 0 where
+pub record IsFunctionHeading (strings : ℕ) (h : FunctionHeading) : Type 0 where
   pub result : IsReference strings h.result
   pub doc : IsReference strings h.doc
   pub flags : h.flags < 2 ^ 32

@@ -1,11 +1,11 @@
 -- What an open line and the text behind it are.
 use Rattle.std.specs.Prelude.{◌≡◌, ℕ, List, [], ◌∷◌, ◌++◌, codes, Option, Some, None, IfSome, IsTrue, unwrap_or, option_map}
-use Rattle.pex_listing.specs.declared.keyword.Keyword.{Keyword}
-use Rattle.pex_listing.specs.declared.keyword.Keyword.TheVariants as word
+use Rattle.pex_listing.specs.declared.first_word.FirstWord.{FirstWord}
+use Rattle.pex_listing.specs.declared.first_word.FirstWord.TheVariants as word
 use Rattle.pex_listing.specs.declared.listing.Listing.{Listing}
 
--- how a keyword that stands for one word is spelled
-abbrev pub word_of : Keyword → Option (List ℕ)
+-- how a first word that stands for one word is spelled
+abbrev pub word_of : FirstWord → Option (List ℕ)
 word_of word.Pex = Some (codes "pex")
 word_of word.Source = Some (codes "source")
 word_of word.User = Some (codes "user")
@@ -34,11 +34,11 @@ fields_left l = unwrap_or (option_map (λ fields. 32 ∷ fields.now) l.fields) [
 
 -- the text begins with the open line, of which no field was read, where that has one of the fixed words
 abbrev pub Opens : List ℕ → Listing → Type 0
-Opens text l = IfSome (word_of l.keyword) (λ word. text ≡ word ++ (fields_left l ++ 10 ∷ l.rest.now))
+Opens text l = IfSome (word_of l.first_word) (λ word. text ≡ word ++ (fields_left l ++ 10 ∷ l.rest.now))
 
 -- a field of the open line was read; where it and all before it are in their one spelling, it is this text
 pub record TakesField (field : List ℕ) (old new : Listing) : Type 0 where
-  pub keyword : new.keyword ≡ old.keyword
+  pub first_word : new.first_word ≡ old.first_word
   pub rest : new.rest.now ≡ old.rest.now
   pub canonical : IsTrue new.is_canonical → IsTrue old.is_canonical
   pub taken : IsTrue new.is_canonical → fields_left old ≡ 32 ∷ field ++ fields_left new

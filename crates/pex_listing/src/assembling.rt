@@ -8,11 +8,11 @@ ghost use Rattle.pex_listing.specs.Lines.{first_line, head_lines};
 ghost use Rattle.pex_listing.specs.Opened.{BeginsWith, Opens, TakesLines};
 
 use crate::faults::{LineFault, ListingFault, ListingRule};
-use crate::keyword::Keyword;
+use crate::first_word::FirstWord;
+use crate::item::read_all;
 use crate::listing::Listing;
-use crate::name_table::NameTable;
-use crate::part::read_all;
 use crate::room::Room;
+use crate::strings::Strings;
 use crate::tables::{read_debug_line, read_entries, read_string, read_strings};
 use pex_values::{Pex, PexObject};
 use std::alloc::Global;
@@ -28,7 +28,7 @@ fn read_version(listing: &mut Listing) -> Result<Version, LineFault>
     ensures shaped { IfOk result (λ v. ((v.minor ≡ 1) ⊎ (v.minor ≡ 2)) × (v.time < 2 ^ 64)) }
     ensures line { IfOk result (λ v. TakesLines (first_line v.minor v.time) listing.old listing.new) }
 {
-    listing.expect(Keyword::Pex)?;
+    listing.expect(FirstWord::Pex)?;
     let minor = listing.unsigned_8()?;
     if minor != 1 && minor != 2 {
         return Err(LineFault::Broken(ListingRule::BadLine));
@@ -40,22 +40,22 @@ fn read_version(listing: &mut Listing) -> Result<Version, LineFault>
 }
 
 /// The parts of a value in the order of the listing.
-fn read_pex(alloc: Global, listing: &mut Listing) -> Result<Pex, LineFault>
+fn read_pex(listing: &mut Listing) -> Result<Pex, LineFault>
     ensures shaped { IfOk result (λ v. IsWellShaped (plain v)) }
     ensures fits { IfOk result (λ v. Fits (plain v)) }
     ensures begun { IfOk result (λ v. (text : List ℕ) → Opens text listing.old → BeginsWith (head_lines (plain v)) text) }
 {
     let mut room = Room::new();
     let version = read_version(listing)?;
-    let source = read_string(alloc, listing, &mut room, Keyword::Source)?;
-    let user = read_string(alloc, listing, &mut room, Keyword::User)?;
-    let machine = read_string(alloc, listing, &mut room, Keyword::Machine)?;
-    let strings = read_strings(alloc, listing, &mut room)?;
+    let source = read_string(listing, &mut room, FirstWord::Source)?;
+    let user = read_string(listing, &mut room, FirstWord::User)?;
+    let machine = read_string(listing, &mut room, FirstWord::Machine)?;
+    let strings = read_strings(listing, &mut room)?;
     let debug_time = read_debug_line(listing, &mut room)?;
-    let names = NameTable::new(alloc, &strings)?;
-    let debug = read_entries(alloc, listing, &names, &mut room, debug_time)?;
-    let user_flags: Vec<(u16, u8)> = read_all(alloc, listing, &names, &mut room, Keyword::Flag)?;
-    let objects: Vec<PexObject> = read_all(alloc, listing, &names, &mut room, Keyword::Object)?;
+    let names = Strings::new(listing.alloc(), &strings)?;
+    let debug = read_entries(listing, &names, &mut room, debug_time)?;
+    let user_flags: Vec<(u16, u8)> = read_all(listing, &names, &mut room, FirstWord::Flag)?;
+    let objects: Vec<PexObject> = read_all(listing, &names, &mut room, FirstWord::Object)?;
     listing.end()?;
     Ok(Pex {
         minor: version.minor,
@@ -77,8 +77,8 @@ pub fn assemble(alloc: Global, bytes: &[u8]) -> Result<Pex, ListingFault>
     ensures fits { IfOk result (λ v. Fits (plain v)) }
     ensures begun { IfOk result (λ v. BeginsWith (head_lines (plain v)) bytes.now) }
 {
-    let mut listing = Listing::new(bytes);
-    match read_pex(alloc, &mut listing) {
+    let mut listing = Listing::new(alloc, bytes);
+    match read_pex(&mut listing) {
         Ok(value) => Ok(value),
         Err(fault) => Err(fault.at_line(listing.number())),
     }

@@ -1,6 +1,5 @@
 ghost use Rattle.std.specs.Prelude.{◌≡◌};
 ghost use Rattle.pex_listing.specs.declared.faults.LineFault.TheVariants as line;
-ghost use Rattle.pex_listing.specs.declared.faults.ListingFault.TheVariants as listing;
 ghost use Rattle.pex_listing.specs.declared.faults.ShowFault.TheVariants as show;
 
 use papy_base::OutOfMemory;
@@ -34,14 +33,6 @@ impl From<AllocError> for ShowFault {
     }
 }
 
-impl<T: Drop> From<AllocFailed<T>> for ShowFault {
-    ghost from_gives = { λ _ fault. fault ≡ show.OutOfMemory };
-
-    fn from(_error: AllocFailed<T>) -> ShowFault {
-        ShowFault::OutOfMemory
-    }
-}
-
 /// The rules of listings.
 #[derive(Clone, Copy, Debug, PartialEq, Eq)]
 pub enum ListingRule {
@@ -66,30 +57,6 @@ pub enum ListingFault {
     /// No memory was found.
     #[error("out of memory")]
     OutOfMemory,
-}
-
-impl From<OutOfMemory> for ListingFault {
-    ghost from_gives = { λ _ fault. fault ≡ listing.OutOfMemory };
-
-    fn from(_error: OutOfMemory) -> ListingFault {
-        ListingFault::OutOfMemory
-    }
-}
-
-impl From<AllocError> for ListingFault {
-    ghost from_gives = { λ _ fault. fault ≡ listing.OutOfMemory };
-
-    fn from(_error: AllocError) -> ListingFault {
-        ListingFault::OutOfMemory
-    }
-}
-
-impl<T: Drop> From<AllocFailed<T>> for ListingFault {
-    ghost from_gives = { λ _ fault. fault ≡ listing.OutOfMemory };
-
-    fn from(_error: AllocFailed<T>) -> ListingFault {
-        ListingFault::OutOfMemory
-    }
 }
 
 /// Why a line can't stand where it does.

@@ -8,17 +8,16 @@ ghost use Rattle.pex_listing.specs.Headings.{IsFunctionHeading};
 ghost use Rattle.pex_listing.specs.Reading.{HoldsFunction, HoldsNamed, ReadsAccessor};
 
 use crate::faults::LineFault;
-use crate::keyword::Keyword;
+use crate::first_word::FirstWord;
+use crate::item::{Item, read_all};
 use crate::listing::Listing;
-use crate::name_table::NameTable;
-use crate::part::{Part, read_all};
 use crate::room::Room;
+use crate::strings::Strings;
 use pex_values::{Instruction, PexFunction};
-use std::alloc::Global;
 
 /// What stands in the line that a function begins with, behind its name.
 #[derive(Clone, Copy)]
-pub(crate) struct Heading {
+pub(crate) struct FunctionHeading {
     result: u16,
     doc: u16,
     flags: u32,
@@ -26,7 +25,7 @@ pub(crate) struct Heading {
 }
 
 /// The rest of the line that a function begins with.
-fn read_heading(listing: &mut Listing, names: &NameTable) -> Result<Heading, LineFault>
+fn read_heading(listing: &mut Listing, names: &Strings) -> Result<FunctionHeading, LineFault>
     ensures { IfOk result (IsFunctionHeading (vec_len names.now.spelled)) }
 {
     let result = listing.reference(names)?;
@@ -34,7 +33,7 @@ fn read_heading(listing: &mut Listing, names: &NameTable) -> Result<Heading, Lin
     let flags = listing.unsigned_32()?;
     let bits = listing.unsigned_8()?;
     listing.end_of_line()?;
-    Ok(Heading {
+    Ok(FunctionHeading {
         result: names.known(result)?,
         doc: names.known(doc)?,
         flags,
@@ -43,17 +42,12 @@ fn read_heading(listing: &mut Listing, names: &NameTable) -> Result<Heading, Lin
 }
 
 /// A name with its type, as a `param` or `local` line has it.
-impl Part for (u16, u16) {
+impl Item for (u16, u16) {
     ghost holds = { ArePair };
 
     ghost spelling = { spell.pair };
 
-    fn read(
-        _alloc: Global,
-        listing: &mut Listing,
-        names: &NameTable,
-        room: &mut Room,
-    ) -> Result<(u16, u16), LineFault> {
+    fn read(listing: &mut Listing, names: &Strings, room: &mut Room) -> Result<Self, LineFault> {
         room.spend(4)?;
         let name = listing.reference(names)?;
         let kind = listing.reference(names)?;
@@ -66,19 +60,18 @@ impl Part for (u16, u16) {
 
 /// The lines of a function behind its first one. The bytes of a function with empty lists were taken before.
 fn read_body(
-    alloc: Global,
     listing: &mut Listing,
-    names: &NameTable,
+    names: &Strings,
     room: &mut Room,
-    heading: Heading,
+    heading: FunctionHeading,
 ) -> Result<PexFunction, LineFault>
     requires { IsFunctionHeading (vec_len names.now.spelled) heading }
     ensures holds { IfOk result (HoldsFunction (vec_len names.now.spelled)) }
     ensures room { IfOk result (λ f. room.new.left + length (spell.function (plain_function f)) ≤ room.old.left + 15) }
 {
-    let parameters = read_all(alloc, listing, names, room, Keyword::Parameter)?;
-    let locals = read_all(alloc, listing, names, room, Keyword::Local)?;
-    let code: Vec<Instruction> = read_all(alloc, listing, names, room, Keyword::Opcode)?;
+    let parameters = read_all(listing, names, room, FirstWord::Parameter)?;
+    let locals = read_all(listing, names, room, FirstWord::Local)?;
+    let code: Vec<Instruction> = read_all(listing, names, room, FirstWord::Opcode)?;
     Ok(PexFunction {
         result: heading.result,
         doc: heading.doc,
@@ -91,23 +84,18 @@ fn read_body(
 }
 
 /// A function of a state.
-impl Part for (u16, PexFunction) {
+impl Item for (u16, PexFunction) {
     ghost holds = { HoldsNamed };
 
     ghost spelling = { λ f. spell.named (plain_named f) };
 
-    fn read(
-        alloc: Global,
-        listing: &mut Listing,
-        names: &NameTable,
-        room: &mut Room,
-    ) -> Result<(u16, PexFunction), LineFault> {
+    fn read(listing: &mut Listing, names: &Strings, room: &mut Room) -> Result<Self, LineFault> {
         room.spend(17)?;
         let name = listing.reference(names)?;
         let heading = read_heading(listing, names)?;
         let name = names.known(name)?;
         listing.next_line()?;
-        let function = read_body(alloc, listing, names, room, heading)?;
+        let function = read_body(listing, names, room, heading)?;
         Ok((name, function))
     }
 }
@@ -115,11 +103,10 @@ impl Part for (u16, PexFunction) {
 /// The function that reads or writes a property, where one is asked for. The bytes of one with empty lists were
 /// taken before.
 pub(crate) fn read_accessor(
-    alloc: Global,
     listing: &mut Listing,
-    names: &NameTable,
+    names: &Strings,
     room: &mut Room,
-    keyword: Keyword,
+    first_word: FirstWord,
     is_asked: bool,
 ) -> Result<Option<PexFunction>, LineFault>
     ensures { IfOk result (ReadsAccessor (vec_len names.now.spelled) is_asked room.old.left room.new.left) }
@@ -127,9 +114,9 @@ pub(crate) fn read_accessor(
     if !is_asked {
         return Ok(None);
     }
-    listing.expect(keyword)?;
+    listing.expect(first_word)?;
     let heading = read_heading(listing, names)?;
     listing.next_line()?;
-    let function = read_body(alloc, listing, names, room, heading)?;
+    let function = read_body(listing, names, room, heading)?;
     Ok(Some(function))
 }

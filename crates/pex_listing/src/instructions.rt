@@ -8,57 +8,56 @@ ghost use Rattle.pex_values.specs.Spelling as spell;
 ghost use Rattle.pex_listing.specs.Reading.{Reads, ReadsData, HoldsInstruction};
 
 use crate::faults::{LineFault, ListingRule};
-use crate::listing::{Kind, Listing, known};
-use crate::name_table::NameTable;
-use crate::part::Part;
+use crate::item::Item;
+use crate::listing::{Listing, known};
 use crate::room::Room;
+use crate::strings::Strings;
 use pex_values::{Datum, Instruction, operand_count};
-use std::alloc::Global;
 
 /// A value. None where its reference names no string.
 pub(crate) fn read_datum(
     listing: &mut Listing,
-    names: &NameTable,
+    names: &Strings,
     room: &mut Room,
 ) -> Result<Option<Datum>, LineFault>
     ensures value { IfOk result (λ found. IfSome found (Reads (IsShapedDatum (vec_len names.now.spelled)) spell.datum room.old.left room.new.left)) }
     ensures less { OnOk result (room.new.left < room.old.left) }
 {
-    match listing.kind()? {
-        Kind::NoneValue => {
+    match listing.field()? {
+        b"none" => {
             room.spend(1)?;
             Ok(Some(Datum::NoneValue))
         }
-        Kind::Word => {
+        b"id" => {
             room.spend(3)?;
             let found = listing.reference(names)?;
             Ok(found.map(Datum::Word))
         }
-        Kind::Quoted => {
+        b"text" => {
             room.spend(3)?;
             let found = listing.reference(names)?;
             Ok(found.map(Datum::Quoted))
         }
-        Kind::Int => {
+        b"int" => {
             room.spend(5)?;
             Ok(Some(Datum::Int(listing.signed()?)))
         }
-        Kind::Float => {
+        b"float" => {
             room.spend(5)?;
             Ok(Some(Datum::Float(listing.hexadecimal()?)))
         }
-        Kind::Bool => {
+        b"bool" => {
             room.spend(2)?;
             Ok(Some(Datum::Bool(listing.unsigned_8()?)))
         }
+        _ => Err(LineFault::Broken(ListingRule::BadLine)),
     }
 }
 
 /// So many values. None where a reference in them names no string.
 fn read_fixed(
-    alloc: Global,
     listing: &mut Listing,
-    names: &NameTable,
+    names: &Strings,
     room: &mut Room,
     count: u8,
 ) -> Result<Option<Vec<Datum>>, LineFault>
@@ -66,7 +65,7 @@ fn read_fixed(
     ensures count { IfOk result (λ found. IfSome found (λ v. length v.items ≡ count)) }
     ensures room { OnOk result (room.new.left ≤ room.old.left) }
 {
-    let mut values = Vec::new(alloc);
+    let mut values = Vec::new(listing.alloc());
     for _place in 0..count {
         if let Some(value) = read_datum(listing, names, room)? {
             values.push(value)?;
@@ -80,17 +79,16 @@ fn read_fixed(
 
 /// The values up to the end of the line. None where a reference in them names no string.
 fn read_more(
-    alloc: Global,
     listing: &mut Listing,
-    names: &NameTable,
+    names: &Strings,
     room: &mut Room,
 ) -> Result<Option<Vec<Datum>>, LineFault>
     ensures values { IfOk result (λ found. IfSome found (λ v. ReadsData (vec_len names.now.spelled) room.old.left room.new.left v.items)) }
     ensures room { OnOk result (room.new.left ≤ room.old.left) }
 {
-    let mut values = Vec::new(alloc);
+    let mut values = Vec::new(listing.alloc());
     let mut all_known = true;
-    while listing.has_field() {
+    'values: while listing.has_field() {
         match read_datum(listing, names, room)? {
             Some(value) => values.push(value)?,
             None => all_known = false,
@@ -104,9 +102,8 @@ fn read_more(
 
 /// An instruction of an opcode with so many operands and no others.
 fn read_plain(
-    alloc: Global,
     listing: &mut Listing,
-    names: &NameTable,
+    names: &Strings,
     room: &mut Room,
     opcode: u8,
     count: u8,
@@ -115,11 +112,11 @@ fn read_plain(
     ensures { IfOk result (Reads (HoldsInstruction (vec_len names.now.spelled)) (λ i. spell.instruction (plain_instruction i)) room.old.left room.new.left) }
 {
     room.spend(1)?;
-    let fixed = read_fixed(alloc, listing, names, room, count)?;
+    let fixed = read_fixed(listing, names, room, count)?;
     listing.end_of_line()?;
     let fixed = known(fixed)?;
     listing.next_line()?;
-    let more = Vec::new(alloc);
+    let more = Vec::new(listing.alloc());
     Ok(Instruction {
         opcode,
         fixed,
@@ -129,9 +126,8 @@ fn read_plain(
 
 /// An instruction of an opcode with so many operands and any number of others.
 fn read_counted(
-    alloc: Global,
     listing: &mut Listing,
-    names: &NameTable,
+    names: &Strings,
     room: &mut Room,
     opcode: u8,
     count: u8,
@@ -140,8 +136,8 @@ fn read_counted(
     ensures { IfOk result (Reads (HoldsInstruction (vec_len names.now.spelled)) (λ i. spell.instruction (plain_instruction i)) room.old.left room.new.left) }
 {
     room.spend(6)?;
-    let fixed = read_fixed(alloc, listing, names, room, count)?;
-    let more = read_more(alloc, listing, names, room)?;
+    let fixed = read_fixed(listing, names, room, count)?;
+    let more = read_more(listing, names, room)?;
     let fixed = known(fixed)?;
     let more = known(more)?;
     listing.next_line()?;
@@ -152,22 +148,17 @@ fn read_counted(
     })
 }
 
-impl Part for Instruction {
+impl Item for Instruction {
     ghost holds = { HoldsInstruction };
 
     ghost spelling = { λ i. spell.instruction (plain_instruction i) };
 
-    fn read(
-        alloc: Global,
-        listing: &mut Listing,
-        names: &NameTable,
-        room: &mut Room,
-    ) -> Result<Instruction, LineFault> {
+    fn read(listing: &mut Listing, names: &Strings, room: &mut Room) -> Result<Self, LineFault> {
         let opcode = listing.opcode();
         match operand_count(opcode) {
             None => Err(LineFault::Broken(ListingRule::BadLine)),
-            Some((count, false)) => read_plain(alloc, listing, names, room, opcode, count),
-            Some((count, true)) => read_counted(alloc, listing, names, room, opcode, count),
+            Some((count, false)) => read_plain(listing, names, room, opcode, count),
+            Some((count, true)) => read_counted(listing, names, room, opcode, count),
         }
     }
 }

@@ -3,19 +3,19 @@
 
 mod assembling;
 mod faults;
+mod first_word;
 mod functions;
 mod instructions;
-mod keyword;
+mod item;
 mod listing;
-mod name_table;
 mod names;
 mod numbers;
 mod objects;
-mod part;
 mod parts;
 mod quoted;
 mod room;
 mod showing;
+mod strings;
 mod tables;
 
 pub use assembling::assemble;

@@ -8,11 +8,11 @@ ghost use Rattle.pex_listing.specs.Numbers.{has_leading_zero};
 ghost use Rattle.pex_listing.specs.Opened.{Opens, TakesField, fields_left};
 
 use crate::faults::{LineFault, ListingRule};
-use crate::keyword::{Keyword, keyword_of, opcode_of};
-use crate::name_table::NameTable;
+use crate::first_word::{FirstWord, first_word_of, opcode_of};
 use crate::names::is_word;
 use crate::numbers::{has_leading_zero, hex_number, is_digits, is_upper, magnitude};
 use crate::quoted::unquote;
+use crate::strings::Strings;
 use papy_base::Text;
 use pex_values::SizeForm;
 use std::alloc::Global;
@@ -57,8 +57,9 @@ fn is_canonical_number(is_negative: bool, digits: &[u8]) -> bool
 /// A listing with its open line, whose fields are read from the left.
 #[derive(Drop)]
 pub(crate) struct Listing<'a> {
-    keyword: Keyword,
-    /// The opcode, where the keyword is an opcode's name.
+    alloc: Global,
+    first_word: FirstWord,
+    /// The opcode, where the first word is an opcode's name.
     opcode: u8,
     /// The fields of the open line that weren't read yet. None behind the last one.
     fields: Option<&'a [u8]>,
@@ -72,11 +73,12 @@ pub(crate) struct Listing<'a> {
 
 impl<'a> Listing<'a> {
     /// The first line is open.
-    pub(crate) fn new(bytes: &'a [u8]) -> Listing<'a>
+    pub(crate) fn new(alloc: Global, bytes: &'a [u8]) -> Listing<'a>
         ensures { Opens bytes.now result }
     {
         let mut listing = Listing {
-            keyword: Keyword::End,
+            alloc,
+            first_word: FirstWord::End,
             opcode: 0,
             fields: None,
             is_canonical: true,
@@ -93,15 +95,20 @@ impl<'a> Listing<'a> {
     {
         self.number = self.number.saturating_add(1);
         self.fields = None;
-        self.keyword = Keyword::End;
+        self.first_word = FirstWord::End;
         let Some((line, rest)) = cut(self.rest, b'\n') else {
             return;
         };
         self.rest = rest;
         let (word, fields) = split_field(line);
         self.fields = fields;
-        self.keyword = keyword_of(word);
+        self.first_word = first_word_of(word);
         self.opcode = opcode_of(word).unwrap_or(0);
+    }
+
+    /// The allocator of what is read.
+    pub(crate) fn alloc(&self) -> Global {
+        self.alloc
     }
 
     pub(crate) fn number(&self) -> u32 {
@@ -109,10 +116,10 @@ impl<'a> Listing<'a> {
     }
 
     /// Whether the open line begins with this word.
-    pub(crate) fn is_at(&self, keyword: Keyword) -> bool
-        ensures { IsTrue result ↔ (self.now.keyword ≡ keyword) }
+    pub(crate) fn is_at(&self, first_word: FirstWord) -> bool
+        ensures { IsTrue result ↔ (self.now.first_word ≡ first_word) }
     {
-        self.keyword == keyword
+        self.first_word == first_word
     }
 
     /// The opcode of an open instruction.
@@ -121,13 +128,13 @@ impl<'a> Listing<'a> {
     }
 
     /// A line with this word must come.
-    pub(crate) fn expect(&self, keyword: Keyword) -> Result<(), LineFault>
-        ensures { IfOk result (λ _. self.now.keyword ≡ keyword) }
+    pub(crate) fn expect(&self, first_word: FirstWord) -> Result<(), LineFault>
+        ensures { IfOk result (λ _. self.now.first_word ≡ first_word) }
     {
-        if self.keyword == keyword {
+        if self.first_word == first_word {
             return Ok(());
         }
-        if self.keyword == Keyword::End {
+        if self.first_word == FirstWord::End {
             return Err(LineFault::Broken(ListingRule::End));
         }
         Err(BAD_LINE)
@@ -135,7 +142,7 @@ impl<'a> Listing<'a> {
 
     /// No line may follow, also none without its LF.
     pub(crate) fn end(&self) -> Result<(), LineFault> {
-        if self.keyword != Keyword::End {
+        if self.first_word != FirstWord::End {
             return Err(BAD_LINE);
         }
         if !self.rest.is_empty() {
@@ -172,9 +179,9 @@ impl<'a> Listing<'a> {
     }
 
     /// The next field.
-    fn field(&mut self) -> Result<&'a [u8], LineFault>
+    pub(crate) fn field(&mut self) -> Result<&'a [u8], LineFault>
         ensures taken { IfOk result (λ field. fields_left self.old ≡ 32 ∷ field.now ++ fields_left self.new) }
-        ensures keyword { self.new.keyword ≡ self.old.keyword }
+        ensures first_word { self.new.first_word ≡ self.old.first_word }
         ensures canonical { self.new.is_canonical ≡ self.old.is_canonical }
         ensures rest { self.new.rest.now ≡ self.old.rest.now }
     {
@@ -187,7 +194,7 @@ impl<'a> Listing<'a> {
     /// Notes whether a field is in its one spelling.
     fn note(&mut self, is_canonical: bool)
         ensures canonical { self.new.is_canonical ≡ (self.old.is_canonical && is_canonical) }
-        ensures keyword { self.new.keyword ≡ self.old.keyword }
+        ensures first_word { self.new.first_word ≡ self.old.first_word }
         ensures fields { fields_left self.new ≡ fields_left self.old }
         ensures rest { self.new.rest.now ≡ self.old.rest.now }
     {
@@ -195,13 +202,13 @@ impl<'a> Listing<'a> {
     }
 
     /// All that is left of the line, which is a string in quotes.
-    pub(crate) fn string(&mut self, alloc: Global) -> Result<Text, LineFault>
+    pub(crate) fn string(&mut self) -> Result<Text, LineFault>
         ensures short { IfOk result (λ text. length text < 2 ^ 16) }
         ensures taken { IfOk result (λ text. TakesField (quoted text) self.old self.new) }
         ensures last { IfOk result (λ _. fields_left self.new ≡ []) }
     {
         let field = self.fields.ok_or(BAD_LINE)?;
-        let quoted = unquote(alloc, field)?;
+        let quoted = unquote(self.alloc, field)?;
         self.fields = None;
         self.note(quoted.is_canonical);
         Ok(quoted.text)
@@ -264,7 +271,7 @@ impl<'a> Listing<'a> {
     }
 
     /// A reference. None where there is no such string.
-    pub(crate) fn reference(&mut self, names: &NameTable) -> Result<Option<u16>, LineFault>
+    pub(crate) fn reference(&mut self, names: &Strings) -> Result<Option<u16>, LineFault>
         ensures { IfOk result (λ found. IfSome found (IsReference (vec_len names.now.spelled))) }
     {
         let field = self.field()?;
@@ -285,7 +292,7 @@ impl<'a> Listing<'a> {
     }
 
     /// A reference by its index.
-    fn index(&mut self, names: &NameTable, digits: &[u8]) -> Result<Option<u16>, LineFault>
+    fn index(&mut self, names: &Strings, digits: &[u8]) -> Result<Option<u16>, LineFault>
         ensures { IfOk result (λ found. IfSome found (IsReference (vec_len names.now.spelled))) }
     {
         if !is_digits(digits) {
@@ -309,30 +316,6 @@ impl<'a> Listing<'a> {
             _ => Err(BAD_LINE),
         }
     }
-
-    /// What kind of value follows.
-    pub(crate) fn kind(&mut self) -> Result<Kind, LineFault> {
-        match self.field()? {
-            b"none" => Ok(Kind::NoneValue),
-            b"id" => Ok(Kind::Word),
-            b"text" => Ok(Kind::Quoted),
-            b"int" => Ok(Kind::Int),
-            b"float" => Ok(Kind::Float),
-            b"bool" => Ok(Kind::Bool),
-            _ => Err(BAD_LINE),
-        }
-    }
-}
-
-/// The kinds of values, by their words.
-#[derive(Clone, Copy)]
-pub(crate) enum Kind {
-    NoneValue,
-    Word,
-    Quoted,
-    Int,
-    Float,
-    Bool,
 }
 
 /// The number of this sign and magnitude. None where it doesn't fit.

@@ -9,30 +9,24 @@ ghost use Rattle.pex_listing.specs.Headings.{IsPropertyHeading, IsObjectHeading}
 ghost use Rattle.pex_listing.specs.Reading.{HoldsProperty, HoldsState, HoldsObject, least_function};
 
 use crate::faults::LineFault;
+use crate::first_word::FirstWord;
 use crate::functions::read_accessor;
 use crate::instructions::read_datum;
-use crate::keyword::Keyword;
+use crate::item::{Item, read_all};
 use crate::listing::{Listing, known};
-use crate::name_table::NameTable;
-use crate::part::{Part, read_all};
 use crate::room::Room;
+use crate::strings::Strings;
 use pex_values::{
     PexFunction, PexObject, PexProperty, PexState, PexVariable, SizeForm, has_read, has_variable,
     has_write,
 };
-use std::alloc::Global;
 
-impl Part for PexVariable {
+impl Item for PexVariable {
     ghost holds = { IsShapedVariable };
 
     ghost spelling = { spell.variable };
 
-    fn read(
-        _alloc: Global,
-        listing: &mut Listing,
-        names: &NameTable,
-        room: &mut Room,
-    ) -> Result<PexVariable, LineFault> {
+    fn read(listing: &mut Listing, names: &Strings, room: &mut Room) -> Result<Self, LineFault> {
         room.spend(8)?;
         let name = listing.reference(names)?;
         let kind = listing.reference(names)?;
@@ -71,7 +65,7 @@ fn least_bytes(is_asked: bool) -> u32
 /// The reference to the variable of a property, which stands only where the bits ask for it.
 fn read_property_variable(
     listing: &mut Listing,
-    names: &NameTable,
+    names: &Strings,
     room: &mut Room,
     bits: u8,
 ) -> Result<Option<Option<u16>>, LineFault>
@@ -89,7 +83,7 @@ fn read_property_variable(
 /// The line of a property. The bytes of the functions that must follow are taken here.
 fn read_property_heading(
     listing: &mut Listing,
-    names: &NameTable,
+    names: &Strings,
     room: &mut Room,
 ) -> Result<PropertyHeading, LineFault>
     ensures { IfOk result (IsPropertyHeading (vec_len names.now.spelled) room.old.left room.new.left) }
@@ -115,21 +109,16 @@ fn read_property_heading(
     Ok(heading)
 }
 
-impl Part for PexProperty {
+impl Item for PexProperty {
     ghost holds = { HoldsProperty };
 
     ghost spelling = { λ p. spell.property (plain_property p) };
 
-    fn read(
-        alloc: Global,
-        listing: &mut Listing,
-        names: &NameTable,
-        room: &mut Room,
-    ) -> Result<PexProperty, LineFault> {
+    fn read(listing: &mut Listing, names: &Strings, room: &mut Room) -> Result<Self, LineFault> {
         let heading = read_property_heading(listing, names, room)?;
         let bits = heading.bits;
-        let read = read_accessor(alloc, listing, names, room, Keyword::Read, has_read(bits))?;
-        let write = read_accessor(alloc, listing, names, room, Keyword::Write, has_write(bits))?;
+        let read = read_accessor(listing, names, room, FirstWord::Read, has_read(bits))?;
+        let write = read_accessor(listing, names, room, FirstWord::Write, has_write(bits))?;
         Ok(PexProperty {
             name: heading.name,
             kind: heading.kind,
@@ -143,28 +132,22 @@ impl Part for PexProperty {
     }
 }
 
-impl Part for PexState {
+impl Item for PexState {
     ghost holds = { HoldsState };
 
     ghost spelling = { λ s. spell.state (plain_state s) };
 
-    fn read(
-        alloc: Global,
-        listing: &mut Listing,
-        names: &NameTable,
-        room: &mut Room,
-    ) -> Result<PexState, LineFault> {
+    fn read(listing: &mut Listing, names: &Strings, room: &mut Room) -> Result<Self, LineFault> {
         room.spend(4)?;
         let name = listing.reference(names)?;
         listing.end_of_line()?;
         let name = names.known(name)?;
         listing.next_line()?;
         let functions: Vec<(u16, PexFunction)> = read_all(
-            alloc,
             listing,
             names,
             room,
-            Keyword::Function,
+            FirstWord::Function,
         )?;
         Ok(PexState { name, functions })
     }
@@ -181,7 +164,7 @@ struct ObjectHeading {
     auto_state: u16,
 }
 
-fn read_object_heading(listing: &mut Listing, names: &NameTable) -> Result<ObjectHeading, LineFault>
+fn read_object_heading(listing: &mut Listing, names: &Strings) -> Result<ObjectHeading, LineFault>
     ensures { IfOk result (IsObjectHeading (vec_len names.now.spelled)) }
 {
     let name = listing.reference(names)?;
@@ -203,28 +186,17 @@ fn read_object_heading(listing: &mut Listing, names: &NameTable) -> Result<Objec
     Ok(heading)
 }
 
-impl Part for PexObject {
+impl Item for PexObject {
     ghost holds = { HoldsObject };
 
     ghost spelling = { λ o. spell.object (plain_object o) };
 
-    fn read(
-        alloc: Global,
-        listing: &mut Listing,
-        names: &NameTable,
-        room: &mut Room,
-    ) -> Result<PexObject, LineFault> {
+    fn read(listing: &mut Listing, names: &Strings, room: &mut Room) -> Result<Self, LineFault> {
         room.spend(22)?;
         let heading = read_object_heading(listing, names)?;
-        let variables: Vec<PexVariable> = read_all(alloc, listing, names, room, Keyword::Variable)?;
-        let properties: Vec<PexProperty> = read_all(
-            alloc,
-            listing,
-            names,
-            room,
-            Keyword::Property,
-        )?;
-        let states: Vec<PexState> = read_all(alloc, listing, names, room, Keyword::State)?;
+        let variables: Vec<PexVariable> = read_all(listing, names, room, FirstWord::Variable)?;
+        let properties: Vec<PexProperty> = read_all(listing, names, room, FirstWord::Property)?;
+        let states: Vec<PexState> = read_all(listing, names, room, FirstWord::State)?;
         Ok(PexObject {
             name: heading.name,
             size_form: heading.size_form,

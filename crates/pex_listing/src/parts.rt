@@ -114,9 +114,7 @@ fn put_instruction(
 fn put_function(out: &mut String, names: &Names, function: &PexFunction) -> Result<(), AllocError> {
     put_reference(out, names, function.result)?;
     put_reference(out, names, function.doc)?;
-    let flags = function.flags;
-    let bits = function.bits;
-    write!(out, " {flags} {bits}\n")?;
+    write!(out, " {} {}\n", function.flags, function.bits)?;
     put_pairs(out, names, "param", &function.parameters)?;
     put_pairs(out, names, "local", &function.locals)?;
     for instruction in &function.code {
@@ -125,38 +123,56 @@ fn put_function(out: &mut String, names: &Names, function: &PexFunction) -> Resu
     Ok(())
 }
 
-fn put_variable(out: &mut String, names: &Names, variable: &PexVariable) -> Result<(), AllocError> {
-    out.push_str("variable")?;
-    put_reference(out, names, variable.name)?;
-    put_reference(out, names, variable.kind)?;
-    let flags = variable.flags;
-    write!(out, " {flags}")?;
-    put_datum(out, names, &variable.value)?;
-    out.push('\n')
-}
-
-/// The line of a property, and the lines of its functions.
-fn put_property(out: &mut String, names: &Names, property: &PexProperty) -> Result<(), AllocError> {
-    out.push_str("property")?;
-    put_reference(out, names, property.name)?;
-    put_reference(out, names, property.kind)?;
-    put_reference(out, names, property.doc)?;
-    let flags = property.flags;
-    let bits = property.bits;
-    write!(out, " {flags} {bits}")?;
-    if let Some(variable) = property.variable {
-        put_reference(out, names, variable)?;
-    }
-    out.push('\n')?;
-    if let Some(function) = &property.read {
-        out.push_str("read")?;
-        put_function(out, names, function)?;
-    }
-    if let Some(function) = &property.write {
-        out.push_str("write")?;
-        put_function(out, names, function)?;
+/// The lines of variables.
+pub(crate) fn put_variables(
+    out: &mut String,
+    names: &Names,
+    variables: &[PexVariable],
+) -> Result<(), AllocError> {
+    for variable in variables {
+        out.push_str("variable")?;
+        put_reference(out, names, variable.name)?;
+        put_reference(out, names, variable.kind)?;
+        write!(out, " {}", variable.flags)?;
+        put_datum(out, names, &variable.value)?;
+        out.push('\n')?;
     }
     Ok(())
+}
+
+/// The lines of properties, each with those of its functions.
+pub(crate) fn put_properties(
+    out: &mut String,
+    names: &Names,
+    properties: &[PexProperty],
+) -> Result<(), AllocError> {
+    for property in properties {
+        out.push_str("property")?;
+        put_reference(out, names, property.name)?;
+        put_reference(out, names, property.kind)?;
+        put_reference(out, names, property.doc)?;
+        write!(out, " {} {}", property.flags, property.bits)?;
+        if let Some(variable) = property.variable {
+            put_reference(out, names, variable)?;
+        }
+        out.push('\n')?;
+        put_accessor(out, names, "read", &property.read)?;
+        put_accessor(out, names, "write", &property.write)?;
+    }
+    Ok(())
+}
+
+fn put_accessor(
+    out: &mut String,
+    names: &Names,
+    word: &str,
+    function: &Option<PexFunction>,
+) -> Result<(), AllocError> {
+    let Some(function) = function else {
+        return Ok(());
+    };
+    out.push_str(word)?;
+    put_function(out, names, function)
 }
 
 /// The line that a state begins with.
@@ -196,44 +212,16 @@ pub(crate) fn put_object_line(
     })?;
     put_reference(out, names, object.parent)?;
     put_reference(out, names, object.doc)?;
-    let flags = object.flags;
-    write!(out, " {flags}")?;
+    write!(out, " {}", object.flags)?;
     put_reference(out, names, object.auto_state)?;
     out.push('\n')
-}
-
-/// The lines of variables.
-pub(crate) fn put_variables(
-    out: &mut String,
-    names: &Names,
-    variables: &[PexVariable],
-) -> Result<(), AllocError> {
-    for variable in variables {
-        put_variable(out, names, variable)?;
-    }
-    Ok(())
-}
-
-/// The lines of properties.
-pub(crate) fn put_properties(
-    out: &mut String,
-    names: &Names,
-    properties: &[PexProperty],
-) -> Result<(), AllocError> {
-    for property in properties {
-        put_property(out, names, property)?;
-    }
-    Ok(())
 }
 
 /// The line `nodebug`, or the first one of the debug information.
 pub(crate) fn put_debug_line(out: &mut String, debug: &Option<PexDebug>) -> Result<(), AllocError> {
     match debug {
         None => out.push_str("nodebug\n"),
-        Some(debug) => {
-            let time = debug.time;
-            write!(out, "debug {time}\n")
-        }
+        Some(debug) => write!(out, "debug {}\n", debug.time),
     }
 }
 
@@ -247,23 +235,23 @@ pub(crate) fn put_lines(
     put_reference(out, names, entry.object)?;
     put_reference(out, names, entry.state)?;
     put_reference(out, names, entry.function)?;
-    let kind = entry.kind;
-    write!(out, " {kind}")?;
+    write!(out, " {}", entry.kind)?;
     for line in &entry.lines {
-        let number = *line;
-        write!(out, " {number}")?;
+        write!(out, " {line}")?;
     }
     out.push('\n')
 }
 
-/// The line of a user flag.
-pub(crate) fn put_flag(
+/// The lines of the user flags.
+pub(crate) fn put_flags(
     out: &mut String,
     names: &Names,
-    name: u16,
-    index: u8,
+    flags: &[(u16, u8)],
 ) -> Result<(), AllocError> {
-    out.push_str("flag")?;
-    put_reference(out, names, name)?;
-    write!(out, " {index}\n")
+    for (name, index) in flags {
+        out.push_str("flag")?;
+        put_reference(out, names, *name)?;
+        write!(out, " {index}\n")?;
+    }
+    Ok(())
 }

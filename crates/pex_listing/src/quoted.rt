@@ -13,7 +13,7 @@ const LONGEST: usize = 65_535;
 
 /// A byte as it is spelled between quotes, and what follows it.
 #[derive(Clone, Copy)]
-struct Spelled<'a> {
+struct SpelledByte<'a> {
     byte: u8,
     is_canonical: bool,
     rest: &'a [u8],
@@ -29,25 +29,25 @@ fn hex_escape(high: u8, low: u8) -> Option<(u8, bool)>
 }
 
 /// The first byte that is spelled. None where the bytes spell none.
-fn first_byte(bytes: &[u8]) -> Option<Spelled<'_>>
+fn first_byte(bytes: &[u8]) -> Option<SpelledByte<'_>>
     ensures shorter { IfSome result (λ s. length s.rest.now < length bytes.now) }
     ensures canonical { IfSome result (λ s. IsTrue s.is_canonical → bytes.now ≡ escaped s.byte ++ s.rest.now) }
 {
     match bytes {
         [b'\\', b'x', high, low, rest @ ..] => {
             let (byte, is_canonical) = hex_escape(*high, *low)?;
-            Some(Spelled {
+            Some(SpelledByte {
                 byte,
                 is_canonical,
                 rest,
             })
         }
-        [b'\\', byte @ (b'"' | b'\\'), rest @ ..] => Some(Spelled {
+        [b'\\', byte @ (b'"' | b'\\'), rest @ ..] => Some(SpelledByte {
             byte: *byte,
             is_canonical: true,
             rest,
         }),
-        [byte @ (0x20 | 0x21 | 0x23..=0x5B | 0x5D..=0x7E), rest @ ..] => Some(Spelled {
+        [byte @ (0x20 | 0x21 | 0x23..=0x5B | 0x5D..=0x7E), rest @ ..] => Some(SpelledByte {
             byte: *byte,
             is_canonical: true,
             rest,

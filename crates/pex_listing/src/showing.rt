@@ -11,7 +11,7 @@ ghost use Rattle.papy_io.specs.Sink.{Appended, AppendsSome};
 use crate::faults::ShowFault;
 use crate::names::{Names, reference_words};
 use crate::parts::{
-    put_debug_line, put_flag, put_lines, put_named_function, put_object_line, put_properties,
+    put_debug_line, put_flags, put_lines, put_named_function, put_object_line, put_properties,
     put_state_line, put_string_line, put_variables,
 };
 use papy_base::Text;
@@ -116,13 +116,6 @@ fn show_debug<S: Sink>(
         Some(debug) => show_entries(out, names, &debug.functions, sink),
         None => Ok(()),
     }
-}
-
-fn put_flags(out: &mut String, names: &Names, flags: &[(u16, u8)]) -> Result<(), AllocError> {
-    for (name, index) in flags {
-        put_flag(out, names, *name, *index)?;
-    }
-    Ok(())
 }
 
 fn show_entries<S: Sink>(

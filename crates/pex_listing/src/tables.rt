@@ -10,61 +10,51 @@ ghost use Rattle.pex_listing.specs.Opened.{TakesLines, word_of};
 ghost use Rattle.pex_listing.specs.Reading.{ReadsAll, HoldsLines, ReadsDebug, debug_rest};
 
 use crate::faults::LineFault;
-use crate::keyword::Keyword;
+use crate::first_word::FirstWord;
+use crate::item::{Item, check_place, read_all};
 use crate::listing::Listing;
-use crate::name_table::NameTable;
-use crate::part::{Part, check_place, read_all};
 use crate::room::Room;
+use crate::strings::Strings;
 use papy_base::Text;
 use pex_values::{PexDebug, PexLines};
-use std::alloc::Global;
 
 /// A line with a string behind this word, which must come.
 pub(crate) fn read_string(
-    alloc: Global,
     listing: &mut Listing,
     room: &mut Room,
-    keyword: Keyword,
+    first_word: FirstWord,
 ) -> Result<Text, LineFault>
     ensures room { IfOk result (λ text. IsCounted text × (room.new.left + length text ≡ room.old.left)) }
-    ensures line { IfOk result (λ text. IfSome (word_of keyword) (λ word. TakesLines (string_line word text) listing.old listing.new)) }
+    ensures line { IfOk result (λ text. IfSome (word_of first_word) (λ word. TakesLines (string_line word text) listing.old listing.new)) }
 {
-    listing.expect(keyword)?;
-    let text = listing.string(alloc)?;
+    listing.expect(first_word)?;
+    let text = listing.string()?;
     room.spend(text.as_bytes().len() as u32)?;
     listing.next_line()?;
     Ok(text)
 }
 
 /// The string table.
-pub(crate) fn read_strings(
-    alloc: Global,
-    listing: &mut Listing,
-    room: &mut Room,
-) -> Result<Vec<Text>, LineFault>
+pub(crate) fn read_strings(listing: &mut Listing, room: &mut Room) -> Result<Vec<Text>, LineFault>
     ensures reads { IfOk result (λ strings. ReadsAll IsCounted spell.string room.old.left room.new.left strings.items) }
     ensures lines { IfOk result (λ strings. TakesLines (table_lines strings.items) listing.old listing.new) }
 {
-    let mut strings = Vec::new(alloc);
-    while listing.is_at(Keyword::String) {
+    let mut strings = Vec::new(listing.alloc());
+    'strings: while listing.is_at(FirstWord::String) {
         check_place(strings.len())?;
         room.spend(2)?;
-        let text = read_string(alloc, listing, room, Keyword::String)?;
+        let text = read_string(listing, room, FirstWord::String)?;
         strings.push(text)?;
     }
     Ok(strings)
 }
 
 /// The numbers up to the end of a `lines` line.
-fn read_numbers(
-    alloc: Global,
-    listing: &mut Listing,
-    room: &mut Room,
-) -> Result<Vec<u16>, LineFault>
+fn read_numbers(listing: &mut Listing, room: &mut Room) -> Result<Vec<u16>, LineFault>
     ensures { IfOk result (λ numbers. ReadsAll (λ n. n < 2 ^ 16) spell.two_bytes room.old.left room.new.left numbers.items) }
 {
-    let mut numbers = Vec::new(alloc);
-    while listing.has_field() {
+    let mut numbers = Vec::new(listing.alloc());
+    'numbers: while listing.has_field() {
         check_place(numbers.len())?;
         room.spend(2)?;
         numbers.push(listing.unsigned_16()?)?;
@@ -72,23 +62,18 @@ fn read_numbers(
     Ok(numbers)
 }
 
-impl Part for PexLines {
+impl Item for PexLines {
     ghost holds = { HoldsLines };
 
     ghost spelling = { λ e. spell.lines (plain_lines e) };
 
-    fn read(
-        alloc: Global,
-        listing: &mut Listing,
-        names: &NameTable,
-        room: &mut Room,
-    ) -> Result<PexLines, LineFault> {
+    fn read(listing: &mut Listing, names: &Strings, room: &mut Room) -> Result<Self, LineFault> {
         room.spend(9)?;
         let object = listing.reference(names)?;
         let state = listing.reference(names)?;
         let function = listing.reference(names)?;
         let kind = listing.unsigned_8()?;
-        let lines = read_numbers(alloc, listing, room)?;
+        let lines = read_numbers(listing, room)?;
         let entry = PexLines {
             object: names.known(object)?,
             state: names.known(state)?,
@@ -109,8 +94,8 @@ pub(crate) fn read_debug_line(
     ensures { IfOk result (λ time. IfSome time (λ t. t < 2 ^ 64) × (room.new.left + debug_rest time ≡ room.old.left)) }
 {
     let mut time = None;
-    if !listing.is_at(Keyword::NoDebug) {
-        listing.expect(Keyword::Debug)?;
+    if !listing.is_at(FirstWord::NoDebug) {
+        listing.expect(FirstWord::Debug)?;
         room.spend(10)?;
         time = Some(listing.unsigned(u64::MAX)?);
     }
@@ -121,9 +106,8 @@ pub(crate) fn read_debug_line(
 
 /// The debug information of this time, where there is one.
 pub(crate) fn read_entries(
-    alloc: Global,
     listing: &mut Listing,
-    names: &NameTable,
+    names: &Strings,
     room: &mut Room,
     time: Option<u64>,
 ) -> Result<Option<PexDebug>, LineFault>
@@ -133,22 +117,17 @@ pub(crate) fn read_entries(
     let Some(time) = time else {
         return Ok(None);
     };
-    let functions = read_all(alloc, listing, names, room, Keyword::Lines)?;
+    let functions = read_all(listing, names, room, FirstWord::Lines)?;
     Ok(Some(PexDebug { time, functions }))
 }
 
 /// A user flag.
-impl Part for (u16, u8) {
+impl Item for (u16, u8) {
     ghost holds = { IsShapedFlag };
 
     ghost spelling = { spell.flag };
 
-    fn read(
-        _alloc: Global,
-        listing: &mut Listing,
-        names: &NameTable,
-        room: &mut Room,
-    ) -> Result<(u16, u8), LineFault> {
+    fn read(listing: &mut Listing, names: &Strings, room: &mut Room) -> Result<Self, LineFault> {
         room.spend(3)?;
         let name = listing.reference(names)?;
         let index = listing.unsigned_8()?;

@@ -3,8 +3,8 @@ use Rattle.pex_values.specs.Spelling as spell
 use Rattle.pex_listing.specs.Reading.{ReadsAll}
 use Rattle.pex_listing.proofs.tables.read_numbers.Given as goal
 
-abbrev pub invariant-loop-numbers : goal.invariant-loop-numbers
-invariant-loop-numbers l = ReadsAll (λ n. n < 2 ^ 16) spell.two_bytes l.initial.room.left l.room.left l.numbers.items
+abbrev pub invariant-numbers : goal.invariant-numbers
+invariant-numbers l = ReadsAll (λ n. n < 2 ^ 16) spell.two_bytes l.initial.room.left l.room.left l.numbers.items
 
-abbrev pub decreases-loop-numbers : goal.decreases-loop-numbers
-decreases-loop-numbers l = l.room.left
+abbrev pub decreases-numbers : goal.decreases-numbers
+decreases-numbers l = l.room.left

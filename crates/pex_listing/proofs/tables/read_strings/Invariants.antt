@@ -5,11 +5,11 @@ use Rattle.pex_listing.specs.Opened.{TakesLines}
 use Rattle.pex_listing.specs.Reading.{ReadsAll}
 use Rattle.pex_listing.proofs.tables.read_strings.Given as goal
 
-abbrev pub invariant-loop-alloc : goal.invariant-loop-alloc
-invariant-loop-alloc l = record {
+abbrev pub invariant-strings : goal.invariant-strings
+invariant-strings l = record {
   reads : ReadsAll IsCounted spell.string l.initial.room.left l.room.left l.strings.items;
   lines : TakesLines (table_lines l.strings.items) l.initial.listing l.listing;
 }
 
-abbrev pub decreases-loop-alloc : goal.decreases-loop-alloc
-decreases-loop-alloc l = l.room.left
+abbrev pub decreases-strings : goal.decreases-strings
+decreases-strings l = l.room.left

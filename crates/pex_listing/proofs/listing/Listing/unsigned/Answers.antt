@@ -9,6 +9,6 @@ returns-clause-taken c =
     let are : are_digits digits ≡ true = sym c.if-not-is_digits.ensures in
     let number : decimal_number digits ≡ Some c.in_ok-number.number = sym c.magnitude.ensures ∙ c.in_ok-number.ensures.ok_part in
     takes_number c.in_ok-field.field.now digits c.split_minus-is_negative.result.1 c.in_ok-number.number c.args.self.now c.field.new.self c.note.new.self
-    c.in_ok-field.ensures.taken c.field.ensures.keyword c.field.ensures.canonical c.field.ensures.rest
+    c.in_ok-field.ensures.taken c.field.ensures.first_word c.field.ensures.canonical c.field.ensures.rest
     c.split_minus-is_negative.ensures are number
-    (c.note.ensures.canonical ∙ ap (λ t. c.field.new.self.is_canonical && t) c.is_canonical_number.ensures) c.note.ensures.keyword c.note.ensures.fields c.note.ensures.rest
+    (c.note.ensures.canonical ∙ ap (λ t. c.field.new.self.is_canonical && t) c.is_canonical_number.ensures) c.note.ensures.first_word c.note.ensures.fields c.note.ensures.rest

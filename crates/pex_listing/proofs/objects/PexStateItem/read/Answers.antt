@@ -6,7 +6,7 @@ use Rattle.pex_values.specs.Shape.{IsShapedNamed}
 use Rattle.pex_values.specs.Spelling.{named}
 use Rattle.pex_values.proofs.Sizes.{state_size}
 use Rattle.pex_listing.proofs.Views.{viewed}
-use Rattle.pex_listing.proofs.objects.PexStatePart.read.Goals as goal
+use Rattle.pex_listing.proofs.objects.PexStateItem.read.Goals as goal
 
 pub returns : goal.returns
 returns c =

@@ -4,30 +4,24 @@ ghost use Rattle.std.specs.Prelude.{ℕ, List, ◌+◌, ◌<◌, ◌^◌, vec_le
 ghost use Rattle.pex_listing.specs.Reading.{Reads, ReadsAll};
 
 use crate::faults::{LineFault, ListingRule};
-use crate::keyword::Keyword;
+use crate::first_word::FirstWord;
 use crate::listing::Listing;
-use crate::name_table::NameTable;
 use crate::room::Room;
-use std::alloc::Global;
+use crate::strings::Strings;
 
 /// The most items of a list.
 const MOST_ITEMS: usize = 65_535;
 
 /// A part of a value, which a listing has as one line or as several.
-pub(crate) trait Part: Drop {
+pub(crate) trait Item: Drop {
     /// Whether a value with so many strings may have it.
     ghost holds: { ℕ → Self → Type 0 };
 
     /// Its bytes in a file.
     ghost spelling: { Self → List ℕ };
 
-    /// Reads the part. The open line begins with the part's keyword.
-    fn read(
-        alloc: Global,
-        listing: &mut Listing,
-        names: &NameTable,
-        room: &mut Room,
-    ) -> Result<Self, LineFault>
+    /// Reads the part. The open line begins with its first word.
+    fn read(listing: &mut Listing, names: &Strings, room: &mut Room) -> Result<Self, LineFault>
         ensures { IfOk result (λ part. Reads (holds (vec_len names.now.spelled)) spelling room.old.left room.new.left part) };
 }
 
@@ -41,20 +35,19 @@ pub(crate) fn check_place(length: usize) -> Result<(), LineFault>
     Ok(())
 }
 
-/// All parts that follow, which begin with this keyword.
-pub(crate) fn read_all<T: Part>(
-    alloc: Global,
+/// All parts that follow, which begin with this first word.
+pub(crate) fn read_all<T: Item>(
     listing: &mut Listing,
-    names: &NameTable,
+    names: &Strings,
     room: &mut Room,
-    keyword: Keyword,
+    first_word: FirstWord,
 ) -> Result<Vec<T>, LineFault>
     ensures { IfOk result (λ parts. ReadsAll (T.holds (vec_len names.now.spelled)) T.spelling room.old.left room.new.left parts.items) }
 {
-    let mut parts = Vec::new(alloc);
-    while listing.is_at(keyword) {
+    let mut parts = Vec::new(listing.alloc());
+    'parts: while listing.is_at(first_word) {
         check_place(parts.len())?;
-        let part = T::read(alloc, listing, names, room)?;
+        let part = T::read(listing, names, room)?;
         parts.push(part)?;
     }
     Ok(parts)

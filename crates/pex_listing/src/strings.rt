@@ -11,7 +11,7 @@ use std::alloc::Global;
 
 /// Where the strings of a listing stand, and which references are spelled by them.
 #[derive(Drop)]
-pub(crate) struct NameTable {
+pub(crate) struct Strings {
     /// The first place of each string.
     first: IndexMap<Vec<u8>, u16>,
     /// For each string, whether a reference to it is spelled by it.
@@ -32,13 +32,13 @@ fn first_places(alloc: Global, strings: &[Text]) -> Result<IndexMap<Vec<u8>, u16
     Ok(first)
 }
 
-impl NameTable {
-    pub(crate) fn new(alloc: Global, strings: &[Text]) -> Result<NameTable, OutOfMemory>
+impl Strings {
+    pub(crate) fn new(alloc: Global, strings: &[Text]) -> Result<Strings, OutOfMemory>
         ensures { IfOk result (λ table. vec_len table.spelled ≡ length strings.now) }
     {
         let first = first_places(alloc, strings)?;
         let spelled = spelled_names(alloc, strings)?;
-        Ok(NameTable { first, spelled })
+        Ok(Strings { first, spelled })
     }
 
     /// The first place of a string of these bytes.

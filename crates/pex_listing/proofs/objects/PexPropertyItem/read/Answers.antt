@@ -3,7 +3,7 @@ use Rattle.pex_values.specs.declared.values.PexProperty.{PexProperty}
 use Rattle.pex_values.specs.Plain.{plain_property}
 use Rattle.pex_values.proofs.Sizes.{property_size}
 use Rattle.pex_listing.specs.Reading.{least_function}
-use Rattle.pex_listing.proofs.objects.PexPropertyPart.read.Goals as goal
+use Rattle.pex_listing.proofs.objects.PexPropertyItem.read.Goals as goal
 
 pub returns : goal.returns
 returns c =

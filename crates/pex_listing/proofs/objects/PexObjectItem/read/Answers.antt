@@ -6,7 +6,7 @@ use Rattle.pex_values.specs.Shape.{IsShapedVariable, IsShapedProperty, IsShapedS
 use Rattle.pex_values.specs.Spelling.{variable, property, state}
 use Rattle.pex_values.proofs.Sizes.{object_size, object_data_size}
 use Rattle.pex_listing.proofs.Views.{viewed, read_as}
-use Rattle.pex_listing.proofs.objects.PexObjectPart.read.Goals as goal
+use Rattle.pex_listing.proofs.objects.PexObjectItem.read.Goals as goal
 
 pub returns : goal.returns
 returns c =

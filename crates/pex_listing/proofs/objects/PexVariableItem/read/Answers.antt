@@ -1,7 +1,7 @@
 use Rattle.std.proofs.Common.{arith, rules}
 use Rattle.pex_values.specs.declared.values.PexVariable.{PexVariable}
 use Rattle.pex_values.proofs.Sizes.{variable_size}
-use Rattle.pex_listing.proofs.objects.PexVariablePart.read.Goals as goal
+use Rattle.pex_listing.proofs.objects.PexVariableItem.read.Goals as goal
 
 pub returns : goal.returns
 returns c =

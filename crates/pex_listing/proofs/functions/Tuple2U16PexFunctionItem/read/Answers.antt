@@ -2,7 +2,7 @@ use Rattle.std.proofs.Common.{ℕ, arith}
 use Rattle.pex_values.specs.declared.values.PexFunction.{PexFunction}
 use Rattle.pex_values.specs.Plain.{plain_named}
 use Rattle.pex_values.proofs.Sizes.{named_size}
-use Rattle.pex_listing.proofs.functions.Tuple2U16PexFunctionPart.read.Goals as goal
+use Rattle.pex_listing.proofs.functions.Tuple2U16PexFunctionItem.read.Goals as goal
 
 pub returns : goal.returns
 returns c =

@@ -4,7 +4,7 @@ use Rattle.pex_values.specs.Plain.{plain_lines}
 use Rattle.pex_values.specs.Spelling.{two_bytes}
 use Rattle.pex_values.proofs.Sizes.{lines_size}
 use Rattle.pex_listing.proofs.Views.{read_as}
-use Rattle.pex_listing.proofs.tables.PexLinesPart.read.Goals as goal
+use Rattle.pex_listing.proofs.tables.PexLinesItem.read.Goals as goal
 
 pub returns : goal.returns
 returns c =

@@ -7,7 +7,7 @@ use pex_values::OPCODES;
 
 /// What a line begins with, in the order of a listing.
 #[derive(Clone, Copy, PartialEq, Eq)]
-pub(crate) enum Keyword {
+pub(crate) enum FirstWord {
     Pex,
     Source,
     User,
@@ -47,33 +47,33 @@ pub(crate) fn opcode_of(word: &[u8]) -> Option<u8>
 }
 
 /// What a line with this first word is.
-pub(crate) fn keyword_of(word: &[u8]) -> Keyword
+pub(crate) fn first_word_of(word: &[u8]) -> FirstWord
     ensures { IfSome (word_of result) (λ spelled. word.now ≡ spelled) }
 {
     match word {
-        b"pex" => Keyword::Pex,
-        b"source" => Keyword::Source,
-        b"user" => Keyword::User,
-        b"machine" => Keyword::Machine,
-        b"string" => Keyword::String,
-        b"nodebug" => Keyword::NoDebug,
-        b"debug" => Keyword::Debug,
-        b"lines" => Keyword::Lines,
-        b"flag" => Keyword::Flag,
-        b"object" => Keyword::Object,
-        b"variable" => Keyword::Variable,
-        b"property" => Keyword::Property,
-        b"read" => Keyword::Read,
-        b"write" => Keyword::Write,
-        b"state" => Keyword::State,
-        b"function" => Keyword::Function,
-        b"param" => Keyword::Parameter,
-        b"local" => Keyword::Local,
+        b"pex" => FirstWord::Pex,
+        b"source" => FirstWord::Source,
+        b"user" => FirstWord::User,
+        b"machine" => FirstWord::Machine,
+        b"string" => FirstWord::String,
+        b"nodebug" => FirstWord::NoDebug,
+        b"debug" => FirstWord::Debug,
+        b"lines" => FirstWord::Lines,
+        b"flag" => FirstWord::Flag,
+        b"object" => FirstWord::Object,
+        b"variable" => FirstWord::Variable,
+        b"property" => FirstWord::Property,
+        b"read" => FirstWord::Read,
+        b"write" => FirstWord::Write,
+        b"state" => FirstWord::State,
+        b"function" => FirstWord::Function,
+        b"param" => FirstWord::Parameter,
+        b"local" => FirstWord::Local,
         _ => {
             if opcode_of(word).is_some() {
-                return Keyword::Opcode;
+                return FirstWord::Opcode;
             }
-            Keyword::Unknown
+            FirstWord::Unknown
         }
     }
 }
