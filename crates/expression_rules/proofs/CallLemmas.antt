@@ -1,6 +1,8 @@
 -- Arguments that are in range, as operands of a call.
 use Rattle.std.proofs.Common.{◌≡◌, ℕ, suc, List, [], ◌∷◌, length, map, refl, sym, ap, subst, ◌∙◌, arith}
 use Rattle.std.specs.List.{All}
+use Rattle.std.specs.Prelude.{Option}
+use Rattle.core_tree.specs.declared.core_type.CoreType.{CoreType}
 use Rattle.core_tree.specs.declared.expression.Core.{Core}
 use Rattle.core_tree.specs.InRange.{Bounds, NameTakes, PlaceTakes, PlacesInRange, ResultInRange, ExpressionsInRange, count_of}
 use Rattle.core_tree.specs.Tree.{expression_of, expressions}
@@ -8,8 +10,8 @@ use Rattle.script_linker.specs.declared.set.SourceFile.{SourceFile}
 use Rattle.type_scope.specs.declared.catalog.Callee.{Callee}
 use Rattle.type_scope.specs.Scope.{IsCallee}
 use Rattle.type_scope.specs.Types.{signature_of, signatures}
-use Rattle.expression_rules.specs.Ranges.{CoreInRange, PassedInRange, heading_count}
-use Rattle.expression_rules.specs.declared.trees.Passed.{Passed}
+use Rattle.expression_rules.specs.Ranges.{CoreInRange, CompleteInRange, heading_count}
+use Rattle.expression_rules.specs.declared.arguments.Arguments.{Arguments}
 
 expressions-all : (b : Bounds) (cores : List Core) → All (CoreInRange b) cores → ExpressionsInRange b (expressions (map expression_of cores))
 expressions-all b [] all = tt
@@ -20,13 +22,13 @@ count_of-expressions : (cores : List Core) → count_of (expressions (map expres
 count_of-expressions [] = refl
 count_of-expressions (core ∷ cores) = ap suc (count_of-expressions cores)
 
--- what takes so many operands takes those that are passed
-pub operands-passed : (b : Bounds) (count : ℕ) (Takes : ℕ → Type 0) (passed : Passed) → Takes count → PassedInRange b count passed →
-    (Takes (count_of (expressions (map expression_of passed.arguments.items))) × PlacesInRange passed.places.items (count_of (expressions (map expression_of passed.arguments.items))) × ResultInRange b.functions passed.result)
-    × ExpressionsInRange b (expressions (map expression_of passed.arguments.items))
-operands-passed b count Takes passed takes h =
-    let same : count ≡ count_of (expressions (map expression_of passed.arguments.items)) = sym (count_of-expressions passed.arguments.items ∙ h.counted) in
-    ((subst Takes same takes, subst (PlacesInRange passed.places.items) same h.places, h.result), expressions-all b passed.arguments.items h.arguments)
+-- what takes so many operands takes arguments for each parameter
+pub operands-passed : (b : Bounds) (count : ℕ) (Takes : ℕ → Type 0) (found : Arguments) (result : Option CoreType) → Takes count → CompleteInRange b count found → ResultInRange b.functions result →
+    (Takes (count_of (expressions (map expression_of found.cores.items))) × PlacesInRange found.places.items (count_of (expressions (map expression_of found.cores.items))) × ResultInRange b.functions result)
+    × ExpressionsInRange b (expressions (map expression_of found.cores.items))
+operands-passed b count Takes found result takes h known =
+    let same : count ≡ count_of (expressions (map expression_of found.cores.items)) = sym (count_of-expressions found.cores.items ∙ h.counted) in
+    ((subst Takes same takes, subst (PlacesInRange found.places.items) same h.places, known), expressions-all b found.cores.items h.cores)
 
 -- the function at its place, and by its name
 pub callee-at : (set : List SourceFile) (name : List ℕ) (callee : Callee) → IsCallee set name callee → PlaceTakes (signatures set) callee.at (heading_count callee.heading.now)

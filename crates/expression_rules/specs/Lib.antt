@@ -4,4 +4,3 @@ pub mod Operations
 pub mod Ranges
 pub mod Rules
 pub mod Scopes
-pub mod Spine

@@ -1,15 +1,15 @@
 // The arguments of a call: each finds its parameter, and default arguments follow.
 ghost use Rattle.std.specs.Prelude.{◌≡◌, ◌<◌, ℕ, false, IfOk, OnOk, IfSome, Some, slice_get, vec_len};
-ghost use Rattle.core_tree.specs.InRange.{Bounds};
-ghost use Rattle.expression_rules.specs.Ranges.{CoreInRange, OperandInRange, GivenInRange, ParametersInRange, ArgumentsInRange, CompleteInRange, bounds_of, parameter_count};
+ghost use Rattle.core_tree.specs.InRange.{Bounds, ResultInRange};
+ghost use Rattle.expression_rules.specs.Ranges.{CoreInRange, TypedInRange, GivenInRange, ParametersInRange, ArgumentsInRange, CompleteInRange, bounds_of, parameter_count};
 
-use crate::context::Context;
-use crate::conversions::convert;
+use crate::constants::{default_fits, kind_of, value_of};
+use crate::context::{Context, Result, Typed};
 use crate::notes::Notes;
-use crate::operand::Operand;
 use crate::parameters::Parameters;
 use crate::rule::TypeRule;
-use core_tree::Core;
+use core_tree::{Core, CoreType};
+use line_parser::Constant;
 use papy_base::{Name, OutOfMemory};
 use std::alloc::Global;
 
@@ -19,7 +19,7 @@ use std::alloc::Global;
 #[derive(Drop)]
 pub(crate) struct Given<'t> {
     pub(crate) name: Option<&'t Name>,
-    pub(crate) value: Operand,
+    pub(crate) value: Typed,
 }
 
 /// Arguments with the number of each one's parameter.
@@ -32,7 +32,7 @@ pub(crate) struct Arguments {
 }
 
 impl Arguments {
-    fn new(alloc: Global, parameters: usize) -> Result<Arguments, OutOfMemory>
+    fn new(alloc: Global, parameters: usize) -> Result<Arguments>
         ensures { (b : Bounds) → IfOk result (ArgumentsInRange b parameters) }
     {
         Ok(Arguments {
@@ -53,7 +53,7 @@ impl Arguments {
         }
     }
 
-    fn add(&mut self, place: usize, core: Core) -> Result<(), OutOfMemory>
+    fn add(&mut self, place: usize, core: Core) -> Result<()>
         requires within { place < vec_len self.old.filled }
         requires free { slice_get self.old.filled.items place ≡ Some false }
         ensures { (b : Bounds) (count : ℕ) → ArgumentsInRange b count self.old → CoreInRange b core → OnOk result (ArgumentsInRange b count self.new) }
@@ -81,28 +81,118 @@ impl Arguments {
     }
 }
 
-/// The arguments of a call in order of writing, and then the default arguments in order of parameters. There
-/// are none where a rule is broken in them, or where too many defaults are written out.
-pub(crate) fn place_arguments(
-    context: &Context<'_>,
-    notes: &mut Notes,
-    given: Vec<Given<'_>>,
-    parameters: Parameters<'_>,
-) -> Result<Option<Arguments>, OutOfMemory>
-    ensures { GivenInRange (bounds_of context.now) given.entry.items → ParametersInRange (bounds_of context.now) parameters.entry → IfOk result (λ found. IfSome found (CompleteInRange (bounds_of context.now) (parameter_count parameters.entry))) }
-{
-    let mut given = given;
-    let mut found = Arguments::new(context.catalog.alloc, parameters.count())?;
-    let mut named = false;
-    let mut position = 0;
-    'given: while let Some(Given { name, value }) = given.pop() {
-        named = named || name.is_some();
-        let place = written_place(parameters, name, named, position);
-        place_argument(context, notes, &mut found, parameters, place, value)?;
-        position = usize::saturating_add(position, 1);
+impl Context<'_> {
+    /// The arguments of a call in order of writing, and then the default arguments in order of parameters.
+    /// There are none where a rule is broken in them, or where too many defaults are written out.
+    pub(crate) fn place_arguments(
+        &self,
+        notes: &mut Notes,
+        given: Vec<Given<'_>>,
+        parameters: Parameters<'_>,
+    ) -> Result<Option<Arguments>>
+        ensures { GivenInRange (bounds_of self.now) given.entry.items → ParametersInRange (bounds_of self.now) parameters.entry → IfOk result (λ found. IfSome found (CompleteInRange (bounds_of self.now) (parameter_count parameters.entry))) }
+    {
+        let mut given = given;
+        let mut found = Arguments::new(self.catalog.alloc, parameters.count())?;
+        let mut named = false;
+        let mut position = 0;
+        'given: while let Some(Given { name, value }) = given.pop() {
+            named = named || name.is_some();
+            let place = written_place(parameters, name, named, position);
+            self.place_argument(notes, &mut found, parameters, place, value)?;
+            position = usize::saturating_add(position, 1);
+        }
+        self.add_defaults(notes, &mut found, parameters)?;
+        Ok(found.complete())
     }
-    add_defaults(context, notes, &mut found, parameters)?;
-    Ok(found.complete())
+
+    // Gives the parameter at this place an argument.
+    fn place_argument(
+        &self,
+        notes: &mut Notes,
+        found: &mut Arguments,
+        parameters: Parameters<'_>,
+        place: Option<usize>,
+        value: Typed,
+    ) -> Result<()>
+        ensures { ParametersInRange (bounds_of self.now) parameters.entry → ArgumentsInRange (bounds_of self.now) (parameter_count parameters.entry) found.old → TypedInRange (bounds_of self.now) value → OnOk result (ArgumentsInRange (bounds_of self.now) (parameter_count parameters.entry) found.new) }
+    {
+        let free = match place {
+            Some(place) => found.free(place),
+            None => None,
+        };
+        let Some(place) = free else {
+            self.fault(notes, TypeRule::Arguments);
+            return Ok(());
+        };
+        let core = self.convert(notes, value, parameters.kind(self, place))?;
+        found.add(place, Box::into_inner(core))
+    }
+
+    // Gives each parameter that has none its default argument.
+    fn add_defaults(
+        &self,
+        notes: &mut Notes,
+        found: &mut Arguments,
+        parameters: Parameters<'_>,
+    ) -> Result<()>
+        ensures { ParametersInRange (bounds_of self.now) parameters.entry → ArgumentsInRange (bounds_of self.now) (parameter_count parameters.entry) found.old → OnOk result (ArgumentsInRange (bounds_of self.now) (parameter_count parameters.entry) found.new) }
+    {
+        for place in 0..parameters.count() {
+            if let Some(place) = found.free(place)
+                && !self.add_default(notes, found, parameters, place)?
+            {
+                return Ok(());
+            }
+        }
+        Ok(())
+    }
+
+    // Gives a parameter its default argument, and whether there is one, unless there are too many already.
+    fn add_default(
+        &self,
+        notes: &mut Notes,
+        found: &mut Arguments,
+        parameters: Parameters<'_>,
+        place: usize,
+    ) -> Result<bool>
+        requires within { place < vec_len found.old.filled }
+        requires free { slice_get found.old.filled.items place ≡ Some false }
+        ensures { ParametersInRange (bounds_of self.now) parameters.entry → ArgumentsInRange (bounds_of self.now) (parameter_count parameters.entry) found.old → OnOk result (ArgumentsInRange (bounds_of self.now) (parameter_count parameters.entry) found.new) }
+    {
+        let Some(default) = parameters.default(place) else {
+            self.fault(notes, TypeRule::Arguments);
+            return Ok(false);
+        };
+        if !notes.takes_default() {
+            return Ok(false);
+        }
+        if let Constant::Quoted(text) = default {
+            notes.write_out(text.as_bytes())?;
+        }
+        let core = self.default_argument(notes, default, parameters.kind(self, place))?;
+        found.add(place, Box::into_inner(core))?;
+        Ok(true)
+    }
+
+    // A default with the `Cast` that its parameter needs. One that doesn't convert is a broken rule of the
+    // function that declares it.
+    fn default_argument(
+        &self,
+        notes: &mut Notes,
+        default: &Constant,
+        kind: Option<CoreType>,
+    ) -> Result<Box<Core>>
+        ensures { ResultInRange (bounds_of self.now).functions kind → IfOk result (λ core. CoreInRange (bounds_of self.now) core.value) }
+    {
+        let literal = value_of(self.catalog.alloc, default)?;
+        let value = self.literal(literal, kind_of(default))?;
+        if default_fits(self.catalog, default, kind) {
+            self.convert(notes, value, kind)
+        } else {
+            Ok(value.core)
+        }
+    }
 }
 
 // The place of the parameter that an argument is for.
@@ -117,90 +207,4 @@ fn written_place(
         None if named => None,
         None => Some(position),
     }
-}
-
-// Gives the parameter at this place an argument.
-fn place_argument(
-    context: &Context<'_>,
-    notes: &mut Notes,
-    found: &mut Arguments,
-    parameters: Parameters<'_>,
-    place: Option<usize>,
-    value: Operand,
-) -> Result<(), OutOfMemory>
-    ensures { ParametersInRange (bounds_of context.now) parameters.entry → ArgumentsInRange (bounds_of context.now) (parameter_count parameters.entry) found.old → OperandInRange (bounds_of context.now) value → OnOk result (ArgumentsInRange (bounds_of context.now) (parameter_count parameters.entry) found.new) }
-{
-    let free = match place {
-        Some(place) => found.free(place),
-        None => None,
-    };
-    let Some(place) = free else {
-        context.fault(notes, TypeRule::Arguments);
-        return Ok(());
-    };
-    let kind = parameters.kind(context, place)?;
-    let core = convert(context, notes, value, kind)?;
-    found.add(place, Box::into_inner(core))
-}
-
-// Gives each parameter that has none its default argument.
-fn add_defaults(
-    context: &Context<'_>,
-    notes: &mut Notes,
-    found: &mut Arguments,
-    parameters: Parameters<'_>,
-) -> Result<(), OutOfMemory>
-    ensures { ArgumentsInRange (bounds_of context.now) (parameter_count parameters.entry) found.old → OnOk result (ArgumentsInRange (bounds_of context.now) (parameter_count parameters.entry) found.new) }
-{
-    for place in 0..parameters.count() {
-        if let Some(place) = found.free(place)
-            && !add_default(context, notes, found, parameters, place)?
-        {
-            return Ok(());
-        }
-    }
-    Ok(())
-}
-
-// Gives a parameter its default argument, and whether there is one.
-fn add_default(
-    context: &Context<'_>,
-    notes: &mut Notes,
-    found: &mut Arguments,
-    parameters: Parameters<'_>,
-    place: usize,
-) -> Result<bool, OutOfMemory>
-    requires within { place < vec_len found.old.filled }
-    requires free { slice_get found.old.filled.items place ≡ Some false }
-    ensures { ArgumentsInRange (bounds_of context.now) (parameter_count parameters.entry) found.old → OnOk result (ArgumentsInRange (bounds_of context.now) (parameter_count parameters.entry) found.new) }
-{
-    let Some(default) = parameters.default(context, place)? else {
-        context.fault(notes, TypeRule::Arguments);
-        return Ok(false);
-    };
-    match writes_default(notes, parameters, place) {
-        Ok(true) => {
-            found.add(place, default)?;
-            Ok(true)
-        }
-        other => {
-            drop(default);
-            other
-        }
-    }
-}
-
-// Notes that the default argument of this parameter is written out, unless there are too many already.
-fn writes_default(
-    notes: &mut Notes,
-    parameters: Parameters<'_>,
-    place: usize,
-) -> Result<bool, OutOfMemory> {
-    if !notes.takes_default() {
-        return Ok(false);
-    }
-    if let Some(text) = parameters.default_text(place) {
-        notes.write_out(text)?;
-    }
-    Ok(true)
 }

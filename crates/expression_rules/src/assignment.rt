@@ -1,26 +1,18 @@
 // Assignments.
 ghost use Rattle.std.specs.Prelude.{◌≡◌, IfOk, IfSome};
-ghost use Rattle.core_tree.specs.InRange.{ResultInRange};
+ghost use Rattle.core_tree.specs.InRange.{Bounds, ResultInRange, TypeInRange};
 ghost use Rattle.expression_rules.specs.Operations.{sign_of_change};
-ghost use Rattle.expression_rules.specs.Ranges.{CoreInRange, FormInRange, OperandInRange, TargetInRange, ChangeInRange, ContextInRange, bounds_of};
+ghost use Rattle.expression_rules.specs.Ranges.{CoreInRange, FormInRange, TypedInRange, TargetInRange, ContextInRange, bounds_of};
 
-use crate::context::Context;
-use crate::conversions::convert;
-use crate::expression::{any, value};
-use crate::forms::{
-    Change, change_element, change_property, no_form, set_element, set_field, set_local,
-    set_property, set_state,
-};
-use crate::members::{Access, indexed, own_variable, property_of, property_type};
+use crate::context::{Context, Result, Typed};
+use crate::members::Access;
 use crate::notes::Notes;
-use crate::operand::Operand;
-use crate::operators::{arithmetic, operand_type, operation};
+use crate::operators::operand_type;
 use crate::rule::TypeRule;
-use crate::trees::{field, local, own_instance, state_text};
-use crate::words::{Meaning, meaning_of, member_of_word};
-use core_tree::{Core, CoreStatement, CoreType};
+use crate::words::Resolved;
+use core_tree::{Arith, Core, CoreStatement, CoreType, Value};
 use line_parser::Expr;
-use papy_base::{Name, OutOfMemory};
+use papy_base::Name;
 use script_lexer::Sign;
 use script_linker::PropertyRef;
 use type_scope::Kind;
@@ -35,28 +27,250 @@ pub(crate) enum Target<'t> {
     Element(Box<Core>, Box<Core>, CoreType),
 }
 
-/// An assignment, also one such as `+=`.
-pub(crate) fn assign(
-    context: &Context<'_>,
-    notes: &mut Notes,
-    target: &Expr,
-    sign: Sign,
-    right: &Expr,
-) -> Result<CoreStatement, OutOfMemory>
-    ensures { ContextInRange context.now → IfOk result (FormInRange (bounds_of context.now)) }
-{
-    let change = change_of(sign);
-    let access = if change.is_some() {
-        Access::Change
-    } else {
-        Access::Write
-    };
-    let place = target_place(context, notes, target, access)?;
-    let right = value(context, notes, right)?;
-    match (place, change) {
-        (None, _) => Ok(no_form()),
-        (Some(place), None) => store(context, notes, place, right),
-        (Some(place), Some(sign)) => change_place(context, notes, place, sign, right),
+impl Target<'_> {
+    fn kind(&self) -> Option<CoreType>
+        ensures { (b : Bounds) → TargetInRange b self.now → ResultInRange b.functions result }
+    {
+        match self {
+            Target::Local(_, kind) => *kind,
+            Target::Field(_, kind) => *kind,
+            Target::State => Some(CoreType::Text),
+            Target::Property(_, _, kind) => *kind,
+            Target::Element(_, _, kind) => Some(*kind),
+        }
+    }
+
+    // The value of a local, a variable or the state.
+    fn variable(&self) -> Option<Core>
+        ensures { (b : Bounds) → TargetInRange b self.now → IfSome result (CoreInRange b) }
+    {
+        match self {
+            Target::Local(number, _) => Some(Core::Local(*number)),
+            Target::Field(number, _) => Some(Core::Field(*number)),
+            Target::State => Some(Core::StateText),
+            _ => None,
+        }
+    }
+}
+
+impl Context<'_> {
+    /// An assignment, also one such as `+=`.
+    pub(crate) fn assign(
+        &self,
+        notes: &mut Notes,
+        target: &Expr,
+        sign: Sign,
+        right: &Expr,
+    ) -> Result<CoreStatement>
+        ensures { ContextInRange self.now → IfOk result (FormInRange (bounds_of self.now)) }
+    {
+        let change = change_of(sign);
+        let access = if change.is_some() {
+            Access::Change
+        } else {
+            Access::Write
+        };
+        let target = self.target(notes, target, access)?;
+        let right = self.value(notes, right)?;
+        match (target, change) {
+            (None, _) => Ok(no_form()),
+            (Some(target), None) => self.store(notes, target, right),
+            (Some(target), Some(sign)) => self.change(notes, target, sign, right),
+        }
+    }
+
+    // What is assigned to, none where a rule is broken in it.
+    fn target<'t>(
+        &self,
+        notes: &mut Notes,
+        target: &'t Expr,
+        access: Access,
+    ) -> Result<Option<Target<'t>>>
+        ensures { ContextInRange self.now → IfOk result (λ found. IfSome found (TargetInRange (bounds_of self.now))) }
+    {
+        match target {
+            Expr::Word(name) => self.word_target(notes, name, access),
+            Expr::Member { of, name } => self.member_target(notes, of, name, access),
+            Expr::Index { of, at } => self.element_target(notes, of, at),
+            other => {
+                let _ = self.any(notes, other)?;
+                self.fault(notes, TypeRule::NotAssignable);
+                Ok(None)
+            }
+        }
+    }
+
+    fn word_target<'t>(
+        &self,
+        notes: &mut Notes,
+        name: &'t Name,
+        access: Access,
+    ) -> Result<Option<Target<'t>>>
+        ensures { ContextInRange self.now → IfOk result (λ found. IfSome found (TargetInRange (bounds_of self.now))) }
+    {
+        match self.resolve(name) {
+            None => {
+                self.fault(notes, TypeRule::UnknownName);
+                Ok(None)
+            }
+            Some(Resolved::Local(number, kind)) => Ok(Some(Target::Local(number, kind))),
+            Some(Resolved::State) => Ok(Some(Target::State)),
+            Some(Resolved::Field(number, kind)) => {
+                self.needs_instance(notes);
+                Ok(Some(Target::Field(number, kind)))
+            }
+            Some(Resolved::Property(at)) => {
+                self.needs_instance(notes);
+                let own = self.own_instance()?;
+                Ok(Some(self.property_target(notes, own, at, name, access)))
+            }
+        }
+    }
+
+    fn member_target<'t>(
+        &self,
+        notes: &mut Notes,
+        of: &Expr,
+        name: &'t Name,
+        access: Access,
+    ) -> Result<Option<Target<'t>>>
+        ensures { ContextInRange self.now → IfOk result (λ found. IfSome found (TargetInRange (bounds_of self.now))) }
+    {
+        if let Expr::Word(word) = of
+            && self.resolve(word).is_none()
+        {
+            let _ = self.member_of_word(notes, word)?;
+            return Ok(None);
+        }
+        let of = self.value(notes, of)?;
+        match self.property_of(notes, of.kind, name) {
+            Some(at) => Ok(Some(self.property_target(notes, of.core, at, name, access))),
+            None => Ok(None),
+        }
+    }
+
+    fn property_target<'t>(
+        &self,
+        notes: &mut Notes,
+        of: Box<Core>,
+        at: PropertyRef,
+        name: &'t Name,
+        access: Access,
+    ) -> Target<'t>
+        ensures { CoreInRange (bounds_of self.now) of.value → TargetInRange (bounds_of self.now) result }
+    {
+        let kind = self.property_type(notes, at, access);
+        match self.own_variable(&of, at) {
+            Some(number) => Target::Field(number, kind),
+            None => Target::Property(of, name, kind),
+        }
+    }
+
+    fn element_target<'t>(
+        &self,
+        notes: &mut Notes,
+        of: &Expr,
+        at: &Expr,
+    ) -> Result<Option<Target<'t>>>
+        ensures { ContextInRange self.now → IfOk result (λ found. IfSome found (TargetInRange (bounds_of self.now))) }
+    {
+        let array = self.value(notes, of)?;
+        let index = self.value(notes, at)?;
+        let place = self.convert(notes, index, Some(CoreType::Int))?;
+        match self.indexed(notes, array.kind) {
+            Some(element) => Ok(Some(Target::Element(array.core, place, element))),
+            None => Ok(None),
+        }
+    }
+
+    // `=`
+    fn store(&self, notes: &mut Notes, target: Target<'_>, value: Typed) -> Result<CoreStatement>
+        ensures { TargetInRange (bounds_of self.now) target.entry → TypedInRange (bounds_of self.now) value → IfOk result (FormInRange (bounds_of self.now)) }
+    {
+        let value = self.convert(notes, value, target.kind())?;
+        self.stored(target, value)
+    }
+
+    // The assignment of a value of the target's type.
+    fn stored(&self, target: Target<'_>, value: Box<Core>) -> Result<CoreStatement>
+        ensures { (b : Bounds) → TargetInRange b target.entry → CoreInRange b value.value → IfOk result (FormInRange b) }
+    {
+        match target {
+            Target::Local(number, _) => {
+                Ok(CoreStatement::SetLocal(number, Box::into_inner(value)))
+            }
+            Target::Field(number, _) => {
+                Ok(CoreStatement::SetField(number, Box::into_inner(value)))
+            }
+            Target::State => Ok(CoreStatement::SetState(Box::into_inner(value))),
+            Target::Property(of, name, _) => {
+                let name = name.try_clone(self.catalog.alloc)?;
+                let of = Box::into_inner(of);
+                Ok(CoreStatement::SetProp(of, name, Box::into_inner(value)))
+            }
+            Target::Element(array, at, _) => {
+                let array = Box::into_inner(array);
+                let at = Box::into_inner(at);
+                Ok(CoreStatement::SetElement(array, at, Box::into_inner(value)))
+            }
+        }
+    }
+
+    // An assignment such as `+=`. A local, a variable or the state gets the new value, and a property or an
+    // element is changed in one statement. The tree of that has no place for a conversion of the old or of
+    // the new value, so both have the type of the operation.
+    fn change(
+        &self,
+        notes: &mut Notes,
+        target: Target<'_>,
+        sign: Sign,
+        value: Typed,
+    ) -> Result<CoreStatement>
+        ensures { TargetInRange (bounds_of self.now) target.entry → TypedInRange (bounds_of self.now) value → IfOk result (FormInRange (bounds_of self.now)) }
+    {
+        if let Some(old) = target.variable() {
+            let old = self.typed(old, Kind::from_type(target.kind()))?;
+            let new = self.arithmetic(notes, sign, old, value)?;
+            return self.store(notes, target, new);
+        }
+        let Some(kind) = target.kind() else {
+            return Ok(no_form());
+        };
+        let Some(operation) = self.operation(notes, sign, Kind::Of(kind), value.kind) else {
+            return Ok(no_form());
+        };
+        if kind != operand_type(operation) {
+            self.fault(notes, TypeRule::NoConversion);
+            return Ok(no_form());
+        }
+        let right = self.convert(notes, value, Some(kind))?;
+        self.changed(target, kind, operation, right)
+    }
+
+    // The change of a property or an element.
+    fn changed(
+        &self,
+        target: Target<'_>,
+        kind: CoreType,
+        operation: Arith,
+        right: Box<Core>,
+    ) -> Result<CoreStatement>
+        ensures { (b : Bounds) → TargetInRange b target.entry → TypeInRange b.functions kind → CoreInRange b right.value → IfOk result (FormInRange b) }
+    {
+        let right = Box::into_inner(right);
+        match target {
+            Target::Property(of, name, _) => {
+                let name = name.try_clone(self.catalog.alloc)?;
+                let of = Box::into_inner(of);
+                Ok(CoreStatement::ChangeProp(of, name, kind, operation, right))
+            }
+            Target::Element(array, at, _) => {
+                let array = Box::into_inner(array);
+                let at = Box::into_inner(at);
+                Ok(CoreStatement::ChangeElement(array, at, kind, operation, right))
+            }
+            _ => Ok(CoreStatement::Plain(right)),
+        }
     }
 }
 
@@ -74,225 +288,9 @@ fn change_of(sign: Sign) -> Option<Sign>
     }
 }
 
-// What is assigned to, none where a rule is broken in it.
-fn target_place<'t>(
-    context: &Context<'_>,
-    notes: &mut Notes,
-    target: &'t Expr,
-    access: Access,
-) -> Result<Option<Target<'t>>, OutOfMemory>
-    ensures { ContextInRange context.now → IfOk result (λ found. IfSome found (TargetInRange (bounds_of context.now))) }
+// A statement that stands where a rule is broken.
+fn no_form() -> CoreStatement
+    ensures { (b : Bounds) → FormInRange b result }
 {
-    match target {
-        Expr::Word(name) => word_place(context, notes, name, access),
-        Expr::Member { of, name } => member_place(context, notes, of, name, access),
-        Expr::Index { of, at } => element_place(context, notes, of, at),
-        other => {
-            let _ = any(context, notes, other)?;
-            context.fault(notes, TypeRule::NotAssignable);
-            Ok(None)
-        }
-    }
-}
-
-fn word_place<'t>(
-    context: &Context<'_>,
-    notes: &mut Notes,
-    name: &'t Name,
-    access: Access,
-) -> Result<Option<Target<'t>>, OutOfMemory>
-    ensures { ContextInRange context.now → IfOk result (λ found. IfSome found (TargetInRange (bounds_of context.now))) }
-{
-    match meaning_of(context, name)? {
-        None => {
-            context.fault(notes, TypeRule::UnknownName);
-            Ok(None)
-        }
-        Some(Meaning::Local(number, kind)) => Ok(Some(Target::Local(number, kind))),
-        Some(Meaning::State) => Ok(Some(Target::State)),
-        Some(Meaning::Field(number, kind)) => {
-            context.needs_instance(notes);
-            Ok(Some(Target::Field(number, kind)))
-        }
-        Some(Meaning::Property(at)) => {
-            context.needs_instance(notes);
-            let own = Box::new(context.catalog.alloc, own_instance())?;
-            property_place(context, notes, own, at, name, access)
-        }
-    }
-}
-
-fn member_place<'t>(
-    context: &Context<'_>,
-    notes: &mut Notes,
-    of: &Expr,
-    name: &'t Name,
-    access: Access,
-) -> Result<Option<Target<'t>>, OutOfMemory>
-    ensures { ContextInRange context.now → IfOk result (λ found. IfSome found (TargetInRange (bounds_of context.now))) }
-{
-    if let Expr::Word(word) = of
-        && meaning_of(context, word)?.is_none()
-    {
-        let _ = member_of_word(context, notes, word)?;
-        return Ok(None);
-    }
-    let of = value(context, notes, of)?;
-    match property_of(context, notes, of.kind, name) {
-        Some(at) => property_place(context, notes, of.core, at, name, access),
-        None => Ok(None),
-    }
-}
-
-fn property_place<'t>(
-    context: &Context<'_>,
-    notes: &mut Notes,
-    of: Box<Core>,
-    at: PropertyRef,
-    name: &'t Name,
-    access: Access,
-) -> Result<Option<Target<'t>>, OutOfMemory>
-    ensures { CoreInRange (bounds_of context.now) of.value → IfOk result (λ found. IfSome found (TargetInRange (bounds_of context.now))) }
-{
-    let kind = property_type(context, notes, at, access)?;
-    Ok(Some(match own_variable(context, &of, at) {
-        Some(number) => Target::Field(number, kind),
-        None => Target::Property(of, name, kind),
-    }))
-}
-
-fn element_place<'t>(
-    context: &Context<'_>,
-    notes: &mut Notes,
-    of: &Expr,
-    at: &Expr,
-) -> Result<Option<Target<'t>>, OutOfMemory>
-    ensures { ContextInRange context.now → IfOk result (λ found. IfSome found (TargetInRange (bounds_of context.now))) }
-{
-    let array = value(context, notes, of)?;
-    let index = value(context, notes, at)?;
-    let place = convert(context, notes, index, Some(CoreType::Int))?;
-    match indexed(context, notes, array.kind) {
-        Some(element) => Ok(Some(Target::Element(array.core, place, element))),
-        None => Ok(None),
-    }
-}
-
-// `=`
-fn store(
-    context: &Context<'_>,
-    notes: &mut Notes,
-    place: Target<'_>,
-    value: Operand,
-) -> Result<CoreStatement, OutOfMemory>
-    ensures { TargetInRange (bounds_of context.now) place.entry → OperandInRange (bounds_of context.now) value → IfOk result (FormInRange (bounds_of context.now)) }
-{
-    match place {
-        Target::Local(number, kind) => {
-            let value = convert(context, notes, value, kind)?;
-            Ok(set_local(number, value))
-        }
-        Target::Field(number, kind) => {
-            let value = convert(context, notes, value, kind)?;
-            Ok(set_field(number, value))
-        }
-        Target::State => {
-            let value = convert(context, notes, value, Some(CoreType::Text))?;
-            Ok(set_state(value))
-        }
-        Target::Property(of, name, kind) => {
-            let value = convert(context, notes, value, kind)?;
-            set_property(context.catalog.alloc, of, name, value)
-        }
-        Target::Element(array, at, kind) => {
-            let value = convert(context, notes, value, Some(kind))?;
-            Ok(set_element(array, at, value))
-        }
-    }
-}
-
-// An assignment such as `+=`. A local or a variable gets the new value, and a property or an element is
-// changed in one statement.
-fn change_place(
-    context: &Context<'_>,
-    notes: &mut Notes,
-    place: Target<'_>,
-    sign: Sign,
-    value: Operand,
-) -> Result<CoreStatement, OutOfMemory>
-    ensures { TargetInRange (bounds_of context.now) place.entry → OperandInRange (bounds_of context.now) value → IfOk result (FormInRange (bounds_of context.now)) }
-{
-    match place {
-        Target::Local(number, kind) => {
-            let new = changed(context, notes, local(number), kind, sign, value)?;
-            Ok(set_local(number, new))
-        }
-        Target::Field(number, kind) => {
-            let new = changed(context, notes, field(number), kind, sign, value)?;
-            Ok(set_field(number, new))
-        }
-        Target::State => {
-            let text = Some(CoreType::Text);
-            let new = changed(context, notes, state_text(), text, sign, value)?;
-            Ok(set_state(new))
-        }
-        Target::Property(of, name, kind) => {
-            match change_in_place(context, notes, kind, sign, value)? {
-                Some(change) => change_property(context.catalog.alloc, of, name, change),
-                None => Ok(no_form()),
-            }
-        }
-        Target::Element(array, at, kind) => {
-            match change_in_place(context, notes, Some(kind), sign, value)? {
-                Some(change) => Ok(change_element(array, at, change)),
-                None => Ok(no_form()),
-            }
-        }
-    }
-}
-
-// The new value, as the type of what keeps it.
-fn changed(
-    context: &Context<'_>,
-    notes: &mut Notes,
-    old: Core,
-    kind: Option<CoreType>,
-    sign: Sign,
-    value: Operand,
-) -> Result<Box<Core>, OutOfMemory>
-    ensures { CoreInRange (bounds_of context.now) old → ResultInRange (bounds_of context.now).functions kind → OperandInRange (bounds_of context.now) value → IfOk result (λ core. CoreInRange (bounds_of context.now) core.value) }
-{
-    let old = Operand::found(context.catalog.alloc, old, kind)?;
-    let new = arithmetic(context, notes, sign, old, value)?;
-    convert(context, notes, new, kind)
-}
-
-// The change, none where a rule is broken in it. The tree has no place for a conversion of the old or of the
-// new value, so both have the type of the operation.
-fn change_in_place(
-    context: &Context<'_>,
-    notes: &mut Notes,
-    kind: Option<CoreType>,
-    sign: Sign,
-    value: Operand,
-) -> Result<Option<Change>, OutOfMemory>
-    ensures { ResultInRange (bounds_of context.now).functions kind → OperandInRange (bounds_of context.now) value → IfOk result (λ found. IfSome found (ChangeInRange (bounds_of context.now))) }
-{
-    let Some(kind) = kind else {
-        return Ok(None);
-    };
-    let Some(operation) = operation(context, notes, sign, Kind::Of(kind), value.kind) else {
-        return Ok(None);
-    };
-    let to = operand_type(operation);
-    if kind != to {
-        context.fault(notes, TypeRule::NoConversion);
-        return Ok(None);
-    }
-    let right = convert(context, notes, value, Some(to))?;
-    Ok(Some(Change {
-        kind,
-        operation,
-        right,
-    }))
+    CoreStatement::Plain(Core::Lit(Value::NoneValue))
 }

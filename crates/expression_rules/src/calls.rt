@@ -2,174 +2,278 @@
 ghost use Rattle.std.specs.Prelude.{ℕ, IfOk, IfSome};
 ghost use Rattle.core_tree.specs.InRange.{Bounds, NameTakes, PlaceTakes, TypeInRange, ResultInRange};
 ghost use Rattle.type_scope.specs.Scope.{IsCallee, KindInRange};
-ghost use Rattle.expression_rules.specs.Ranges.{CoreInRange, OperandInRange, GivenInRange, CompleteInRange, PassedInRange, OutcomeInRange, bounds_of, heading_count};
+ghost use Rattle.expression_rules.specs.Ranges.{CoreInRange, TypedInRange, GivenInRange, CompleteInRange, CallFormInRange, bounds_of, heading_count};
 
-use crate::arguments::{Arguments, Given, place_arguments};
-use crate::context::Context;
+use crate::arguments::{Arguments, Given};
+use crate::context::{Context, Result, Typed};
 use crate::members::element_kind;
 use crate::notes::Notes;
-use crate::operand::Operand;
 use crate::parameters::Parameters;
 use crate::rule::TypeRule;
-use crate::trees::{
-    Direction, Passed, global_called, method_called, native_called, own_instance, parent_called,
-    searched,
-};
 use core_tree::{Core, CoreType, FunctionPlace};
-use line_parser::{Heading, TypeName};
-use papy_base::{Name, OutOfMemory};
+use line_parser::{Constant, Heading, TypeName};
+use papy_base::Name;
 use type_scope::{Callee, Kind};
 
-/// `name(arguments)`: a function of the script or of a parent, else a Global one of an import.
-pub(crate) fn plain_call(
-    context: &Context<'_>,
-    notes: &mut Notes,
-    name: &Name,
-    given: Vec<Given<'_>>,
-) -> Result<Operand, OutOfMemory>
-    ensures { GivenInRange (bounds_of context.now) given.entry.items → IfOk result (OperandInRange (bounds_of context.now)) }
-{
-    let Some(callee) = plain_callee(context, name)? else {
-        return no_function(context, notes);
-    };
-    if callee.heading.is_global {
-        return global_call(context, notes, callee, given);
-    }
-    context.needs_instance(notes);
-    let of = Box::new(context.catalog.alloc, own_instance())?;
-    method_call(context, notes, of, callee.heading, name, given)
+/// How a function is called.
+#[derive(Drop)]
+pub(crate) enum CallForm<'t> {
+    /// By name, of an instance.
+    Method(Box<Core>, &'t Name),
+    /// By name, of the parent.
+    Parent(&'t Name),
+    Global(FunctionPlace),
+    Native(FunctionPlace),
 }
 
-fn plain_callee<'s>(context: &Context<'s>, name: &Name) -> Result<Option<Callee<'s>>, OutOfMemory>
-    ensures { IfOk result (λ found. IfSome found (IsCallee context.now.catalog.now.set.now name.now)) }
-{
-    match context.catalog.find_function(context.script, name) {
-        Some(callee) => Ok(Some(callee)),
-        None => context.catalog.find_imported(context.script, name),
-    }
-}
-
-/// `Parent.name(arguments)`
-pub(crate) fn parent_call(
-    context: &Context<'_>,
-    notes: &mut Notes,
-    name: &Name,
-    given: Vec<Given<'_>>,
-) -> Result<Operand, OutOfMemory>
-    ensures { GivenInRange (bounds_of context.now) given.entry.items → IfOk result (OperandInRange (bounds_of context.now)) }
-{
-    context.needs_instance(notes);
-    let Some(parent) = context.catalog.parent_of(context.script)? else {
-        return context.broken(notes, TypeRule::NoParent);
-    };
-    let Some(heading) = method_named(context, parent, name) else {
-        return no_function(context, notes);
-    };
-    let outcome = called(context, notes, heading, given)?;
-    parent_value(context, name, outcome)
-}
-
-fn parent_value(
-    context: &Context<'_>,
-    name: &Name,
-    outcome: Outcome,
-) -> Result<Operand, OutOfMemory>
-    ensures { (count : ℕ) → NameTakes (bounds_of context.now).functions name.now count → OutcomeInRange (bounds_of context.now) count outcome → IfOk result (OperandInRange (bounds_of context.now)) }
-{
-    let Outcome { passed, kind } = outcome;
-    match passed {
-        Some(passed) => {
-            let core = parent_called(context.catalog.alloc, name, passed)?;
-            Operand::known(context.catalog.alloc, core, kind)
+impl<'s> Context<'s> {
+    /// `name(arguments)`: a function of the script or of a parent, else a Global one of an import.
+    pub(crate) fn plain_call(
+        &self,
+        notes: &mut Notes,
+        name: &Name,
+        given: Vec<Given<'_>>,
+    ) -> Result<Typed>
+        ensures { GivenInRange (bounds_of self.now) given.entry.items → IfOk result (TypedInRange (bounds_of self.now)) }
+    {
+        let Some(callee) = self.plain_callee(name) else {
+            return self.broken(notes, TypeRule::NoFunction);
+        };
+        if callee.heading.is_global {
+            return self.global_call(notes, callee, given);
         }
-        None => context.without_tree(kind),
+        self.needs_instance(notes);
+        let of = self.own_instance()?;
+        self.call(notes, CallForm::Method(of, name), callee.heading, given)
     }
-}
 
-/// `word.name(arguments)` where the word names no value: a Global function of the script of that name, or of
-/// a parent of it.
-pub(crate) fn script_call(
-    context: &Context<'_>,
-    notes: &mut Notes,
-    word: &Name,
-    name: &Name,
-    given: Vec<Given<'_>>,
-) -> Result<Operand, OutOfMemory>
-    ensures { GivenInRange (bounds_of context.now) given.entry.items → IfOk result (OperandInRange (bounds_of context.now)) }
-{
-    let Some(script) = context.catalog.find_script(word)? else {
-        return context.broken(notes, TypeRule::UnknownName);
-    };
-    match context.catalog.find_function(script, name) {
-        Some(callee) if callee.heading.is_global => global_call(context, notes, callee, given),
-        _ => no_function(context, notes),
-    }
-}
-
-/// `of.name(arguments)`: a search in an array, or a function of the value's script or of a parent.
-pub(crate) fn member_call(
-    context: &Context<'_>,
-    notes: &mut Notes,
-    of: Operand,
-    name: &Name,
-    given: Vec<Given<'_>>,
-) -> Result<Operand, OutOfMemory>
-    ensures { OperandInRange (bounds_of context.now) of → GivenInRange (bounds_of context.now) given.entry.items → IfOk result (OperandInRange (bounds_of context.now)) }
-{
-    if of.is_unknown() {
-        return context.unknown();
-    }
-    if let Some(element) = element_kind(of.kind) {
-        return array_call(context, notes, of.core, element, name, given);
-    }
-    match method_of(context, of.kind, name) {
-        Some(heading) => method_call(context, notes, of.core, heading, name, given),
-        None => no_function(context, notes),
-    }
-}
-
-fn array_call(
-    context: &Context<'_>,
-    notes: &mut Notes,
-    array: Box<Core>,
-    element: CoreType,
-    name: &Name,
-    given: Vec<Given<'_>>,
-) -> Result<Operand, OutOfMemory>
-    ensures { CoreInRange (bounds_of context.now) array.value → TypeInRange (bounds_of context.now).functions element → GivenInRange (bounds_of context.now) given.entry.items → IfOk result (OperandInRange (bounds_of context.now)) }
-{
-    let Some(direction) = search_named(name) else {
-        return no_function(context, notes);
-    };
-    let parameters = Parameters::Search {
-        element,
-        start: first_place(direction),
-    };
-    let found = place_arguments(context, notes, given, parameters)?;
-    match value_and_start(found) {
-        Some((value, start)) => {
-            let core = searched(context.catalog.alloc, direction, array, value, start)?;
-            Operand::of(context.catalog.alloc, core, CoreType::Int)
+    fn plain_callee(&self, name: &Name) -> Option<Callee<'s>>
+        ensures { IfSome result (IsCallee self.now.catalog.now.set.now name.now) }
+    {
+        match self.catalog.find_function(self.script, name) {
+            Some(callee) => Some(callee),
+            None => self.catalog.find_imported(self.script, name),
         }
-        None => context.without_tree(Kind::Of(CoreType::Int)),
     }
-}
 
-fn search_named(name: &Name) -> Option<Direction> {
-    if name.as_bytes().eq_ignore_ascii_case(b"find") {
-        Some(Direction::Forward)
-    } else if name.as_bytes().eq_ignore_ascii_case(b"rfind") {
-        Some(Direction::Back)
-    } else {
-        None
+    /// `Parent.name(arguments)`
+    pub(crate) fn parent_call(
+        &self,
+        notes: &mut Notes,
+        name: &Name,
+        given: Vec<Given<'_>>,
+    ) -> Result<Typed>
+        ensures { GivenInRange (bounds_of self.now) given.entry.items → IfOk result (TypedInRange (bounds_of self.now)) }
+    {
+        self.needs_instance(notes);
+        let Some(parent) = self.catalog.parent_of(self.script) else {
+            return self.broken(notes, TypeRule::NoParent);
+        };
+        match self.method_named(parent, name) {
+            Some(heading) => self.call(notes, CallForm::Parent(name), heading, given),
+            None => self.broken(notes, TypeRule::NoFunction),
+        }
     }
-}
 
-// Where a search starts that doesn't say it.
-fn first_place(direction: Direction) -> i32 {
-    match direction {
-        Direction::Forward => 0,
-        Direction::Back => -1,
+    /// `word.name(arguments)` where the word names no value: a Global function of the script of that name, or
+    /// of a parent of it.
+    pub(crate) fn script_call(
+        &self,
+        notes: &mut Notes,
+        word: &Name,
+        name: &Name,
+        given: Vec<Given<'_>>,
+    ) -> Result<Typed>
+        ensures { GivenInRange (bounds_of self.now) given.entry.items → IfOk result (TypedInRange (bounds_of self.now)) }
+    {
+        let Some(script) = self.catalog.find_script(word) else {
+            return self.broken(notes, TypeRule::UnknownName);
+        };
+        match self.catalog.find_function(script, name) {
+            Some(callee) if callee.heading.is_global => self.global_call(notes, callee, given),
+            _ => self.broken(notes, TypeRule::NoFunction),
+        }
+    }
+
+    fn global_call(
+        &self,
+        notes: &mut Notes,
+        callee: Callee<'_>,
+        given: Vec<Given<'_>>,
+    ) -> Result<Typed>
+        ensures { PlaceTakes (bounds_of self.now).functions callee.entry.at (heading_count callee.entry.heading.now) → GivenInRange (bounds_of self.now) given.entry.items → IfOk result (TypedInRange (bounds_of self.now)) }
+    {
+        notes.write_out(callee.heading.name.as_bytes())?;
+        if callee.heading.is_native {
+            return self.call(notes, CallForm::Native(callee.at), callee.heading, given);
+        }
+        self.call(notes, CallForm::Global(callee.at), callee.heading, given)
+    }
+
+    /// `of.name(arguments)`: a search in an array, or a function of the value's script or of a parent.
+    pub(crate) fn member_call(
+        &self,
+        notes: &mut Notes,
+        of: Typed,
+        name: &Name,
+        given: Vec<Given<'_>>,
+    ) -> Result<Typed>
+        ensures { TypedInRange (bounds_of self.now) of → GivenInRange (bounds_of self.now) given.entry.items → IfOk result (TypedInRange (bounds_of self.now)) }
+    {
+        if of.is_unknown() {
+            return self.unknown();
+        }
+        if let Some(element) = element_kind(of.kind) {
+            return self.search_call(notes, of.core, element, name, given);
+        }
+        match self.method_of(of.kind, name) {
+            Some(heading) => self.call(notes, CallForm::Method(of.core, name), heading, given),
+            None => self.broken(notes, TypeRule::NoFunction),
+        }
+    }
+
+    fn method_of(&self, kind: Kind, name: &Name) -> Option<&'s Heading>
+        ensures { IfSome result (λ heading. NameTakes (bounds_of self.now).functions name.now (heading_count heading.now)) }
+    {
+        match kind {
+            Kind::Of(CoreType::Script(script)) => self.method_named(script, name),
+            _ => None,
+        }
+    }
+
+    // The nearest function of this name, where it isn't Global.
+    fn method_named(&self, script: u16, name: &Name) -> Option<&'s Heading>
+        ensures { IfSome result (λ heading. NameTakes (bounds_of self.now).functions name.now (heading_count heading.now)) }
+    {
+        let callee = self.catalog.find_function(script, name)?;
+        if callee.heading.is_global {
+            None
+        } else {
+            Some(callee.heading)
+        }
+    }
+
+    // A call of a function with this heading. It keeps its type where a rule is broken in its arguments.
+    fn call(
+        &self,
+        notes: &mut Notes,
+        form: CallForm<'_>,
+        heading: &Heading,
+        given: Vec<Given<'_>>,
+    ) -> Result<Typed>
+        ensures { CallFormInRange (bounds_of self.now) (heading_count heading.now) form.entry → GivenInRange (bounds_of self.now) given.entry.items → IfOk result (TypedInRange (bounds_of self.now)) }
+    {
+        let parameters = Parameters::Declared(heading.parameters.as_slice());
+        let found = self.place_arguments(notes, given, parameters)?;
+        let (result_type, kind) = self.result_of(&heading.result);
+        match found {
+            Some(found) => {
+                let core = self.call_tree(form, found, result_type)?;
+                self.typed(core, kind)
+            }
+            None => self.without_tree(kind),
+        }
+    }
+
+    fn call_tree(
+        &self,
+        form: CallForm<'_>,
+        found: Arguments,
+        result_type: Option<CoreType>,
+    ) -> Result<Core>
+        ensures { (b : Bounds) (count : ℕ) → CallFormInRange b count form.entry → CompleteInRange b count found → ResultInRange b.functions result_type → IfOk result (CoreInRange b) }
+    {
+        let alloc = self.catalog.alloc;
+        let Arguments {
+            cores: arguments,
+            places,
+            ..
+        } = found;
+        match form {
+            CallForm::Method(of, name) => {
+                let name = name.try_clone(alloc)?;
+                Ok(Core::CallMethod {
+                    of,
+                    name,
+                    arguments,
+                    places,
+                    result: result_type,
+                })
+            }
+            CallForm::Parent(name) => {
+                let name = name.try_clone(alloc)?;
+                Ok(Core::CallParent {
+                    name,
+                    arguments,
+                    places,
+                    result: result_type,
+                })
+            }
+            CallForm::Global(at) => Ok(Core::CallGlobal {
+                at,
+                arguments,
+                places,
+                result: result_type,
+            }),
+            CallForm::Native(at) => Ok(Core::CallNative {
+                at,
+                arguments,
+                places,
+                result: result_type,
+            }),
+        }
+    }
+
+    // The type that a function gives, and what is known of it.
+    fn result_of(&self, name: &Option<TypeName>) -> (Option<CoreType>, Kind)
+        ensures { ResultInRange (bounds_of self.now).functions result.0 × KindInRange (bounds_of self.now).functions result.1 }
+    {
+        match name {
+            Some(name) => {
+                let found = self.catalog.type_of(name);
+                (found, Kind::from_type(found))
+            }
+            None => (None, Kind::Nothing),
+        }
+    }
+
+    // `.Find` and `.RFind`
+    fn search_call(
+        &self,
+        notes: &mut Notes,
+        array: Box<Core>,
+        element: CoreType,
+        name: &Name,
+        given: Vec<Given<'_>>,
+    ) -> Result<Typed>
+        ensures { CoreInRange (bounds_of self.now) array.value → TypeInRange (bounds_of self.now).functions element → GivenInRange (bounds_of self.now) given.entry.items → IfOk result (TypedInRange (bounds_of self.now)) }
+    {
+        let backward = name.as_bytes().eq_ignore_ascii_case(b"rfind");
+        if !backward && !name.as_bytes().eq_ignore_ascii_case(b"find") {
+            return self.broken(notes, TypeRule::NoFunction);
+        }
+        let start = Constant::Int(if backward { -1 } else { 0 });
+        let parameters = Parameters::Search {
+            element,
+            start: &start,
+        };
+        let found = self.place_arguments(notes, given, parameters)?;
+        match value_and_start(found) {
+            Some((value, start)) => self.search(backward, array, value, start),
+            None => self.without_tree(Kind::Of(CoreType::Int)),
+        }
+    }
+
+    fn search(&self, backward: bool, array: Box<Core>, value: Core, start: Core) -> Result<Typed>
+        ensures { CoreInRange (bounds_of self.now) array.value → CoreInRange (bounds_of self.now) value → CoreInRange (bounds_of self.now) start → IfOk result (TypedInRange (bounds_of self.now)) }
+    {
+        let value = Box::new(self.catalog.alloc, value)?;
+        let start = Box::new(self.catalog.alloc, start)?;
+        if backward {
+            self.known(Core::FindBack(array, value, start), CoreType::Int)
+        } else {
+            self.known(Core::Find(array, value, start), CoreType::Int)
+        }
     }
 }
 
@@ -188,138 +292,4 @@ fn value_and_start(found: Option<Arguments>) -> Option<(Core, Core)>
     } else {
         Some((second, first))
     }
-}
-
-// What a call passes, none where a rule is broken in it, and what is known of the type that it gives.
-#[derive(Drop)]
-pub(crate) struct Outcome {
-    pub(crate) passed: Option<Passed>,
-    pub(crate) kind: Kind,
-}
-
-fn called(
-    context: &Context<'_>,
-    notes: &mut Notes,
-    heading: &Heading,
-    given: Vec<Given<'_>>,
-) -> Result<Outcome, OutOfMemory>
-    ensures { GivenInRange (bounds_of context.now) given.entry.items → IfOk result (OutcomeInRange (bounds_of context.now) (heading_count heading.now)) }
-{
-    let parameters = Parameters::Declared(heading.parameters.as_slice());
-    let found = place_arguments(context, notes, given, parameters)?;
-    let (result_type, kind) = result_of(context, &heading.result)?;
-    let passed = match found {
-        Some(found) => Some(Passed {
-            arguments: found.cores,
-            places: found.places,
-            result: result_type,
-        }),
-        None => None,
-    };
-    Ok(Outcome { passed, kind })
-}
-
-// The type that a function gives, and what is known of it.
-fn result_of(
-    context: &Context<'_>,
-    name: &Option<TypeName>,
-) -> Result<(Option<CoreType>, Kind), OutOfMemory>
-    ensures { IfOk result (λ found. ResultInRange (bounds_of context.now).functions found.0 × KindInRange (bounds_of context.now).functions found.1) }
-{
-    match name {
-        Some(name) => {
-            let found = context.catalog.type_of(name)?;
-            Ok((found, Kind::from_type(found)))
-        }
-        None => Ok((None, Kind::Nothing)),
-    }
-}
-
-fn global_call(
-    context: &Context<'_>,
-    notes: &mut Notes,
-    callee: Callee<'_>,
-    given: Vec<Given<'_>>,
-) -> Result<Operand, OutOfMemory>
-    ensures { PlaceTakes (bounds_of context.now).functions callee.entry.at (heading_count callee.entry.heading.now) → GivenInRange (bounds_of context.now) given.entry.items → IfOk result (OperandInRange (bounds_of context.now)) }
-{
-    notes.write_out(callee.heading.name.as_bytes())?;
-    let outcome = called(context, notes, callee.heading, given)?;
-    let is_native = callee.heading.is_native;
-    global_value(context, callee.at, is_native, outcome)
-}
-
-fn global_value(
-    context: &Context<'_>,
-    at: FunctionPlace,
-    is_native: bool,
-    outcome: Outcome,
-) -> Result<Operand, OutOfMemory>
-    ensures { (count : ℕ) → PlaceTakes (bounds_of context.now).functions at count → OutcomeInRange (bounds_of context.now) count outcome → IfOk result (OperandInRange (bounds_of context.now)) }
-{
-    let Outcome { passed, kind } = outcome;
-    match passed {
-        Some(passed) => {
-            let core = global_core(at, is_native, passed);
-            Operand::known(context.catalog.alloc, core, kind)
-        }
-        None => context.without_tree(kind),
-    }
-}
-
-fn global_core(at: FunctionPlace, is_native: bool, passed: Passed) -> Core
-    ensures { (b : Bounds) (count : ℕ) → PlaceTakes b.functions at count → PassedInRange b count passed → CoreInRange b result }
-{
-    if is_native {
-        native_called(at, passed)
-    } else {
-        global_called(at, passed)
-    }
-}
-
-fn method_call(
-    context: &Context<'_>,
-    notes: &mut Notes,
-    of: Box<Core>,
-    heading: &Heading,
-    name: &Name,
-    given: Vec<Given<'_>>,
-) -> Result<Operand, OutOfMemory>
-    ensures { CoreInRange (bounds_of context.now) of.value → NameTakes (bounds_of context.now).functions name.now (heading_count heading.now) → GivenInRange (bounds_of context.now) given.entry.items → IfOk result (OperandInRange (bounds_of context.now)) }
-{
-    let Outcome { passed, kind } = called(context, notes, heading, given)?;
-    match passed {
-        Some(passed) => {
-            let core = method_called(context.catalog.alloc, of, name, passed)?;
-            Operand::known(context.catalog.alloc, core, kind)
-        }
-        None => context.without_tree(kind),
-    }
-}
-
-fn method_of<'s>(context: &Context<'s>, kind: Kind, name: &Name) -> Option<&'s Heading>
-    ensures { IfSome result (λ heading. NameTakes (bounds_of context.now).functions name.now (heading_count heading.now)) }
-{
-    match kind {
-        Kind::Of(CoreType::Script(script)) => method_named(context, script, name),
-        _ => None,
-    }
-}
-
-// The nearest function of this name, where it isn't Global.
-fn method_named<'s>(context: &Context<'s>, script: u16, name: &Name) -> Option<&'s Heading>
-    ensures { IfSome result (λ heading. NameTakes (bounds_of context.now).functions name.now (heading_count heading.now)) }
-{
-    let callee = context.catalog.find_function(script, name)?;
-    if callee.heading.is_global {
-        None
-    } else {
-        Some(callee.heading)
-    }
-}
-
-fn no_function(context: &Context<'_>, notes: &mut Notes) -> Result<Operand, OutOfMemory>
-    ensures { IfOk result (OperandInRange (bounds_of context.now)) }
-{
-    context.broken(notes, TypeRule::NoFunction)
 }

@@ -1,6 +1,7 @@
 // Constants: their values, their types, and whether they fit a parameter.
 ghost use Rattle.std.specs.Prelude.{◌≡◌, IfOk};
-ghost use Rattle.core_tree.specs.InRange.{LiteralInRange};
+ghost use Rattle.core_tree.specs.InRange.{LiteralInRange, Signatures};
+ghost use Rattle.type_scope.specs.Scope.{KindInRange};
 ghost use Rattle.expression_rules.specs.Constants.{default_value, constant_value, constant_kind};
 
 use crate::conversions::converts;
@@ -37,7 +38,8 @@ pub fn value_of(alloc: Global, constant: &Constant) -> Result<Value, OutOfMemory
 
 /// What is known of a constant's type.
 pub fn kind_of(constant: &Constant) -> Kind
-    ensures { result ≡ constant_kind constant.now }
+    ensures kind { result ≡ constant_kind constant.now }
+    ensures in_range { (functions : Signatures) → KindInRange functions result }
 {
     match constant {
         Constant::Int(_) => Kind::Of(CoreType::Int),
@@ -45,14 +47,6 @@ pub fn kind_of(constant: &Constant) -> Kind
         Constant::Quoted(_) => Kind::Of(CoreType::Text),
         Constant::NoneValue => Kind::NoneLiteral,
     }
-}
-
-/// A constant's value, and what is known of its type.
-pub fn literal_of(alloc: Global, constant: &Constant) -> Result<(Value, Kind), OutOfMemory>
-    ensures value { IfOk result (λ found. found.0 ≡ constant_value constant.now) }
-    ensures kind { IfOk result (λ found. found.1 ≡ constant_kind constant.now) }
-{
-    Ok((value_of(alloc, constant)?, kind_of(constant)))
 }
 
 /// Whether a parameter's default converts by itself to the parameter's type. Where that isn't known no

@@ -1,19 +1,35 @@
-// What is seen where an expression stands.
+// What is seen where an expression stands, and values of which larger expressions are made.
 ghost use Rattle.std.specs.Prelude.{◌≡◌, IfNone, IfOk, IfSome, IsSome, IsTrue};
-ghost use Rattle.core_tree.specs.InRange.{ResultInRange};
+ghost use Rattle.core_tree.specs.InRange.{TypeInRange, ResultInRange, LiteralInRange};
 ghost use Rattle.type_scope.specs.Scope.{KindInRange};
 ghost use Rattle.type_scope.specs.Types.{signatures, type_named};
-ghost use Rattle.expression_rules.specs.Ranges.{OperandInRange, bounds_of};
+ghost use Rattle.expression_rules.specs.Ranges.{CoreInRange, TypedInRange, bounds_of};
 ghost use Rattle.expression_rules.specs.Rules.{IsFirst};
 
 use crate::notes::Notes;
-use crate::operand::Operand;
 use crate::rule::TypeRule;
-use crate::trees::nothing;
-use core_tree::CoreType;
+use core_tree::{Core, CoreType, Value};
 use line_parser::TypeName;
 use papy_base::OutOfMemory;
 use type_scope::{Catalog, Kind, Layout, Locals};
+
+/// What is found, unless there is no memory for it.
+pub(crate) type Result<T> = std::result::Result<T, OutOfMemory>;
+
+/// An expression's tree, and what is known of its type.
+///
+/// Where a rule is broken the tree is some tree, which nobody uses.
+#[derive(Drop)]
+pub(crate) struct Typed {
+    pub(crate) core: Box<Core>,
+    pub(crate) kind: Kind,
+}
+
+impl Typed {
+    pub(crate) fn is_unknown(&self) -> bool {
+        self.kind == Kind::Unknown
+    }
+}
 
 /// What is seen where an expression stands.
 #[derive(Clone, Copy)]
@@ -30,28 +46,61 @@ pub(crate) struct Context<'s> {
 }
 
 impl Context<'_> {
-    /// What stands where something is unknown since a rule is broken.
-    pub(crate) fn unknown(&self) -> Result<Operand, OutOfMemory>
-        ensures { IfOk result (OperandInRange (bounds_of self.now)) }
+    /// A tree of whose type this is known.
+    #[inline(always)]
+    pub(crate) fn typed(&self, core: Core, kind: Kind) -> Result<Typed>
+        ensures { CoreInRange (bounds_of self.now) core → KindInRange (bounds_of self.now).functions kind → IfOk result (TypedInRange (bounds_of self.now)) }
     {
-        Operand::unknown(self.catalog.alloc)
+        let core = Box::new(self.catalog.alloc, core)?;
+        Ok(Typed { core, kind })
     }
 
-    /// The same where this rule is broken.
-    pub(crate) fn broken(&self, notes: &mut Notes, rule: TypeRule) -> Result<Operand, OutOfMemory>
-        ensures noted { IsSome notes.new.first }
-        ensures least { IfSome notes.new.first (IsFirst notes.old.first self.now.line rule) }
-        ensures in_range { IfOk result (OperandInRange (bounds_of self.now)) }
+    /// A tree of this type.
+    #[inline(always)]
+    pub(crate) fn known(&self, core: Core, kind: CoreType) -> Result<Typed>
+        ensures { CoreInRange (bounds_of self.now) core → TypeInRange (bounds_of self.now).functions kind → IfOk result (TypedInRange (bounds_of self.now)) }
     {
-        self.fault(notes, rule);
-        Operand::unknown(self.catalog.alloc)
+        self.typed(core, Kind::Of(kind))
+    }
+
+    /// A literal.
+    #[inline(always)]
+    pub(crate) fn literal(&self, value: Value, kind: Kind) -> Result<Typed>
+        ensures { LiteralInRange value → KindInRange (bounds_of self.now).functions kind → IfOk result (TypedInRange (bounds_of self.now)) }
+    {
+        self.typed(Core::Lit(value), kind)
     }
 
     /// What stands for a value of which only the type is known, since a rule is broken.
-    pub(crate) fn without_tree(&self, kind: Kind) -> Result<Operand, OutOfMemory>
-        ensures { KindInRange (bounds_of self.now).functions kind → IfOk result (OperandInRange (bounds_of self.now)) }
+    pub(crate) fn without_tree(&self, kind: Kind) -> Result<Typed>
+        ensures { KindInRange (bounds_of self.now).functions kind → IfOk result (TypedInRange (bounds_of self.now)) }
     {
-        Operand::known(self.catalog.alloc, nothing(), kind)
+        self.literal(Value::NoneValue, kind)
+    }
+
+    /// What stands where something is unknown since a rule is broken.
+    pub(crate) fn unknown(&self) -> Result<Typed>
+        ensures { IfOk result (TypedInRange (bounds_of self.now)) }
+    {
+        self.without_tree(Kind::Unknown)
+    }
+
+    /// The same where this rule is broken.
+    pub(crate) fn broken(&self, notes: &mut Notes, rule: TypeRule) -> Result<Typed>
+        ensures noted { IsSome notes.new.first }
+        ensures least { IfSome notes.new.first (IsFirst notes.old.first self.now.line rule) }
+        ensures in_range { IfOk result (TypedInRange (bounds_of self.now)) }
+    {
+        self.fault(notes, rule);
+        self.unknown()
+    }
+
+    /// The frame's own instance.
+    pub(crate) fn own_instance(&self) -> Result<Box<Core>>
+        ensures { IfOk result (λ own. CoreInRange (bounds_of self.now) own.value) }
+    {
+        let own = Box::new(self.catalog.alloc, Core::SelfValue)?;
+        Ok(own)
     }
 
     /// Notes that a rule is broken.
@@ -72,19 +121,15 @@ impl Context<'_> {
     }
 
     /// The type of this name. `UnknownType` is broken where there is none.
-    pub(crate) fn kind_named(
-        &self,
-        notes: &mut Notes,
-        name: &TypeName,
-    ) -> Result<Option<CoreType>, OutOfMemory>
-        ensures found { IfOk result (λ found. found ≡ type_named self.now.catalog.now.set.now name.now) }
-        ensures in_range { IfOk result (ResultInRange (signatures self.now.catalog.now.set.now)) }
-        ensures noted { IfOk result (λ found. IfNone found (IsSome notes.new.first)) }
+    pub(crate) fn kind_named(&self, notes: &mut Notes, name: &TypeName) -> Option<CoreType>
+        ensures found { result ≡ type_named self.now.catalog.now.set.now name.now }
+        ensures in_range { ResultInRange (signatures self.now.catalog.now.set.now) result }
+        ensures noted { IfNone result (IsSome notes.new.first) }
     {
-        let found = self.catalog.type_of(name)?;
+        let found = self.catalog.type_of(name);
         if found.is_none() {
             self.fault(notes, TypeRule::UnknownType);
         }
-        Ok(found)
+        found
     }
 }

@@ -3,58 +3,51 @@ ghost use Rattle.std.specs.Prelude.{◌≡◌, IfOk};
 ghost use Rattle.core_tree.specs.InRange.{Bounds, Signatures, ResultInRange};
 ghost use Rattle.type_scope.specs.Scope.{KindInRange};
 ghost use Rattle.expression_rules.specs.Conversions.{prints};
-ghost use Rattle.expression_rules.specs.Ranges.{CoreInRange, OperandInRange, bounds_of};
+ghost use Rattle.expression_rules.specs.Ranges.{CoreInRange, TypedInRange, bounds_of};
 
-use crate::context::Context;
+use crate::context::{Context, Result, Typed};
 use crate::notes::Notes;
-use crate::operand::Operand;
 use crate::rule::TypeRule;
-use crate::trees::cast_to;
 use core_tree::{Core, CoreType};
 use line_parser::TypeName;
-use papy_base::OutOfMemory;
 use type_scope::{Catalog, Kind};
 
-/// The tree of a value as this type: the value's own where it has the type, else with a `Cast`.
-pub(crate) fn convert(
-    context: &Context<'_>,
-    notes: &mut Notes,
-    value: Operand,
-    to: Option<CoreType>,
-) -> Result<Box<Core>, OutOfMemory>
-    ensures { (b : Bounds) → ResultInRange b.functions to → OperandInRange b value → IfOk result (λ core. CoreInRange b core.value) }
-{
-    let Some(to) = to else {
-        return Ok(value.core);
-    };
-    if value.is_unknown() || value.kind == Kind::Of(to) {
-        return Ok(value.core);
+impl Context<'_> {
+    /// The tree of a value as this type: the value's own where it has the type, else with a `Cast`.
+    pub(crate) fn convert(
+        &self,
+        notes: &mut Notes,
+        value: Typed,
+        to: Option<CoreType>,
+    ) -> Result<Box<Core>>
+        ensures { (b : Bounds) → ResultInRange b.functions to → TypedInRange b value → IfOk result (λ core. CoreInRange b core.value) }
+    {
+        let Some(to) = to else {
+            return Ok(value.core);
+        };
+        if value.is_unknown() || value.kind == Kind::Of(to) {
+            return Ok(value.core);
+        }
+        if !converts(self.catalog, value.kind, to) {
+            self.fault(notes, TypeRule::NoConversion);
+            return Ok(value.core);
+        }
+        let core = Box::new(self.catalog.alloc, Core::Cast(to, value.core))?;
+        Ok(core)
     }
-    if !converts(context.catalog, value.kind, to) {
-        context.fault(notes, TypeRule::NoConversion);
-        return Ok(value.core);
-    }
-    let core = Box::new(context.catalog.alloc, cast_to(to, value.core))?;
-    Ok(core)
-}
 
-/// `as`
-pub(crate) fn cast(
-    context: &Context<'_>,
-    notes: &mut Notes,
-    of: Operand,
-    to: &TypeName,
-) -> Result<Operand, OutOfMemory>
-    ensures { OperandInRange (bounds_of context.now) of → IfOk result (OperandInRange (bounds_of context.now)) }
-{
-    let Some(to) = context.kind_named(notes, to)? else {
-        return context.unknown();
-    };
-    if !casts(context.catalog, of.kind, to) {
-        context.fault(notes, TypeRule::NoConversion);
+    /// `as`
+    pub(crate) fn cast(&self, notes: &mut Notes, of: Typed, to: &TypeName) -> Result<Typed>
+        ensures { TypedInRange (bounds_of self.now) of → IfOk result (TypedInRange (bounds_of self.now)) }
+    {
+        let Some(to) = self.kind_named(notes, to) else {
+            return self.unknown();
+        };
+        if !casts(self.catalog, of.kind, to) {
+            self.fault(notes, TypeRule::NoConversion);
+        }
+        self.known(Core::Cast(to, of.core), to)
     }
-    let core = cast_to(to, of.core);
-    Operand::of(context.catalog.alloc, core, to)
 }
 
 /// Whether a value converts to the type by itself. A type that isn't known breaks no rule.
@@ -67,37 +60,28 @@ pub(crate) fn converts(catalog: &Catalog<'_>, kind: Kind, to: CoreType) -> bool 
     }
 }
 
-/// Whether `as` gives the type of such a value.
-pub(crate) fn casts(catalog: &Catalog<'_>, kind: Kind, to: CoreType) -> bool {
-    if converts(catalog, kind, to) {
-        return true;
-    }
-    match kind {
-        Kind::Of(from) => type_casts(catalog, from, to),
-        _ => false,
-    }
-}
-
 fn type_converts(catalog: &Catalog<'_>, from: CoreType, to: CoreType) -> bool {
     if from == to {
         return true;
     }
-    match to {
-        CoreType::Bool => true,
-        CoreType::Text => prints(Kind::Of(from)),
-        CoreType::Script(parent) => match from {
-            CoreType::Script(child) => catalog.is_child(child, parent),
-            _ => false,
-        },
+    match (from, to) {
+        (_, CoreType::Bool) => true,
+        (_, CoreType::Text) => prints(Kind::Of(from)),
+        (CoreType::Script(child), CoreType::Script(parent)) => catalog.is_child(child, parent),
         _ => false,
     }
 }
 
-// What `as` allows beyond the conversions that need no word.
-fn type_casts(catalog: &Catalog<'_>, from: CoreType, to: CoreType) -> bool {
-    match (from, to) {
-        (CoreType::Bool | CoreType::Text, CoreType::Int) => true,
-        (CoreType::Script(parent), CoreType::Script(child)) => catalog.is_child(child, parent),
+// Whether `as` gives the type of such a value.
+fn casts(catalog: &Catalog<'_>, kind: Kind, to: CoreType) -> bool {
+    if converts(catalog, kind, to) {
+        return true;
+    }
+    match (kind, to) {
+        (Kind::Of(CoreType::Bool | CoreType::Text), CoreType::Int) => true,
+        (Kind::Of(CoreType::Script(parent)), CoreType::Script(child)) => {
+            catalog.is_child(child, parent)
+        }
         _ => false,
     }
 }

@@ -1,11 +1,17 @@
 // What is noted while a script is judged.
-ghost use Rattle.std.specs.Prelude.{◌≡◌, ◌↔◌, None, IsTrue, IsSome, IfSome};
+ghost use Rattle.std.specs.Prelude.{◌≡◌, ◌↔◌, ◌<◌, None, IsTrue, IsSome, IfSome};
 ghost use Rattle.expression_rules.specs.Rules.{Before, IsFirst};
 
 use crate::rule::TypeRule;
 use papy_base::OutOfMemory;
 use std::alloc::Global;
 use std::collections::HashSet;
+
+// The most different texts that the calls of a script write out.
+const TEXT_LIMIT: usize = 8_192;
+
+// The most bytes of them together.
+const TEXT_BYTES_LIMIT: usize = 524_288;
 
 // A script of more nodes is too large, and each default argument is one at least.
 const DEFAULT_LIMIT: u32 = 200_000;
@@ -51,24 +57,15 @@ impl Notes {
         self.first
     }
 
-    /// How many different texts were written out.
-    pub fn texts(&self) -> usize {
-        self.texts.len()
-    }
-
-    /// How many bytes the different texts have together.
-    pub fn text_bytes(&self) -> usize
-        ensures { result ≡ self.now.text_bytes }
+    /// Whether the calls of the script write out over 8,192 different texts, over 524,288 bytes of them
+    /// together, or over 200,000 default arguments, of which no more than 200,001 are written out.
+    pub fn writes_too_much(&self) -> bool
+        ensures bytes { 524288 < self.now.text_bytes → IsTrue result }
+        ensures defaults { 200000 < self.now.defaults → IsTrue result }
     {
-        self.text_bytes
-    }
-
-    /// How many default arguments were written out. A script with over 200,000 of them is too large, and no
-    /// more than 200,001 are written out.
-    pub fn defaults(&self) -> u32
-        ensures { result ≡ self.now.defaults }
-    {
-        self.defaults
+        self.texts.len() > TEXT_LIMIT
+            || self.text_bytes > TEXT_BYTES_LIMIT
+            || self.defaults > DEFAULT_LIMIT
     }
 
     /// Notes that a call writes this text out.
@@ -99,14 +96,8 @@ fn first_of(first: Option<(u16, TypeRule)>, line: u16, rule: TypeRule) -> (u16, 
     ensures { IsFirst first line rule result }
 {
     match first {
-        Some((least, known)) => {
-            if comes_before(line, rule, least, known) {
-                (line, rule)
-            } else {
-                (least, known)
-            }
-        }
-        None => (line, rule),
+        Some((least, known)) if !comes_before(line, rule, least, known) => (least, known),
+        _ => (line, rule),
     }
 }
 

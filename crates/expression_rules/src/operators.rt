@@ -1,212 +1,141 @@
 // The operators on one and two values.
 ghost use Rattle.std.specs.Prelude.{◌≡◌, IfOk};
-ghost use Rattle.core_tree.specs.InRange.{ResultInRange};
 ghost use Rattle.expression_rules.specs.Operations.{whole_operation, operation_with_text, operation_of, operand_type};
-ghost use Rattle.expression_rules.specs.Ranges.{OperandInRange, bounds_of};
+ghost use Rattle.expression_rules.specs.Ranges.{TypedInRange, bounds_of};
 
-use crate::context::Context;
-use crate::conversions::{common_type, convert, prints};
+use crate::context::{Context, Result, Typed};
+use crate::conversions::{common_type, prints};
 use crate::notes::Notes;
-use crate::operand::Operand;
 use crate::rule::TypeRule;
-use crate::trees::{both, calculated, compared, either, equated, inverted, joined, negated};
-use core_tree::{Arith, CoreType, Order};
-use papy_base::OutOfMemory;
+use core_tree::{Arith, Core, CoreType, Order};
 use script_lexer::Sign;
 use type_scope::Kind;
 
 const INT: Kind = Kind::Of(CoreType::Int);
 
-/// `-of` or `!of`
-pub(crate) fn unary(
-    context: &Context<'_>,
-    notes: &mut Notes,
-    sign: Sign,
-    of: Operand,
-) -> Result<Operand, OutOfMemory>
-    ensures { OperandInRange (bounds_of context.now) of → IfOk result (OperandInRange (bounds_of context.now)) }
-{
-    if of.is_unknown() {
-        return context.unknown();
-    }
-    if sign == Sign::Not {
-        return opposite(context, notes, of);
-    }
-    if of.kind != INT {
-        return bad_operand(context, notes);
-    }
-    let core = negated(of.core);
-    Operand::of(context.catalog.alloc, core, CoreType::Int)
-}
-
-// Whether the value is False.
-fn opposite(context: &Context<'_>, notes: &mut Notes, of: Operand) -> Result<Operand, OutOfMemory>
-    ensures { OperandInRange (bounds_of context.now) of → IfOk result (OperandInRange (bounds_of context.now)) }
-{
-    let truth = convert(context, notes, of, Some(CoreType::Bool))?;
-    let core = inverted(truth);
-    Operand::of(context.catalog.alloc, core, CoreType::Bool)
-}
-
-/// A sign between two values.
-pub(crate) fn binary(
-    context: &Context<'_>,
-    notes: &mut Notes,
-    sign: Sign,
-    left: Operand,
-    right: Operand,
-) -> Result<Operand, OutOfMemory>
-    ensures { OperandInRange (bounds_of context.now) left → OperandInRange (bounds_of context.now) right → IfOk result (OperandInRange (bounds_of context.now)) }
-{
-    if left.is_unknown() || right.is_unknown() {
-        return context.unknown();
-    }
-    match sign {
-        Sign::And | Sign::Or => logical(context, notes, sign, left, right),
-        Sign::Equal => equal(context, notes, left, right),
-        Sign::NotEqual => different(context, notes, left, right),
-        Sign::Less => compare(context, notes, Order::Less, left, right),
-        Sign::LessEqual => compare(context, notes, Order::LessEqual, left, right),
-        Sign::Greater => compare(context, notes, Order::Greater, left, right),
-        Sign::GreaterEqual => compare(context, notes, Order::GreaterEqual, left, right),
-        _ => arithmetic(context, notes, sign, left, right),
-    }
-}
-
-// `&&` and `||`
-fn logical(
-    context: &Context<'_>,
-    notes: &mut Notes,
-    sign: Sign,
-    left: Operand,
-    right: Operand,
-) -> Result<Operand, OutOfMemory>
-    ensures { OperandInRange (bounds_of context.now) left → OperandInRange (bounds_of context.now) right → IfOk result (OperandInRange (bounds_of context.now)) }
-{
-    let left = convert(context, notes, left, Some(CoreType::Bool))?;
-    let right = convert(context, notes, right, Some(CoreType::Bool))?;
-    if sign == Sign::And {
-        let core = both(left, right);
-        Operand::of(context.catalog.alloc, core, CoreType::Bool)
-    } else {
-        let core = either(left, right);
-        Operand::of(context.catalog.alloc, core, CoreType::Bool)
-    }
-}
-
-fn equal(
-    context: &Context<'_>,
-    notes: &mut Notes,
-    left: Operand,
-    right: Operand,
-) -> Result<Operand, OutOfMemory>
-    ensures { OperandInRange (bounds_of context.now) left → OperandInRange (bounds_of context.now) right → IfOk result (OperandInRange (bounds_of context.now)) }
-{
-    if left.kind == Kind::NoneLiteral && right.kind == Kind::NoneLiteral {
-        return equated_as(context, notes, left, right, None);
-    }
-    match common_type(context.catalog, left.kind, right.kind) {
-        Some(to) => equated_as(context, notes, left, right, Some(to)),
-        None => bad_operand(context, notes),
-    }
-}
-
-// Whether the two values are equal once both have this type.
-fn equated_as(
-    context: &Context<'_>,
-    notes: &mut Notes,
-    left: Operand,
-    right: Operand,
-    to: Option<CoreType>,
-) -> Result<Operand, OutOfMemory>
-    ensures { ResultInRange (bounds_of context.now).functions to → OperandInRange (bounds_of context.now) left → OperandInRange (bounds_of context.now) right → IfOk result (OperandInRange (bounds_of context.now)) }
-{
-    let left = convert(context, notes, left, to)?;
-    let right = convert(context, notes, right, to)?;
-    let core = equated(left, right);
-    Operand::of(context.catalog.alloc, core, CoreType::Bool)
-}
-
-fn different(
-    context: &Context<'_>,
-    notes: &mut Notes,
-    left: Operand,
-    right: Operand,
-) -> Result<Operand, OutOfMemory>
-    ensures { OperandInRange (bounds_of context.now) left → OperandInRange (bounds_of context.now) right → IfOk result (OperandInRange (bounds_of context.now)) }
-{
-    let equal = equal(context, notes, left, right)?;
-    if equal.is_unknown() {
-        return Ok(equal);
-    }
-    opposite(context, notes, equal)
-}
-
-fn compare(
-    context: &Context<'_>,
-    notes: &mut Notes,
-    order: Order,
-    left: Operand,
-    right: Operand,
-) -> Result<Operand, OutOfMemory>
-    ensures { OperandInRange (bounds_of context.now) left → OperandInRange (bounds_of context.now) right → IfOk result (OperandInRange (bounds_of context.now)) }
-{
-    if left.kind != INT || right.kind != INT {
-        return bad_operand(context, notes);
-    }
-    let core = compared(order, left.core, right.core);
-    Operand::of(context.catalog.alloc, core, CoreType::Bool)
-}
-
-/// Arithmetic on whole numbers, or two texts joined.
-pub(crate) fn arithmetic(
-    context: &Context<'_>,
-    notes: &mut Notes,
-    sign: Sign,
-    left: Operand,
-    right: Operand,
-) -> Result<Operand, OutOfMemory>
-    ensures { OperandInRange (bounds_of context.now) left → OperandInRange (bounds_of context.now) right → IfOk result (OperandInRange (bounds_of context.now)) }
-{
-    match operation(context, notes, sign, left.kind, right.kind) {
-        Some(Arith::Join) => join(context, notes, left, right),
-        Some(operation) => {
-            let core = calculated(operation, left.core, right.core);
-            Operand::of(context.catalog.alloc, core, CoreType::Int)
+impl Context<'_> {
+    /// `-of` or `!of`
+    pub(crate) fn unary(&self, notes: &mut Notes, sign: Sign, of: Typed) -> Result<Typed>
+        ensures { TypedInRange (bounds_of self.now) of → IfOk result (TypedInRange (bounds_of self.now)) }
+    {
+        if of.is_unknown() {
+            return self.unknown();
         }
-        None => context.unknown(),
+        if sign == Sign::Not {
+            let truth = self.convert(notes, of, Some(CoreType::Bool))?;
+            return self.known(Core::Not(truth), CoreType::Bool);
+        }
+        if of.kind != INT {
+            return self.broken(notes, TypeRule::Operand);
+        }
+        self.known(Core::Neg(of.core), CoreType::Int)
     }
-}
 
-fn join(
-    context: &Context<'_>,
-    notes: &mut Notes,
-    left: Operand,
-    right: Operand,
-) -> Result<Operand, OutOfMemory>
-    ensures { OperandInRange (bounds_of context.now) left → OperandInRange (bounds_of context.now) right → IfOk result (OperandInRange (bounds_of context.now)) }
-{
-    let left = convert(context, notes, left, Some(CoreType::Text))?;
-    let right = convert(context, notes, right, Some(CoreType::Text))?;
-    let core = joined(left, right);
-    Operand::of(context.catalog.alloc, core, CoreType::Text)
-}
-
-/// What a sign does with values of these types. `Operand` is broken where it does nothing with them.
-pub(crate) fn operation(
-    context: &Context<'_>,
-    notes: &mut Notes,
-    sign: Sign,
-    left: Kind,
-    right: Kind,
-) -> Option<Arith>
-    ensures { result ≡ operation_of sign left right }
-{
-    let found = operation_of(sign, left, right);
-    if found.is_none() && left != Kind::Unknown && right != Kind::Unknown {
-        context.fault(notes, TypeRule::Operand);
+    /// A sign between two values.
+    pub(crate) fn binary(
+        &self,
+        notes: &mut Notes,
+        sign: Sign,
+        left: Typed,
+        right: Typed,
+    ) -> Result<Typed>
+        ensures { TypedInRange (bounds_of self.now) left → TypedInRange (bounds_of self.now) right → IfOk result (TypedInRange (bounds_of self.now)) }
+    {
+        if left.is_unknown() || right.is_unknown() {
+            return self.unknown();
+        }
+        match sign {
+            Sign::And | Sign::Or => self.logical(notes, sign, left, right),
+            Sign::Equal => self.equal(notes, left, right),
+            Sign::NotEqual => {
+                let equal = self.equal(notes, left, right)?;
+                self.unary(notes, Sign::Not, equal)
+            }
+            Sign::Less => self.compare(notes, Order::Less, left, right),
+            Sign::LessEqual => self.compare(notes, Order::LessEqual, left, right),
+            Sign::Greater => self.compare(notes, Order::Greater, left, right),
+            Sign::GreaterEqual => self.compare(notes, Order::GreaterEqual, left, right),
+            _ => self.arithmetic(notes, sign, left, right),
+        }
     }
-    found
+
+    // `&&` and `||`
+    fn logical(&self, notes: &mut Notes, sign: Sign, left: Typed, right: Typed) -> Result<Typed>
+        ensures { TypedInRange (bounds_of self.now) left → TypedInRange (bounds_of self.now) right → IfOk result (TypedInRange (bounds_of self.now)) }
+    {
+        let left = self.convert(notes, left, Some(CoreType::Bool))?;
+        let right = self.convert(notes, right, Some(CoreType::Bool))?;
+        if sign == Sign::And {
+            self.known(Core::And(left, right), CoreType::Bool)
+        } else {
+            self.known(Core::Or(left, right), CoreType::Bool)
+        }
+    }
+
+    fn equal(&self, notes: &mut Notes, left: Typed, right: Typed) -> Result<Typed>
+        ensures { TypedInRange (bounds_of self.now) left → TypedInRange (bounds_of self.now) right → IfOk result (TypedInRange (bounds_of self.now)) }
+    {
+        let to = common_type(self.catalog, left.kind, right.kind);
+        if to.is_none() && (left.kind != Kind::NoneLiteral || right.kind != Kind::NoneLiteral) {
+            return self.broken(notes, TypeRule::Operand);
+        }
+        let left = self.convert(notes, left, to)?;
+        let right = self.convert(notes, right, to)?;
+        self.known(Core::Equal(left, right), CoreType::Bool)
+    }
+
+    fn compare(&self, notes: &mut Notes, order: Order, left: Typed, right: Typed) -> Result<Typed>
+        ensures { TypedInRange (bounds_of self.now) left → TypedInRange (bounds_of self.now) right → IfOk result (TypedInRange (bounds_of self.now)) }
+    {
+        if left.kind != INT || right.kind != INT {
+            return self.broken(notes, TypeRule::Operand);
+        }
+        self.known(Core::Order(order, left.core, right.core), CoreType::Bool)
+    }
+
+    /// Arithmetic on whole numbers, or two texts joined.
+    pub(crate) fn arithmetic(
+        &self,
+        notes: &mut Notes,
+        sign: Sign,
+        left: Typed,
+        right: Typed,
+    ) -> Result<Typed>
+        ensures { TypedInRange (bounds_of self.now) left → TypedInRange (bounds_of self.now) right → IfOk result (TypedInRange (bounds_of self.now)) }
+    {
+        match self.operation(notes, sign, left.kind, right.kind) {
+            Some(Arith::Join) => self.join(notes, left, right),
+            Some(operation) => {
+                self.known(Core::Arith(operation, left.core, right.core), CoreType::Int)
+            }
+            None => self.unknown(),
+        }
+    }
+
+    fn join(&self, notes: &mut Notes, left: Typed, right: Typed) -> Result<Typed>
+        ensures { TypedInRange (bounds_of self.now) left → TypedInRange (bounds_of self.now) right → IfOk result (TypedInRange (bounds_of self.now)) }
+    {
+        let left = self.convert(notes, left, Some(CoreType::Text))?;
+        let right = self.convert(notes, right, Some(CoreType::Text))?;
+        self.known(Core::Join(left, right), CoreType::Text)
+    }
+
+    /// What a sign does with values of these types. `Operand` is broken where it does nothing with them.
+    pub(crate) fn operation(
+        &self,
+        notes: &mut Notes,
+        sign: Sign,
+        left: Kind,
+        right: Kind,
+    ) -> Option<Arith>
+        ensures { result ≡ operation_of sign left right }
+    {
+        let found = operation_of(sign, left, right);
+        if found.is_none() && left != Kind::Unknown && right != Kind::Unknown {
+            self.fault(notes, TypeRule::Operand);
+        }
+        found
+    }
 }
 
 /// The type of the operands and of the result.
@@ -253,10 +182,4 @@ fn whole_operation(sign: Sign) -> Option<Arith>
         Sign::Percent => Some(Arith::Rem),
         _ => None,
     }
-}
-
-fn bad_operand(context: &Context<'_>, notes: &mut Notes) -> Result<Operand, OutOfMemory>
-    ensures { IfOk result (OperandInRange (bounds_of context.now)) }
-{
-    context.broken(notes, TypeRule::Operand)
 }

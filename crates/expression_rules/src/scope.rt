@@ -2,17 +2,13 @@
 ghost use Rattle.std.specs.Prelude.{◌≡◌, ◌<◌, ◌++◌, ◌∷◌, [], IfNone, IfOk, IfSome, IsSome, OnOk, min, vec_len};
 ghost use Rattle.core_tree.specs.InRange.{ResultInRange};
 ghost use Rattle.type_scope.specs.Types.{signatures, type_named};
-ghost use Rattle.expression_rules.specs.Ranges.{CoreInRange, FormInRange, TypedInRange};
+ghost use Rattle.expression_rules.specs.Ranges.{CoreInRange, FormInRange};
 ghost use Rattle.expression_rules.specs.Rules.{IsFirst};
 ghost use Rattle.expression_rules.specs.Scopes.{Keeps, ScopeInRange, scope_bounds};
 
-use crate::assignment::assign;
 use crate::context::Context;
-use crate::conversions::convert;
-use crate::expression::{any, truth, value};
 use crate::notes::Notes;
 use crate::rule::TypeRule;
-use crate::typed::Typed;
 use core_tree::{Core, CoreStatement, CoreType};
 use line_parser::{Expr, TypeName};
 use papy_base::{Name, OutOfMemory};
@@ -93,14 +89,13 @@ impl<'a> Scope<'a> {
     }
 
     /// The type of this name. `UnknownType` is broken where there is none.
-    pub fn kind_named(&mut self, name: &TypeName) -> Result<Option<CoreType>, OutOfMemory>
-        ensures found { IfOk result (λ found. found ≡ type_named self.old.catalog.now.set.now name.now) }
-        ensures in_range { IfOk result (ResultInRange (signatures self.old.catalog.now.set.now)) }
+    pub fn kind_named(&mut self, name: &TypeName) -> Option<CoreType>
+        ensures found { result ≡ type_named self.old.catalog.now.set.now name.now }
+        ensures in_range { ResultInRange (signatures self.old.catalog.now.set.now) result }
         ensures kept { Keeps self.old self.new }
-        ensures noted { IfOk result (λ found. IfNone found (IsSome self.new.notes.first)) }
+        ensures noted { IfNone result (IsSome self.new.notes.first) }
     {
-        let context = context_of!(self);
-        context.kind_named(&mut self.notes, name)
+        context_of!(self).kind_named(&mut self.notes, name)
     }
 
     /// Adds a parameter or a local, and gives its number. `DuplicateLocal` is broken where one of the name
@@ -121,35 +116,27 @@ impl<'a> Scope<'a> {
         Ok(u16::try_from(number).unwrap_or(u16::MAX))
     }
 
-    /// An expression. Its kind is `Nothing` where it calls a function without result.
+    /// The tree of an expression, which may have no value.
     ///
     /// `OutOfMemory` is also the answer where the tree is deeper than any line's, here and below.
-    pub fn any(&mut self, tree: &Expr) -> Result<Typed, OutOfMemory>
-        ensures in_range { ScopeInRange self.old → IfOk result (TypedInRange (scope_bounds self.old)) }
+    pub fn any(&mut self, tree: &Expr) -> Result<Core, OutOfMemory>
+        ensures in_range { ScopeInRange self.old → IfOk result (CoreInRange (scope_bounds self.old)) }
         ensures kept { Keeps self.old self.new }
     {
         let context = context_of!(self);
-        Ok(any(&context, &mut self.notes, tree)?.into_typed())
+        let typed = context.any(&mut self.notes, tree)?;
+        Ok(Box::into_inner(typed.core))
     }
 
-    /// An expression whose value is needed. `NoValue` is broken where it has none.
-    pub fn value(&mut self, tree: &Expr) -> Result<Typed, OutOfMemory>
-        ensures in_range { ScopeInRange self.old → IfOk result (TypedInRange (scope_bounds self.old)) }
-        ensures kept { Keeps self.old self.new }
-    {
-        let context = context_of!(self);
-        Ok(value(&context, &mut self.notes, tree)?.into_typed())
-    }
-
-    /// The tree of a value that is needed as this type. `NoConversion` is broken where it doesn't convert to
-    /// it by itself.
+    /// The tree of a value that is needed as this type. `NoValue` is broken where it has none, and
+    /// `NoConversion` where it doesn't convert to the type by itself.
     pub fn value_as(&mut self, tree: &Expr, to: Option<CoreType>) -> Result<Core, OutOfMemory>
         ensures in_range { ScopeInRange self.old → ResultInRange (scope_bounds self.old).functions to → IfOk result (CoreInRange (scope_bounds self.old)) }
         ensures kept { Keeps self.old self.new }
     {
         let context = context_of!(self);
-        let value = value(&context, &mut self.notes, tree)?;
-        let core = convert(&context, &mut self.notes, value, to)?;
+        let value = context.value(&mut self.notes, tree)?;
+        let core = context.convert(&mut self.notes, value, to)?;
         Ok(Box::into_inner(core))
     }
 
@@ -158,8 +145,7 @@ impl<'a> Scope<'a> {
         ensures in_range { ScopeInRange self.old → IfOk result (CoreInRange (scope_bounds self.old)) }
         ensures kept { Keeps self.old self.new }
     {
-        let context = context_of!(self);
-        Ok(Box::into_inner(truth(&context, &mut self.notes, tree)?))
+        self.value_as(tree, Some(CoreType::Bool))
     }
 
     /// An assignment, also one such as `+=`.
@@ -173,6 +159,6 @@ impl<'a> Scope<'a> {
         ensures kept { Keeps self.old self.new }
     {
         let context = context_of!(self);
-        assign(&context, &mut self.notes, target, sign, value)
+        context.assign(&mut self.notes, target, sign, value)
     }
 }

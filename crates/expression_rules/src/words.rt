@@ -1,127 +1,88 @@
 // What a word names.
 ghost use Rattle.std.specs.Prelude.{IfOk, IfSome};
-ghost use Rattle.expression_rules.specs.Ranges.{OperandInRange, MeaningInRange, ContextInRange, bounds_of};
+ghost use Rattle.expression_rules.specs.Ranges.{TypedInRange, ResolvedInRange, ContextInRange, bounds_of};
 
-use crate::context::Context;
-use crate::members::read_own_property;
+use crate::context::{Context, Result, Typed};
 use crate::notes::Notes;
-use crate::operand::Operand;
 use crate::rule::TypeRule;
-use crate::trees::{field, local, own_instance, state_text};
-use core_tree::CoreType;
-use papy_base::{Name, OutOfMemory};
+use core_tree::{Core, CoreType};
+use papy_base::Name;
 use script_linker::PropertyRef;
+use type_scope::Kind;
 
 // A word of no script: generated functions read and write the state by it.
 const STATE_WORD: &[u8] = b"::State";
 
 /// What a word names.
 #[derive(Clone, Copy)]
-pub(crate) enum Meaning {
+pub(crate) enum Resolved {
     Local(u16, Option<CoreType>),
     Field(u16, Option<CoreType>),
     Property(PropertyRef),
     State,
 }
 
-/// What a word names: a local or a parameter, a variable of the script, or a property of it or of a parent.
-pub(crate) fn meaning_of(context: &Context<'_>, name: &Name) -> Result<Option<Meaning>, OutOfMemory>
-    ensures { ContextInRange context.now → IfOk result (λ found. IfSome found (MeaningInRange (bounds_of context.now))) }
-{
-    match local_named(context, name) {
-        Some(local) => Ok(Some(local)),
-        None => member_named(context, name),
-    }
-}
-
-fn local_named(context: &Context<'_>, name: &Name) -> Option<Meaning>
-    ensures { ContextInRange context.now → IfSome result (MeaningInRange (bounds_of context.now)) }
-{
-    let local = context.locals.find(name)?;
-    let number = u16::try_from(local.number).unwrap_or(u16::MAX);
-    Some(Meaning::Local(number, local.kind))
-}
-
-fn member_named(context: &Context<'_>, name: &Name) -> Result<Option<Meaning>, OutOfMemory>
-    ensures { IfOk result (λ found. IfSome found (MeaningInRange (bounds_of context.now))) }
-{
-    if let Some((number, kind)) = context.layout.find(name) {
-        let kind = context.catalog.type_of(kind)?;
-        return Ok(Some(Meaning::Field(number, kind)));
-    }
-    if let Some(at) = context.catalog.find_property(context.script, name) {
-        return Ok(Some(Meaning::Property(at)));
-    }
-    if name.as_bytes() == STATE_WORD {
-        Ok(Some(Meaning::State))
-    } else {
-        Ok(None)
-    }
-}
-
-/// The value of a word with this meaning.
-pub(crate) fn read_word(
-    context: &Context<'_>,
-    notes: &mut Notes,
-    meaning: Meaning,
-    name: &Name,
-) -> Result<Operand, OutOfMemory>
-    ensures { MeaningInRange (bounds_of context.now) meaning → IfOk result (OperandInRange (bounds_of context.now)) }
-{
-    match meaning {
-        Meaning::Local(number, kind) => Operand::found(context.catalog.alloc, local(number), kind),
-        Meaning::State => Operand::of(context.catalog.alloc, state_text(), CoreType::Text),
-        Meaning::Field(number, kind) => {
-            context.needs_instance(notes);
-            Operand::found(context.catalog.alloc, field(number), kind)
+impl Context<'_> {
+    /// What a word names: a local or a parameter, a variable of the script, or a property of it or of a parent.
+    pub(crate) fn resolve(&self, name: &Name) -> Option<Resolved>
+        ensures { ContextInRange self.now → IfSome result (ResolvedInRange (bounds_of self.now)) }
+    {
+        if let Some(local) = self.locals.find(name) {
+            let number = u16::try_from(local.number).unwrap_or(u16::MAX);
+            return Some(Resolved::Local(number, local.kind));
         }
-        Meaning::Property(at) => {
-            context.needs_instance(notes);
-            read_own_property(context, notes, at, name)
+        if let Some((number, kind)) = self.layout.find(name) {
+            return Some(Resolved::Field(number, self.catalog.type_of(kind)));
+        }
+        if let Some(at) = self.catalog.find_property(self.script, name) {
+            return Some(Resolved::Property(at));
+        }
+        if name.as_bytes() == STATE_WORD {
+            Some(Resolved::State)
+        } else {
+            None
         }
     }
-}
 
-/// The value of a word that stands by itself, so that it can name no script.
-pub(crate) fn lone_word(
-    context: &Context<'_>,
-    notes: &mut Notes,
-    name: &Name,
-) -> Result<Operand, OutOfMemory>
-    ensures { ContextInRange context.now → IfOk result (OperandInRange (bounds_of context.now)) }
-{
-    match meaning_of(context, name)? {
-        Some(meaning) => read_word(context, notes, meaning, name),
-        None => unknown_word(context, notes),
+    /// The value of a word that names this.
+    pub(crate) fn read_word(
+        &self,
+        notes: &mut Notes,
+        resolved: Resolved,
+        name: &Name,
+    ) -> Result<Typed>
+        ensures { ResolvedInRange (bounds_of self.now) resolved → IfOk result (TypedInRange (bounds_of self.now)) }
+    {
+        match resolved {
+            Resolved::Local(number, kind) => self.typed(Core::Local(number), Kind::from_type(kind)),
+            Resolved::State => self.known(Core::StateText, CoreType::Text),
+            Resolved::Field(number, kind) => {
+                self.needs_instance(notes);
+                self.typed(Core::Field(number), Kind::from_type(kind))
+            }
+            Resolved::Property(at) => {
+                self.needs_instance(notes);
+                let own = self.own_instance()?;
+                self.read_property(notes, own, at, name)
+            }
+        }
     }
-}
 
-/// `Self`
-pub(crate) fn instance(context: &Context<'_>, notes: &mut Notes) -> Result<Operand, OutOfMemory>
-    ensures { ContextInRange context.now → IfOk result (OperandInRange (bounds_of context.now)) }
-{
-    context.needs_instance(notes);
-    let kind = CoreType::Script(context.script);
-    Operand::of(context.catalog.alloc, own_instance(), kind)
-}
+    /// `Self`
+    pub(crate) fn instance(&self, notes: &mut Notes) -> Result<Typed>
+        ensures { ContextInRange self.now → IfOk result (TypedInRange (bounds_of self.now)) }
+    {
+        self.needs_instance(notes);
+        self.known(Core::SelfValue, CoreType::Script(self.script))
+    }
 
-/// A word that names no value, where a value must stand.
-pub(crate) fn unknown_word(context: &Context<'_>, notes: &mut Notes) -> Result<Operand, OutOfMemory>
-    ensures { IfOk result (OperandInRange (bounds_of context.now)) }
-{
-    context.broken(notes, TypeRule::UnknownName)
-}
-
-/// A member of a word that names no value. It may name a script, which has no members.
-pub(crate) fn member_of_word(
-    context: &Context<'_>,
-    notes: &mut Notes,
-    word: &Name,
-) -> Result<Operand, OutOfMemory>
-    ensures { IfOk result (OperandInRange (bounds_of context.now)) }
-{
-    match context.catalog.find_script(word)? {
-        Some(_) => context.broken(notes, TypeRule::NoProperty),
-        None => context.broken(notes, TypeRule::UnknownName),
+    /// A member of a word that names no value. It may name a script, which has no members.
+    pub(crate) fn member_of_word(&self, notes: &mut Notes, word: &Name) -> Result<Typed>
+        ensures { IfOk result (TypedInRange (bounds_of self.now)) }
+    {
+        match self.catalog.find_script(word) {
+            Some(_) => self.broken(notes, TypeRule::NoProperty),
+            None => self.broken(notes, TypeRule::UnknownName),
+        }
     }
 }

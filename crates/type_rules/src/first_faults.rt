@@ -89,12 +89,5 @@ fn too_large_in(file: u16, too_large: Option<u16>) -> Option<TypeFault>
     ensures broken { result ≡ too_large_in file too_large }
     ensures below { (count : ℕ) → file + 6 < count → HasFaultBelow count result }
 {
-    match too_large {
-        Some(line) => Some(TypeFault::Broken {
-            file,
-            line: u32::from(line),
-            rule: TypeRule::FunctionTooLarge,
-        }),
-        None => None,
-    }
+    broken_in(file, Some((too_large?, TypeRule::FunctionTooLarge)))
 }

@@ -47,7 +47,7 @@ pub(crate) fn core_function(
 {
     let heading = &function.heading;
     let mut scope = work.open_scope(heading.is_global, function.line);
-    let promise = promise_of(&mut scope, &heading.result)?;
+    let promise = promise_of(&mut scope, &heading.result);
     add_parameters(&mut scope, heading.parameters.as_slice())?;
     let kinds = scope.locals.kinds.as_slice();
     let parameters = known_types(scope.catalog.alloc, kinds)?;
@@ -58,14 +58,14 @@ pub(crate) fn core_function(
     Ok(made)
 }
 
-fn promise_of(scope: &mut Scope<'_>, result_type: &Option<TypeName>) -> Result<Promise, OutOfMemory>
-    ensures promised { IfOk result (λ promise. promised promise ≡ option_map (type_in (scope_set scope.old)) result_type.now) }
+fn promise_of(scope: &mut Scope<'_>, result_type: &Option<TypeName>) -> Promise
+    ensures promised { promised result ≡ option_map (type_in (scope_set scope.old)) result_type.now }
     ensures kept { Keeps scope.old scope.new }
-    ensures in_range { IfOk result (PromiseInRange (scope_bounds scope.old).functions) }
+    ensures in_range { PromiseInRange (scope_bounds scope.old).functions result }
 {
     match result_type {
-        Some(name) => Ok(Promise::Value(scope.kind_named(name)?)),
-        None => Ok(Promise::Nothing),
+        Some(name) => Promise::Value(scope.kind_named(name)),
+        None => Promise::Nothing,
     }
 }
 
@@ -83,7 +83,7 @@ fn add_parameter(scope: &mut Scope<'_>, parameter: &Parameter) -> Result<(), Out
     ensures grows { OnOk result (Grows scope.old scope.new) }
     ensures added { OnOk result (scope.new.locals.kinds.items ≡ scope.old.locals.kinds.items ++ type_named (scope_set scope.old) parameter.now.kind ∷ []) }
 {
-    let kind = scope.kind_named(&parameter.kind)?;
+    let kind = scope.kind_named(&parameter.kind);
     let _number = scope.new_local(&parameter.name, kind)?;
     judge_default(scope, &parameter.default, kind);
     Ok(())

@@ -18,7 +18,6 @@ use line_parser::Constant;
 use papy_base::{Name, OutOfMemory};
 use script_parser::{Function, Property, PropertyForm, Script, State};
 use std::alloc::Global;
-use type_scope::Layout;
 
 // The nodes of a Get that returns a constant: the Return and the literal.
 const CONSTANT_GET_SIZE: u32 = 2;
@@ -50,7 +49,7 @@ fn core_property(
 {
     let name = property.name.try_clone(work.alloc())?;
     let doc = clone_text(work.alloc(), &property.doc)?;
-    let kind = work.kind_at(property.line, &property.kind)?;
+    let kind = work.kind_at(property.line, &property.kind);
     let access = core_access(work, place, property, kind)?;
     Ok(CoreProperty {
         name,
@@ -74,25 +73,16 @@ fn core_access(
         IfOk result (λ access. AccessInRange (functions_of work.old) (variables_of work.old) (access_of access)) }
 {
     match &property.form {
-        PropertyForm::Auto(_) => Ok(CoreAccess::Auto(auto_variable(work.layout, place)?)),
+        // The layout has a variable for each such property.
+        PropertyForm::Auto(_) => match work.layout.auto_variable(place) {
+            Some(variable) => Ok(CoreAccess::Auto(variable)),
+            None => Err(OutOfMemory),
+        },
         PropertyForm::ReadOnly(constant) => {
             let get = constant_get(work, property.line, constant, kind)?;
             Ok(CoreAccess::Full(Some(get), None))
         }
         PropertyForm::Full(functions) => full_access(work, functions.as_slice()),
-    }
-}
-
-// The variable of the Auto property at this place. Its layout has one for each such property.
-fn auto_variable(layout: &Layout<'_>, place: usize) -> Result<u16, OutOfMemory>
-    ensures { IfOk result (λ number. number < vec_len layout.now.sources) }
-{
-    let Ok(place) = u16::try_from(place) else {
-        return Err(OutOfMemory);
-    };
-    match layout.auto_variable(place) {
-        Some(variable) => Ok(variable),
-        None => Err(OutOfMemory),
     }
 }
 

@@ -22,7 +22,7 @@ use type_scope::{Catalog, Layout};
 
 /// A script, and what was found of it. Where a rule is broken nobody uses the script.
 #[derive(Drop)]
-pub(crate) struct Judged {
+pub(crate) struct JudgedScript {
     pub(crate) script: CoreScript,
     pub(crate) faults: ScriptFaults,
 }
@@ -36,7 +36,7 @@ struct Members {
 }
 
 /// The script of this number in its set.
-pub(crate) fn judge_script(catalog: &Catalog<'_>, number: u16) -> Result<Judged, OutOfMemory>
+pub(crate) fn judge_script(catalog: &Catalog<'_>, number: u16) -> Result<JudgedScript, OutOfMemory>
     requires { number < length catalog.now.set.now }
     ensures in_range { IfOk result (λ judged. ScriptInRange (signatures catalog.now.set.now) (script_of judged.script)) }
     ensures head { (file : SourceFile) → IfOk result (λ judged. core_script_head judged.script ≡ script_head catalog.now.set.now (slice_index_or catalog.now.set.now number file)) }
@@ -46,7 +46,7 @@ pub(crate) fn judge_script(catalog: &Catalog<'_>, number: u16) -> Result<Judged,
     let layout = Layout::new(catalog.alloc, script)?;
     let judged = judge_layout(catalog, &layout, number, script);
     let (members, faults) = judged?;
-    Ok(Judged {
+    Ok(JudgedScript {
         script: core_script(catalog, number, members)?,
         faults,
     })
@@ -103,7 +103,7 @@ fn core_script(
     Ok(CoreScript {
         file: catalog.set.file_name(number).try_clone(alloc)?,
         name: script.name.try_clone(alloc)?,
-        parent: catalog.parent_of(number)?,
+        parent: catalog.parent_of(number),
         flags: script.flags,
         doc: clone_text(alloc, &script.doc)?,
         auto_state: auto_state(alloc, script.states.as_slice())?,

@@ -67,18 +67,9 @@ fn lesser_line(found: Option<u16>, line: u16) -> Option<u16>
 
 /// How many nodes, parameters and locals a function has, at most 2^32 - 1 of them counted.
 pub(crate) fn function_size(function: &CoreFunction) -> u32 {
-    let slots = function
-        .parameters
-        .len()
-        .saturating_add(function.locals.len());
-    count_of(slots).saturating_add(block_size(function.body.as_slice(), BLOCK_LIMIT))
-}
-
-fn count_of(number: usize) -> u32 {
-    match u32::try_from(number) {
-        Ok(count) => count,
-        Err(_) => u32::MAX,
-    }
+    let slots = usize::saturating_add(function.parameters.len(), function.locals.len());
+    let slots = u32::try_from(slots).unwrap_or(u32::MAX);
+    slots.saturating_add(block_size(function.body.as_slice(), BLOCK_LIMIT))
 }
 
 #[cycle(lines)]
@@ -104,20 +95,19 @@ fn statement_size(statement: &CoreStatement, depth: u8) -> u32 {
     let parts = match statement {
         CoreStatement::SetLocal(_, value) | CoreStatement::SetField(_, value) => size_of(value),
         CoreStatement::SetState(value) | CoreStatement::Plain(value) => size_of(value),
-        CoreStatement::SetProp(of, _, value) => size_of(of).saturating_add(size_of(value)),
-        CoreStatement::ChangeProp(of, _, _, _, right) => size_of(of).saturating_add(size_of(right)),
-        CoreStatement::SetElement(array, index, value) => {
-            sum_of(size_of(array), size_of(index), size_of(value))
-        }
-        CoreStatement::ChangeElement(array, index, _, _, right) => {
-            sum_of(size_of(array), size_of(index), size_of(right))
-        }
         CoreStatement::Return(Some(value)) => size_of(value),
         CoreStatement::Return(None) => 0,
-        CoreStatement::If(tests, otherwise) => branches_size(
-            tests.as_slice(),
-            depth,
-        ).saturating_add(inner_size(otherwise.as_slice(), depth)),
+        CoreStatement::SetProp(of, _, right) | CoreStatement::ChangeProp(of, _, _, _, right) => {
+            size_of(of).saturating_add(size_of(right))
+        }
+        CoreStatement::SetElement(array, index, right)
+        | CoreStatement::ChangeElement(array, index, _, _, right) => {
+            sum_of(size_of(array), size_of(index), size_of(right))
+        }
+        CoreStatement::If(tests, otherwise) => {
+            let tests = branches_size(tests.as_slice(), depth);
+            tests.saturating_add(inner_size(otherwise.as_slice(), depth))
+        }
         CoreStatement::While(test, body, _) => {
             size_of(test).saturating_add(inner_size(body.as_slice(), depth))
         }
@@ -141,29 +131,23 @@ fn size_of(core: &Core) -> u32 {
         Core::Lit(_) | Core::Local(_) | Core::Field(_) => 0,
         Core::SelfValue | Core::StateText | Core::NewArray(_, _) => 0,
         Core::Neg(of) | Core::Not(of) | Core::Length(of) => size_of(of),
-        Core::Cast(_, of) => size_of(of),
-        Core::PropGet { of, .. } => size_of(of),
-        Core::Join(left, right) | Core::Equal(left, right) => size_of(left).saturating_add(size_of(
-            right,
-        )),
-        Core::And(left, right) | Core::Or(left, right) => size_of(left).saturating_add(size_of(
-            right,
-        )),
-        Core::Arith(_, left, right) => size_of(left).saturating_add(size_of(right)),
-        Core::Order(_, left, right) => size_of(left).saturating_add(size_of(right)),
-        Core::Element(array, index, _) => size_of(array).saturating_add(size_of(index)),
-        Core::Find(array, value, start) => sum_of(size_of(array), size_of(value), size_of(start)),
-        Core::FindBack(array, value, start) => sum_of(
-            size_of(array),
-            size_of(value),
-            size_of(start),
-        ),
+        Core::Cast(_, of) | Core::PropGet { of, .. } => size_of(of),
+        Core::Join(left, right)
+        | Core::Equal(left, right)
+        | Core::And(left, right)
+        | Core::Or(left, right)
+        | Core::Arith(_, left, right)
+        | Core::Order(_, left, right)
+        | Core::Element(left, right, _) => size_of(left).saturating_add(size_of(right)),
+        Core::Find(array, value, start) | Core::FindBack(array, value, start) => {
+            sum_of(size_of(array), size_of(value), size_of(start))
+        }
         Core::CallMethod { of, arguments, .. } => {
             size_of(of).saturating_add(sizes_of(arguments.as_slice()))
         }
-        Core::CallParent { arguments, .. } => sizes_of(arguments.as_slice()),
-        Core::CallGlobal { arguments, .. } => sizes_of(arguments.as_slice()),
-        Core::CallNative { arguments, .. } => sizes_of(arguments.as_slice()),
+        Core::CallParent { arguments, .. }
+        | Core::CallGlobal { arguments, .. }
+        | Core::CallNative { arguments, .. } => sizes_of(arguments.as_slice()),
     };
     parts.saturating_add(1)
 }

@@ -73,8 +73,8 @@ fn core_statement(
             value,
         } => scope.assign(target, *sign, value),
         StatementForm::Plain(tree) => {
-            let typed = scope.any(tree)?;
-            Ok(CoreStatement::Plain(typed.core))
+            let core = scope.any(tree)?;
+            Ok(CoreStatement::Plain(core))
         }
         StatementForm::Return(value) => return_statement(scope, value, promise),
         StatementForm::If { tests, otherwise } => {
@@ -165,7 +165,7 @@ fn definition(
     ensures grows { OnOk result (Grows scope.old scope.new) }
     ensures in_range { ScopeInRange scope.old → IfOk result (FormInRange (scope_bounds scope.new)) }
 {
-    let kind = scope.kind_named(kind)?;
+    let kind = scope.kind_named(kind);
     let number = scope.new_local(name, kind)?;
     let value = local_value(scope, value, kind)?;
     Ok(CoreStatement::SetLocal(number, value))
@@ -210,8 +210,8 @@ fn return_statement(
         }
         (Some(tree), Promise::Nothing) => {
             scope.fault(TypeRule::ReturnValue);
-            let typed = scope.any(tree)?;
-            Ok(CoreStatement::Return(Some(typed.core)))
+            let core = scope.any(tree)?;
+            Ok(CoreStatement::Return(Some(core)))
         }
     }
 }

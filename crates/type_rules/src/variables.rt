@@ -7,7 +7,7 @@ ghost use Rattle.type_scope.specs.Sources.{declaration, of_property, of_variable
 
 use crate::work::Work;
 use core_tree::{CoreType, CoreVariable, Value};
-use expression_rules::{TypeRule, default_of, literal_of};
+use expression_rules::{TypeRule, default_of, kind_of, value_of};
 use line_parser::Constant;
 use papy_base::{Name, OutOfMemory};
 use script_parser::{Property, PropertyForm, Variable};
@@ -45,7 +45,7 @@ fn declared_variable(work: &mut Work<'_>, variable: &Variable) -> Result<CoreVar
     ensures head { IfOk result (λ made. core_variable_head made ≡ variable_head (set_of work.old) (of_variable variable.now)) }
     ensures in_range { IfOk result (VariableInRange (functions_of work.old)) }
 {
-    let kind = work.kind_at(variable.line, &variable.kind)?;
+    let kind = work.kind_at(variable.line, &variable.kind);
     Ok(CoreVariable {
         name: variable.name.try_clone(work.alloc())?,
         kind: known(kind),
@@ -60,7 +60,7 @@ fn property_variable(work: &mut Work<'_>, property: &Property) -> Result<CoreVar
     ensures head { IfOk result (λ made. core_variable_head made ≡ variable_head (set_of work.old) (of_property property.now)) }
     ensures in_range { IfOk result (VariableInRange (functions_of work.old)) }
 {
-    let kind = work.kind_at(property.line, &property.kind)?;
+    let kind = work.kind_at(property.line, &property.kind);
     Ok(CoreVariable {
         name: variable_name(work.alloc(), &property.name)?,
         kind: known(kind),
@@ -121,8 +121,8 @@ pub(crate) fn constant_value(
     ensures kept { KeepsScript work.old work.new }
     ensures in_range { IfOk result LiteralInRange }
 {
-    let (value, given) = literal_of(work.alloc(), constant)?;
-    if !is_value_of(given, kind) {
+    let value = value_of(work.alloc(), constant)?;
+    if !is_value_of(kind_of(constant), kind) {
         work.fault(line, TypeRule::NoConversion);
     }
     Ok(value)

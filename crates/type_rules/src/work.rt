@@ -1,5 +1,5 @@
 // A script while it is judged.
-ghost use Rattle.std.specs.Prelude.{◌≡◌, [], IfNone, IfOk, IfSome, IsSome};
+ghost use Rattle.std.specs.Prelude.{◌≡◌, [], IfNone, IfSome, IsSome};
 ghost use Rattle.core_tree.specs.InRange.{ResultInRange};
 ghost use Rattle.expression_rules.specs.Rules.{IsFirst};
 ghost use Rattle.type_rules.specs.Ranges.{KeepsScript, functions_of, set_of};
@@ -10,19 +10,9 @@ use crate::sizes::Sizes;
 use core_tree::CoreType;
 use expression_rules::{Notes, Scope, TypeRule};
 use line_parser::TypeName;
-use papy_base::OutOfMemory;
 use std::alloc::Global;
 use std::mem;
 use type_scope::{Catalog, Layout};
-
-/// The most different texts that a script's calls write out.
-const TEXT_LIMIT: usize = 8_192;
-
-/// The most bytes of them together.
-const TEXT_BYTES_LIMIT: usize = 524_288;
-
-/// The most default arguments, each of which is a node. Behind one more none are written out.
-const DEFAULT_LIMIT: u32 = 200_000;
 
 /// A script while it is judged: what its names mean, and what was found so far.
 #[derive(Drop)]
@@ -64,21 +54,17 @@ impl<'a> Work<'a> {
     }
 
     /// The type that is written so at this line. A name of no type breaks K2.
-    pub(crate) fn kind_at(
-        &mut self,
-        line: u16,
-        name: &TypeName,
-    ) -> Result<Option<CoreType>, OutOfMemory>
-        ensures found { IfOk result (λ found. found ≡ type_named (set_of self.old) name.now) }
+    pub(crate) fn kind_at(&mut self, line: u16, name: &TypeName) -> Option<CoreType>
+        ensures found { result ≡ type_named (set_of self.old) name.now }
         ensures kept { KeepsScript self.old self.new }
-        ensures in_range { IfOk result (ResultInRange (functions_of self.old)) }
-        ensures noted { IfOk result (λ found. IfNone found (IsSome self.new.notes.first)) }
+        ensures in_range { ResultInRange (functions_of self.old) result }
+        ensures noted { IfNone result (IsSome self.new.notes.first) }
     {
-        let kind = self.catalog.type_of(name)?;
+        let kind = self.catalog.type_of(name);
         if kind.is_none() {
             self.fault(line, TypeRule::UnknownType);
         }
-        Ok(kind)
+        kind
     }
 
     /// The scope of a function of this line. It holds what was noted so far until it is closed.
@@ -124,14 +110,7 @@ impl<'a> Work<'a> {
             broken: self.notes.first(),
             too_large: self
                 .sizes
-                .too_large(script_line, writes_too_much(&self.notes)),
+                .too_large(script_line, self.notes.writes_too_much()),
         }
     }
-}
-
-// Whether the calls of a script write out too many texts, bytes of texts, or default arguments.
-fn writes_too_much(notes: &Notes) -> bool {
-    notes.texts() > TEXT_LIMIT
-        || notes.text_bytes() > TEXT_BYTES_LIMIT
-        || notes.defaults() > DEFAULT_LIMIT
 }

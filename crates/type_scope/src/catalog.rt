@@ -16,8 +16,7 @@ use std::alloc::Global;
 // The first scripts of a set, Debug, Utility and Scene, are no types.
 const LIBRARY_COUNT: u16 = 3;
 
-// Among so many scripts or properties the name of each is compared, which takes less time than to
-// hash one.
+// Among so many scripts the name of each is compared, which takes less time than to hash one.
 const COMPARED_LIMIT: usize = 16;
 
 /// A function that a call means.
@@ -55,20 +54,20 @@ impl<'a> Catalog<'a> {
     }
 
     /// The number of the first script of this name.
-    pub fn find_script(&self, name: &Name) -> Result<Option<u16>, OutOfMemory>
-        ensures found { IfOk result (λ found. found ≡ script_named self.now.set.now name.now) }
-        ensures within { IfOk result (λ found. IfSome found (λ n. n < length self.now.set.now)) }
+    pub fn find_script(&self, name: &Name) -> Option<u16>
+        ensures found { result ≡ script_named self.now.set.now name.now }
+        ensures within { IfSome result (λ n. n < length self.now.set.now) }
     {
         let count = self.set.count();
         if usize::from(count) > COMPARED_LIMIT {
-            return Ok(number_below(self.numbers.find(name), count));
+            return number_below(self.numbers.find(name), count);
         }
         for number in 0..count {
             if self.set.script(number).name.same(name) {
-                return Ok(Some(number));
+                return Some(number);
             }
         }
-        Ok(None)
+        None
     }
 
     /// The script of this number.
@@ -85,47 +84,37 @@ impl<'a> Catalog<'a> {
     }
 
     /// The parent of a script, where it has one.
-    pub fn parent_of(&self, script: u16) -> Result<Option<u16>, OutOfMemory>
-        ensures parent { (file : SourceFile) → script < length self.now.set.now → IfOk result (λ found. found ≡ parent_in self.now.set.now (slice_index_or self.now.set.now script file)) }
-        ensures within { IfOk result (λ found. IfSome found (λ n. n < length self.now.set.now)) }
+    pub fn parent_of(&self, script: u16) -> Option<u16>
+        ensures parent { (file : SourceFile) → script < length self.now.set.now → result ≡ parent_in self.now.set.now (slice_index_or self.now.set.now script file) }
+        ensures within { IfSome result (λ n. n < length self.now.set.now) }
     {
-        match self.script(script) {
-            Some(script) => self.named(&script.parent),
-            None => Ok(None),
-        }
-    }
-
-    fn named(&self, name: &Option<Name>) -> Result<Option<u16>, OutOfMemory>
-        ensures found { IfOk result (λ found. found ≡ option_and_then (script_named self.now.set.now) name.now) }
-        ensures within { IfOk result (λ found. IfSome found (λ n. n < length self.now.set.now)) }
-    {
-        match name {
+        match &self.script(script)?.parent {
             Some(name) => self.find_script(name),
-            None => Ok(None),
+            None => None,
         }
     }
 
     /// The type that is written so, or none.
-    pub fn type_of(&self, name: &TypeName) -> Result<Option<CoreType>, OutOfMemory>
-        ensures found { IfOk result (λ found. found ≡ type_named self.now.set.now name.now) }
-        ensures in_range { IfOk result (ResultInRange (signatures self.now.set.now)) }
+    pub fn type_of(&self, name: &TypeName) -> Option<CoreType>
+        ensures found { result ≡ type_named self.now.set.now name.now }
+        ensures in_range { ResultInRange (signatures self.now.set.now) result }
     {
-        let element = self.element_type(&name.word)?;
-        Ok(if name.is_array {
+        let element = self.element_type(&name.word);
+        if name.is_array {
             array_type(element)
         } else {
             element
-        })
+        }
     }
 
     /// The type of this name that is no array, or none.
-    pub fn element_type(&self, word: &Name) -> Result<Option<CoreType>, OutOfMemory>
-        ensures found { IfOk result (λ found. found ≡ element_named self.now.set.now word.now) }
-        ensures in_range { IfOk result (ResultInRange (signatures self.now.set.now)) }
+    pub fn element_type(&self, word: &Name) -> Option<CoreType>
+        ensures found { result ≡ element_named self.now.set.now word.now }
+        ensures in_range { ResultInRange (signatures self.now.set.now) result }
     {
         match plain_type(word.as_bytes()) {
-            Some(found) => Ok(Some(found)),
-            None => Ok(script_type(self.find_script(word)?)),
+            Some(found) => Some(found),
+            None => script_type(self.find_script(word)),
         }
     }
 
@@ -150,24 +139,10 @@ impl<'a> Catalog<'a> {
 
     /// The nearest property of this name, from the script upward.
     pub fn find_property(&self, script: u16, name: &Name) -> Option<PropertyRef> {
-        let mut here = script;
-        for _ in 0..self.set.count() {
-            let own = self.script(here)?.properties.as_slice();
-            if own.len() > COMPARED_LIMIT {
-                return self.set.find_property(here, name);
-            }
-            if let Some(place) = place_among(own, name) {
-                return Some(PropertyRef {
-                    script: here,
-                    place,
-                });
-            }
-            let Ok(Some(parent)) = self.parent_of(here) else {
-                return None;
-            };
-            here = parent;
+        if script >= self.set.count() {
+            return None;
         }
-        None
+        self.set.find_property(script, name)
     }
 
     /// The property at this place.
@@ -182,33 +157,22 @@ impl<'a> Catalog<'a> {
     }
 
     /// The first Global function of this name that a script imported by this one has itself.
-    pub fn find_imported(&self, script: u16, name: &Name) -> Result<Option<Callee<'a>>, OutOfMemory>
-        ensures { IfOk result (λ found. IfSome found (IsCallee self.now.set.now name.now)) }
+    pub fn find_imported(&self, script: u16, name: &Name) -> Option<Callee<'a>>
+        ensures { IfSome result (IsCallee self.now.set.now name.now) }
     {
-        let Some(script) = self.script(script) else {
-            return Ok(None);
-        };
-        for (_, import) in &script.imports {
-            if let Some(found) = self.import_global(import, name)? {
-                return Ok(Some(found));
+        for (_, import) in &self.script(script)?.imports {
+            if let Some(found) = self.import_global(import, name) {
+                return Some(found);
             }
         }
-        Ok(None)
+        None
     }
 
     // The Global function of this name that the script of the other name has itself.
-    fn import_global(&self, import: &Name, name: &Name) -> Result<Option<Callee<'a>>, OutOfMemory>
-        ensures { IfOk result (λ found. IfSome found (IsCallee self.now.set.now name.now)) }
-    {
-        match self.find_script(import)? {
-            Some(script) => Ok(self.own_global(script, name)),
-            None => Ok(None),
-        }
-    }
-
-    fn own_global(&self, script: u16, name: &Name) -> Option<Callee<'a>>
+    fn import_global(&self, import: &Name, name: &Name) -> Option<Callee<'a>>
         ensures { IfSome result (IsCallee self.now.set.now name.now) }
     {
+        let script = self.find_script(import)?;
         let found = self.find_function(script, name)?;
         if found.at.script == script && found.heading.is_global {
             Some(found)
@@ -216,16 +180,6 @@ impl<'a> Catalog<'a> {
             None
         }
     }
-}
-
-// The place of the first property of this name.
-fn place_among(properties: &[Property], name: &Name) -> Option<u16> {
-    for (place, property) in properties.iter().enumerate() {
-        if property.name.same(name) {
-            return u16::try_from(place).ok();
-        }
-    }
-    None
 }
 
 fn number_below(number: Option<usize>, count: u16) -> Option<u16>

@@ -11,9 +11,6 @@ use std::alloc::Global;
 // The numbers of a script's variables have 16 bits.
 const VARIABLE_LIMIT: usize = 65_536;
 
-// Among so many variables the name of each is compared, which takes less time than to hash one.
-const COMPARED_LIMIT: usize = 16;
-
 /// What declares a variable: a line of its own, or an Auto property, with its place among the
 /// script's properties.
 #[derive(Clone, Copy)]
@@ -28,14 +25,6 @@ impl<'a> Source<'a> {
         match *self {
             Source::Declared(variable) => &variable.kind,
             Source::Auto(property, _) => &property.kind,
-        }
-    }
-
-    // Whether a line of its own declares the variable, and by this name.
-    fn declares(&self, name: &Name) -> bool {
-        match *self {
-            Source::Declared(variable) => variable.name.same(name),
-            Source::Auto(_, _) => false,
         }
     }
 
@@ -89,41 +78,23 @@ impl<'a> Layout<'a> {
     pub fn find(&self, name: &Name) -> Option<(u16, &'a TypeName)>
         ensures { IfSome result (λ v. v.0 < vec_len self.now.sources) }
     {
-        if self.sources.len() > COMPARED_LIMIT {
-            return self.variable(self.declared.find(name)?);
-        }
-        self.variable(number_among(self.sources.as_slice(), name)?)
-    }
-
-    /// The variable of the property at this place, where the property is Auto.
-    pub fn auto_variable(&self, place: u16) -> Option<u16>
-        ensures { IfSome result (λ n. n < vec_len self.now.sources) }
-    {
-        match self.autos.get(usize::from(place)) {
-            Some(Some(number)) if usize::from(*number) < self.sources.len() => Some(*number),
-            _ => None,
-        }
-    }
-
-    fn variable(&self, number: usize) -> Option<(u16, &'a TypeName)>
-        ensures { IfSome result (λ v. v.0 < vec_len self.now.sources) }
-    {
+        let number = self.declared.find(name)?;
         if number < self.sources.len() && number < VARIABLE_LIMIT {
             Some((number as u16, self.sources[number].kind()))
         } else {
             None
         }
     }
-}
 
-// The first variable that a line of its own declares by this name.
-fn number_among(sources: &[Source<'_>], name: &Name) -> Option<usize> {
-    for (number, source) in sources.iter().enumerate() {
-        if source.declares(name) {
-            return Some(number);
+    /// The variable of the property at this place, where the property is Auto.
+    pub fn auto_variable(&self, place: usize) -> Option<u16>
+        ensures { IfSome result (λ n. n < vec_len self.now.sources) }
+    {
+        match self.autos.get(place) {
+            Some(Some(number)) if usize::from(*number) < self.sources.len() => Some(*number),
+            _ => None,
         }
     }
-    None
 }
 
 fn sources_of<'a>(alloc: Global, script: &'a Script) -> Result<Vec<Source<'a>>, OutOfMemory>

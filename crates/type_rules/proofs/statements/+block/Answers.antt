@@ -47,10 +47,10 @@ core_block-loop-statement-preserved t c =
       room = c.push_reserved.ensures.capacity ∙ so_far.room;
     }
 
-pub core_statement-returns-in_ok-typed-in-Plain-clause-in_range : goal.core_statement-returns-in_ok-typed-in-Plain-clause-in_range
-core_statement-returns-in_ok-typed-in-Plain-clause-in_range t c = λ r p.
-    let typed = c.in_ok-typed-in-Plain.ensures.in_range r in
-    let tree = kept-expression c.args.scope.now c.any.new.self c.in_ok-typed-in-Plain.ensures.kept (expression_of c.in_ok-typed-in-Plain.typed.core) typed.core in
+pub core_statement-returns-in_ok-core-in-Plain-clause-in_range : goal.core_statement-returns-in_ok-core-in-Plain-clause-in_range
+core_statement-returns-in_ok-core-in-Plain-clause-in_range t c = λ r p.
+    let core = c.in_ok-core-in-Plain.ensures.in_range r in
+    let tree = kept-expression c.args.scope.now c.any.new.self c.in_ok-core-in-Plain.ensures.kept (expression_of c.in_ok-core-in-Plain.core) core in
     simp statement_views (tt, (tree, tt))
 
 pub core_statement-returns-in_ok-body-in-While-clause-in_range : goal.core_statement-returns-in_ok-body-in-While-clause-in_range

@@ -1,4 +1,0 @@
-use Rattle.expression_rules.proofs.context.Context.unknown.Goals as goal
-
-pub returns : goal.returns
-returns c = c.unknown.ensures _
