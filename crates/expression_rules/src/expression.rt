@@ -55,21 +55,25 @@ impl Context<'_> {
         let Some(inner) = depth.checked_sub(1) else {
             return Err(OutOfMemory);
         };
-        let (first, mut steps) = spine(self.catalog.alloc, tree)?;
-        let mut value = self.first(notes, first, &mut steps, inner)?;
-        'steps: while let Some(next) = steps.pop() {
+        let (first, mut step, mut further) = spine(self.catalog.alloc, tree)?;
+        let mut value = self.first(notes, first, &mut step, inner)?;
+        if step.is_none() {
+            step = further.pop();
+        }
+        'steps: while let Some(next) = step {
             value = self.step(notes, value, next, inner)?;
+            step = further.pop();
         }
         Ok(value)
     }
 
     // What an expression begins with.
     #[cycle(expression)]
-    fn first<'t>(
+    fn first(
         &self,
         notes: &mut Notes,
-        tree: &'t Expr,
-        steps: &mut Vec<&'t Expr>,
+        tree: &Expr,
+        step: &mut Option<&Expr>,
         depth: u16,
     ) -> Result<Typed>
         ensures { ContextInRange self.now → IfOk result (TypedInRange (bounds_of self.now)) }
@@ -83,7 +87,7 @@ impl Context<'_> {
             }
             Expr::NoneValue => self.literal(Value::NoneValue, Kind::NoneLiteral),
             Expr::SelfValue => self.instance(notes),
-            Expr::Word(name) => self.word(notes, name, steps, depth),
+            Expr::Word(name) => self.word(notes, name, step, depth),
             Expr::Call { name, arguments } => {
                 let given = self.given(notes, arguments.as_slice(), depth)?;
                 self.plain_call(notes, name, given)
@@ -104,7 +108,7 @@ impl Context<'_> {
         &self,
         notes: &mut Notes,
         name: &Name,
-        steps: &mut Vec<&Expr>,
+        step: &mut Option<&Expr>,
         depth: u16,
     ) -> Result<Typed>
         ensures { ContextInRange self.now → IfOk result (TypedInRange (bounds_of self.now)) }
@@ -112,7 +116,7 @@ impl Context<'_> {
         if let Some(resolved) = self.resolve(name) {
             return self.read_word(notes, resolved, name);
         }
-        match steps.pop() {
+        match step.take() {
             Some(
                 Expr::MemberCall {
                     name: function,
@@ -185,17 +189,22 @@ impl Context<'_> {
     }
 }
 
-// The part that no other begins, and the expressions that begin with it, the longest one first.
+// The part that no other begins, and the expressions that begin with it: the shortest one, which is mostly all and so
+// needs no memory, and the others, the longest one first.
 //
 // A line such as `1 + 1 + 1 ..` has thousands of them, so they are gone through in a loop.
-fn spine<'t>(alloc: Global, tree: &'t Expr) -> Result<(&'t Expr, Vec<&'t Expr>)> {
-    let mut steps = Vec::new(alloc);
+fn spine<'t>(alloc: Global, tree: &'t Expr) -> Result<(&'t Expr, Option<&'t Expr>, Vec<&'t Expr>)> {
+    let mut further = Vec::new(alloc);
+    let mut step = None;
     let mut first = tree;
     'parts: while let Some(part) = first_part(first) {
-        steps.push(first)?;
+        if let Some(longer) = step {
+            further.push(longer)?;
+        }
+        step = Some(first);
         first = part;
     }
-    Ok((first, steps))
+    Ok((first, step, further))
 }
 
 // The expression that another one begins with.
@@ -203,13 +212,9 @@ fn first_part(tree: &Expr) -> Option<&Expr>
     ensures { IfSome result (λ first. size_of first.now < size_of tree.now) }
 {
     match tree {
-        Expr::MemberCall { of, .. } => Some(of),
-        Expr::Member { of, .. } => Some(of),
-        Expr::Length { of } => Some(of),
-        Expr::Index { of, .. } => Some(of),
-        Expr::Unary { of, .. } => Some(of),
+        Expr::MemberCall { of, .. } | Expr::Member { of, .. } | Expr::Length { of } => Some(of),
+        Expr::Index { of, .. } | Expr::Unary { of, .. } | Expr::Cast { of, .. } => Some(of),
         Expr::Binary { left, .. } => Some(left),
-        Expr::Cast { of, .. } => Some(of),
         _ => None,
     }
 }

@@ -16,7 +16,7 @@ use std::alloc::Global;
 // The first scripts of a set, Debug, Utility and Scene, are no types.
 const LIBRARY_COUNT: u16 = 3;
 
-// Among so many scripts the name of each is compared, which takes less time than to hash one.
+// Among so many properties the name of each is compared, which takes less time than to hash one.
 const COMPARED_LIMIT: usize = 16;
 
 /// A function that a call means.
@@ -58,16 +58,7 @@ impl<'a> Catalog<'a> {
         ensures found { result ≡ script_named self.now.set.now name.now }
         ensures within { IfSome result (λ n. n < length self.now.set.now) }
     {
-        let count = self.set.count();
-        if usize::from(count) > COMPARED_LIMIT {
-            return number_below(self.numbers.find(name), count);
-        }
-        for number in 0..count {
-            if self.set.script(number).name.same(name) {
-                return Some(number);
-            }
-        }
-        None
+        number_below(self.numbers.find(name), self.set.count())
     }
 
     /// The script of this number.
@@ -139,8 +130,14 @@ impl<'a> Catalog<'a> {
 
     /// The nearest property of this name, from the script upward.
     pub fn find_property(&self, script: u16, name: &Name) -> Option<PropertyRef> {
-        if script >= self.set.count() {
-            return None;
+        let own = self.script(script)?.properties.as_slice();
+        if own.len() <= COMPARED_LIMIT
+            && let Some(place) = own.iter().position(|property| property.name.same(name))
+        {
+            return Some(PropertyRef {
+                script,
+                place: place as u16,
+            });
         }
         self.set.find_property(script, name)
     }

@@ -11,6 +11,9 @@ use std::alloc::Global;
 // The numbers of a script's variables have 16 bits.
 const VARIABLE_LIMIT: usize = 65_536;
 
+// Among so many variables the name of each is compared, which takes less time than to hash one.
+const COMPARED_LIMIT: usize = 16;
+
 /// What declares a variable: a line of its own, or an Auto property, with its place among the
 /// script's properties.
 #[derive(Clone, Copy)]
@@ -26,6 +29,11 @@ impl<'a> Source<'a> {
             Source::Declared(variable) => &variable.kind,
             Source::Auto(property, _) => &property.kind,
         }
+    }
+
+    // Whether a line of its own declares the variable, and by this name.
+    fn declares(&self, name: &Name) -> bool {
+        matches!(*self, Source::Declared(variable) if variable.name.same(name))
     }
 
     fn line(&self) -> u16
@@ -78,7 +86,12 @@ impl<'a> Layout<'a> {
     pub fn find(&self, name: &Name) -> Option<(u16, &'a TypeName)>
         ensures { IfSome result (λ v. v.0 < vec_len self.now.sources) }
     {
-        let number = self.declared.find(name)?;
+        let number = if self.sources.len() > COMPARED_LIMIT {
+            self.declared.find(name)?
+        } else {
+            let mut sources = self.sources.iter();
+            sources.position(|source| source.declares(name))?
+        };
         if number < self.sources.len() && number < VARIABLE_LIMIT {
             Some((number as u16, self.sources[number].kind()))
         } else {

@@ -1,5 +1,6 @@
 -- An operand, an index or an argument is one level deeper; each turn of the loop does one step.
-use Rattle.std.proofs.Common.{◌+◌, ◌*◌, vec_len}
+use Rattle.std.proofs.Common.{◌+◌, ◌*◌, length, vec_len}
+use Rattle.std.specs.Prelude.{option_to_list}
 use Rattle.expression_rules.specs.Ranges.{TypedInRange, GivenInRange, ContextInRange, bounds_of}
 use Rattle.expression_rules.proofs.context.Context.+expression.Given as goal
 
@@ -22,7 +23,7 @@ abbrev pub invariant-expression-steps : goal.invariant-expression-steps
 invariant-expression-steps l = ContextInRange l.self → TypedInRange (bounds_of l.self) l.value
 
 abbrev pub decreases-expression-steps : goal.decreases-expression-steps
-decreases-expression-steps l = vec_len l.steps
+decreases-expression-steps l = length (option_to_list l.step) + vec_len l.further
 
 abbrev pub invariant-given-loop-argument : goal.invariant-given-loop-argument
 invariant-given-loop-argument l = ContextInRange l.self → GivenInRange (bounds_of l.self) l.found.items
