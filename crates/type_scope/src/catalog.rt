@@ -6,6 +6,7 @@ ghost use Rattle.script_linker.specs.Table.{IsPlaceTable};
 ghost use Rattle.type_scope.specs.Scope.{IsCallee};
 ghost use Rattle.type_scope.specs.Types.{array_of, element_named, plain_type, script_type, signatures, type_named};
 
+use crate::COMPARED_LIMIT;
 use core_tree::{CoreType, FunctionPlace};
 use line_parser::{Heading, TypeName};
 use papy_base::{Name, OutOfMemory};
@@ -15,9 +16,6 @@ use std::alloc::Global;
 
 // The first scripts of a set, Debug, Utility and Scene, are no types.
 const LIBRARY_COUNT: u16 = 3;
-
-// Among so many properties the name of each is compared, which takes less time than to hash one.
-const COMPARED_LIMIT: usize = 16;
 
 /// A function that a call means.
 #[derive(Clone, Copy)]

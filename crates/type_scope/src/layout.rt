@@ -2,6 +2,7 @@
 ghost use Rattle.std.specs.Prelude.{◌≡◌, ◌<◌, ◌++◌, IfOk, IfSome, OnOk, map, vec_len};
 ghost use Rattle.type_scope.specs.Sources.{InOrderOfLine, auto_declarations, declaration, declarations, is_auto, of_variable, source_line};
 
+use crate::COMPARED_LIMIT;
 use line_parser::TypeName;
 use papy_base::{Name, OutOfMemory};
 use script_linker::NameTable;
@@ -10,9 +11,6 @@ use std::alloc::Global;
 
 // The numbers of a script's variables have 16 bits.
 const VARIABLE_LIMIT: usize = 65_536;
-
-// Among so many variables the name of each is compared, which takes less time than to hash one.
-const COMPARED_LIMIT: usize = 16;
 
 /// What declares a variable: a line of its own, or an Auto property, with its place among the
 /// script's properties.

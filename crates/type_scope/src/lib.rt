@@ -11,3 +11,6 @@ pub use catalog::{Callee, Catalog, array_of, element_of};
 pub use kind::Kind;
 pub use layout::{Layout, Source};
 pub use locals::{Local, Locals};
+
+// Among so many names each is compared, which takes less time than to hash one.
+const COMPARED_LIMIT: usize = 16;

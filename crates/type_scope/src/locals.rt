@@ -1,13 +1,11 @@
 // The parameters and locals of a function, and which of them are seen.
 ghost use Rattle.std.specs.Prelude.{◌≡◌, [], ◌∷◌, ◌++◌, IfOk, IfSome, OnOk, Some, slice_get, vec_len};
 
+use crate::COMPARED_LIMIT;
 use core_tree::CoreType;
 use papy_base::{Name, OutOfMemory};
 use std::alloc::Global;
 use std::collections::HashMap;
-
-// Among so many names each is compared, which takes less time than to hash one.
-const COMPARED_LIMIT: usize = 16;
 
 /// A parameter or a local: its number, and its type where that is known.
 #[derive(Clone, Copy, PartialEq, Eq)]
