@@ -5,20 +5,18 @@ ghost use Rattle.std.specs.Prelude.{◌≡◌, ◌+◌, ◌≤◌, IfOk};
 ghost use Rattle.code_emit.specs.Operands.{needs};
 ghost use Rattle.code_emit.specs.Writing.{GoesOn, Takes};
 
-use crate::acts::{may_act, up_to_last_act};
 use crate::calls::{Called, call, global_names};
 use crate::conditions::either;
 use crate::faults::EmitFault;
+use crate::forms::{contains_call, first_operand, spine, up_to_last_call};
 use crate::opcodes::{
     ARRAY_CREATE, ARRAY_FINDELEMENT, ARRAY_GETELEMENT, ARRAY_LENGTH, ARRAY_RFINDELEMENT,
     CALL_METHOD, CALL_PARENT, CALL_STATIC, CAST, CMP_EQ, INEG, NOT, PROPGET, STRCAT, arith_opcode,
     order_opcode,
 };
 use crate::operand::Operand;
-use crate::spine::{first_operand, spine};
-use crate::strings::Word;
 use crate::writer::Writer;
-use core_tree::{Core, CoreType, FunctionPlace, Value};
+use core_tree::{Core, CoreType, Value};
 use papy_base::Name;
 
 /// How many may stand inside one more.
@@ -43,19 +41,15 @@ pub(crate) fn value(
     ensures goes { GoesOn writer.old writer.new }
 {
     let depth = one_deeper(depth)?;
-    let Some(first) = first_operand(expression) else {
+    if first_operand(expression).is_none() {
         return leaf_value(writer, expression, depth);
-    };
-    let Some(second) = first_operand(first) else {
-        let first = leaf_value(writer, first, depth)?;
-        return form_value(writer, expression, first, depth);
-    };
-    if first_operand(second).is_some() {
-        return chain_value(writer, expression, depth);
     }
-    let second = leaf_value(writer, second, depth)?;
-    let first = form_value(writer, first, second, depth)?;
-    form_value(writer, expression, first, depth)
+    let mut forms = spine(writer.alloc(), expression)?;
+    let mut operand = Operand::NoneValue;
+    'forms: while let Some(form) = forms.pop() {
+        operand = form_value(writer, form, operand, depth)?;
+    }
+    Ok(operand)
 }
 
 // The value of a form without a first operand: one without operands, or a call without a target.
@@ -68,26 +62,11 @@ fn leaf_value(writer: &mut Writer<'_>, form: &Core, depth: u16) -> Result<Operan
         Core::Lit(literal) => constant(writer, literal),
         Core::Local(number) => Ok(Operand::Word(writer.local(*number)?)),
         Core::Field(number) => field(writer, *number),
-        Core::SelfValue => Ok(Operand::Word(writer.word(Word::OwnInstance)?)),
+        Core::SelfValue => Ok(Operand::Word(writer.string(b"self")?)),
         Core::StateText => state_text(writer),
         Core::NewArray(kind, count) => new_array(writer, *kind, *count),
         _ => call_value(writer, form, Operand::NoneValue, depth),
     }
-}
-
-// The value of an expression whose first operands stand inside each other, the innermost of which is evaluated first.
-#[cycle(expression)]
-#[inline(never)]
-fn chain_value(writer: &mut Writer<'_>, expression: &Core, depth: u16) -> Result<Operand, EmitFault>
-    ensures operand { IfOk result (λ operand. needs operand ≤ writer.new.strings) }
-    ensures goes { GoesOn writer.old writer.new }
-{
-    let mut forms = spine(writer.alloc(), expression)?;
-    let mut operand = Operand::NoneValue;
-    'forms: while let Some(form) = forms.pop() {
-        operand = form_value(writer, form, operand, depth)?;
-    }
-    Ok(operand)
 }
 
 // Appends the code of a form whose first operand, where it has one, is evaluated.
@@ -154,10 +133,18 @@ fn call_value(
         return Ok(target);
     };
     match form {
-        Core::CallMethod { name, .. } => method_call(writer, target, name, called, depth),
-        Core::CallParent { name, .. } => parent_call(writer, name, called, depth),
+        Core::CallMethod { name, .. } => {
+            let of = writer.kept(target, up_to_last_call(called.arguments, depth) > 0)?;
+            let name = Operand::Word(writer.string(name.as_bytes())?);
+            call(writer, CALL_METHOD, &[name, of], called, depth)
+        }
+        Core::CallParent { name, .. } => {
+            let name = Operand::Word(writer.string(name.as_bytes())?);
+            call(writer, CALL_PARENT, &[name], called, depth)
+        }
         Core::CallGlobal { at, .. } | Core::CallNative { at, .. } => {
-            static_call(writer, *at, called, depth)
+            let (script, function) = global_names(writer, *at)?;
+            call(writer, CALL_STATIC, &[script, function], called, depth)
         }
         _ => Ok(target),
     }
@@ -197,57 +184,6 @@ fn called_by(form: &Core) -> Option<Called<'_>> {
     }
 }
 
-#[cycle(expression)]
-fn method_call(
-    writer: &mut Writer<'_>,
-    target: Operand,
-    name: &Name,
-    called: Called<'_>,
-    depth: u16,
-) -> Result<Operand, EmitFault>
-    requires { needs target ≤ writer.old.strings }
-    ensures operand { IfOk result (λ operand. needs operand ≤ writer.new.strings) }
-    ensures goes { GoesOn writer.old writer.new }
-{
-    let of = writer.kept(target, up_to_last_act(called.arguments, depth) > 0)?;
-    let name = writer.string(name.as_bytes())?;
-    call(
-        writer,
-        CALL_METHOD,
-        &[Operand::Word(name), of],
-        called,
-        depth,
-    )
-}
-
-#[cycle(expression)]
-fn parent_call(
-    writer: &mut Writer<'_>,
-    name: &Name,
-    called: Called<'_>,
-    depth: u16,
-) -> Result<Operand, EmitFault>
-    ensures operand { IfOk result (λ operand. needs operand ≤ writer.new.strings) }
-    ensures goes { GoesOn writer.old writer.new }
-{
-    let name = writer.string(name.as_bytes())?;
-    call(writer, CALL_PARENT, &[Operand::Word(name)], called, depth)
-}
-
-#[cycle(expression)]
-fn static_call(
-    writer: &mut Writer<'_>,
-    at: FunctionPlace,
-    called: Called<'_>,
-    depth: u16,
-) -> Result<Operand, EmitFault>
-    ensures operand { IfOk result (λ operand. needs operand ≤ writer.new.strings) }
-    ensures goes { GoesOn writer.old writer.new }
-{
-    let (script, function) = global_names(writer, at)?;
-    call(writer, CALL_STATIC, &[script, function], called, depth)
-}
-
 /// The operand of a value that the tree has written out.
 pub(crate) fn constant(writer: &mut Writer<'_>, value: &Value) -> Result<Operand, EmitFault>
     ensures operand { IfOk result (λ operand. needs operand ≤ writer.new.strings) }
@@ -279,27 +215,27 @@ pub(crate) fn state_text(writer: &mut Writer<'_>) -> Result<Operand, EmitFault>
     ensures operand { IfOk result (λ operand. needs operand ≤ writer.new.strings) }
     ensures goes { GoesOn writer.old writer.new }
 {
-    let name = writer.word(Word::StateVariable)?;
+    let name = writer.string(b"::State")?;
     Ok(Operand::Variable {
         name,
         kind: CoreType::Text,
     })
 }
 
-/// The operand of an expression. Where acts may come before it is read, it keeps the value that it has now.
+/// The operand of an expression. Where calls come before it is read, it keeps the value that it has now.
 #[cycle(expression)]
 #[inline(always)]
 pub(crate) fn kept_value(
     writer: &mut Writer<'_>,
     expression: &Core,
-    acts: bool,
+    before_calls: bool,
     depth: u16,
 ) -> Result<Operand, EmitFault>
     ensures operand { IfOk result (λ operand. needs operand ≤ writer.new.strings) }
     ensures goes { GoesOn writer.old writer.new }
 {
     let operand = value(writer, expression, depth)?;
-    writer.kept(operand, acts)
+    writer.kept(operand, before_calls)
 }
 
 // Appends an operation on one value.
@@ -330,7 +266,7 @@ fn kept_before(
     ensures goes { GoesOn writer.old writer.new }
 {
     match operand {
-        Operand::Variable { .. } => writer.kept(operand, may_act(next, depth)),
+        Operand::Variable { .. } => writer.kept(operand, contains_call(next, depth)),
         _ => Ok(operand),
     }
 }
@@ -368,9 +304,9 @@ fn find(
     ensures operand { IfOk result (λ operand. needs operand ≤ writer.new.strings) }
     ensures goes { GoesOn writer.old writer.new }
 {
-    let acts = may_act(start, depth);
-    let array = writer.kept(array, acts || may_act(searched, depth))?;
-    let searched = kept_value(writer, searched, acts, depth)?;
+    let before_calls = contains_call(start, depth);
+    let array = writer.kept(array, before_calls || contains_call(searched, depth))?;
+    let searched = kept_value(writer, searched, before_calls, depth)?;
     let start = value(writer, start, depth)?;
     let place = writer.take(CoreType::Int)?;
     writer.act(opcode, &[array, place.lasting(), searched, start])?;

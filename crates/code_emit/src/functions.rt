@@ -9,7 +9,7 @@ ghost use Rattle.code_emit.specs.Writing.{Advances};
 
 use crate::faults::EmitFault;
 use crate::statements::block;
-use crate::writer::{Body, Writer};
+use crate::writer::{FunctionCode, Writer};
 use core_tree::CoreFunction;
 use pex_values::PexFunction;
 
@@ -19,7 +19,7 @@ const MOST_NESTED: u16 = 1_000;
 
 /// Where a function stands: the name of its state, its own name, and what its debug entry has as its kind.
 #[derive(Clone, Copy)]
-pub(crate) struct Place<'a> {
+pub(crate) struct DebugName<'a> {
     pub state: &'a [u8],
     pub name: &'a [u8],
     pub kind: u8,
@@ -34,7 +34,7 @@ const NATIVE: u8 = 2;
 pub(crate) fn function(
     writer: &mut Writer<'_>,
     function: &CoreFunction,
-    place: Place<'_>,
+    place: DebugName<'_>,
 ) -> Result<PexFunction, EmitFault>
     requires { writer.old.ahead ≡ [] }
     ensures function { IfOk result (λ f. IsShapedFunction writer.new.strings (plain_function f)) }
@@ -62,7 +62,7 @@ fn written_function(
     block(writer, &function.body, MOST_NESTED)?;
     let kind = writer.type_name(function.result)?;
     let doc = writer.text(&function.doc)?;
-    let Body {
+    let FunctionCode {
         parameters,
         locals,
         code,
@@ -89,10 +89,5 @@ pub(crate) fn flag_bits(flags: u32) -> u32
 }
 
 fn function_bits(is_global: bool, is_native: bool) -> u8 {
-    match (is_global, is_native) {
-        (false, false) => 0,
-        (true, false) => GLOBAL,
-        (false, true) => NATIVE,
-        (true, true) => GLOBAL | NATIVE,
-    }
+    u8::from(is_global) * GLOBAL | u8::from(is_native) * NATIVE
 }

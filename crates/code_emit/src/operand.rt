@@ -17,7 +17,7 @@ pub(crate) enum Operand {
     Text(u16),
     /// What stays as it is while a statement runs: a parameter, a local, `self`, or a name that isn't read.
     Word(u16),
-    /// What an act may change: a variable of the script, or the name of the state.
+    /// What a call may change: a variable of the script, or the name of the state.
     Variable { name: u16, kind: CoreType },
     /// A temporary, which is given back with the instruction that reads it. Its type is given as its name is.
     Temporary { name: u16, kind: u16 },
@@ -63,30 +63,7 @@ pub(crate) fn data(alloc: Global, operands: &[Operand]) -> Result<Vec<Datum>, Ou
 }
 
 /// As `data`, with one more in front.
-#[inline(always)]
 pub(crate) fn data_behind(
-    alloc: Global,
-    first: Operand,
-    operands: &[Operand],
-) -> Result<Vec<Datum>, OutOfMemory>
-    ensures values { IfOk result (λ found. found.items ≡ datum_of first ∷ map datum_of operands.now) }
-    ensures within { IfOk result (λ found. AllByRecursion IsWithin found.items) }
-{
-    match operands {
-        [second] => {
-            let found = vec![in alloc; first.datum(), second.datum()]?;
-            Ok(found)
-        }
-        [second, third] => {
-            let found = vec![in alloc; first.datum(), second.datum(), third.datum()]?;
-            Ok(found)
-        }
-        _ => many_behind(alloc, first, operands),
-    }
-}
-
-#[inline(never)]
-fn many_behind(
     alloc: Global,
     first: Operand,
     operands: &[Operand],

@@ -7,17 +7,17 @@ ghost use Rattle.jump_patch.specs.Jumps.{jump};
 ghost use Rattle.pex_values.specs.Opcodes.{operands_of};
 ghost use Rattle.pex_values.specs.Plain.{plain_instruction, plain_lines};
 ghost use Rattle.pex_values.specs.Shape.{ArePair, IsReference, AgreesWith, IsShapedDatum, IsShapedInstruction, IsShapedLines};
-ghost use Rattle.code_emit.specs.Function.{IsBody};
+ghost use Rattle.code_emit.specs.Function.{IsFunctionCode};
 ghost use Rattle.code_emit.specs.Operands.{needs};
 ghost use Rattle.code_emit.specs.Writing.{GoesOn, Leaps, AreThere, Takes, landed};
 
 use crate::faults::EmitFault;
-use crate::functions::Place;
+use crate::functions::DebugName;
 use crate::opcodes::ASSIGN;
 use crate::operand::{Operand, data, data_before, data_behind};
-use crate::spare::Spare;
-use crate::strings::{Numbered, Strings, Word};
-use crate::type_names::{element_name, is_array, script_name, type_number};
+use crate::strings::{Numbered, Strings};
+use crate::temporaries::FreeTemporaries;
+use crate::type_names::type_name;
 use core_tree::{CoreFunction, CoreScript, CoreSet, CoreType, CoreVariable};
 use jump_patch::{Ahead, Code, CodeBuffer, JumpKind, Mark};
 use papy_base::Text;
@@ -31,9 +31,6 @@ const MOST_INSTRUCTIONS: usize = 65_535;
 
 /// The most parameters and locals of a function, temporaries counted.
 const MOST_VARIABLES: usize = 8_192;
-
-/// How many temporaries a function finds room for at its start.
-const SOME_TEMPORARIES: usize = 8;
 
 /// Contracts see how many strings there are, how many instructions the function has so far, and the places of its jumps
 /// that haven't landed.
@@ -53,7 +50,7 @@ pub(crate) struct Writer<'a> {
     locals: Vec<(u16, u16)>,
     // How many of them the function's tree numbers.
     numbered: usize,
-    spare: Spare,
+    spare: FreeTemporaries,
     none_variable: Option<u16>,
 }
 
@@ -70,7 +67,7 @@ impl<'a> Model for Writer<'a> {
 
 /// A function's parameters, locals and code, with a line for each instruction.
 #[derive(Drop)]
-pub(crate) struct Body {
+pub(crate) struct FunctionCode {
     pub parameters: Vec<(u16, u16)>,
     pub locals: Vec<(u16, u16)>,
     pub code: Vec<Instruction>,
@@ -94,7 +91,7 @@ impl<'a> Writer<'a> {
             parameters: Vec::new(alloc),
             locals: Vec::new(alloc),
             numbered: 0,
-            spare: Spare::new(alloc),
+            spare: FreeTemporaries::new(alloc),
             none_variable: None,
         }
     }
@@ -129,34 +126,8 @@ impl<'a> Writer<'a> {
     {
         match text {
             Some(text) => self.string(text.as_bytes()),
-            None => self.word(Word::Empty),
+            None => self.string(b""),
         }
-    }
-
-    /// The place of a string that many functions use.
-    pub(crate) fn word(&mut self, word: Word) -> Result<u16, EmitFault>
-        ensures place { IfOk result (IsReference self.new.strings) }
-        ensures goes { GoesOn self.old self.new }
-    {
-        let name = Numbered::Word(word);
-        if let Some(place) = self.strings.noted(name) {
-            return Ok(place);
-        }
-        let script = self.script;
-        self.noted_string(name, word_bytes(word, script))
-    }
-
-    /// The place of the name of the script of this number.
-    pub(crate) fn script_name(&mut self, number: u16) -> Result<u16, EmitFault>
-        ensures place { IfOk result (IsReference self.new.strings) }
-        ensures goes { GoesOn self.old self.new }
-    {
-        let name = Numbered::Script(number);
-        if let Some(place) = self.strings.noted(name) {
-            return Ok(place);
-        }
-        let string = script_name(self.set.scripts.as_slice(), number)?;
-        self.noted_string(name, string)
     }
 
     /// The place of the name of a type, as of a result or a local. Without a type it is `None`.
@@ -165,26 +136,30 @@ impl<'a> Writer<'a> {
         ensures place { IfOk result (IsReference self.new.strings) }
         ensures goes { GoesOn self.old self.new }
     {
-        let name = Numbered::Type(type_number(kind));
-        if let Some(place) = self.strings.noted(name) {
-            return Ok(place);
-        }
-        self.new_type_name(name, kind)
+        self.numbered(Numbered::Type(kind))
     }
 
-    // The place of a type's name that wasn't looked up before.
-    #[inline(never)]
-    fn new_type_name(&mut self, name: Numbered, kind: Option<CoreType>) -> Result<u16, EmitFault>
+    // The place of a name that has a number, from which it is known once it was looked up.
+    fn numbered(&mut self, name: Numbered) -> Result<u16, EmitFault>
         ensures place { IfOk result (IsReference self.new.strings) }
         ensures goes { GoesOn self.old self.new }
     {
-        let element = element_name(self.set.scripts.as_slice(), kind)?;
-        if !is_array(kind) {
-            return self.noted_string(name, element);
+        if let Some(place) = self.strings.noted(name) {
+            return Ok(place);
         }
-        let mut array = element.to_vec(self.alloc)?;
-        array.extend_from_slice(b"[]")?;
-        self.noted_string(name, array.as_slice())
+        self.new_name(name)
+    }
+
+    // The place of a name that wasn't looked up before.
+    #[inline(never)]
+    fn new_name(&mut self, name: Numbered) -> Result<u16, EmitFault>
+        ensures place { IfOk result (IsReference self.new.strings) }
+        ensures goes { GoesOn self.old self.new }
+    {
+        let string = name_bytes(self.alloc, self.set, self.script, name)?;
+        let place = self.strings.place_of(&string)?;
+        self.strings.note(name, place)?;
+        Ok(place)
     }
 
     /// The variable of this number, and the place of its name.
@@ -195,11 +170,7 @@ impl<'a> Writer<'a> {
         let Some(variable) = self.script.variables.get(usize::from(number)) else {
             return Err(EmitFault::OutOfRange);
         };
-        let name = Numbered::Variable(number);
-        if let Some(place) = self.strings.noted(name) {
-            return Ok((variable, place));
-        }
-        let place = self.noted_string(name, variable.name.as_bytes())?;
+        let place = self.numbered(Numbered::Variable(number))?;
         Ok((variable, place))
     }
 
@@ -233,40 +204,13 @@ impl<'a> Writer<'a> {
             return Err(EmitFault::TooLarge);
         }
         let number = parameters + locals;
-        if let Some(place) = self.strings.noted(Numbered::Local(number as u16)) {
-            return Ok(place);
-        }
-        self.temporary_name(number as u16)
-    }
-
-    // The name of a temporary that no function of the file had so far.
-    #[inline(never)]
-    fn temporary_name(&mut self, number: u16) -> Result<u16, EmitFault>
-        ensures place { IfOk result (IsReference self.new.strings) }
-        ensures goes { GoesOn self.old self.new }
-    {
-        let name = format!(in self.alloc; "::temp{number}")?;
-        self.noted_string(Numbered::Local(number), name.as_bytes())
-    }
-
-    // The place of a string that has a number, from which it is known by its number too.
-    #[inline(never)]
-    fn noted_string(&mut self, name: Numbered, string: &[u8]) -> Result<u16, EmitFault>
-        ensures place { IfOk result (IsReference self.new.strings) }
-        ensures goes { GoesOn self.old self.new }
-    {
-        let place = self.strings.place_of(string)?;
-        self.strings.note(name, place)?;
-        Ok(place)
+        self.numbered(Numbered::Local(number as u16))
     }
 
     /// Begins a function.
     pub(crate) fn begin(&mut self, function: &CoreFunction) -> Result<(), EmitFault>
         ensures { GoesOn self.old self.new }
     {
-        if !function.body.is_empty() {
-            self.make_room(function.parameters.len(), function.locals.len())?;
-        }
         self.begin_parameters(&function.parameters)?;
         self.begin_locals(&function.locals)?;
         self.numbered = self.parameters.len().saturating_add(self.locals.len());
@@ -274,21 +218,13 @@ impl<'a> Writer<'a> {
         Ok(())
     }
 
-    // Makes room for so many parameters and locals, and for some temporaries.
-    fn make_room(&mut self, parameters: usize, locals: usize) -> Result<(), EmitFault>
-        ensures { self.new ≡ self.old }
-    {
-        self.parameters.reserve(parameters)?;
-        self.locals
-            .reserve(locals.saturating_add(SOME_TEMPORARIES))?;
-        Ok(())
-    }
-
     fn begin_parameters(&mut self, kinds: &[CoreType]) -> Result<(), EmitFault>
         ensures { GoesOn self.old self.new }
     {
         for kind in kinds {
-            self.new_parameter(*kind)?;
+            let name = self.next_name()?;
+            let kind = self.type_name(Some(*kind))?;
+            self.add_parameter(name, kind)?;
         }
         Ok(())
     }
@@ -297,25 +233,10 @@ impl<'a> Writer<'a> {
         ensures { GoesOn self.old self.new }
     {
         for kind in kinds {
-            self.begin_local(*kind)?;
+            let kind = self.type_name(Some(*kind))?;
+            self.new_local(kind)?;
         }
         Ok(())
-    }
-
-    fn begin_local(&mut self, kind: CoreType) -> Result<(), EmitFault>
-        ensures { GoesOn self.old self.new }
-    {
-        let kind = self.type_name(Some(kind))?;
-        self.new_local(kind)?;
-        Ok(())
-    }
-
-    fn new_parameter(&mut self, kind: CoreType) -> Result<(), EmitFault>
-        ensures { GoesOn self.old self.new }
-    {
-        let name = self.next_name()?;
-        let kind = self.type_name(Some(kind))?;
-        self.add_parameter(name, kind)
     }
 
     fn add_parameter(&mut self, name: u16, kind: u16) -> Result<(), EmitFault>
@@ -353,19 +274,11 @@ impl<'a> Writer<'a> {
         ensures goes { GoesOn self.old self.new }
     {
         let kind = self.type_name(Some(kind))?;
-        let name = self.spare_or_new(kind)?;
+        let name = match self.take_spare(kind) {
+            Some(name) => name,
+            None => self.new_local(kind)?,
+        };
         Ok(Operand::Temporary { name, kind })
-    }
-
-    fn spare_or_new(&mut self, kind: u16) -> Result<u16, EmitFault>
-        requires { IsReference self.old.strings kind }
-        ensures name { IfOk result (λ name. name < self.new.strings) }
-        ensures goes { GoesOn self.old self.new }
-    {
-        match self.take_spare(kind) {
-            Some(name) => Ok(name),
-            None => self.new_local(kind),
-        }
     }
 
     fn take_spare(&mut self, kind: u16) -> Option<u16>
@@ -383,7 +296,7 @@ impl<'a> Writer<'a> {
         if let Some(name) = self.none_variable {
             return Ok(name);
         }
-        let name = self.word(Word::NoneVariable)?;
+        let name = self.string(b"::NoneVar")?;
         let kind = self.type_name(None)?;
         self.add_none(name, kind)?;
         Ok(name)
@@ -537,14 +450,18 @@ impl<'a> Writer<'a> {
         }
     }
 
-    /// The operand, or where acts come before it is read and may change it, a temporary with its value.
+    /// The operand, or where calls come before it is read and may change it, a temporary with its value.
     #[inline(never)]
-    pub(crate) fn kept(&mut self, operand: Operand, acts: bool) -> Result<Operand, EmitFault>
+    pub(crate) fn kept(
+        &mut self,
+        operand: Operand,
+        before_calls: bool,
+    ) -> Result<Operand, EmitFault>
         requires { needs operand ≤ self.old.strings }
         ensures operand { IfOk result (λ operand. needs operand ≤ self.new.strings) }
         ensures goes { GoesOn self.old self.new }
     {
-        match (acts, operand) {
+        match (before_calls, operand) {
             (true, Operand::Variable { kind, .. }) => self.compute(ASSIGN, kind, &[operand]),
             _ => Ok(operand),
         }
@@ -593,9 +510,9 @@ impl<'a> Writer<'a> {
     }
 
     /// Ends the function. Every jump must have landed.
-    pub(crate) fn end(&mut self) -> Result<Body, EmitFault>
+    pub(crate) fn end(&mut self) -> Result<FunctionCode, EmitFault>
         requires { self.old.ahead ≡ [] }
-        ensures body { IfOk result (IsBody self.old.strings) }
+        ensures body { IfOk result (IsFunctionCode self.old.strings) }
         ensures strings { self.new.strings ≡ self.old.strings }
         ensures ahead { self.new.ahead ≡ [] }
     {
@@ -605,7 +522,7 @@ impl<'a> Writer<'a> {
         self.numbered = 0;
         self.spare.clear();
         self.none_variable = None;
-        Ok(Body {
+        Ok(FunctionCode {
             parameters: mem::replace(&mut self.parameters, Vec::new(alloc)),
             locals: mem::replace(&mut self.locals, Vec::new(alloc)),
             code,
@@ -614,12 +531,17 @@ impl<'a> Writer<'a> {
     }
 
     /// Adds the debug entry of a function.
-    pub(crate) fn note_lines(&mut self, place: Place<'_>, lines: Vec<u16>) -> Result<(), EmitFault>
+    pub(crate) fn note_lines(
+        &mut self,
+        place: DebugName<'_>,
+        lines: Vec<u16>,
+    ) -> Result<(), EmitFault>
         requires { AllByRecursion (λ line. line < 2 ^ 16) lines.items }
         ensures { GoesOn self.old self.new }
     {
-        let object = self.word(Word::ScriptName)?;
-        let state = self.state_name(place.state)?;
+        let script = self.script;
+        let object = self.string(script.name.as_bytes())?;
+        let state = self.string(place.state)?;
         let function = self.string(place.name)?;
         self.add_entry(PexLines {
             object,
@@ -628,18 +550,6 @@ impl<'a> Writer<'a> {
             kind: place.kind,
             lines,
         })
-    }
-
-    // The place of a state's name, which mostly is that of the empty state.
-    fn state_name(&mut self, state: &[u8]) -> Result<u16, EmitFault>
-        ensures place { IfOk result (IsReference self.new.strings) }
-        ensures goes { GoesOn self.old self.new }
-    {
-        if state.is_empty() {
-            self.word(Word::Empty)
-        } else {
-            self.string(state)
-        }
     }
 
     fn add_entry(&mut self, entry: PexLines) -> Result<(), EmitFault>
@@ -660,13 +570,19 @@ impl<'a> Writer<'a> {
     }
 }
 
-fn word_bytes(word: Word, script: &CoreScript) -> &[u8] {
-    match word {
-        Word::Empty => b"",
-        Word::OwnInstance => b"self",
-        Word::StateVariable => b"::State",
-        Word::NoneVariable => b"::NoneVar",
-        Word::ScriptName => script.name.as_bytes(),
+fn name_bytes(
+    alloc: Global,
+    set: &CoreSet,
+    script: &CoreScript,
+    name: Numbered,
+) -> Result<Vec<u8>, EmitFault> {
+    match name {
+        Numbered::Type(kind) => type_name(alloc, &set.scripts, kind),
+        Numbered::Variable(number) => match script.variables.get(usize::from(number)) {
+            Some(variable) => Ok(variable.name.as_bytes().to_vec(alloc)?),
+            None => Err(EmitFault::OutOfRange),
+        },
+        Numbered::Local(number) => Ok(format!(in alloc; "::temp{number}")?.into_bytes()),
     }
 }
 

@@ -1,5 +1,5 @@
 use Rattle.std.proofs.Common.{length}
-use Rattle.code_emit.proofs.Spares.{spare_left, spare_name}
+use Rattle.code_emit.proofs.TakenTemporaries.{spare_left, spare_name}
 use Rattle.code_emit.proofs.writer.Writer.take_spare.Goals as goal
 
 pub invariant_of-self : goal.invariant_of-self

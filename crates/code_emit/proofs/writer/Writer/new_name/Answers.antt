@@ -1,7 +1,7 @@
 use Rattle.std.proofs.Common.{ℕ, List, length, sym, subst}
 use Rattle.code_emit.specs.Writing.{IsWriting}
 use Rattle.code_emit.proofs.Later.{writing_later}
-use Rattle.code_emit.proofs.writer.Writer.noted_string.Goals as goal
+use Rattle.code_emit.proofs.writer.Writer.new_name.Goals as goal
 
 pub invariant_of-self : goal.invariant_of-self
 invariant_of-self c =

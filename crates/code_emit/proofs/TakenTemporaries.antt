@@ -9,7 +9,7 @@ use Rattle.std.proofs.lemmas.Option.{slice_get-get_or, get_or_from_slice_get, sl
 use Rattle.jump_patch.specs.Jumps.{Buffer}
 use Rattle.pex_values.specs.declared.debug.PexLines.{PexLines}
 use Rattle.pex_values.specs.Shape.{ArePair}
-use Rattle.code_emit.specs.Spare.{TakenFrom}
+use Rattle.code_emit.specs.Temporaries.{TakenFrom}
 use Rattle.code_emit.specs.Writing.{IsWriting}
 use Rattle.code_emit.proofs.Writings.{without_spare}
 
