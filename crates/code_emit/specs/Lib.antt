@@ -1,4 +1,3 @@
-pub mod Function
 pub mod Operands
 pub mod Temporaries
 pub mod Strings

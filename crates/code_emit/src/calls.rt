@@ -100,7 +100,7 @@ pub(crate) fn global_names(
         .functions
         .get(usize::from(at.place))
         .ok_or(EmitFault::OutOfRange)?;
-    let script = writer.string(object.name.as_bytes())?;
+    let script = writer.type_name(Some(CoreType::Script(at.script)))?;
     let function = writer.string(member.name.as_bytes())?;
     Ok((Operand::Word(script), Operand::Word(function)))
 }

@@ -45,7 +45,7 @@ pub(crate) fn change_property(
     let of = kept_value(writer, of, true, depth)?;
     let old = get_property(writer, of.lasting(), name, kind)?;
     let right = value(writer, right, depth)?;
-    let new = writer.compute(arith_opcode(operation), kind, &[old, right])?;
+    let new = writer.combine(arith_opcode(operation), kind, old, right)?;
     let name = writer.string(name.as_bytes())?;
     writer.act(PROPSET, &[Operand::Word(name), of, new])
 }
@@ -99,8 +99,8 @@ pub(crate) fn change_element(
     ensures { GoesOn writer.old writer.new }
 {
     let (array, index) = element(writer, array, index, right, depth)?;
-    let old = writer.compute(ARRAY_GETELEMENT, kind, &[array.lasting(), index.lasting()])?;
+    let old = writer.combine(ARRAY_GETELEMENT, kind, array.lasting(), index.lasting())?;
     let right = value(writer, right, depth)?;
-    let new = writer.compute(arith_opcode(operation), kind, &[old, right])?;
+    let new = writer.combine(arith_opcode(operation), kind, old, right)?;
     writer.act(ARRAY_SETELEMENT, &[array, index, new])
 }

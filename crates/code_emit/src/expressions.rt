@@ -15,6 +15,7 @@ use crate::opcodes::{
     order_opcode,
 };
 use crate::operand::Operand;
+use crate::strings::Numbered;
 use crate::writer::Writer;
 use core_tree::{Core, CoreType, Value};
 use papy_base::Name;
@@ -41,8 +42,12 @@ pub(crate) fn value(
     ensures goes { GoesOn writer.old writer.new }
 {
     let depth = one_deeper(depth)?;
-    if first_operand(expression).is_none() {
+    let Some(first) = first_operand(expression) else {
         return leaf_value(writer, expression, depth);
+    };
+    if first_operand(first).is_none() {
+        let first = leaf_value(writer, first, depth)?;
+        return form_value(writer, expression, first, depth);
     }
     let mut forms = spine(writer.alloc(), expression)?;
     let mut operand = Operand::NoneValue;
@@ -62,7 +67,7 @@ fn leaf_value(writer: &mut Writer<'_>, form: &Core, depth: u16) -> Result<Operan
         Core::Lit(literal) => constant(writer, literal),
         Core::Local(number) => Ok(Operand::Word(writer.local(*number)?)),
         Core::Field(number) => field(writer, *number),
-        Core::SelfValue => Ok(Operand::Word(writer.string(b"self")?)),
+        Core::SelfValue => Ok(Operand::Word(writer.numbered(Numbered::OwnInstance)?)),
         Core::StateText => state_text(writer),
         Core::NewArray(kind, count) => new_array(writer, *kind, *count),
         _ => call_value(writer, form, Operand::NoneValue, depth),
@@ -86,8 +91,8 @@ fn form_value(
             let opcode = arith_opcode(*operation);
             with_second(writer, opcode, CoreType::Int, first, right, depth)
         }
-        Core::Neg(_) => with_one(writer, INEG, CoreType::Int, first),
-        Core::Not(_) => with_one(writer, NOT, CoreType::Bool, first),
+        Core::Neg(_) => writer.compute(INEG, CoreType::Int, first),
+        Core::Not(_) => writer.compute(NOT, CoreType::Bool, first),
         Core::Join(_, right) => with_second(writer, STRCAT, CoreType::Text, first, right, depth),
         Core::Equal(_, right) => with_second(writer, CMP_EQ, CoreType::Bool, first, right, depth),
         Core::Order(order, _, right) => {
@@ -96,14 +101,14 @@ fn form_value(
         }
         Core::And(_, right) => either(writer, false, first, right, depth),
         Core::Or(_, right) => either(writer, true, first, right, depth),
-        Core::Cast(to, _) => with_one(writer, CAST, *to, first),
+        Core::Cast(to, _) => writer.compute(CAST, *to, first),
         Core::CallMethod { .. } => call_value(writer, form, first, depth),
         Core::PropGet {
             name,
             result: kind,
             ..
         } => get_property(writer, first, name, *kind),
-        Core::Length(_) => with_one(writer, ARRAY_LENGTH, CoreType::Int, first),
+        Core::Length(_) => writer.compute(ARRAY_LENGTH, CoreType::Int, first),
         Core::Element(_, index, kind) => {
             with_second(writer, ARRAY_GETELEMENT, *kind, first, index, depth)
         }
@@ -238,22 +243,6 @@ pub(crate) fn kept_value(
     writer.kept(operand, before_calls)
 }
 
-// Appends an operation on one value.
-#[inline(never)]
-fn with_one(
-    writer: &mut Writer<'_>,
-    opcode: u8,
-    kind: CoreType,
-    of: Operand,
-) -> Result<Operand, EmitFault>
-    requires opcode { Takes opcode 2 }
-    requires of { needs of ≤ writer.old.strings }
-    ensures operand { IfOk result (λ operand. needs operand ≤ writer.new.strings) }
-    ensures goes { GoesOn writer.old writer.new }
-{
-    writer.compute(opcode, kind, &[of])
-}
-
 // The operand, with the value that it has before another expression is evaluated.
 fn kept_before(
     writer: &mut Writer<'_>,
@@ -287,7 +276,7 @@ fn with_second(
 {
     let first = kept_before(writer, first, second, depth)?;
     let second = value(writer, second, depth)?;
-    writer.compute(opcode, kind, &[first, second])
+    writer.combine(opcode, kind, first, second)
 }
 
 #[cycle(expression)]
@@ -320,7 +309,7 @@ fn new_array(writer: &mut Writer<'_>, kind: CoreType, count: u8) -> Result<Opera
     let Some(array) = array_of(kind) else {
         return Err(EmitFault::OutOfRange);
     };
-    writer.compute(ARRAY_CREATE, array, &[Operand::Int(i32::from(count))])
+    writer.compute(ARRAY_CREATE, array, Operand::Int(i32::from(count)))
 }
 
 // The type of arrays with elements of this type.

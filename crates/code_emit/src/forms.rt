@@ -1,4 +1,4 @@
-// The operands of expressions, and which expressions contain calls.
+// The first operands of expressions, and which expressions contain calls.
 use crate::faults::EmitFault;
 use core_tree::Core;
 use std::alloc::Global;
@@ -6,34 +6,27 @@ use std::alloc::Global;
 /// How many first operands may stand inside each other. An expression of an accepted script has no more.
 const MOST_FORMS: usize = 4_000;
 
-/// The operands of a form but for the arguments of a call, in order of evaluation.
-#[inline(always)]
-fn operands(form: &Core) -> [Option<&Core>; 3] {
-    match form {
-        Core::Neg(of)
-        | Core::Not(of)
-        | Core::Cast(_, of)
-        | Core::Length(of)
-        | Core::CallMethod { of, .. }
-        | Core::PropGet { of, .. } => [Some(of), None, None],
-        Core::Arith(_, left, right)
-        | Core::Join(left, right)
-        | Core::Equal(left, right)
-        | Core::Order(_, left, right)
-        | Core::And(left, right)
-        | Core::Or(left, right)
-        | Core::Element(left, right, _) => [Some(left), Some(right), None],
-        Core::Find(array, value, start) | Core::FindBack(array, value, start) => {
-            [Some(array), Some(value), Some(start)]
-        }
-        _ => [None, None, None],
-    }
-}
-
 /// The first operand of a form, which is evaluated before what else the form has.
 #[inline(always)]
 pub(crate) fn first_operand(form: &Core) -> Option<&Core> {
-    operands(form)[0]
+    match form {
+        Core::Neg(first)
+        | Core::Not(first)
+        | Core::Cast(_, first)
+        | Core::Length(first)
+        | Core::CallMethod { of: first, .. }
+        | Core::PropGet { of: first, .. }
+        | Core::Arith(_, first, _)
+        | Core::Join(first, _)
+        | Core::Equal(first, _)
+        | Core::Order(_, first, _)
+        | Core::And(first, _)
+        | Core::Or(first, _)
+        | Core::Element(first, _, _)
+        | Core::Find(first, _, _)
+        | Core::FindBack(first, _, _) => Some(first),
+        _ => None,
+    }
 }
 
 /// The expression, its first operand, that one's first operand and so on, down to a form without operands or a call
@@ -57,24 +50,31 @@ pub(crate) fn contains_call(expression: &Core, depth: u16) -> bool {
     let Some(depth) = depth.checked_sub(1) else {
         return true;
     };
-    if matches!(
-        expression,
+    match expression {
         Core::CallMethod { .. }
-            | Core::CallParent { .. }
-            | Core::CallGlobal { .. }
-            | Core::CallNative { .. }
-            | Core::PropGet { .. }
-    ) {
-        return true;
-    }
-    for operand in operands(expression) {
-        if let Some(operand) = operand
-            && contains_call(operand, depth)
-        {
-            return true;
+        | Core::CallParent { .. }
+        | Core::CallGlobal { .. }
+        | Core::CallNative { .. }
+        | Core::PropGet { .. } => true,
+        Core::Neg(of) | Core::Not(of) | Core::Cast(_, of) | Core::Length(of) => {
+            contains_call(of, depth)
         }
+        Core::Arith(_, left, right)
+        | Core::Join(left, right)
+        | Core::Equal(left, right)
+        | Core::Order(_, left, right)
+        | Core::And(left, right)
+        | Core::Or(left, right)
+        | Core::Element(left, right, _) => {
+            contains_call(left, depth) || contains_call(right, depth)
+        }
+        Core::Find(array, value, start) | Core::FindBack(array, value, start) => {
+            contains_call(array, depth)
+                || contains_call(value, depth)
+                || contains_call(start, depth)
+        }
+        _ => false,
     }
-    false
 }
 
 /// How many of a call's arguments stand up to the last that contains a call, itself counted.

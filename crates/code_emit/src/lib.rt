@@ -3,6 +3,7 @@
 //! The format is that of UESP's page "Skyrim Mod:File Formats/PEX" (Compiled Script File).
 #![tactic(auto)]
 
+mod bits;
 mod calls;
 mod changes;
 mod conditions;

@@ -8,9 +8,11 @@ ghost use Rattle.pex_values.specs.Plain.{plain_function, plain_named, plain_prop
 ghost use Rattle.pex_values.specs.Shape.{IsReference, IsShapedFunction, IsShapedNamed, IsShapedVariable, IsShapedProperty, IsShapedState, IsShapedObject};
 ghost use Rattle.code_emit.specs.Writing.{GoesOn, Advances};
 
+use crate::bits::flag_bits;
 use crate::expressions::constant;
 use crate::faults::EmitFault;
-use crate::functions::{DebugName, flag_bits, function};
+use crate::functions::{DebugName, function};
+use crate::strings::Numbered;
 use crate::type_names::script_name;
 use crate::writer::Writer;
 use core_tree::{CoreAccess, CoreFunction, CoreProperty, CoreScript, CoreState, CoreVariable};
@@ -33,7 +35,7 @@ pub(crate) fn object(writer: &mut Writer<'_>) -> Result<PexObject, EmitFault>
     ensures advances { Advances writer.old writer.new }
 {
     let script = writer.script();
-    let name = writer.string(script.name.as_bytes())?;
+    let name = writer.new_name(Numbered::Script)?;
     let parent_name: &[u8] = match script.parent {
         Some(number) => script_name(writer.scripts(), number)?,
         None => b"",

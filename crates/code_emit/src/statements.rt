@@ -154,16 +154,9 @@ fn branch(
     ensures err { OnErr result (GoesOn writer.old writer.new) }
 {
     let over = jump_unless(writer, test, depth)?;
-    match body_and_exit(writer, body, depth) {
-        Ok(end) => {
-            writer.land(over);
-            Ok(end)
-        }
-        Err(fault) => {
-            writer.land(over);
-            Err(fault)
-        }
-    }
+    let end = body_and_exit(writer, body, depth);
+    writer.land(over);
+    end
 }
 
 // The statements of a branch, and the jump behind them.

@@ -23,6 +23,14 @@ pub(crate) enum Numbered {
     Variable(u16),
     /// A parameter or a local of any function, temporaries counted.
     Local(u16),
+    /// The name of the script whose file it is.
+    Script,
+    /// The empty text.
+    Empty,
+    /// `self`
+    OwnInstance,
+    /// `::NoneVar`
+    NoneVariable,
 }
 
 /// The strings so far. Contracts see them as a list, in which none stands twice.
@@ -101,14 +109,18 @@ impl Strings {
     }
 }
 
-// Where the place of a name is noted: the kinds take turns.
+// Where the place of a name is noted: behind those without a number of their own the kinds take turns.
 fn slot(name: Numbered) -> usize
     ensures { result < 2 ^ 35 }
 {
     match name {
-        Numbered::Type(kind) => 3 * type_number(kind) as usize,
-        Numbered::Variable(number) => 3 * usize::from(number) + 1,
-        Numbered::Local(number) => 3 * usize::from(number) + 2,
+        Numbered::Script => 0,
+        Numbered::Empty => 1,
+        Numbered::OwnInstance => 2,
+        Numbered::NoneVariable => 3,
+        Numbered::Type(kind) => 3 * type_number(kind) as usize + 4,
+        Numbered::Variable(number) => 3 * usize::from(number) + 5,
+        Numbered::Local(number) => 3 * usize::from(number) + 6,
     }
 }
 

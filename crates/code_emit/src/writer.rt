@@ -5,26 +5,25 @@ ghost use Rattle.std.specs.Prelude.{◌≡◌, ℕ, ◌<◌, ◌≤◌, ◌^◌,
 ghost use Rattle.std.specs.List.{AllByRecursion};
 ghost use Rattle.jump_patch.specs.Jumps.{jump};
 ghost use Rattle.pex_values.specs.Opcodes.{operands_of};
-ghost use Rattle.pex_values.specs.Plain.{plain_instruction, plain_lines};
-ghost use Rattle.pex_values.specs.Shape.{ArePair, IsReference, AgreesWith, IsShapedDatum, IsShapedInstruction, IsShapedLines};
-ghost use Rattle.code_emit.specs.Function.{IsFunctionCode};
+ghost use Rattle.pex_values.specs.Plain.{plain_function, plain_instruction, plain_lines};
+ghost use Rattle.pex_values.specs.Shape.{ArePair, IsReference, AgreesWith, IsShapedDatum, IsShapedFunction, IsShapedInstruction, IsShapedLines};
 ghost use Rattle.code_emit.specs.Operands.{needs};
 ghost use Rattle.code_emit.specs.Writing.{GoesOn, Leaps, AreThere, Takes, landed};
 
+use crate::bits::{flag_bits, function_bits};
 use crate::faults::EmitFault;
 use crate::functions::DebugName;
 use crate::opcodes::ASSIGN;
-use crate::operand::{Operand, data, data_before, data_behind};
+use crate::operand::{Operand, data};
 use crate::strings::{Numbered, Strings};
 use crate::temporaries::FreeTemporaries;
 use crate::type_names::type_name;
 use core_tree::{CoreFunction, CoreScript, CoreSet, CoreType, CoreVariable};
 use jump_patch::{Ahead, Code, CodeBuffer, JumpKind, Mark};
 use papy_base::Text;
-use pex_values::{Datum, Instruction, PexLines};
+use pex_values::{Datum, Instruction, PexFunction, PexLines};
 use std::alloc::Global;
 use std::marker::Model;
-use std::mem;
 
 /// The most instructions of a function.
 const MOST_INSTRUCTIONS: usize = 65_535;
@@ -45,9 +44,9 @@ pub(crate) struct Writer<'a> {
     count: usize,
     // The line of the statement that is being written.
     line: u16,
-    // Names and types, each by its place among the strings. The temporaries are among the locals.
-    parameters: Vec<(u16, u16)>,
-    locals: Vec<(u16, u16)>,
+    // The names and types of the function's parameters and then of its locals, temporaries among them, each by its place
+    // among the strings.
+    variables: Vec<(u16, u16)>,
     // How many of them the function's tree numbers.
     numbered: usize,
     spare: FreeTemporaries,
@@ -62,16 +61,7 @@ impl<'a> Model for Writer<'a> {
 
     ghost view = { λ w. record { strings = length w.strings; count = w.count; ahead = w.code.ahead } };
 
-    ghost invariant = { λ w. IsWriting (length w.strings) w.count w.code w.debug.items w.parameters.items w.locals.items w.spare w.none_variable };
-}
-
-/// A function's parameters, locals and code, with a line for each instruction.
-#[derive(Drop)]
-pub(crate) struct FunctionCode {
-    pub parameters: Vec<(u16, u16)>,
-    pub locals: Vec<(u16, u16)>,
-    pub code: Vec<Instruction>,
-    pub lines: Vec<u16>,
+    ghost invariant = { λ w. IsWriting (length w.strings) w.count w.code w.debug.items w.variables.items w.spare w.none_variable };
 }
 
 impl<'a> Writer<'a> {
@@ -88,8 +78,7 @@ impl<'a> Writer<'a> {
             code: CodeBuffer::new(alloc),
             count: 0,
             line: 0,
-            parameters: Vec::new(alloc),
-            locals: Vec::new(alloc),
+            variables: Vec::new(alloc),
             numbered: 0,
             spare: FreeTemporaries::new(alloc),
             none_variable: None,
@@ -116,6 +105,9 @@ impl<'a> Writer<'a> {
         ensures place { IfOk result (IsReference self.new.strings) }
         ensures goes { GoesOn self.old self.new }
     {
+        if string.is_empty() {
+            return self.numbered(Numbered::Empty);
+        }
         self.strings.place_of(string)
     }
 
@@ -139,8 +131,9 @@ impl<'a> Writer<'a> {
         self.numbered(Numbered::Type(kind))
     }
 
-    // The place of a name that has a number, from which it is known once it was looked up.
-    fn numbered(&mut self, name: Numbered) -> Result<u16, EmitFault>
+    /// The place of a name that is known by its number once it was looked up.
+    #[inline(always)]
+    pub(crate) fn numbered(&mut self, name: Numbered) -> Result<u16, EmitFault>
         ensures place { IfOk result (IsReference self.new.strings) }
         ensures goes { GoesOn self.old self.new }
     {
@@ -150,9 +143,9 @@ impl<'a> Writer<'a> {
         self.new_name(name)
     }
 
-    // The place of a name that wasn't looked up before.
+    /// The place of a name that wasn't looked up before.
     #[inline(never)]
-    fn new_name(&mut self, name: Numbered) -> Result<u16, EmitFault>
+    pub(crate) fn new_name(&mut self, name: Numbered) -> Result<u16, EmitFault>
         ensures place { IfOk result (IsReference self.new.strings) }
         ensures goes { GoesOn self.old self.new }
     {
@@ -189,21 +182,17 @@ impl<'a> Writer<'a> {
         if number >= self.numbered {
             return Err(EmitFault::OutOfRange);
         }
-        match number.checked_sub(self.parameters.len()) {
-            None => name_at(&self.parameters, number),
-            Some(place) => name_at(&self.locals, place),
-        }
+        name_at(&self.variables, number)
     }
 
     fn next_name(&mut self) -> Result<u16, EmitFault>
         ensures place { IfOk result (IsReference self.new.strings) }
         ensures goes { GoesOn self.old self.new }
     {
-        let (parameters, locals) = (self.parameters.len(), self.locals.len());
-        if parameters >= MOST_VARIABLES || locals >= MOST_VARIABLES - parameters {
+        let number = self.variables.len();
+        if number >= MOST_VARIABLES {
             return Err(EmitFault::TooLarge);
         }
-        let number = parameters + locals;
         self.numbered(Numbered::Local(number as u16))
     }
 
@@ -213,8 +202,7 @@ impl<'a> Writer<'a> {
     {
         self.begin_parameters(&function.parameters)?;
         self.begin_locals(&function.locals)?;
-        self.numbered = self.parameters.len().saturating_add(self.locals.len());
-        self.line = 0;
+        self.numbered = self.variables.len();
         Ok(())
     }
 
@@ -224,7 +212,7 @@ impl<'a> Writer<'a> {
         for kind in kinds {
             let name = self.next_name()?;
             let kind = self.type_name(Some(*kind))?;
-            self.add_parameter(name, kind)?;
+            self.add_variable(name, kind)?;
         }
         Ok(())
     }
@@ -239,15 +227,6 @@ impl<'a> Writer<'a> {
         Ok(())
     }
 
-    fn add_parameter(&mut self, name: u16, kind: u16) -> Result<(), EmitFault>
-        requires name { IsReference self.old.strings name }
-        requires kind { IsReference self.old.strings kind }
-        ensures { self.new ≡ self.old }
-    {
-        self.parameters.push((name, kind))?;
-        Ok(())
-    }
-
     #[inline(never)]
     fn new_local(&mut self, kind: u16) -> Result<u16, EmitFault>
         requires { IsReference self.old.strings kind }
@@ -255,16 +234,16 @@ impl<'a> Writer<'a> {
         ensures goes { GoesOn self.old self.new }
     {
         let name = self.next_name()?;
-        self.add_local(name, kind)?;
+        self.add_variable(name, kind)?;
         Ok(name)
     }
 
-    fn add_local(&mut self, name: u16, kind: u16) -> Result<(), EmitFault>
+    fn add_variable(&mut self, name: u16, kind: u16) -> Result<(), EmitFault>
         requires name { IsReference self.old.strings name }
         requires kind { IsReference self.old.strings kind }
         ensures { self.new ≡ self.old }
     {
-        self.locals.push((name, kind))?;
+        self.variables.push((name, kind))?;
         Ok(())
     }
 
@@ -296,7 +275,7 @@ impl<'a> Writer<'a> {
         if let Some(name) = self.none_variable {
             return Ok(name);
         }
-        let name = self.string(b"::NoneVar")?;
+        let name = self.numbered(Numbered::NoneVariable)?;
         let kind = self.type_name(None)?;
         self.add_none(name, kind)?;
         Ok(name)
@@ -307,7 +286,7 @@ impl<'a> Writer<'a> {
         requires kind { IsReference self.old.strings kind }
         ensures { self.new ≡ self.old }
     {
-        self.add_local(name, kind)?;
+        self.add_variable(name, kind)?;
         self.none_variable = Some(name);
         Ok(())
     }
@@ -382,40 +361,54 @@ impl<'a> Writer<'a> {
         self.instruct(opcode, fixed, more, operands)
     }
 
-    /// Writes an instruction whose result stands before its operands, and gives back the temporaries that it reads.
-    #[inline(always)]
+    /// Writes an instruction whose result stands before its operand, and gives that back where it is a temporary.
     pub(crate) fn compute(
         &mut self,
         opcode: u8,
         kind: CoreType,
-        operands: &[Operand],
+        of: Operand,
     ) -> Result<Operand, EmitFault>
-        requires opcode { Takes opcode (suc (length operands.now)) }
-        requires operands { AreThere self.old.strings operands.now }
+        requires opcode { Takes opcode 2 }
+        requires of { needs of ≤ self.old.strings }
         ensures operand { IfOk result (λ operand. needs operand ≤ self.new.strings) }
         ensures goes { GoesOn self.old self.new }
     {
         let place = self.take(kind)?;
-        self.store(opcode, place, operands)?;
+        self.store(opcode, place, of)?;
         Ok(place)
     }
 
     /// As `compute`, into a variable that is there.
-    #[inline(always)]
-    pub(crate) fn store(
-        &mut self,
-        opcode: u8,
-        place: Operand,
-        operands: &[Operand],
-    ) -> Result<(), EmitFault>
-        requires opcode { Takes opcode (suc (length operands.now)) }
+    pub(crate) fn store(&mut self, opcode: u8, place: Operand, of: Operand) -> Result<(), EmitFault>
+        requires opcode { Takes opcode 2 }
         requires place { needs place ≤ self.old.strings }
-        requires operands { AreThere self.old.strings operands.now }
+        requires of { needs of ≤ self.old.strings }
         ensures { GoesOn self.old self.new }
     {
-        let fixed = data_behind(self.alloc, place, operands)?;
+        let fixed = vec![in self.alloc; place.datum(), of.datum()]?;
         let more = Vec::new(self.alloc);
-        self.instruct(opcode, fixed, more, operands)
+        self.instruct(opcode, fixed, more, &[of])
+    }
+
+    /// As `compute`, with two operands.
+    pub(crate) fn combine(
+        &mut self,
+        opcode: u8,
+        kind: CoreType,
+        left: Operand,
+        right: Operand,
+    ) -> Result<Operand, EmitFault>
+        requires opcode { Takes opcode 3 }
+        requires left { needs left ≤ self.old.strings }
+        requires right { needs right ≤ self.old.strings }
+        ensures operand { IfOk result (λ operand. needs operand ≤ self.new.strings) }
+        ensures goes { GoesOn self.old self.new }
+    {
+        let place = self.take(kind)?;
+        let fixed = vec![in self.alloc; place.datum(), left.datum(), right.datum()]?;
+        let more = Vec::new(self.alloc);
+        self.instruct(opcode, fixed, more, &[left, right])?;
+        Ok(place)
     }
 
     /// Writes an instruction whose result stands behind its fixed operands, and gives back the temporaries that it reads.
@@ -434,7 +427,8 @@ impl<'a> Writer<'a> {
         ensures goes { GoesOn self.old self.new }
     {
         let given = self.place_for(kind)?;
-        let fixed = data_before(self.alloc, operands, given)?;
+        let mut fixed = data(self.alloc, operands)?;
+        fixed.push(given.datum())?;
         self.instruct(opcode, fixed, more, operands)?;
         Ok(given)
     }
@@ -462,7 +456,7 @@ impl<'a> Writer<'a> {
         ensures goes { GoesOn self.old self.new }
     {
         match (before_calls, operand) {
-            (true, Operand::Variable { kind, .. }) => self.compute(ASSIGN, kind, &[operand]),
+            (true, Operand::Variable { kind, .. }) => self.compute(ASSIGN, kind, operand),
             _ => Ok(operand),
         }
     }
@@ -509,25 +503,45 @@ impl<'a> Writer<'a> {
         self.code.land(ahead);
     }
 
-    /// Ends the function. Every jump must have landed.
-    pub(crate) fn end(&mut self) -> Result<FunctionCode, EmitFault>
-        requires { self.old.ahead ≡ [] }
-        ensures body { IfOk result (IsFunctionCode self.old.strings) }
+    /// Ends the function, and gives it with the line of each instruction. `kind` is the place of its result's type. Every
+    /// jump must have landed.
+    pub(crate) fn end(
+        &mut self,
+        function: &CoreFunction,
+        kind: u16,
+        doc: u16,
+    ) -> Result<(PexFunction, Vec<u16>), EmitFault>
+        requires ahead { self.old.ahead ≡ [] }
+        requires kind { IsReference self.old.strings kind }
+        requires doc { IsReference self.old.strings doc }
+        ensures function { IfOk result (λ parts. IsShapedFunction self.old.strings (plain_function parts.0)) }
+        ensures lines { IfOk result (λ parts. AllByRecursion (λ line. line < 2 ^ 16) parts.1.items) }
         ensures strings { self.new.strings ≡ self.old.strings }
         ensures ahead { self.new.ahead ≡ [] }
     {
-        let alloc = self.alloc;
+        let count = function.parameters.len();
+        if count > self.variables.len() {
+            return Err(EmitFault::OutOfRange);
+        }
+        let (parameters, locals) = self.variables.split_at(count);
+        let parameters = parameters.to_vec(self.alloc)?;
+        let locals = locals.to_vec(self.alloc)?;
         let Code { code, lines } = self.code.take()?;
         self.count = 0;
+        self.variables.clear();
         self.numbered = 0;
         self.spare.clear();
         self.none_variable = None;
-        Ok(FunctionCode {
-            parameters: mem::replace(&mut self.parameters, Vec::new(alloc)),
-            locals: mem::replace(&mut self.locals, Vec::new(alloc)),
+        let written = PexFunction {
+            result: kind,
+            doc,
+            flags: flag_bits(function.flags),
+            bits: function_bits(function.is_global, function.is_native),
+            parameters,
+            locals,
             code,
-            lines,
-        })
+        };
+        Ok((written, lines))
     }
 
     /// Adds the debug entry of a function.
@@ -539,8 +553,7 @@ impl<'a> Writer<'a> {
         requires { AllByRecursion (λ line. line < 2 ^ 16) lines.items }
         ensures { GoesOn self.old self.new }
     {
-        let script = self.script;
-        let object = self.string(script.name.as_bytes())?;
+        let object = self.numbered(Numbered::Script)?;
         let state = self.string(place.state)?;
         let function = self.string(place.name)?;
         self.add_entry(PexLines {
@@ -576,14 +589,20 @@ fn name_bytes(
     script: &CoreScript,
     name: Numbered,
 ) -> Result<Vec<u8>, EmitFault> {
-    match name {
-        Numbered::Type(kind) => type_name(alloc, &set.scripts, kind),
-        Numbered::Variable(number) => match script.variables.get(usize::from(number)) {
-            Some(variable) => Ok(variable.name.as_bytes().to_vec(alloc)?),
-            None => Err(EmitFault::OutOfRange),
-        },
-        Numbered::Local(number) => Ok(format!(in alloc; "::temp{number}")?.into_bytes()),
-    }
+    let bytes: &[u8] = match name {
+        Numbered::Type(kind) => return type_name(alloc, &set.scripts, kind),
+        Numbered::Local(number) => return Ok(format!(in alloc; "::temp{number}")?.into_bytes()),
+        Numbered::Variable(number) => {
+            let variables = script.variables.as_slice();
+            let variable = variables.get(usize::from(number));
+            variable.ok_or(EmitFault::OutOfRange)?.name.as_bytes()
+        }
+        Numbered::Script => script.name.as_bytes(),
+        Numbered::Empty => b"",
+        Numbered::OwnInstance => b"self",
+        Numbered::NoneVariable => b"::NoneVar",
+    };
+    Ok(bytes.to_vec(alloc)?)
 }
 
 fn name_at(pairs: &[(u16, u16)], place: usize) -> Result<u16, EmitFault>
