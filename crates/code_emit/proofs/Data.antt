@@ -6,7 +6,7 @@ use Rattle.pex_values.specs.declared.values.Datum.TheVariants as datum
 use Rattle.pex_values.specs.Opcodes.{operands_of}
 use Rattle.pex_values.specs.Shape.{AgreesWith, IsShapedDatum}
 use Rattle.pex_values.proofs.Parts.{each_added}
-use Rattle.std.proofs.lemmas.List.{length-map}
+use Rattle.std.proofs.lemmas.List.{length-map, map-append}
 use Rattle.std.proofs.lemmas.List.Elements.{All-from_recursion}
 use Rattle.code_emit.specs.declared.operand.Operand.{Operand}
 use Rattle.code_emit.specs.declared.operand.Operand.TheVariants as operand
@@ -47,8 +47,17 @@ one_datum n o d is within there =
 pub length_of : (os : List Operand) (ds : List Datum) → ds ≡ map datum_of os → length ds ≡ length os
 length_of os ds are = ap (λ (l : List Datum). length l) are ∙ length-map os datum_of
 
+pub pushed_data : (os : List Operand) (o : Operand) (ds after : List Datum) (d : Datum) → ds ≡ map datum_of os → d ≡ datum_of o → after ≡ ds ++ d ∷ [] → after ≡ map datum_of (os ++ o ∷ [])
+pushed_data os o ds after d are is added =
+    added ∙ ap (λ (l : List Datum). l ++ d ∷ []) are ∙ ap (λ (e : Datum). map datum_of os ++ e ∷ []) is ∙ sym (map-append datum_of os (o ∷ []))
+
 pub agrees_with : (opcode : ℕ) (all fixed : ℕ) → operands_of opcode ≡ Some (all, false) → fixed ≡ all → AgreesWith (operands_of opcode) fixed 0
 agrees_with opcode all fixed takes same = subst (λ (o : Option (ℕ × Bool)). AgreesWith o fixed 0) (sym takes) (same, refl)
+
+pub agrees_both : (opcode operands : ℕ) (all fixed more : List Datum) → operands_of opcode ≡ Some (operands, false) → length all ≡ operands → fixed ≡ all → more ≡ [] → AgreesWith (operands_of opcode) (length fixed) (length more)
+agrees_both opcode operands all fixed more takes size are none =
+    let P : List Datum → Type 0 = λ others. AgreesWith (operands_of opcode) (length fixed) (length others) in
+    subst P (sym none) (agrees_with opcode operands (length fixed) takes (ap (λ (l : List Datum). length l) are ∙ size))
 
 pub none_each : (strings n : ℕ) → AllByRecursion (IsShapedDatum strings) (replicate n datum.NoneValue)
 none_each strings zero = tt

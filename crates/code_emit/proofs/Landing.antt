@@ -1,6 +1,7 @@
 -- Jumps that land.
 use Rattle.std.proofs.Common.{◌≡◌, ◌≢◌, ℕ, ◌<◌, Bool, true, false, cond, ltb, List, [], ◌∷◌, ◌++◌, length, get_or, refl, sym, ap, subst, ◌∙◌, ⊎_elim, eqb, Option, Some, None, arith, length-append, append_assoc}
 use Rattle.std.proofs.Math.ListN.{get_or-append}
+use Rattle.std.specs.Prelude.{Result, Ok, Err, IfOk, OnErr}
 use Rattle.std.specs.List.{position, remove, Contains}
 use Rattle.std.proofs.lemmas.Bool.{eq-eqb}
 use Rattle.std.proofs.lemmas.Bool.Decides.{eqb_tells, nat_tests}
@@ -75,5 +76,18 @@ first_landed first second third fourth over end leaps next is =
       ahead_are = ap (λ (p : List ℕ). without p over) places ∙ without_one first.ahead (end ∷ []) over leaps.is_new;
       is_new = λ has. next.is_new (subst Q (sym leaps.ahead_are) (Contains-append_left first.ahead (over ∷ []) end has));
     }
+
+-- the same where the later one was added or nothing was
+pub may_land_either : {E : Type 0} (first second third : Written) (over : ℕ) (end : Result ℕ E) → Leaps first over second → IfOk end (λ ahead. Leaps second ahead third) → OnErr end (GoesOn second third) → Contains third.ahead over
+may_land_either first second third over (Ok ahead) leaps next goes = may_land_first first second third over ahead leaps next
+may_land_either first second third over (Err fault) leaps next goes = may_land first second third over leaps goes
+
+pub either_landed : {E : Type 0} (first second third fourth : Written) (over : ℕ) (end : Result ℕ E) → Leaps first over second → IfOk end (λ ahead. Leaps second ahead third) → fourth ≡ landed third over → IfOk end (λ ahead. Leaps first ahead fourth)
+either_landed first second third fourth over (Ok ahead) leaps next is = first_landed first second third fourth over ahead leaps next is
+either_landed first second third fourth over (Err fault) leaps next is = tt
+
+pub neither_landed : {E : Type 0} (first second third fourth : Written) (over : ℕ) (end : Result ℕ E) → Leaps first over second → OnErr end (GoesOn second third) → fourth ≡ landed third over → OnErr end (GoesOn first fourth)
+neither_landed first second third fourth over (Ok ahead) leaps goes is = tt
+neither_landed first second third fourth over (Err fault) leaps goes is = has_landed first second third fourth over leaps goes is
 
 pub ruleset landing = (may_land, has_landed, may_land_first, first_landed)

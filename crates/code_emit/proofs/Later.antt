@@ -127,17 +127,16 @@ module _ (n m : ℕ) (more : n ≤ m) where
   below_later : (k : ℕ) → k < n → k < m
   below_later k below = omega arith
 
-  pub writing_later : (count : ℕ) (code : Buffer) (debug : List PexLines) (parameters locals : List (ℕ × ℕ)) (spare : List (ℕ × ℕ)) (none : Option ℕ)
-      → IsWriting n count code debug parameters locals spare none → IsWriting m count code debug parameters locals spare none
-  writing_later count code debug parameters locals spare none is = record {
+  pub writing_later : (count : ℕ) (code : Buffer) (debug : List PexLines) (variables : List (ℕ × ℕ)) (spare : List (ℕ × ℕ)) (none : Option ℕ)
+      → IsWriting n count code debug variables spare none → IsWriting m count code debug variables spare none
+  writing_later count code debug variables spare none is = record {
     count_is = is.count_is;
     few = is.few;
     ahead_are = is.ahead_are;
     instructions = all_later (IsShapedInstruction n) (IsShapedInstruction m) instruction_later code.code is.instructions;
     lines = is.lines;
     entries = all_later (IsShapedLines n) (IsShapedLines m) lines_later (map plain_lines debug) is.entries;
-    parameters_are = pairs_later parameters is.parameters_are;
-    locals_are = pairs_later locals is.locals_are;
+    variables_are = pairs_later variables is.variables_are;
     spare_are = all_later (λ (s : ℕ × ℕ). s.1 < n) (λ (s : ℕ × ℕ). s.1 < m) (λ (s : ℕ × ℕ) (below : s.1 < n). below_later s.1 below) spare is.spare_are;
     none_is = some_later (λ (k : ℕ). k < n) (λ (k : ℕ). k < m) below_later none is.none_is;
   }

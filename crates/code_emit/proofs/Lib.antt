@@ -2,6 +2,6 @@ pub mod Data
 pub mod Goes
 pub mod Landing
 pub mod Later
-pub mod Spares
+pub mod TakenTemporaries
 pub mod StringLemmas
 pub mod Writings

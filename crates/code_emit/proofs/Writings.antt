@@ -27,10 +27,10 @@ get_each P [] i x each here = here
 get_each P (y ∷ ys) zero x each here = each.0
 get_each P (y ∷ ys) (suc i) x each here = get_each P ys i x each.1 here
 
-take_each : {X : Type 0} (P : X → Type 0) (n : ℕ) (xs : List X) → AllByRecursion P xs → AllByRecursion P (take n xs)
+pub take_each : {X : Type 0} (P : X → Type 0) (n : ℕ) (xs : List X) → AllByRecursion P xs → AllByRecursion P (take n xs)
 take_each P n xs each = recursion_from_All P (take n xs) (All-take P n xs (All-from_recursion P xs each))
 
-drop_each : {X : Type 0} (P : X → Type 0) (n : ℕ) (xs : List X) → AllByRecursion P xs → AllByRecursion P (drop n xs)
+pub drop_each : {X : Type 0} (P : X → Type 0) (n : ℕ) (xs : List X) → AllByRecursion P xs → AllByRecursion P (drop n xs)
 drop_each P n xs each = recursion_from_All P (drop n xs) (All-drop P n xs (All-from_recursion P xs each))
 
 append_each : {X : Type 0} (P : X → Type 0) (xs ys : List X) → AllByRecursion P xs → AllByRecursion P ys → AllByRecursion P (xs ++ ys)
@@ -67,61 +67,55 @@ landed_shaped n code at low few each =
     set_each (IsShapedInstruction n) code at (with_offset (get_or code at nop) (offset at (length code))) each
     (redirected n (get_or code at nop) (offset at (length code)) (offset_fits at (length code) low few) (get_each (IsShapedInstruction n) code at nop each (nop_shaped n)))
 
-module _ (n count : ℕ) (code : Buffer) (debug : List PexLines) (parameters locals spare : List (ℕ × ℕ)) (none : Option ℕ) (is : IsWriting n count code debug parameters locals spare none) where
+module _ (n count : ℕ) (code : Buffer) (debug : List PexLines) (variables spare : List (ℕ × ℕ)) (none : Option ℕ) (is : IsWriting n count code debug variables spare none) where
   -- the same code with other parts beside it
-  beside : (entries : List PexLines) (ps ls ss : List (ℕ × ℕ)) (some : Option ℕ)
-      → AllByRecursion (IsShapedLines n) (map plain_lines entries) → AllByRecursion (ArePair n) ps → AllByRecursion (ArePair n) ls → AllByRecursion (λ s. s.1 < n) ss → IfSome some (λ name. name < n)
-      → IsWriting n count code entries ps ls ss some
-  beside entries ps ls ss some entries_are ps_are ls_are ss_are some_is = record {
+  beside : (entries : List PexLines) (vs ss : List (ℕ × ℕ)) (some : Option ℕ)
+      → AllByRecursion (IsShapedLines n) (map plain_lines entries) → AllByRecursion (ArePair n) vs → AllByRecursion (λ s. s.1 < n) ss → IfSome some (λ name. name < n)
+      → IsWriting n count code entries vs ss some
+  beside entries vs ss some entries_are vs_are ss_are some_is = record {
     count_is = is.count_is;
     few = is.few;
     ahead_are = is.ahead_are;
     instructions = is.instructions;
     lines = is.lines;
     entries = entries_are;
-    parameters_are = ps_are;
-    locals_are = ls_are;
+    variables_are = vs_are;
     spare_are = ss_are;
     none_is = some_is;
   }
 
-  pub with_parameter : (pair : ℕ × ℕ) (after : List (ℕ × ℕ)) → ArePair n pair → after ≡ parameters ++ pair ∷ [] → IsWriting n count code debug after locals spare none
-  with_parameter pair after are added =
-      beside debug after locals spare none is.entries (subst (λ (ps : List (ℕ × ℕ)). AllByRecursion (ArePair n) ps) (sym added) (each_added (ArePair n) parameters pair is.parameters_are are)) is.locals_are is.spare_are is.none_is
+  pub with_variable : (pair : ℕ × ℕ) (after : List (ℕ × ℕ)) → ArePair n pair → after ≡ variables ++ pair ∷ [] → IsWriting n count code debug after spare none
+  with_variable pair after are added =
+      beside debug after spare none is.entries (subst (λ (ps : List (ℕ × ℕ)). AllByRecursion (ArePair n) ps) (sym added) (each_added (ArePair n) variables pair is.variables_are are)) is.spare_are is.none_is
 
-  pub with_local : (pair : ℕ × ℕ) (after : List (ℕ × ℕ)) → ArePair n pair → after ≡ locals ++ pair ∷ [] → IsWriting n count code debug parameters after spare none
-  with_local pair after are added =
-      beside debug parameters after spare none is.entries is.parameters_are (subst (λ (ps : List (ℕ × ℕ)). AllByRecursion (ArePair n) ps) (sym added) (each_added (ArePair n) locals pair is.locals_are are)) is.spare_are is.none_is
-
-  pub with_spare : (pair : ℕ × ℕ) (after : List (ℕ × ℕ)) → pair.1 < n → after ≡ spare ++ pair ∷ [] → IsWriting n count code debug parameters locals after none
+  pub with_spare : (pair : ℕ × ℕ) (after : List (ℕ × ℕ)) → pair.1 < n → after ≡ spare ++ pair ∷ [] → IsWriting n count code debug variables after none
   with_spare pair after below added =
-      beside debug parameters locals after none is.entries is.parameters_are is.locals_are (subst (λ (ps : List (ℕ × ℕ)). AllByRecursion (λ s. s.1 < n) ps) (sym added) (each_added (λ (s : ℕ × ℕ). s.1 < n) spare pair is.spare_are below)) is.none_is
+      beside debug variables after none is.entries is.variables_are (subst (λ (ps : List (ℕ × ℕ)). AllByRecursion (λ s. s.1 < n) ps) (sym added) (each_added (λ (s : ℕ × ℕ). s.1 < n) spare pair is.spare_are below)) is.none_is
 
-  pub without_spare : (at : ℕ) (after : List (ℕ × ℕ)) → after ≡ remove spare at → IsWriting n count code debug parameters locals after none
+  pub without_spare : (at : ℕ) (after : List (ℕ × ℕ)) → after ≡ remove spare at → IsWriting n count code debug variables after none
   without_spare at after left =
-      beside debug parameters locals after none is.entries is.parameters_are is.locals_are (subst (λ (ps : List (ℕ × ℕ)). AllByRecursion (λ s. s.1 < n) ps) (sym left) (remove_each (λ (s : ℕ × ℕ). s.1 < n) spare at is.spare_are)) is.none_is
+      beside debug variables after none is.entries is.variables_are (subst (λ (ps : List (ℕ × ℕ)). AllByRecursion (λ s. s.1 < n) ps) (sym left) (remove_each (λ (s : ℕ × ℕ). s.1 < n) spare at is.spare_are)) is.none_is
 
-  pub with_none : (name : ℕ) → name < n → IsWriting n count code debug parameters locals spare (Some name)
-  with_none name below = beside debug parameters locals spare (Some name) is.entries is.parameters_are is.locals_are is.spare_are below
+  pub with_none : (name : ℕ) → name < n → IsWriting n count code debug variables spare (Some name)
+  with_none name below = beside debug variables spare (Some name) is.entries is.variables_are is.spare_are below
 
-  pub with_entry : (entry : PexLines) (after : List PexLines) → IsShapedLines n (plain_lines entry) → after ≡ debug ++ entry ∷ [] → IsWriting n count code after parameters locals spare none
+  pub with_entry : (entry : PexLines) (after : List PexLines) → IsShapedLines n (plain_lines entry) → after ≡ debug ++ entry ∷ [] → IsWriting n count code after variables spare none
   with_entry entry after shaped added =
-      beside after parameters locals spare none (subst (λ (es : List PexLines). AllByRecursion (IsShapedLines n) (map plain_lines es)) (sym added) (each_grown (IsShapedLines n) (IsShapedLines n) plain_lines (λ y h. h) debug entry is.entries shaped)) is.parameters_are is.locals_are is.spare_are is.none_is
+      beside after variables spare none (subst (λ (es : List PexLines). AllByRecursion (IsShapedLines n) (map plain_lines es)) (sym added) (each_grown (IsShapedLines n) (IsShapedLines n) plain_lines (λ y h. h) debug entry is.entries shaped)) is.variables_are is.spare_are is.none_is
 
   with_more : (i : PlainInstruction) (line : ℕ) (ahead : List ℕ) (count' : ℕ) (after : Buffer)
       → IsShapedInstruction n i → line < 2 ^ 16 → count < 65535 → AllByRecursion (λ place. place < count') ahead
       → after ≡ record { code = code.code ++ i ∷ []; lines = code.lines ++ line ∷ []; ahead = ahead } → count' ≡ count + 1
-      → IsWriting n count' after debug parameters locals spare none
+      → IsWriting n count' after debug variables spare none
   with_more i line ahead count' after shaped small room places added more =
-      subst (λ (b : Buffer). IsWriting n count' b debug parameters locals spare none) (sym added) record {
+      subst (λ (b : Buffer). IsWriting n count' b debug variables spare none) (sym added) record {
         count_is = omega (arith, length-append code.code (i ∷ []), is.count_is);
         few = omega arith;
         ahead_are = places;
         instructions = each_added (IsShapedInstruction n) code.code i is.instructions shaped;
         lines = each_added (λ (l : ℕ). l < 2 ^ 16) code.lines line is.lines small;
         entries = is.entries;
-        parameters_are = is.parameters_are;
-        locals_are = is.locals_are;
+        variables_are = is.variables_are;
         spare_are = is.spare_are;
         none_is = is.none_is;
       }
@@ -133,31 +127,30 @@ module _ (n count : ℕ) (code : Buffer) (debug : List PexLines) (parameters loc
   pub with_instruction : (i : PlainInstruction) (line : ℕ) (count' : ℕ) (after : Buffer)
       → IsShapedInstruction n i → line < 2 ^ 16 → count < 65535
       → after ≡ record { code = code.code ++ i ∷ []; lines = code.lines ++ line ∷ []; ahead = code.ahead } → count' ≡ count + 1
-      → IsWriting n count' after debug parameters locals spare none
+      → IsWriting n count' after debug variables spare none
   with_instruction i line count' after shaped small room added more =
       with_more i line code.ahead count' after shaped small room (places_later count' more) added more
 
   pub with_jump : (i : PlainInstruction) (line : ℕ) (count' : ℕ) (after : Buffer)
       → IsShapedInstruction n i → line < 2 ^ 16 → count < 65535
       → after ≡ record { code = code.code ++ i ∷ []; lines = code.lines ++ line ∷ []; ahead = code.ahead ++ length code.code ∷ [] } → count' ≡ count + 1
-      → IsWriting n count' after debug parameters locals spare none
+      → IsWriting n count' after debug variables spare none
   with_jump i line count' after shaped small room added more =
       with_more i line (code.ahead ++ length code.code ∷ []) count' after shaped small room
       (each_added (λ (place : ℕ). place < count') code.ahead (length code.code) (places_later count' more) (omega (arith, is.count_is))) added more
 
-  pub with_landed : (at : ℕ) (after : Buffer) → Contains code.ahead at → after ≡ record code { code = jumps.landed code.code at; ahead = without code.ahead at } → IsWriting n count after debug parameters locals spare none
+  pub with_landed : (at : ℕ) (after : Buffer) → Contains code.ahead at → after ≡ record code { code = jumps.landed code.code at; ahead = without code.ahead at } → IsWriting n count after debug variables spare none
   with_landed at after has landed_is =
       let low : at < count = All-contains (λ (place : ℕ). place < count) code.ahead at (All-from_recursion (λ (place : ℕ). place < count) code.ahead is.ahead_are) has in
       let size : length (jumps.landed code.code at) ≡ length code.code = length-set code.code at (with_offset (get_or code.code at nop) (offset at (length code.code))) in
-      subst (λ (b : Buffer). IsWriting n count b debug parameters locals spare none) (sym landed_is) record {
+      subst (λ (b : Buffer). IsWriting n count b debug variables spare none) (sym landed_is) record {
         count_is = is.count_is ∙ sym size;
         few = is.few;
         ahead_are = removed_each (λ (place : ℕ). place < count) code.ahead _ is.ahead_are;
         instructions = landed_shaped n code.code at (omega (arith, is.few)) (omega (arith, is.count_is, is.few)) is.instructions;
         lines = is.lines;
         entries = is.entries;
-        parameters_are = is.parameters_are;
-        locals_are = is.locals_are;
+        variables_are = is.variables_are;
         spare_are = is.spare_are;
         none_is = is.none_is;
       }

@@ -1,5 +1,4 @@
-pub mod Function
 pub mod Operands
-pub mod Spare
+pub mod Temporaries
 pub mod Strings
 pub mod Writing

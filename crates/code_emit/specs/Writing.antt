@@ -22,15 +22,14 @@ pub record GoesOn (old new : Written) : Type 0 where
   pub ahead : new.ahead ≡ old.ahead
 
 -- each part of what is written names strings that are there
-pub record IsWriting (strings count : ℕ) (code : Buffer) (debug : List PexLines) (parameters locals : List (ℕ × ℕ)) (spare : List (ℕ × ℕ)) (none : Option ℕ) : Type 0 where
+pub record IsWriting (strings count : ℕ) (code : Buffer) (debug : List PexLines) (variables : List (ℕ × ℕ)) (spare : List (ℕ × ℕ)) (none : Option ℕ) : Type 0 where
   pub count_is : count ≡ length code.code
   pub few : count ≤ 65535
   pub ahead_are : AllByRecursion (λ place. place < count) code.ahead
   pub instructions : AllByRecursion (IsShapedInstruction strings) code.code
   pub lines : AllByRecursion (λ n. n < 2 ^ 16) code.lines
   pub entries : AllByRecursion (IsShapedLines strings) (map plain_lines debug)
-  pub parameters_are : AllByRecursion (ArePair strings) parameters
-  pub locals_are : AllByRecursion (ArePair strings) locals
+  pub variables_are : AllByRecursion (ArePair strings) variables
   pub spare_are : AllByRecursion (λ s. s.1 < strings) spare
   pub none_is : IfSome none (λ n. n < strings)
 

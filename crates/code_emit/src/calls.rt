@@ -8,9 +8,9 @@ ghost use Rattle.pex_values.specs.Shape.{IsShapedDatum};
 ghost use Rattle.code_emit.specs.Operands.{needs};
 ghost use Rattle.code_emit.specs.Writing.{GoesOn, AreThere};
 
-use crate::acts::up_to_last_act;
 use crate::expressions::kept_value;
 use crate::faults::EmitFault;
+use crate::forms::up_to_last_call;
 use crate::operand::Operand;
 use crate::writer::Writer;
 use core_tree::{Core, CoreType, FunctionPlace};
@@ -53,10 +53,10 @@ fn argument_values(
     ensures operands { IfOk result (λ operands. AreThere writer.new.strings operands.items) }
     ensures goes { GoesOn writer.old writer.new }
 {
-    let acting = up_to_last_act(arguments, depth);
+    let calling = up_to_last_call(arguments, depth);
     let mut values = Vec::with_capacity(writer.alloc(), arguments.len())?;
     for (place, argument) in arguments.iter().enumerate() {
-        let is_before = acting > 0 && place < acting - 1;
+        let is_before = calling > 0 && place < calling - 1;
         let kept = kept_value(writer, argument, is_before, depth)?;
         values.push(kept)?;
     }
@@ -91,17 +91,17 @@ pub(crate) fn global_names(
     ensures names { IfOk result (λ names. AreThere writer.new.strings (names.0 ∷ names.1 ∷ [])) }
     ensures goes { GoesOn writer.old writer.new }
 {
-    let Some(script) = writer.scripts().get(usize::from(at.script)) else {
-        return Err(EmitFault::OutOfRange);
-    };
-    let Some(empty) = script.states.first() else {
-        return Err(EmitFault::OutOfRange);
-    };
-    let Some(function) = empty.functions.get(usize::from(at.place)) else {
-        return Err(EmitFault::OutOfRange);
-    };
-    let script = writer.script_name(at.script)?;
-    let function = writer.string(function.name.as_bytes())?;
+    let scripts = writer.scripts();
+    let object = scripts
+        .get(usize::from(at.script))
+        .ok_or(EmitFault::OutOfRange)?;
+    let empty = object.states.first().ok_or(EmitFault::OutOfRange)?;
+    let member = empty
+        .functions
+        .get(usize::from(at.place))
+        .ok_or(EmitFault::OutOfRange)?;
+    let script = writer.type_name(Some(CoreType::Script(at.script)))?;
+    let function = writer.string(member.name.as_bytes())?;
     Ok((Operand::Word(script), Operand::Word(function)))
 }
 

@@ -5,46 +5,14 @@ ghost use Rattle.std.specs.Prelude.{◌≡◌, ◌≤◌, ◌∷◌, [], IfOk};
 ghost use Rattle.code_emit.specs.Operands.{needs};
 ghost use Rattle.code_emit.specs.Writing.{GoesOn, AreThere};
 
-use crate::acts::may_act;
-use crate::conditions::store_value;
-use crate::expressions::{field, get_property, kept_value, state_text, value};
+use crate::expressions::{get_property, kept_value, value};
 use crate::faults::EmitFault;
-use crate::opcodes::{ARRAY_GETELEMENT, ARRAY_SETELEMENT, ASSIGN, PROPSET, arith_opcode};
+use crate::forms::contains_call;
+use crate::opcodes::{ARRAY_GETELEMENT, ARRAY_SETELEMENT, PROPSET, arith_opcode};
 use crate::operand::Operand;
 use crate::writer::Writer;
 use core_tree::{Arith, Core, CoreType};
 use papy_base::Name;
-
-pub(crate) fn set_local(
-    writer: &mut Writer<'_>,
-    number: u16,
-    of: &Core,
-    depth: u16,
-) -> Result<(), EmitFault>
-    ensures { GoesOn writer.old writer.new }
-{
-    let name = writer.local(number)?;
-    store_value(writer, Operand::Word(name), of, depth)
-}
-
-pub(crate) fn set_field(
-    writer: &mut Writer<'_>,
-    number: u16,
-    of: &Core,
-    depth: u16,
-) -> Result<(), EmitFault>
-    ensures { GoesOn writer.old writer.new }
-{
-    let variable = field(writer, number)?;
-    store_value(writer, variable, of, depth)
-}
-
-pub(crate) fn set_state(writer: &mut Writer<'_>, of: &Core, depth: u16) -> Result<(), EmitFault>
-    ensures { GoesOn writer.old writer.new }
-{
-    let variable = state_text(writer)?;
-    store_value(writer, variable, of, depth)
-}
 
 pub(crate) fn set_property(
     writer: &mut Writer<'_>,
@@ -55,7 +23,7 @@ pub(crate) fn set_property(
 ) -> Result<(), EmitFault>
     ensures { GoesOn writer.old writer.new }
 {
-    let of = kept_value(writer, of, may_act(to, depth), depth)?;
+    let of = kept_value(writer, of, contains_call(to, depth), depth)?;
     let to = value(writer, to, depth)?;
     let name = writer.string(name.as_bytes())?;
     writer.act(PROPSET, &[Operand::Word(name), of, to])
@@ -73,11 +41,11 @@ pub(crate) fn change_property(
 ) -> Result<(), EmitFault>
     ensures { GoesOn writer.old writer.new }
 {
-    // Reading it is an act.
+    // Reading it is a call.
     let of = kept_value(writer, of, true, depth)?;
     let old = get_property(writer, of.lasting(), name, kind)?;
     let right = value(writer, right, depth)?;
-    let new = writer.compute(arith_opcode(operation), kind, &[old, right])?;
+    let new = writer.combine(arith_opcode(operation), kind, old, right)?;
     let name = writer.string(name.as_bytes())?;
     writer.act(PROPSET, &[Operand::Word(name), of, new])
 }
@@ -107,9 +75,14 @@ fn element(
     ensures operands { IfOk result (λ operands. AreThere writer.new.strings (operands.0 ∷ operands.1 ∷ [])) }
     ensures goes { GoesOn writer.old writer.new }
 {
-    let acts = may_act(next, depth);
-    let array = kept_value(writer, array, acts || may_act(index, depth), depth)?;
-    let index = kept_value(writer, index, acts, depth)?;
+    let before_calls = contains_call(next, depth);
+    let array = kept_value(
+        writer,
+        array,
+        before_calls || contains_call(index, depth),
+        depth,
+    )?;
+    let index = kept_value(writer, index, before_calls, depth)?;
     Ok((array, index))
 }
 
@@ -126,8 +99,8 @@ pub(crate) fn change_element(
     ensures { GoesOn writer.old writer.new }
 {
     let (array, index) = element(writer, array, index, right, depth)?;
-    let old = writer.compute(ARRAY_GETELEMENT, kind, &[array.lasting(), index.lasting()])?;
+    let old = writer.combine(ARRAY_GETELEMENT, kind, array.lasting(), index.lasting())?;
     let right = value(writer, right, depth)?;
-    let new = writer.compute(arith_opcode(operation), kind, &[old, right])?;
+    let new = writer.combine(arith_opcode(operation), kind, old, right)?;
     writer.act(ARRAY_SETELEMENT, &[array, index, new])
 }

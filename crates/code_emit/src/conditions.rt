@@ -31,7 +31,7 @@ pub(crate) fn either(
     ensures goes { GoesOn writer.old writer.new }
 {
     let place = writer.take(CoreType::Bool)?;
-    writer.store(ASSIGN, place, &[left])?;
+    writer.store(ASSIGN, place, left)?;
     let over = writer.jump_ahead(jump_where(decided, place.datum()))?;
     let stored = store_value(writer, place, right, depth);
     writer.land(over);
@@ -61,7 +61,7 @@ pub(crate) fn store_value(
     ensures { GoesOn writer.old writer.new }
 {
     let of = value(writer, of, depth)?;
-    writer.store(ASSIGN, place, &[of])
+    writer.store(ASSIGN, place, of)
 }
 
 /// Appends the code of a test, and a jump where it doesn't hold.

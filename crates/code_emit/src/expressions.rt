@@ -5,20 +5,19 @@ ghost use Rattle.std.specs.Prelude.{◌≡◌, ◌+◌, ◌≤◌, IfOk};
 ghost use Rattle.code_emit.specs.Operands.{needs};
 ghost use Rattle.code_emit.specs.Writing.{GoesOn, Takes};
 
-use crate::acts::{may_act, up_to_last_act};
 use crate::calls::{Called, call, global_names};
 use crate::conditions::either;
 use crate::faults::EmitFault;
+use crate::forms::{contains_call, first_operand, spine, up_to_last_call};
 use crate::opcodes::{
     ARRAY_CREATE, ARRAY_FINDELEMENT, ARRAY_GETELEMENT, ARRAY_LENGTH, ARRAY_RFINDELEMENT,
     CALL_METHOD, CALL_PARENT, CALL_STATIC, CAST, CMP_EQ, INEG, NOT, PROPGET, STRCAT, arith_opcode,
     order_opcode,
 };
 use crate::operand::Operand;
-use crate::spine::{first_operand, spine};
-use crate::strings::Word;
+use crate::strings::Numbered;
 use crate::writer::Writer;
-use core_tree::{Core, CoreType, FunctionPlace, Value};
+use core_tree::{Core, CoreType, Value};
 use papy_base::Name;
 
 /// How many may stand inside one more.
@@ -46,16 +45,16 @@ pub(crate) fn value(
     let Some(first) = first_operand(expression) else {
         return leaf_value(writer, expression, depth);
     };
-    let Some(second) = first_operand(first) else {
+    if first_operand(first).is_none() {
         let first = leaf_value(writer, first, depth)?;
         return form_value(writer, expression, first, depth);
-    };
-    if first_operand(second).is_some() {
-        return chain_value(writer, expression, depth);
     }
-    let second = leaf_value(writer, second, depth)?;
-    let first = form_value(writer, first, second, depth)?;
-    form_value(writer, expression, first, depth)
+    let mut forms = spine(writer.alloc(), expression)?;
+    let mut operand = Operand::NoneValue;
+    'forms: while let Some(form) = forms.pop() {
+        operand = form_value(writer, form, operand, depth)?;
+    }
+    Ok(operand)
 }
 
 // The value of a form without a first operand: one without operands, or a call without a target.
@@ -68,26 +67,11 @@ fn leaf_value(writer: &mut Writer<'_>, form: &Core, depth: u16) -> Result<Operan
         Core::Lit(literal) => constant(writer, literal),
         Core::Local(number) => Ok(Operand::Word(writer.local(*number)?)),
         Core::Field(number) => field(writer, *number),
-        Core::SelfValue => Ok(Operand::Word(writer.word(Word::OwnInstance)?)),
+        Core::SelfValue => Ok(Operand::Word(writer.numbered(Numbered::OwnInstance)?)),
         Core::StateText => state_text(writer),
         Core::NewArray(kind, count) => new_array(writer, *kind, *count),
         _ => call_value(writer, form, Operand::NoneValue, depth),
     }
-}
-
-// The value of an expression whose first operands stand inside each other, the innermost of which is evaluated first.
-#[cycle(expression)]
-#[inline(never)]
-fn chain_value(writer: &mut Writer<'_>, expression: &Core, depth: u16) -> Result<Operand, EmitFault>
-    ensures operand { IfOk result (λ operand. needs operand ≤ writer.new.strings) }
-    ensures goes { GoesOn writer.old writer.new }
-{
-    let mut forms = spine(writer.alloc(), expression)?;
-    let mut operand = Operand::NoneValue;
-    'forms: while let Some(form) = forms.pop() {
-        operand = form_value(writer, form, operand, depth)?;
-    }
-    Ok(operand)
 }
 
 // Appends the code of a form whose first operand, where it has one, is evaluated.
@@ -107,8 +91,8 @@ fn form_value(
             let opcode = arith_opcode(*operation);
             with_second(writer, opcode, CoreType::Int, first, right, depth)
         }
-        Core::Neg(_) => with_one(writer, INEG, CoreType::Int, first),
-        Core::Not(_) => with_one(writer, NOT, CoreType::Bool, first),
+        Core::Neg(_) => writer.compute(INEG, CoreType::Int, first),
+        Core::Not(_) => writer.compute(NOT, CoreType::Bool, first),
         Core::Join(_, right) => with_second(writer, STRCAT, CoreType::Text, first, right, depth),
         Core::Equal(_, right) => with_second(writer, CMP_EQ, CoreType::Bool, first, right, depth),
         Core::Order(order, _, right) => {
@@ -117,14 +101,14 @@ fn form_value(
         }
         Core::And(_, right) => either(writer, false, first, right, depth),
         Core::Or(_, right) => either(writer, true, first, right, depth),
-        Core::Cast(to, _) => with_one(writer, CAST, *to, first),
+        Core::Cast(to, _) => writer.compute(CAST, *to, first),
         Core::CallMethod { .. } => call_value(writer, form, first, depth),
         Core::PropGet {
             name,
             result: kind,
             ..
         } => get_property(writer, first, name, *kind),
-        Core::Length(_) => with_one(writer, ARRAY_LENGTH, CoreType::Int, first),
+        Core::Length(_) => writer.compute(ARRAY_LENGTH, CoreType::Int, first),
         Core::Element(_, index, kind) => {
             with_second(writer, ARRAY_GETELEMENT, *kind, first, index, depth)
         }
@@ -154,10 +138,18 @@ fn call_value(
         return Ok(target);
     };
     match form {
-        Core::CallMethod { name, .. } => method_call(writer, target, name, called, depth),
-        Core::CallParent { name, .. } => parent_call(writer, name, called, depth),
+        Core::CallMethod { name, .. } => {
+            let of = writer.kept(target, up_to_last_call(called.arguments, depth) > 0)?;
+            let name = Operand::Word(writer.string(name.as_bytes())?);
+            call(writer, CALL_METHOD, &[name, of], called, depth)
+        }
+        Core::CallParent { name, .. } => {
+            let name = Operand::Word(writer.string(name.as_bytes())?);
+            call(writer, CALL_PARENT, &[name], called, depth)
+        }
         Core::CallGlobal { at, .. } | Core::CallNative { at, .. } => {
-            static_call(writer, *at, called, depth)
+            let (script, function) = global_names(writer, *at)?;
+            call(writer, CALL_STATIC, &[script, function], called, depth)
         }
         _ => Ok(target),
     }
@@ -197,57 +189,6 @@ fn called_by(form: &Core) -> Option<Called<'_>> {
     }
 }
 
-#[cycle(expression)]
-fn method_call(
-    writer: &mut Writer<'_>,
-    target: Operand,
-    name: &Name,
-    called: Called<'_>,
-    depth: u16,
-) -> Result<Operand, EmitFault>
-    requires { needs target ≤ writer.old.strings }
-    ensures operand { IfOk result (λ operand. needs operand ≤ writer.new.strings) }
-    ensures goes { GoesOn writer.old writer.new }
-{
-    let of = writer.kept(target, up_to_last_act(called.arguments, depth) > 0)?;
-    let name = writer.string(name.as_bytes())?;
-    call(
-        writer,
-        CALL_METHOD,
-        &[Operand::Word(name), of],
-        called,
-        depth,
-    )
-}
-
-#[cycle(expression)]
-fn parent_call(
-    writer: &mut Writer<'_>,
-    name: &Name,
-    called: Called<'_>,
-    depth: u16,
-) -> Result<Operand, EmitFault>
-    ensures operand { IfOk result (λ operand. needs operand ≤ writer.new.strings) }
-    ensures goes { GoesOn writer.old writer.new }
-{
-    let name = writer.string(name.as_bytes())?;
-    call(writer, CALL_PARENT, &[Operand::Word(name)], called, depth)
-}
-
-#[cycle(expression)]
-fn static_call(
-    writer: &mut Writer<'_>,
-    at: FunctionPlace,
-    called: Called<'_>,
-    depth: u16,
-) -> Result<Operand, EmitFault>
-    ensures operand { IfOk result (λ operand. needs operand ≤ writer.new.strings) }
-    ensures goes { GoesOn writer.old writer.new }
-{
-    let (script, function) = global_names(writer, at)?;
-    call(writer, CALL_STATIC, &[script, function], called, depth)
-}
-
 /// The operand of a value that the tree has written out.
 pub(crate) fn constant(writer: &mut Writer<'_>, value: &Value) -> Result<Operand, EmitFault>
     ensures operand { IfOk result (λ operand. needs operand ≤ writer.new.strings) }
@@ -279,43 +220,27 @@ pub(crate) fn state_text(writer: &mut Writer<'_>) -> Result<Operand, EmitFault>
     ensures operand { IfOk result (λ operand. needs operand ≤ writer.new.strings) }
     ensures goes { GoesOn writer.old writer.new }
 {
-    let name = writer.word(Word::StateVariable)?;
+    let name = writer.string(b"::State")?;
     Ok(Operand::Variable {
         name,
         kind: CoreType::Text,
     })
 }
 
-/// The operand of an expression. Where acts may come before it is read, it keeps the value that it has now.
+/// The operand of an expression. Where calls come before it is read, it keeps the value that it has now.
 #[cycle(expression)]
 #[inline(always)]
 pub(crate) fn kept_value(
     writer: &mut Writer<'_>,
     expression: &Core,
-    acts: bool,
+    before_calls: bool,
     depth: u16,
 ) -> Result<Operand, EmitFault>
     ensures operand { IfOk result (λ operand. needs operand ≤ writer.new.strings) }
     ensures goes { GoesOn writer.old writer.new }
 {
     let operand = value(writer, expression, depth)?;
-    writer.kept(operand, acts)
-}
-
-// Appends an operation on one value.
-#[inline(never)]
-fn with_one(
-    writer: &mut Writer<'_>,
-    opcode: u8,
-    kind: CoreType,
-    of: Operand,
-) -> Result<Operand, EmitFault>
-    requires opcode { Takes opcode 2 }
-    requires of { needs of ≤ writer.old.strings }
-    ensures operand { IfOk result (λ operand. needs operand ≤ writer.new.strings) }
-    ensures goes { GoesOn writer.old writer.new }
-{
-    writer.compute(opcode, kind, &[of])
+    writer.kept(operand, before_calls)
 }
 
 // The operand, with the value that it has before another expression is evaluated.
@@ -330,7 +255,7 @@ fn kept_before(
     ensures goes { GoesOn writer.old writer.new }
 {
     match operand {
-        Operand::Variable { .. } => writer.kept(operand, may_act(next, depth)),
+        Operand::Variable { .. } => writer.kept(operand, contains_call(next, depth)),
         _ => Ok(operand),
     }
 }
@@ -351,7 +276,7 @@ fn with_second(
 {
     let first = kept_before(writer, first, second, depth)?;
     let second = value(writer, second, depth)?;
-    writer.compute(opcode, kind, &[first, second])
+    writer.combine(opcode, kind, first, second)
 }
 
 #[cycle(expression)]
@@ -368,9 +293,9 @@ fn find(
     ensures operand { IfOk result (λ operand. needs operand ≤ writer.new.strings) }
     ensures goes { GoesOn writer.old writer.new }
 {
-    let acts = may_act(start, depth);
-    let array = writer.kept(array, acts || may_act(searched, depth))?;
-    let searched = kept_value(writer, searched, acts, depth)?;
+    let before_calls = contains_call(start, depth);
+    let array = writer.kept(array, before_calls || contains_call(searched, depth))?;
+    let searched = kept_value(writer, searched, before_calls, depth)?;
     let start = value(writer, start, depth)?;
     let place = writer.take(CoreType::Int)?;
     writer.act(opcode, &[array, place.lasting(), searched, start])?;
@@ -384,7 +309,7 @@ fn new_array(writer: &mut Writer<'_>, kind: CoreType, count: u8) -> Result<Opera
     let Some(array) = array_of(kind) else {
         return Err(EmitFault::OutOfRange);
     };
-    writer.compute(ARRAY_CREATE, array, &[Operand::Int(i32::from(count))])
+    writer.compute(ARRAY_CREATE, array, Operand::Int(i32::from(count)))
 }
 
 // The type of arrays with elements of this type.

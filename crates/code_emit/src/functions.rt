@@ -1,15 +1,14 @@
 // Functions, with their debug entries.
 #![tactic(auto, using(crate::proofs::Goes::advancing))]
 
-ghost use Rattle.std.specs.Prelude.{◌≡◌, ◌<◌, ◌^◌, [], IfOk};
-ghost use Rattle.std.specs.List.{AllByRecursion};
+ghost use Rattle.std.specs.Prelude.{◌≡◌, [], IfOk};
 ghost use Rattle.pex_values.specs.Plain.{plain_function};
 ghost use Rattle.pex_values.specs.Shape.{IsShapedFunction};
 ghost use Rattle.code_emit.specs.Writing.{Advances};
 
 use crate::faults::EmitFault;
 use crate::statements::block;
-use crate::writer::{Body, Writer};
+use crate::writer::Writer;
 use core_tree::CoreFunction;
 use pex_values::PexFunction;
 
@@ -19,80 +18,30 @@ const MOST_NESTED: u16 = 1_000;
 
 /// Where a function stands: the name of its state, its own name, and what its debug entry has as its kind.
 #[derive(Clone, Copy)]
-pub(crate) struct Place<'a> {
+pub(crate) struct DebugName<'a> {
     pub state: &'a [u8],
     pub name: &'a [u8],
     pub kind: u8,
 }
 
-/// The bits of a function.
-const GLOBAL: u8 = 1;
-
-const NATIVE: u8 = 2;
-
 /// What the file has of a function. A function with a body gets its debug entry.
 pub(crate) fn function(
     writer: &mut Writer<'_>,
     function: &CoreFunction,
-    place: Place<'_>,
+    place: DebugName<'_>,
 ) -> Result<PexFunction, EmitFault>
     requires { writer.old.ahead ≡ [] }
     ensures function { IfOk result (λ f. IsShapedFunction writer.new.strings (plain_function f)) }
-    ensures advances { Advances writer.old writer.new }
-{
-    let (written, lines) = written_function(writer, function)?;
-    if function.is_native {
-        return Ok(written);
-    }
-    writer.note_lines(place, lines)?;
-    Ok(written)
-}
-
-// The function, and the line of each of its instructions.
-fn written_function(
-    writer: &mut Writer<'_>,
-    function: &CoreFunction,
-) -> Result<(PexFunction, Vec<u16>), EmitFault>
-    requires { writer.old.ahead ≡ [] }
-    ensures function { IfOk result (λ parts. IsShapedFunction writer.new.strings (plain_function parts.0)) }
-    ensures lines { IfOk result (λ parts. AllByRecursion (λ line. line < 2 ^ 16) parts.1.items) }
     ensures advances { Advances writer.old writer.new }
 {
     writer.begin(function)?;
     block(writer, &function.body, MOST_NESTED)?;
     let kind = writer.type_name(function.result)?;
     let doc = writer.text(&function.doc)?;
-    let Body {
-        parameters,
-        locals,
-        code,
-        lines,
-    } = writer.end()?;
-    let written = PexFunction {
-        result: kind,
-        doc,
-        flags: flag_bits(function.flags),
-        bits: function_bits(function.is_global, function.is_native),
-        parameters,
-        locals,
-        code,
-    };
-    Ok((written, lines))
-}
-
-/// The user flags of a script or a member, as the file has them.
-pub(crate) fn flag_bits(flags: u32) -> u32
-    ensures value { result ≡ flags }
-    ensures within { result < 2 ^ 32 }
-{
-    flags
-}
-
-fn function_bits(is_global: bool, is_native: bool) -> u8 {
-    match (is_global, is_native) {
-        (false, false) => 0,
-        (true, false) => GLOBAL,
-        (false, true) => NATIVE,
-        (true, true) => GLOBAL | NATIVE,
+    let (written, lines) = writer.end(function, kind, doc)?;
+    if function.is_native {
+        return Ok(written);
     }
+    writer.note_lines(place, lines)?;
+    Ok(written)
 }

@@ -3,21 +3,21 @@
 //! The format is that of UESP's page "Skyrim Mod:File Formats/PEX" (Compiled Script File).
 #![tactic(auto)]
 
-mod acts;
+mod bits;
 mod calls;
 mod changes;
 mod conditions;
 mod emitter;
 mod expressions;
 mod faults;
+mod forms;
 mod functions;
 mod objects;
 mod opcodes;
 mod operand;
-mod spare;
-mod spine;
 mod statements;
 mod strings;
+mod temporaries;
 mod type_names;
 mod writer;
 

@@ -6,12 +6,13 @@ ghost use Rattle.std.specs.List.{AllByRecursion};
 ghost use Rattle.pex_values.specs.Bits.{has_variable, has_read, has_write};
 ghost use Rattle.pex_values.specs.Plain.{plain_function, plain_named, plain_property, plain_state, plain_object};
 ghost use Rattle.pex_values.specs.Shape.{IsReference, IsShapedFunction, IsShapedNamed, IsShapedVariable, IsShapedProperty, IsShapedState, IsShapedObject};
-ghost use Rattle.code_emit.specs.Function.{HaveParts};
 ghost use Rattle.code_emit.specs.Writing.{GoesOn, Advances};
 
+use crate::bits::flag_bits;
 use crate::expressions::constant;
 use crate::faults::EmitFault;
-use crate::functions::{Place, flag_bits, function};
+use crate::functions::{DebugName, function};
+use crate::strings::Numbered;
 use crate::type_names::script_name;
 use crate::writer::Writer;
 use core_tree::{CoreAccess, CoreFunction, CoreProperty, CoreScript, CoreState, CoreVariable};
@@ -34,17 +35,25 @@ pub(crate) fn object(writer: &mut Writer<'_>) -> Result<PexObject, EmitFault>
     ensures advances { Advances writer.old writer.new }
 {
     let script = writer.script();
-    let name = writer.string(script.name.as_bytes())?;
-    let above = parent(writer, script)?;
+    let name = writer.new_name(Numbered::Script)?;
+    let parent_name: &[u8] = match script.parent {
+        Some(number) => script_name(writer.scripts(), number)?,
+        None => b"",
+    };
+    let parent = writer.string(parent_name)?;
     let doc = writer.text(&script.doc)?;
-    let auto_state = auto_state(writer, script)?;
+    let state_name: &[u8] = match &script.auto_state {
+        Some(state) => state.as_bytes(),
+        None => b"",
+    };
+    let auto_state = writer.string(state_name)?;
     let variables = variables(writer, &script.variables)?;
     let properties = properties(writer, &script.properties)?;
     let states = states(writer, &script.states)?;
     Ok(PexObject {
         name,
         size_form: SizeForm::Counted,
-        parent: above,
+        parent,
         doc,
         flags: flag_bits(script.flags),
         auto_state,
@@ -52,29 +61,6 @@ pub(crate) fn object(writer: &mut Writer<'_>) -> Result<PexObject, EmitFault>
         properties,
         states,
     })
-}
-
-fn parent(writer: &mut Writer<'_>, script: &CoreScript) -> Result<u16, EmitFault>
-    ensures place { IfOk result (IsReference writer.new.strings) }
-    ensures goes { GoesOn writer.old writer.new }
-{
-    match script.parent {
-        Some(number) => {
-            let name = script_name(writer.scripts(), number)?;
-            writer.string(name)
-        }
-        None => writer.string(b""),
-    }
-}
-
-fn auto_state(writer: &mut Writer<'_>, script: &CoreScript) -> Result<u16, EmitFault>
-    ensures place { IfOk result (IsReference writer.new.strings) }
-    ensures goes { GoesOn writer.old writer.new }
-{
-    match &script.auto_state {
-        Some(state) => writer.string(state.as_bytes()),
-        None => writer.string(b""),
-    }
 }
 
 fn variables(
@@ -123,15 +109,6 @@ fn properties(
     Ok(found)
 }
 
-// What a property has besides its name, type and documentation.
-#[derive(Drop)]
-struct PropertyParts {
-    bits: u8,
-    variable: Option<u16>,
-    read: Option<PexFunction>,
-    write: Option<PexFunction>,
-}
-
 fn one_property(writer: &mut Writer<'_>, property: &CoreProperty) -> Result<PexProperty, EmitFault>
     requires { writer.old.ahead ≡ [] }
     ensures property { IfOk result (λ p. IsShapedProperty writer.new.strings (plain_property p)) }
@@ -140,65 +117,35 @@ fn one_property(writer: &mut Writer<'_>, property: &CoreProperty) -> Result<PexP
     let name = writer.string(property.name.as_bytes())?;
     let kind = writer.type_name(Some(property.kind))?;
     let doc = writer.text(&property.doc)?;
-    let parts = property_parts(writer, property)?;
-    Ok(PexProperty {
-        name,
-        kind,
-        doc,
-        flags: flag_bits(property.flags),
-        bits: parts.bits,
-        variable: parts.variable,
-        read: parts.read,
-        write: parts.write,
-    })
-}
-
-fn property_parts(
-    writer: &mut Writer<'_>,
-    property: &CoreProperty,
-) -> Result<PropertyParts, EmitFault>
-    requires { writer.old.ahead ≡ [] }
-    ensures parts { IfOk result (HaveParts writer.new.strings) }
-    ensures advances { Advances writer.old writer.new }
-{
     match &property.access {
-        CoreAccess::Auto(variable) => auto_parts(writer, *variable),
-        CoreAccess::Full(read, write) => full_parts(writer, property, read, write),
+        CoreAccess::Auto(variable) => {
+            let (_, variable) = writer.variable(*variable)?;
+            Ok(PexProperty {
+                name,
+                kind,
+                doc,
+                flags: flag_bits(property.flags),
+                bits: AUTO_BITS,
+                variable: Some(variable),
+                read: None,
+                write: None,
+            })
+        }
+        CoreAccess::Full(read, write) => {
+            let read = accessor(writer, property, read, READ)?;
+            let write = accessor(writer, property, write, WRITE)?;
+            Ok(PexProperty {
+                name,
+                kind,
+                doc,
+                flags: flag_bits(property.flags),
+                bits: accessor_bits(read.is_some(), write.is_some()),
+                variable: None,
+                read,
+                write,
+            })
+        }
     }
-}
-
-fn auto_parts(writer: &mut Writer<'_>, variable: u16) -> Result<PropertyParts, EmitFault>
-    ensures parts { IfOk result (HaveParts writer.new.strings) }
-    ensures advances { Advances writer.old writer.new }
-{
-    let (_, variable) = writer.variable(variable)?;
-    Ok(PropertyParts {
-        bits: AUTO_BITS,
-        variable: Some(variable),
-        read: None,
-        write: None,
-    })
-}
-
-fn full_parts(
-    writer: &mut Writer<'_>,
-    property: &CoreProperty,
-    read: &Option<CoreFunction>,
-    write: &Option<CoreFunction>,
-) -> Result<PropertyParts, EmitFault>
-    requires { writer.old.ahead ≡ [] }
-    ensures parts { IfOk result (HaveParts writer.new.strings) }
-    ensures advances { Advances writer.old writer.new }
-{
-    let read = accessor(writer, property, read, READ)?;
-    let write = accessor(writer, property, write, WRITE)?;
-    let bits = accessor_bits(read.is_some(), write.is_some());
-    Ok(PropertyParts {
-        bits,
-        variable: None,
-        read,
-        write,
-    })
 }
 
 fn accessor_bits(reads: bool, writes: bool) -> u8
@@ -228,7 +175,7 @@ fn accessor(
     let Some(found) = found else {
         return Ok(None);
     };
-    let place = Place {
+    let place = DebugName {
         state: b"",
         name: property.name.as_bytes(),
         kind,
@@ -271,7 +218,7 @@ fn state_functions(
     let mut found = Vec::with_capacity(writer.alloc(), functions.len())?;
     for each in functions {
         let name = writer.string(each.name.as_bytes())?;
-        let place = Place {
+        let place = DebugName {
             state,
             name: each.name.as_bytes(),
             kind: STATE_FUNCTION,

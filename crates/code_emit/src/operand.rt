@@ -1,12 +1,12 @@
 // The operands of instructions.
-ghost use Rattle.std.specs.Prelude.{◌≡◌, ◌∷◌, ◌++◌, [], IfOk, OnOk, map};
+ghost use Rattle.std.specs.Prelude.{◌≡◌, IfOk, map};
 ghost use Rattle.std.specs.List.{AllByRecursion};
 ghost use Rattle.code_emit.specs.Operands.{datum_of, lasting, needs, IsWithin};
 
 use core_tree::CoreType;
 use papy_base::OutOfMemory;
 use pex_values::Datum;
-use std::alloc::{AllocError, Global};
+use std::alloc::Global;
 
 /// Where the value of an expression stands. A name or text is given by its place among the file's strings.
 #[derive(Clone, Copy)]
@@ -17,7 +17,7 @@ pub(crate) enum Operand {
     Text(u16),
     /// What stays as it is while a statement runs: a parameter, a local, `self`, or a name that isn't read.
     Word(u16),
-    /// What an act may change: a variable of the script, or the name of the state.
+    /// What a call may change: a variable of the script, or the name of the state.
     Variable { name: u16, kind: CoreType },
     /// A temporary, which is given back with the instruction that reads it. Its type is given as its name is.
     Temporary { name: u16, kind: u16 },
@@ -52,76 +52,14 @@ impl Operand {
     }
 }
 
-/// The operands as the file has them.
+/// The operands as the file has them, and room for one more.
 pub(crate) fn data(alloc: Global, operands: &[Operand]) -> Result<Vec<Datum>, OutOfMemory>
     ensures values { IfOk result (λ found. found.items ≡ map datum_of operands.now) }
     ensures within { IfOk result (λ found. AllByRecursion IsWithin found.items) }
 {
-    let mut found = Vec::with_capacity(alloc, operands.len())?;
-    add_data(&mut found, operands)?;
-    Ok(found)
-}
-
-/// As `data`, with one more in front.
-#[inline(always)]
-pub(crate) fn data_behind(
-    alloc: Global,
-    first: Operand,
-    operands: &[Operand],
-) -> Result<Vec<Datum>, OutOfMemory>
-    ensures values { IfOk result (λ found. found.items ≡ datum_of first ∷ map datum_of operands.now) }
-    ensures within { IfOk result (λ found. AllByRecursion IsWithin found.items) }
-{
-    match operands {
-        [second] => {
-            let found = vec![in alloc; first.datum(), second.datum()]?;
-            Ok(found)
-        }
-        [second, third] => {
-            let found = vec![in alloc; first.datum(), second.datum(), third.datum()]?;
-            Ok(found)
-        }
-        _ => many_behind(alloc, first, operands),
-    }
-}
-
-#[inline(never)]
-fn many_behind(
-    alloc: Global,
-    first: Operand,
-    operands: &[Operand],
-) -> Result<Vec<Datum>, OutOfMemory>
-    ensures values { IfOk result (λ found. found.items ≡ datum_of first ∷ map datum_of operands.now) }
-    ensures within { IfOk result (λ found. AllByRecursion IsWithin found.items) }
-{
     let mut found = Vec::with_capacity(alloc, operands.len().saturating_add(1))?;
-    found.push_reserved(first.datum());
-    add_data(&mut found, operands)?;
-    Ok(found)
-}
-
-/// As `data`, with one more at the end.
-pub(crate) fn data_before(
-    alloc: Global,
-    operands: &[Operand],
-    last: Operand,
-) -> Result<Vec<Datum>, OutOfMemory>
-    ensures values { IfOk result (λ found. found.items ≡ map datum_of operands.now ++ datum_of last ∷ []) }
-    ensures within { IfOk result (λ found. AllByRecursion IsWithin found.items) }
-{
-    let mut found = Vec::with_capacity(alloc, operands.len().saturating_add(1))?;
-    add_data(&mut found, operands)?;
-    found.push(last.datum())?;
-    Ok(found)
-}
-
-fn add_data(found: &mut Vec<Datum>, operands: &[Operand]) -> Result<(), AllocError>
-    ensures values { OnOk result (found.new.items ≡ found.old.items ++ map datum_of operands.now) }
-    ensures within { OnOk result (AllByRecursion IsWithin found.old.items → AllByRecursion IsWithin found.new.items) }
-{
-    found.reserve(operands.len())?;
     for operand in operands {
-        found.push_reserved(operand.datum());
+        found.push(operand.datum())?;
     }
-    Ok(())
+    Ok(found)
 }

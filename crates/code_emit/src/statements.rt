@@ -4,11 +4,9 @@
 ghost use Rattle.std.specs.Prelude.{◌≤◌, IfOk, OnErr};
 ghost use Rattle.code_emit.specs.Writing.{GoesOn, Leaps};
 
-use crate::changes::{
-    change_element, change_property, set_element, set_field, set_local, set_property, set_state,
-};
-use crate::conditions::jump_unless;
-use crate::expressions::{one_deeper, value};
+use crate::changes::{change_element, change_property, set_element, set_property};
+use crate::conditions::{jump_unless, store_value};
+use crate::expressions::{field, one_deeper, state_text, value};
 use crate::faults::EmitFault;
 use crate::opcodes::RETURN;
 use crate::operand::Operand;
@@ -45,9 +43,18 @@ fn statement(
 {
     let depth = one_deeper(depth)?;
     match statement {
-        CoreStatement::SetLocal(number, to) => set_local(writer, *number, to, depth),
-        CoreStatement::SetField(number, to) => set_field(writer, *number, to, depth),
-        CoreStatement::SetState(to) => set_state(writer, to, depth),
+        CoreStatement::SetLocal(number, to) => {
+            let place = Operand::Word(writer.local(*number)?);
+            store_value(writer, place, to, depth)
+        }
+        CoreStatement::SetField(number, to) => {
+            let place = field(writer, *number)?;
+            store_value(writer, place, to, depth)
+        }
+        CoreStatement::SetState(to) => {
+            let place = state_text(writer)?;
+            store_value(writer, place, to, depth)
+        }
         CoreStatement::SetProp(of, name, to) => set_property(writer, of, name, to, depth),
         CoreStatement::ChangeProp(of, name, kind, operation, right) => {
             change_property(writer, of, name, *kind, *operation, right, depth)
@@ -147,16 +154,9 @@ fn branch(
     ensures err { OnErr result (GoesOn writer.old writer.new) }
 {
     let over = jump_unless(writer, test, depth)?;
-    match body_and_exit(writer, body, depth) {
-        Ok(end) => {
-            writer.land(over);
-            Ok(end)
-        }
-        Err(fault) => {
-            writer.land(over);
-            Err(fault)
-        }
-    }
+    let end = body_and_exit(writer, body, depth);
+    writer.land(over);
+    end
 }
 
 // The statements of a branch, and the jump behind them.

@@ -4,6 +4,8 @@ ghost use Rattle.pex_values.specs.Shape.{IsReference};
 ghost use Rattle.code_emit.specs.Strings.{with_string};
 
 use crate::faults::EmitFault;
+use crate::type_names::type_number;
+use core_tree::CoreType;
 use indexmap::IndexSet;
 use papy_base::{OutOfMemory, Text};
 use std::alloc::Global;
@@ -12,28 +14,23 @@ use std::marker::Model;
 /// The most strings of a file.
 const MOST_STRINGS: usize = 65_535;
 
-/// What a string names, where that has a number.
+/// A name that has a number.
 #[derive(Clone, Copy)]
 pub(crate) enum Numbered {
-    Type(u32),
+    /// The name of a type, as of a result or a local. Without a type it is `None`.
+    Type(Option<CoreType>),
     /// A variable of the script.
     Variable(u16),
     /// A parameter or a local of any function, temporaries counted.
     Local(u16),
-    /// The name of a script of the set.
-    Script(u16),
-    Word(Word),
-}
-
-/// A string that many functions of a file use.
-#[derive(Clone, Copy)]
-pub(crate) enum Word {
-    Empty,
-    OwnInstance,
-    StateVariable,
-    NoneVariable,
     /// The name of the script whose file it is.
-    ScriptName,
+    Script,
+    /// The empty text.
+    Empty,
+    /// `self`
+    OwnInstance,
+    /// `::NoneVar`
+    NoneVariable,
 }
 
 /// The strings so far. Contracts see them as a list, in which none stands twice.
@@ -112,28 +109,18 @@ impl Strings {
     }
 }
 
-// Where the place of a name is noted: the kinds take turns.
+// Where the place of a name is noted: behind those without a number of their own the kinds take turns.
 fn slot(name: Numbered) -> usize
     ensures { result < 2 ^ 35 }
 {
     match name {
-        Numbered::Type(number) => 5 * number as usize,
-        Numbered::Variable(number) => 5 * usize::from(number) + 1,
-        Numbered::Local(number) => 5 * usize::from(number) + 2,
-        Numbered::Script(number) => 5 * usize::from(number) + 3,
-        Numbered::Word(word) => 5 * word_number(word) + 4,
-    }
-}
-
-fn word_number(word: Word) -> usize
-    ensures { result < 5 }
-{
-    match word {
-        Word::Empty => 0,
-        Word::OwnInstance => 1,
-        Word::StateVariable => 2,
-        Word::NoneVariable => 3,
-        Word::ScriptName => 4,
+        Numbered::Script => 0,
+        Numbered::Empty => 1,
+        Numbered::OwnInstance => 2,
+        Numbered::NoneVariable => 3,
+        Numbered::Type(kind) => 3 * type_number(kind) as usize + 4,
+        Numbered::Variable(number) => 3 * usize::from(number) + 5,
+        Numbered::Local(number) => 3 * usize::from(number) + 6,
     }
 }
 

@@ -1,6 +1,7 @@
 // The names of types.
 use crate::faults::EmitFault;
 use core_tree::{CoreScript, CoreType};
+use std::alloc::Global;
 
 /// Each type has a number of its own.
 pub(crate) fn type_number(kind: Option<CoreType>) -> u32 {
@@ -17,39 +18,36 @@ pub(crate) fn type_number(kind: Option<CoreType>) -> u32 {
     }
 }
 
-/// The name of a type, or of an array the name of its elements' type, behind which `[]` stands in its own.
-pub(crate) fn element_name(
+/// The name of a type. That of an array ends with `[]` behind the name of its elements' type.
+pub(crate) fn type_name(
+    alloc: Global,
     scripts: &[CoreScript],
     kind: Option<CoreType>,
-) -> Result<&[u8], EmitFault> {
-    match kind {
-        None => Ok(b"None"),
-        Some(CoreType::Int | CoreType::IntArray) => Ok(b"Int"),
-        Some(CoreType::Bool | CoreType::BoolArray) => Ok(b"Bool"),
-        Some(CoreType::Text | CoreType::TextArray) => Ok(b"String"),
-        Some(CoreType::Script(number) | CoreType::ScriptArray(number)) => {
-            script_name(scripts, number)
-        }
-    }
+) -> Result<Vec<u8>, EmitFault> {
+    let name: &[u8] = match kind {
+        None => b"None",
+        Some(CoreType::Int) => b"Int",
+        Some(CoreType::Bool) => b"Bool",
+        Some(CoreType::Text) => b"String",
+        Some(CoreType::IntArray) => b"Int[]",
+        Some(CoreType::BoolArray) => b"Bool[]",
+        Some(CoreType::TextArray) => b"String[]",
+        Some(CoreType::Script(number)) => script_name(scripts, number)?,
+        Some(CoreType::ScriptArray(number)) => return array_name(alloc, scripts, number),
+    };
+    Ok(name.to_vec(alloc)?)
 }
 
-/// Whether values of the type are arrays.
-pub(crate) fn is_array(kind: Option<CoreType>) -> bool {
-    matches!(
-        kind,
-        Some(
-            CoreType::IntArray
-                | CoreType::BoolArray
-                | CoreType::TextArray
-                | CoreType::ScriptArray(_)
-        )
-    )
+fn array_name(alloc: Global, scripts: &[CoreScript], number: u16) -> Result<Vec<u8>, EmitFault> {
+    let mut name = script_name(scripts, number)?.to_vec(alloc)?;
+    name.extend_from_slice(b"[]")?;
+    Ok(name)
 }
 
 /// The name of the script of this number.
 pub(crate) fn script_name(scripts: &[CoreScript], number: u16) -> Result<&[u8], EmitFault> {
-    match scripts.get(usize::from(number)) {
-        Some(script) => Ok(script.name.as_bytes()),
-        None => Err(EmitFault::OutOfRange),
-    }
+    let script = scripts
+        .get(usize::from(number))
+        .ok_or(EmitFault::OutOfRange)?;
+    Ok(script.name.as_bytes())
 }

@@ -5,35 +5,31 @@ ghost use Rattle.std.specs.Prelude.{◌≡◌, ℕ, ◌<◌, ◌≤◌, ◌^◌,
 ghost use Rattle.std.specs.List.{AllByRecursion};
 ghost use Rattle.jump_patch.specs.Jumps.{jump};
 ghost use Rattle.pex_values.specs.Opcodes.{operands_of};
-ghost use Rattle.pex_values.specs.Plain.{plain_instruction, plain_lines};
-ghost use Rattle.pex_values.specs.Shape.{ArePair, IsReference, AgreesWith, IsShapedDatum, IsShapedInstruction, IsShapedLines};
-ghost use Rattle.code_emit.specs.Function.{IsBody};
+ghost use Rattle.pex_values.specs.Plain.{plain_function, plain_instruction, plain_lines};
+ghost use Rattle.pex_values.specs.Shape.{ArePair, IsReference, AgreesWith, IsShapedDatum, IsShapedFunction, IsShapedInstruction, IsShapedLines};
 ghost use Rattle.code_emit.specs.Operands.{needs};
 ghost use Rattle.code_emit.specs.Writing.{GoesOn, Leaps, AreThere, Takes, landed};
 
+use crate::bits::{flag_bits, function_bits};
 use crate::faults::EmitFault;
-use crate::functions::Place;
+use crate::functions::DebugName;
 use crate::opcodes::ASSIGN;
-use crate::operand::{Operand, data, data_before, data_behind};
-use crate::spare::Spare;
-use crate::strings::{Numbered, Strings, Word};
-use crate::type_names::{element_name, is_array, script_name, type_number};
+use crate::operand::{Operand, data};
+use crate::strings::{Numbered, Strings};
+use crate::temporaries::FreeTemporaries;
+use crate::type_names::type_name;
 use core_tree::{CoreFunction, CoreScript, CoreSet, CoreType, CoreVariable};
 use jump_patch::{Ahead, Code, CodeBuffer, JumpKind, Mark};
 use papy_base::Text;
-use pex_values::{Datum, Instruction, PexLines};
+use pex_values::{Datum, Instruction, PexFunction, PexLines};
 use std::alloc::Global;
 use std::marker::Model;
-use std::mem;
 
 /// The most instructions of a function.
 const MOST_INSTRUCTIONS: usize = 65_535;
 
 /// The most parameters and locals of a function, temporaries counted.
 const MOST_VARIABLES: usize = 8_192;
-
-/// How many temporaries a function finds room for at its start.
-const SOME_TEMPORARIES: usize = 8;
 
 /// Contracts see how many strings there are, how many instructions the function has so far, and the places of its jumps
 /// that haven't landed.
@@ -48,12 +44,12 @@ pub(crate) struct Writer<'a> {
     count: usize,
     // The line of the statement that is being written.
     line: u16,
-    // Names and types, each by its place among the strings. The temporaries are among the locals.
-    parameters: Vec<(u16, u16)>,
-    locals: Vec<(u16, u16)>,
+    // The names and types of the function's parameters and then of its locals, temporaries among them, each by its place
+    // among the strings.
+    variables: Vec<(u16, u16)>,
     // How many of them the function's tree numbers.
     numbered: usize,
-    spare: Spare,
+    spare: FreeTemporaries,
     none_variable: Option<u16>,
 }
 
@@ -65,16 +61,7 @@ impl<'a> Model for Writer<'a> {
 
     ghost view = { λ w. record { strings = length w.strings; count = w.count; ahead = w.code.ahead } };
 
-    ghost invariant = { λ w. IsWriting (length w.strings) w.count w.code w.debug.items w.parameters.items w.locals.items w.spare w.none_variable };
-}
-
-/// A function's parameters, locals and code, with a line for each instruction.
-#[derive(Drop)]
-pub(crate) struct Body {
-    pub parameters: Vec<(u16, u16)>,
-    pub locals: Vec<(u16, u16)>,
-    pub code: Vec<Instruction>,
-    pub lines: Vec<u16>,
+    ghost invariant = { λ w. IsWriting (length w.strings) w.count w.code w.debug.items w.variables.items w.spare w.none_variable };
 }
 
 impl<'a> Writer<'a> {
@@ -91,10 +78,9 @@ impl<'a> Writer<'a> {
             code: CodeBuffer::new(alloc),
             count: 0,
             line: 0,
-            parameters: Vec::new(alloc),
-            locals: Vec::new(alloc),
+            variables: Vec::new(alloc),
             numbered: 0,
-            spare: Spare::new(alloc),
+            spare: FreeTemporaries::new(alloc),
             none_variable: None,
         }
     }
@@ -119,6 +105,9 @@ impl<'a> Writer<'a> {
         ensures place { IfOk result (IsReference self.new.strings) }
         ensures goes { GoesOn self.old self.new }
     {
+        if string.is_empty() {
+            return self.numbered(Numbered::Empty);
+        }
         self.strings.place_of(string)
     }
 
@@ -129,34 +118,8 @@ impl<'a> Writer<'a> {
     {
         match text {
             Some(text) => self.string(text.as_bytes()),
-            None => self.word(Word::Empty),
+            None => self.string(b""),
         }
-    }
-
-    /// The place of a string that many functions use.
-    pub(crate) fn word(&mut self, word: Word) -> Result<u16, EmitFault>
-        ensures place { IfOk result (IsReference self.new.strings) }
-        ensures goes { GoesOn self.old self.new }
-    {
-        let name = Numbered::Word(word);
-        if let Some(place) = self.strings.noted(name) {
-            return Ok(place);
-        }
-        let script = self.script;
-        self.noted_string(name, word_bytes(word, script))
-    }
-
-    /// The place of the name of the script of this number.
-    pub(crate) fn script_name(&mut self, number: u16) -> Result<u16, EmitFault>
-        ensures place { IfOk result (IsReference self.new.strings) }
-        ensures goes { GoesOn self.old self.new }
-    {
-        let name = Numbered::Script(number);
-        if let Some(place) = self.strings.noted(name) {
-            return Ok(place);
-        }
-        let string = script_name(self.set.scripts.as_slice(), number)?;
-        self.noted_string(name, string)
     }
 
     /// The place of the name of a type, as of a result or a local. Without a type it is `None`.
@@ -165,26 +128,31 @@ impl<'a> Writer<'a> {
         ensures place { IfOk result (IsReference self.new.strings) }
         ensures goes { GoesOn self.old self.new }
     {
-        let name = Numbered::Type(type_number(kind));
-        if let Some(place) = self.strings.noted(name) {
-            return Ok(place);
-        }
-        self.new_type_name(name, kind)
+        self.numbered(Numbered::Type(kind))
     }
 
-    // The place of a type's name that wasn't looked up before.
-    #[inline(never)]
-    fn new_type_name(&mut self, name: Numbered, kind: Option<CoreType>) -> Result<u16, EmitFault>
+    /// The place of a name that is known by its number once it was looked up.
+    #[inline(always)]
+    pub(crate) fn numbered(&mut self, name: Numbered) -> Result<u16, EmitFault>
         ensures place { IfOk result (IsReference self.new.strings) }
         ensures goes { GoesOn self.old self.new }
     {
-        let element = element_name(self.set.scripts.as_slice(), kind)?;
-        if !is_array(kind) {
-            return self.noted_string(name, element);
+        if let Some(place) = self.strings.noted(name) {
+            return Ok(place);
         }
-        let mut array = element.to_vec(self.alloc)?;
-        array.extend_from_slice(b"[]")?;
-        self.noted_string(name, array.as_slice())
+        self.new_name(name)
+    }
+
+    /// The place of a name that wasn't looked up before.
+    #[inline(never)]
+    pub(crate) fn new_name(&mut self, name: Numbered) -> Result<u16, EmitFault>
+        ensures place { IfOk result (IsReference self.new.strings) }
+        ensures goes { GoesOn self.old self.new }
+    {
+        let string = name_bytes(self.alloc, self.set, self.script, name)?;
+        let place = self.strings.place_of(&string)?;
+        self.strings.note(name, place)?;
+        Ok(place)
     }
 
     /// The variable of this number, and the place of its name.
@@ -195,11 +163,7 @@ impl<'a> Writer<'a> {
         let Some(variable) = self.script.variables.get(usize::from(number)) else {
             return Err(EmitFault::OutOfRange);
         };
-        let name = Numbered::Variable(number);
-        if let Some(place) = self.strings.noted(name) {
-            return Ok((variable, place));
-        }
-        let place = self.noted_string(name, variable.name.as_bytes())?;
+        let place = self.numbered(Numbered::Variable(number))?;
         Ok((variable, place))
     }
 
@@ -218,69 +182,27 @@ impl<'a> Writer<'a> {
         if number >= self.numbered {
             return Err(EmitFault::OutOfRange);
         }
-        match number.checked_sub(self.parameters.len()) {
-            None => name_at(&self.parameters, number),
-            Some(place) => name_at(&self.locals, place),
-        }
+        name_at(&self.variables, number)
     }
 
     fn next_name(&mut self) -> Result<u16, EmitFault>
         ensures place { IfOk result (IsReference self.new.strings) }
         ensures goes { GoesOn self.old self.new }
     {
-        let (parameters, locals) = (self.parameters.len(), self.locals.len());
-        if parameters >= MOST_VARIABLES || locals >= MOST_VARIABLES - parameters {
+        let number = self.variables.len();
+        if number >= MOST_VARIABLES {
             return Err(EmitFault::TooLarge);
         }
-        let number = parameters + locals;
-        if let Some(place) = self.strings.noted(Numbered::Local(number as u16)) {
-            return Ok(place);
-        }
-        self.temporary_name(number as u16)
-    }
-
-    // The name of a temporary that no function of the file had so far.
-    #[inline(never)]
-    fn temporary_name(&mut self, number: u16) -> Result<u16, EmitFault>
-        ensures place { IfOk result (IsReference self.new.strings) }
-        ensures goes { GoesOn self.old self.new }
-    {
-        let name = format!(in self.alloc; "::temp{number}")?;
-        self.noted_string(Numbered::Local(number), name.as_bytes())
-    }
-
-    // The place of a string that has a number, from which it is known by its number too.
-    #[inline(never)]
-    fn noted_string(&mut self, name: Numbered, string: &[u8]) -> Result<u16, EmitFault>
-        ensures place { IfOk result (IsReference self.new.strings) }
-        ensures goes { GoesOn self.old self.new }
-    {
-        let place = self.strings.place_of(string)?;
-        self.strings.note(name, place)?;
-        Ok(place)
+        self.numbered(Numbered::Local(number as u16))
     }
 
     /// Begins a function.
     pub(crate) fn begin(&mut self, function: &CoreFunction) -> Result<(), EmitFault>
         ensures { GoesOn self.old self.new }
     {
-        if !function.body.is_empty() {
-            self.make_room(function.parameters.len(), function.locals.len())?;
-        }
         self.begin_parameters(&function.parameters)?;
         self.begin_locals(&function.locals)?;
-        self.numbered = self.parameters.len().saturating_add(self.locals.len());
-        self.line = 0;
-        Ok(())
-    }
-
-    // Makes room for so many parameters and locals, and for some temporaries.
-    fn make_room(&mut self, parameters: usize, locals: usize) -> Result<(), EmitFault>
-        ensures { self.new ≡ self.old }
-    {
-        self.parameters.reserve(parameters)?;
-        self.locals
-            .reserve(locals.saturating_add(SOME_TEMPORARIES))?;
+        self.numbered = self.variables.len();
         Ok(())
     }
 
@@ -288,7 +210,9 @@ impl<'a> Writer<'a> {
         ensures { GoesOn self.old self.new }
     {
         for kind in kinds {
-            self.new_parameter(*kind)?;
+            let name = self.next_name()?;
+            let kind = self.type_name(Some(*kind))?;
+            self.add_variable(name, kind)?;
         }
         Ok(())
     }
@@ -297,33 +221,9 @@ impl<'a> Writer<'a> {
         ensures { GoesOn self.old self.new }
     {
         for kind in kinds {
-            self.begin_local(*kind)?;
+            let kind = self.type_name(Some(*kind))?;
+            self.new_local(kind)?;
         }
-        Ok(())
-    }
-
-    fn begin_local(&mut self, kind: CoreType) -> Result<(), EmitFault>
-        ensures { GoesOn self.old self.new }
-    {
-        let kind = self.type_name(Some(kind))?;
-        self.new_local(kind)?;
-        Ok(())
-    }
-
-    fn new_parameter(&mut self, kind: CoreType) -> Result<(), EmitFault>
-        ensures { GoesOn self.old self.new }
-    {
-        let name = self.next_name()?;
-        let kind = self.type_name(Some(kind))?;
-        self.add_parameter(name, kind)
-    }
-
-    fn add_parameter(&mut self, name: u16, kind: u16) -> Result<(), EmitFault>
-        requires name { IsReference self.old.strings name }
-        requires kind { IsReference self.old.strings kind }
-        ensures { self.new ≡ self.old }
-    {
-        self.parameters.push((name, kind))?;
         Ok(())
     }
 
@@ -334,16 +234,16 @@ impl<'a> Writer<'a> {
         ensures goes { GoesOn self.old self.new }
     {
         let name = self.next_name()?;
-        self.add_local(name, kind)?;
+        self.add_variable(name, kind)?;
         Ok(name)
     }
 
-    fn add_local(&mut self, name: u16, kind: u16) -> Result<(), EmitFault>
+    fn add_variable(&mut self, name: u16, kind: u16) -> Result<(), EmitFault>
         requires name { IsReference self.old.strings name }
         requires kind { IsReference self.old.strings kind }
         ensures { self.new ≡ self.old }
     {
-        self.locals.push((name, kind))?;
+        self.variables.push((name, kind))?;
         Ok(())
     }
 
@@ -353,19 +253,11 @@ impl<'a> Writer<'a> {
         ensures goes { GoesOn self.old self.new }
     {
         let kind = self.type_name(Some(kind))?;
-        let name = self.spare_or_new(kind)?;
+        let name = match self.take_spare(kind) {
+            Some(name) => name,
+            None => self.new_local(kind)?,
+        };
         Ok(Operand::Temporary { name, kind })
-    }
-
-    fn spare_or_new(&mut self, kind: u16) -> Result<u16, EmitFault>
-        requires { IsReference self.old.strings kind }
-        ensures name { IfOk result (λ name. name < self.new.strings) }
-        ensures goes { GoesOn self.old self.new }
-    {
-        match self.take_spare(kind) {
-            Some(name) => Ok(name),
-            None => self.new_local(kind),
-        }
     }
 
     fn take_spare(&mut self, kind: u16) -> Option<u16>
@@ -383,7 +275,7 @@ impl<'a> Writer<'a> {
         if let Some(name) = self.none_variable {
             return Ok(name);
         }
-        let name = self.word(Word::NoneVariable)?;
+        let name = self.numbered(Numbered::NoneVariable)?;
         let kind = self.type_name(None)?;
         self.add_none(name, kind)?;
         Ok(name)
@@ -394,7 +286,7 @@ impl<'a> Writer<'a> {
         requires kind { IsReference self.old.strings kind }
         ensures { self.new ≡ self.old }
     {
-        self.add_local(name, kind)?;
+        self.add_variable(name, kind)?;
         self.none_variable = Some(name);
         Ok(())
     }
@@ -469,40 +361,54 @@ impl<'a> Writer<'a> {
         self.instruct(opcode, fixed, more, operands)
     }
 
-    /// Writes an instruction whose result stands before its operands, and gives back the temporaries that it reads.
-    #[inline(always)]
+    /// Writes an instruction whose result stands before its operand, and gives that back where it is a temporary.
     pub(crate) fn compute(
         &mut self,
         opcode: u8,
         kind: CoreType,
-        operands: &[Operand],
+        of: Operand,
     ) -> Result<Operand, EmitFault>
-        requires opcode { Takes opcode (suc (length operands.now)) }
-        requires operands { AreThere self.old.strings operands.now }
+        requires opcode { Takes opcode 2 }
+        requires of { needs of ≤ self.old.strings }
         ensures operand { IfOk result (λ operand. needs operand ≤ self.new.strings) }
         ensures goes { GoesOn self.old self.new }
     {
         let place = self.take(kind)?;
-        self.store(opcode, place, operands)?;
+        self.store(opcode, place, of)?;
         Ok(place)
     }
 
     /// As `compute`, into a variable that is there.
-    #[inline(always)]
-    pub(crate) fn store(
-        &mut self,
-        opcode: u8,
-        place: Operand,
-        operands: &[Operand],
-    ) -> Result<(), EmitFault>
-        requires opcode { Takes opcode (suc (length operands.now)) }
+    pub(crate) fn store(&mut self, opcode: u8, place: Operand, of: Operand) -> Result<(), EmitFault>
+        requires opcode { Takes opcode 2 }
         requires place { needs place ≤ self.old.strings }
-        requires operands { AreThere self.old.strings operands.now }
+        requires of { needs of ≤ self.old.strings }
         ensures { GoesOn self.old self.new }
     {
-        let fixed = data_behind(self.alloc, place, operands)?;
+        let fixed = vec![in self.alloc; place.datum(), of.datum()]?;
         let more = Vec::new(self.alloc);
-        self.instruct(opcode, fixed, more, operands)
+        self.instruct(opcode, fixed, more, &[of])
+    }
+
+    /// As `compute`, with two operands.
+    pub(crate) fn combine(
+        &mut self,
+        opcode: u8,
+        kind: CoreType,
+        left: Operand,
+        right: Operand,
+    ) -> Result<Operand, EmitFault>
+        requires opcode { Takes opcode 3 }
+        requires left { needs left ≤ self.old.strings }
+        requires right { needs right ≤ self.old.strings }
+        ensures operand { IfOk result (λ operand. needs operand ≤ self.new.strings) }
+        ensures goes { GoesOn self.old self.new }
+    {
+        let place = self.take(kind)?;
+        let fixed = vec![in self.alloc; place.datum(), left.datum(), right.datum()]?;
+        let more = Vec::new(self.alloc);
+        self.instruct(opcode, fixed, more, &[left, right])?;
+        Ok(place)
     }
 
     /// Writes an instruction whose result stands behind its fixed operands, and gives back the temporaries that it reads.
@@ -521,7 +427,8 @@ impl<'a> Writer<'a> {
         ensures goes { GoesOn self.old self.new }
     {
         let given = self.place_for(kind)?;
-        let fixed = data_before(self.alloc, operands, given)?;
+        let mut fixed = data(self.alloc, operands)?;
+        fixed.push(given.datum())?;
         self.instruct(opcode, fixed, more, operands)?;
         Ok(given)
     }
@@ -537,15 +444,19 @@ impl<'a> Writer<'a> {
         }
     }
 
-    /// The operand, or where acts come before it is read and may change it, a temporary with its value.
+    /// The operand, or where calls come before it is read and may change it, a temporary with its value.
     #[inline(never)]
-    pub(crate) fn kept(&mut self, operand: Operand, acts: bool) -> Result<Operand, EmitFault>
+    pub(crate) fn kept(
+        &mut self,
+        operand: Operand,
+        before_calls: bool,
+    ) -> Result<Operand, EmitFault>
         requires { needs operand ≤ self.old.strings }
         ensures operand { IfOk result (λ operand. needs operand ≤ self.new.strings) }
         ensures goes { GoesOn self.old self.new }
     {
-        match (acts, operand) {
-            (true, Operand::Variable { kind, .. }) => self.compute(ASSIGN, kind, &[operand]),
+        match (before_calls, operand) {
+            (true, Operand::Variable { kind, .. }) => self.compute(ASSIGN, kind, operand),
             _ => Ok(operand),
         }
     }
@@ -592,34 +503,58 @@ impl<'a> Writer<'a> {
         self.code.land(ahead);
     }
 
-    /// Ends the function. Every jump must have landed.
-    pub(crate) fn end(&mut self) -> Result<Body, EmitFault>
-        requires { self.old.ahead ≡ [] }
-        ensures body { IfOk result (IsBody self.old.strings) }
+    /// Ends the function, and gives it with the line of each instruction. `kind` is the place of its result's type. Every
+    /// jump must have landed.
+    pub(crate) fn end(
+        &mut self,
+        function: &CoreFunction,
+        kind: u16,
+        doc: u16,
+    ) -> Result<(PexFunction, Vec<u16>), EmitFault>
+        requires ahead { self.old.ahead ≡ [] }
+        requires kind { IsReference self.old.strings kind }
+        requires doc { IsReference self.old.strings doc }
+        ensures function { IfOk result (λ parts. IsShapedFunction self.old.strings (plain_function parts.0)) }
+        ensures lines { IfOk result (λ parts. AllByRecursion (λ line. line < 2 ^ 16) parts.1.items) }
         ensures strings { self.new.strings ≡ self.old.strings }
         ensures ahead { self.new.ahead ≡ [] }
     {
-        let alloc = self.alloc;
+        let count = function.parameters.len();
+        if count > self.variables.len() {
+            return Err(EmitFault::OutOfRange);
+        }
+        let (parameters, locals) = self.variables.split_at(count);
+        let parameters = parameters.to_vec(self.alloc)?;
+        let locals = locals.to_vec(self.alloc)?;
         let Code { code, lines } = self.code.take()?;
         self.count = 0;
+        self.variables.clear();
         self.numbered = 0;
         self.spare.clear();
         self.none_variable = None;
-        Ok(Body {
-            parameters: mem::replace(&mut self.parameters, Vec::new(alloc)),
-            locals: mem::replace(&mut self.locals, Vec::new(alloc)),
+        let written = PexFunction {
+            result: kind,
+            doc,
+            flags: flag_bits(function.flags),
+            bits: function_bits(function.is_global, function.is_native),
+            parameters,
+            locals,
             code,
-            lines,
-        })
+        };
+        Ok((written, lines))
     }
 
     /// Adds the debug entry of a function.
-    pub(crate) fn note_lines(&mut self, place: Place<'_>, lines: Vec<u16>) -> Result<(), EmitFault>
+    pub(crate) fn note_lines(
+        &mut self,
+        place: DebugName<'_>,
+        lines: Vec<u16>,
+    ) -> Result<(), EmitFault>
         requires { AllByRecursion (λ line. line < 2 ^ 16) lines.items }
         ensures { GoesOn self.old self.new }
     {
-        let object = self.word(Word::ScriptName)?;
-        let state = self.state_name(place.state)?;
+        let object = self.numbered(Numbered::Script)?;
+        let state = self.string(place.state)?;
         let function = self.string(place.name)?;
         self.add_entry(PexLines {
             object,
@@ -628,18 +563,6 @@ impl<'a> Writer<'a> {
             kind: place.kind,
             lines,
         })
-    }
-
-    // The place of a state's name, which mostly is that of the empty state.
-    fn state_name(&mut self, state: &[u8]) -> Result<u16, EmitFault>
-        ensures place { IfOk result (IsReference self.new.strings) }
-        ensures goes { GoesOn self.old self.new }
-    {
-        if state.is_empty() {
-            self.word(Word::Empty)
-        } else {
-            self.string(state)
-        }
     }
 
     fn add_entry(&mut self, entry: PexLines) -> Result<(), EmitFault>
@@ -660,14 +583,26 @@ impl<'a> Writer<'a> {
     }
 }
 
-fn word_bytes(word: Word, script: &CoreScript) -> &[u8] {
-    match word {
-        Word::Empty => b"",
-        Word::OwnInstance => b"self",
-        Word::StateVariable => b"::State",
-        Word::NoneVariable => b"::NoneVar",
-        Word::ScriptName => script.name.as_bytes(),
-    }
+fn name_bytes(
+    alloc: Global,
+    set: &CoreSet,
+    script: &CoreScript,
+    name: Numbered,
+) -> Result<Vec<u8>, EmitFault> {
+    let bytes: &[u8] = match name {
+        Numbered::Type(kind) => return type_name(alloc, &set.scripts, kind),
+        Numbered::Local(number) => return Ok(format!(in alloc; "::temp{number}")?.into_bytes()),
+        Numbered::Variable(number) => {
+            let variables = script.variables.as_slice();
+            let variable = variables.get(usize::from(number));
+            variable.ok_or(EmitFault::OutOfRange)?.name.as_bytes()
+        }
+        Numbered::Script => script.name.as_bytes(),
+        Numbered::Empty => b"",
+        Numbered::OwnInstance => b"self",
+        Numbered::NoneVariable => b"::NoneVar",
+    };
+    Ok(bytes.to_vec(alloc)?)
 }
 
 fn name_at(pairs: &[(u16, u16)], place: usize) -> Result<u16, EmitFault>

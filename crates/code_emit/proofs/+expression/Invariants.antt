@@ -6,9 +6,6 @@ use Rattle.code_emit.proofs.+expression.Given as goal
 abbrev pub decreases-expressions::value : goal.decreases-expressions::value
 decreases-expressions::value l = 9 * l.depth
 
-abbrev pub decreases-expressions::chain_value : goal.decreases-expressions::chain_value
-decreases-expressions::chain_value l = 9 * l.depth + 8
-
 abbrev pub decreases-expressions::form_value : goal.decreases-expressions::form_value
 decreases-expressions::form_value l = 9 * l.depth + 7
 
@@ -17,15 +14,6 @@ decreases-expressions::leaf_value l = 9 * l.depth + 6
 
 abbrev pub decreases-expressions::call_value : goal.decreases-expressions::call_value
 decreases-expressions::call_value l = 9 * l.depth + 5
-
-abbrev pub decreases-expressions::method_call : goal.decreases-expressions::method_call
-decreases-expressions::method_call l = 9 * l.depth + 4
-
-abbrev pub decreases-expressions::parent_call : goal.decreases-expressions::parent_call
-decreases-expressions::parent_call l = 9 * l.depth + 4
-
-abbrev pub decreases-expressions::static_call : goal.decreases-expressions::static_call
-decreases-expressions::static_call l = 9 * l.depth + 4
 
 abbrev pub decreases-calls::call : goal.decreases-calls::call
 decreases-calls::call l = 9 * l.depth + 3
@@ -48,14 +36,14 @@ decreases-conditions::store_value l = 9 * l.depth + 1
 abbrev pub decreases-expressions::kept_value : goal.decreases-expressions::kept_value
 decreases-expressions::kept_value l = 9 * l.depth + 1
 
-abbrev pub invariant-expressions::chain_value-forms : goal.invariant-expressions::chain_value-forms
-invariant-expressions::chain_value-forms l = record {
+abbrev pub invariant-expressions::value-forms : goal.invariant-expressions::value-forms
+invariant-expressions::value-forms l = record {
   goes : GoesOn l.initial.writer l.writer;
   there : needs l.operand ≤ l.writer.strings;
 }
 
-abbrev pub decreases-expressions::chain_value-forms : goal.decreases-expressions::chain_value-forms
-decreases-expressions::chain_value-forms l = vec_len l.forms
+abbrev pub decreases-expressions::value-forms : goal.decreases-expressions::value-forms
+decreases-expressions::value-forms l = vec_len l.forms
 
 abbrev pub invariant-calls::argument_values-loop-place : goal.invariant-calls::argument_values-loop-place
 invariant-calls::argument_values-loop-place l = record {

@@ -6,14 +6,14 @@ use Rattle.code_emit.proofs.objects.object.Goals as goal
 
 pub returns-clause-object : goal.returns-clause-object
 returns-clause-object c =
-    let p1 = c.string.new.self.strings in
-    let p2 = c.parent.new.writer.strings in
+    let p1 = c.new_name.new.self.strings in
+    let p2 = c.string.new.self.strings in
     let p3 = c.text.new.self.strings in
-    let p4 = c.auto_state.new.writer.strings in
+    let p4 = c.string-2.new.self.strings in
     let p5 = c.variables.new.writer.strings in
     let p6 = c.properties.new.writer.strings in
     let n = c.states.new.writer.strings in
-    let s2 = c.in_ok-above.ensures.goes.strings in
+    let s2 = c.in_ok-parent.ensures.goes.strings in
     let s3 = c.in_ok-doc.ensures.goes.strings in
     let s4 = c.in_ok-auto_state.ensures.goes.strings in
     let s5 = c.in_ok-variables.ensures.goes.strings in
@@ -21,7 +21,7 @@ returns-clause-object c =
     let s7 = c.in_ok-states.ensures.advances.strings in
     record {
       name = reference_later p1 n (omega arith) c.in_ok-name.name c.in_ok-name.ensures.place;
-      parent = reference_later p2 n (omega arith) c.in_ok-above.above c.in_ok-above.ensures.place;
+      parent = reference_later p2 n (omega arith) c.in_ok-parent.parent c.in_ok-parent.ensures.place;
       doc = reference_later p3 n (omega arith) c.in_ok-doc.doc c.in_ok-doc.ensures.place;
       flags = c.flag_bits.ensures.within;
       auto_state = reference_later p4 n (omega arith) c.in_ok-auto_state.auto_state c.in_ok-auto_state.ensures.place;

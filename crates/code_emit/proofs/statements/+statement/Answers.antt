@@ -1,22 +1,18 @@
 use Rattle.code_emit.proofs.Goes.{goes_nowhere, goes_further}
-use Rattle.code_emit.proofs.Landing.{may_land, has_landed, may_land_first, first_landed}
+use Rattle.code_emit.proofs.Landing.{has_landed, may_land_either, either_landed, neither_landed}
 use Rattle.code_emit.proofs.statements.+statement.Goals as goal
 
 pub branch-land-requires : goal.branch-land-requires
 branch-land-requires t c =
-    may_land_first c.args.writer.now c.jump_unless.new.writer c.body_and_exit.new.writer c.in_ok-over.over c.in-Ok.end c.in_ok-over.ensures.leaps c.in-Ok.ensures.leaps
+    may_land_either c.args.writer.now c.jump_unless.new.writer c.body_and_exit-end.new.writer c.in_ok-over.over c.body_and_exit-end.result c.in_ok-over.ensures.leaps c.body_and_exit-end.ensures.leaps c.body_and_exit-end.ensures.err
 
-pub branch-land-requires-in-Err : goal.branch-land-requires-in-Err
-branch-land-requires-in-Err t c =
-    may_land c.args.writer.now c.jump_unless.new.writer c.body_and_exit.new.writer c.in_ok-over.over c.in_ok-over.ensures.leaps c.in-Err.ensures.err
+pub branch-returns-clause-leaps : goal.branch-returns-clause-leaps
+branch-returns-clause-leaps t c =
+    either_landed c.args.writer.now c.jump_unless.new.writer c.body_and_exit-end.new.writer c.land.new.self c.in_ok-over.over c.body_and_exit-end.result c.in_ok-over.ensures.leaps c.body_and_exit-end.ensures.leaps c.land.ensures
 
-pub branch-returns-in-Ok-clause-leaps : goal.branch-returns-in-Ok-clause-leaps
-branch-returns-in-Ok-clause-leaps t c =
-    first_landed c.args.writer.now c.jump_unless.new.writer c.body_and_exit.new.writer c.land.new.self c.in_ok-over.over c.in-Ok.end c.in_ok-over.ensures.leaps c.in-Ok.ensures.leaps c.land.ensures
-
-pub branch-returns-in-Err-clause-err : goal.branch-returns-in-Err-clause-err
-branch-returns-in-Err-clause-err t c =
-    has_landed c.args.writer.now c.jump_unless.new.writer c.body_and_exit.new.writer c.land-in-Err.new.self c.in_ok-over.over c.in_ok-over.ensures.leaps c.in-Err.ensures.err c.land-in-Err.ensures
+pub branch-returns-clause-err : goal.branch-returns-clause-err
+branch-returns-clause-err t c =
+    neither_landed c.args.writer.now c.jump_unless.new.writer c.body_and_exit-end.new.writer c.land.new.self c.in_ok-over.over c.body_and_exit-end.result c.in_ok-over.ensures.leaps c.body_and_exit-end.ensures.err c.land.ensures
 
 pub branches-returns : goal.branches-returns
 branches-returns t c =

@@ -1,5 +1,5 @@
 use Rattle.std.proofs.Common.{arith}
-use Rattle.code_emit.proofs.Spares.{name_below}
+use Rattle.code_emit.proofs.TakenTemporaries.{name_below}
 use Rattle.code_emit.proofs.writer.name_at.Goals as goal
 
 pub returns : goal.returns

@@ -1,13 +1,13 @@
 use Rattle.std.proofs.Common.{length}
-use Rattle.code_emit.proofs.Spares.{spare_left, spare_name}
+use Rattle.code_emit.proofs.TakenTemporaries.{spare_left, spare_name}
 use Rattle.code_emit.proofs.writer.Writer.take_spare.Goals as goal
 
 pub invariant_of-self : goal.invariant_of-self
 invariant_of-self c =
     let i = c.self.inside in
-    spare_left (length i.strings) i.count i.code i.debug.items i.parameters.items i.locals.items i.spare i.none_variable c.self.invariant c.args.kind c.take.result c.take.new.self c.take.ensures
+    spare_left (length i.strings) i.count i.code i.debug.items i.variables.items i.spare i.none_variable c.self.invariant c.args.kind c.take.result c.take.new.self c.take.ensures
 
 pub returns-clause-name : goal.returns-clause-name
 returns-clause-name c =
     let i = c.self.inside in
-    spare_name (length i.strings) i.count i.code i.debug.items i.parameters.items i.locals.items i.spare i.none_variable c.self.invariant c.args.kind c.take.result c.take.new.self c.take.ensures
+    spare_name (length i.strings) i.count i.code i.debug.items i.variables.items i.spare i.none_variable c.self.invariant c.args.kind c.take.result c.take.new.self c.take.ensures

@@ -1,7 +1,7 @@
 use Rattle.std.proofs.Common.{Some, ℕ, List, sym, subst, ◌∙◌}
-use Rattle.code_emit.proofs.Spares.{handed_out}
-use Rattle.code_emit.specs.Spare.{TakenFrom}
-use Rattle.code_emit.proofs.spare.Spare.take.Goals as goal
+use Rattle.code_emit.proofs.TakenTemporaries.{handed_out}
+use Rattle.code_emit.specs.Temporaries.{TakenFrom}
+use Rattle.code_emit.proofs.temporaries.FreeTemporaries.take.Goals as goal
 
 pub returns : goal.returns
 returns c =

@@ -1,6 +1,6 @@
 // The temporaries of a function that are read and may be used again.
 ghost use Rattle.std.specs.Prelude.{◌≡◌, ◌<◌, ◌∷◌, ◌++◌, ◌==◌, [], length, position, vec_len, vec_capacity, IfSome, OnOk, OnErr};
-ghost use Rattle.code_emit.specs.Spare.{TakenFrom};
+ghost use Rattle.code_emit.specs.Temporaries.{TakenFrom};
 
 use papy_base::OutOfMemory;
 use std::alloc::{AllocError, Global};
@@ -8,11 +8,11 @@ use std::marker::Model;
 
 /// Temporaries, each with the places of its type's name and of its own among the file's strings.
 #[derive(Drop)]
-pub(crate) struct Spare {
+pub(crate) struct FreeTemporaries {
     temporaries: Vec<(u16, u16)>,
 }
 
-impl Model for Spare {
+impl Model for FreeTemporaries {
     ghost use Rattle.std.specs.Prelude.{ℕ, List};
 
     ghost Value = { List (ℕ × ℕ) };
@@ -20,12 +20,12 @@ impl Model for Spare {
     ghost view = { λ s. s.temporaries.items };
 }
 
-impl Spare {
+impl FreeTemporaries {
     /// No temporaries.
-    pub(crate) fn new(alloc: Global) -> Spare
+    pub(crate) fn new(alloc: Global) -> FreeTemporaries
         ensures { result ≡ [] }
     {
-        Spare {
+        FreeTemporaries {
             temporaries: Vec::new(alloc),
         }
     }
@@ -37,7 +37,7 @@ impl Spare {
         self.temporaries.clear();
     }
 
-    /// Hands a temporary of this type out, which is then no longer spare. None where there is none.
+    /// Hands a temporary of this type out, which is then no longer free. None where there is none.
     pub(crate) fn take(&mut self, kind: u16) -> Option<u16>
         ensures { TakenFrom kind self.old result self.new }
     {
@@ -51,22 +51,9 @@ impl Spare {
         ensures ok { OnOk result (self.new ≡ self.old ++ (kind, name) ∷ []) }
         ensures err { OnErr result (self.new ≡ self.old) }
     {
-        make_room(&mut self.temporaries)?;
-        self.temporaries.push_reserved((kind, name));
+        self.temporaries.push((kind, name))?;
         Ok(())
     }
-}
-
-// Makes room for one more. Where it is there already, no call is made.
-#[inline(always)]
-fn make_room(temporaries: &mut Vec<(u16, u16)>) -> Result<(), AllocError>
-    ensures items { temporaries.new.items ≡ temporaries.old.items }
-    ensures room { OnOk result (vec_len temporaries.new < vec_capacity temporaries.new) }
-{
-    if temporaries.len() < temporaries.capacity() {
-        return Ok(());
-    }
-    temporaries.reserve(1)
 }
 
 fn first_of(temporaries: &[(u16, u16)], kind: u16) -> Option<usize>

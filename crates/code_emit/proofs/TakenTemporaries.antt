@@ -9,7 +9,7 @@ use Rattle.std.proofs.lemmas.Option.{slice_get-get_or, get_or_from_slice_get, sl
 use Rattle.jump_patch.specs.Jumps.{Buffer}
 use Rattle.pex_values.specs.declared.debug.PexLines.{PexLines}
 use Rattle.pex_values.specs.Shape.{ArePair}
-use Rattle.code_emit.specs.Spare.{TakenFrom}
+use Rattle.code_emit.specs.Temporaries.{TakenFrom}
 use Rattle.code_emit.specs.Writing.{IsWriting}
 use Rattle.code_emit.proofs.Writings.{without_spare}
 
@@ -18,10 +18,10 @@ name_below n pairs at other within are =
     let is : ArePair n (get_or pairs at other) = All-from_recursion (ArePair n) pairs are at other within in
     is.name.below
 
-module _ (n count : ℕ) (code : Buffer) (debug : List PexLines) (parameters locals spare : List (ℕ × ℕ)) (none : Option ℕ) (is : IsWriting n count code debug parameters locals spare none) where
-  pub spare_left : (kind : ℕ) (found : Option ℕ) (after : List (ℕ × ℕ)) → TakenFrom kind spare found after → IsWriting n count code debug parameters locals after none
-  spare_left kind None after same = subst (λ (s : List (ℕ × ℕ)). IsWriting n count code debug parameters locals s none) (sym same) is
-  spare_left kind (Some name) after taken = without_spare n count code debug parameters locals spare none is taken.0 after taken.1.1
+module _ (n count : ℕ) (code : Buffer) (debug : List PexLines) (variables spare : List (ℕ × ℕ)) (none : Option ℕ) (is : IsWriting n count code debug variables spare none) where
+  pub spare_left : (kind : ℕ) (found : Option ℕ) (after : List (ℕ × ℕ)) → TakenFrom kind spare found after → IsWriting n count code debug variables after none
+  spare_left kind None after same = subst (λ (s : List (ℕ × ℕ)). IsWriting n count code debug variables s none) (sym same) is
+  spare_left kind (Some name) after taken = without_spare n count code debug variables spare none is taken.0 after taken.1.1
 
   pub spare_name : (kind : ℕ) (found : Option ℕ) (after : List (ℕ × ℕ)) → TakenFrom kind spare found after → IfSome found (λ name. name < n)
   spare_name kind None after same = tt
