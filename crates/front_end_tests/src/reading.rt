@@ -1,4 +1,4 @@
-use line_parser::{LineForm, parse_line};
+use line_parser::{LineForm, TypeWords, parse_line};
 use papy_base::Text;
 use script_lexer::{Line, Lines, Token, lex};
 use script_parser::{ParseFault, Script, parse_script};
@@ -26,12 +26,13 @@ fn has_one_line(rt: &impl Abort, lines: &Lines) -> Result<(), Fail> {
 fn a_line_has_one_form(rt: HostRuntime) -> Result<(), Fail> {
     let lines = lex(rt.alloc(), b"Int x = 1 + y {doc}")?;
     let line = lines.lines.first().ok_or("no line")?;
-    assert!(rt; defines_with_doc(rt.alloc(), line));
+    let types = TypeWords::new(rt.alloc())?;
+    assert!(rt; defines_with_doc(rt.alloc(), &types, line));
     Ok(())
 }
 
-fn defines_with_doc(alloc: Global, line: &Line) -> bool {
-    match parse_line(alloc, line) {
+fn defines_with_doc(alloc: Global, types: &TypeWords, line: &Line) -> bool {
+    match parse_line(alloc, types, line) {
         Ok(tree) => is_definition(&tree.form) && holds(&tree.doc, b"doc"),
         Err(_) => false,
     }

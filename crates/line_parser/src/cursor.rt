@@ -3,6 +3,7 @@ ghost use Rattle.std.specs.Prelude.{◌≡◌, ◌+◌, ◌<◌, ◌≤◌, leng
 ghost use Rattle.line_parser.specs.Blocks.{first_keyword, keyword_of};
 
 use crate::fault::FormFault;
+use crate::type_words::TypeWords;
 use papy_base::Name;
 use script_lexer::{Keyword, Sign, Spanned, Token};
 use std::alloc::Global;
@@ -11,6 +12,7 @@ use std::alloc::Global;
 #[derive(Drop)]
 pub(crate) struct Cursor<'a> {
     pub(crate) alloc: Global,
+    pub(crate) types: &'a TypeWords,
     pub(crate) rest: &'a [Spanned],
 }
 
@@ -35,19 +37,31 @@ impl<'a> Cursor<'a> {
         }
     }
 
-    /// The next token, which has to be there.
-    pub(crate) fn next(&self) -> Result<&'a Token, FormFault>
-        ensures { OnOk result (0 < length self.now.rest.now) }
-    {
-        match self.rest.first() {
-            Some(first) => Ok(&first.token),
-            None => Err(FormFault::NoForm),
-        }
+    /// Whether the next token stands alone, where it is an operand: nothing is behind it, or a sign that neither goes on with it
+    /// nor is a binary one of at least this precedence.
+    pub(crate) fn next_is_alone(&self, least: u8) -> bool {
+        self.next_sign().is_none()
+            && match sign_at(self.rest, 1) {
+                Some(Sign::Dot | Sign::OpenBracket | Sign::OpenParen) => false,
+                Some(behind) => precedence(behind) < least,
+                None => self.rest.len() == 1,
+            }
     }
 
     /// Whether the next token is `.` or `[`.
     pub(crate) fn next_is_link(&self) -> bool {
         matches!(self.next_sign(), Some(Sign::Dot | Sign::OpenBracket))
+    }
+
+    /// Takes the next token, which has to be there.
+    pub(crate) fn take(&mut self) -> Result<&'a Token, FormFault>
+        ensures shorter { OnOk result (length self.new.rest.now < length self.old.rest.now) }
+    {
+        let Some((first, others)) = self.rest.split_first() else {
+            return Err(FormFault::NoForm);
+        };
+        self.rest = others;
+        Ok(&first.token)
     }
 
     /// Passes over the next token.
@@ -106,26 +120,13 @@ impl<'a> Cursor<'a> {
         }
     }
 
-    /// Takes the next token where it is a word.
-    pub(crate) fn take_word(&mut self) -> Option<&'a Name>
-        ensures shorter { OnSome result (length self.new.rest.now < length self.old.rest.now) }
-        ensures bound { length self.new.rest.now ≤ length self.old.rest.now }
-    {
-        let (first, others) = self.rest.split_first()?;
-        let Token::Word(name) = &first.token else {
-            return None;
-        };
-        self.rest = others;
-        Some(name)
-    }
-
     /// Takes the next token, which has to be a word.
     pub(crate) fn expect_word(&mut self) -> Result<Name, FormFault>
         ensures shorter { OnOk result (length self.new.rest.now < length self.old.rest.now) }
     {
-        match self.take_word() {
-            Some(name) => Ok(name.try_clone(self.alloc)?),
-            None => Err(FormFault::NoForm),
+        match self.take()? {
+            Token::Word(name) => Ok(name.try_clone(self.alloc)?),
+            _ => Err(FormFault::NoForm),
         }
     }
 
@@ -133,11 +134,10 @@ impl<'a> Cursor<'a> {
     pub(crate) fn expect_int(&mut self) -> Result<i32, FormFault>
         ensures shorter { OnOk result (length self.new.rest.now < length self.old.rest.now) }
     {
-        let Token::Int(number) = self.next()? else {
-            return Err(FormFault::NoForm);
-        };
-        self.skip();
-        Ok(*number)
+        match self.take()? {
+            Token::Int(number) => Ok(*number),
+            _ => Err(FormFault::NoForm),
+        }
     }
 
     /// Takes `[` and `]` where they are next.
@@ -171,7 +171,7 @@ impl<'a> Cursor<'a> {
         ensures most { IfSome result (λ found. found.1 ≤ 5) }
     {
         let sign = self.next_sign()?;
-        let found = precedence(sign)?;
+        let found = precedence(sign);
         if found < least {
             return None;
         }
@@ -206,22 +206,22 @@ impl<'a> Cursor<'a> {
     }
 }
 
-// How tightly a binary sign binds, from 1 for the loosest.
-fn precedence(sign: Sign) -> Option<u8>
-    ensures { IfSome result (λ found. found ≤ 5) }
+// How tightly a binary sign binds, from 1 for the loosest, and 0 for another sign.
+fn precedence(sign: Sign) -> u8
+    ensures { result ≤ 5 }
 {
     match sign {
-        Sign::Or => Some(1),
-        Sign::And => Some(2),
+        Sign::Or => 1,
+        Sign::And => 2,
         Sign::Equal
         | Sign::NotEqual
         | Sign::Less
         | Sign::Greater
         | Sign::LessEqual
-        | Sign::GreaterEqual => Some(3),
-        Sign::Plus | Sign::Minus => Some(4),
-        Sign::Star | Sign::Slash | Sign::Percent => Some(5),
-        _ => None,
+        | Sign::GreaterEqual => 3,
+        Sign::Plus | Sign::Minus => 4,
+        Sign::Star | Sign::Slash | Sign::Percent => 5,
+        _ => 0,
     }
 }
 
@@ -234,8 +234,8 @@ fn sign_at(tokens: &[Spanned], at: usize) -> Option<Sign>
     }
 }
 
-// Whether this sign is at a place of the tokens.
-fn is_sign_at(tokens: &[Spanned], at: usize, wanted: Sign) -> bool
+/// Whether this sign is at a place of the tokens.
+pub(crate) fn is_sign_at(tokens: &[Spanned], at: usize, wanted: Sign) -> bool
     ensures { IsTrue result → at < length tokens.now }
 {
     match sign_at(tokens, at) {

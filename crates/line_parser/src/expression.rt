@@ -1,31 +1,45 @@
 // The grammar of expressions, one function for each production.
 ghost use Rattle.std.specs.Prelude.{◌≡◌, ◌+◌, ◌<◌, ◌≤◌, length, OnOk, IfOk};
 
-use crate::cursor::Cursor;
+use crate::cursor::{Cursor, is_sign_at};
 use crate::fault::FormFault;
 use crate::simple::{leaf, type_name};
 use crate::tree::{Argument, Expr};
-use papy_base::{Name, OutOfMemory};
+use papy_base::OutOfMemory;
 use script_lexer::{Keyword, Sign};
 use std::alloc::Global;
+
+// The precedence of unary signs.
+const UNARY: u8 = 6;
 
 /// An expression. At most `depth` brackets may be open in it.
 #[cycle(expression)]
 pub(crate) fn expression(cursor: &mut Cursor<'_>, depth: u8) -> Result<Expr, FormFault>
     ensures shorter { OnOk result (length cursor.new.rest.now < length cursor.old.rest.now) }
 {
-    binary(cursor, 1, depth)
+    operands(cursor, 1, depth)
 }
 
-// Operands with signs of at least this precedence between them. An operand behind a sign holds only
-// signs that bind tighter, so signs of one precedence group to the left.
+// Operands with signs of at least this precedence between them. Most are one token.
+#[cycle(expression)]
+fn operands(cursor: &mut Cursor<'_>, least: u8, depth: u8) -> Result<Expr, FormFault>
+    ensures shorter { OnOk result (length cursor.new.rest.now < length cursor.old.rest.now) }
+{
+    if cursor.next_is_alone(least) {
+        leaf(cursor)
+    } else {
+        binary(cursor, least, depth)
+    }
+}
+
+// An operand behind a sign holds only signs that bind tighter, so signs of one precedence group to the left.
 #[cycle(expression)]
 fn binary(cursor: &mut Cursor<'_>, least: u8, depth: u8) -> Result<Expr, FormFault>
     ensures shorter { OnOk result (length cursor.new.rest.now < length cursor.old.rest.now) }
 {
     let mut left = unary(cursor, depth)?;
     'signs: while let Some((sign, precedence)) = cursor.take_binary(least) {
-        let right = binary(cursor, precedence + 1, depth)?;
+        let right = operands(cursor, precedence + 1, depth)?;
         left = Expr::Binary {
             sign,
             left: boxed(cursor.alloc, left)?,
@@ -39,6 +53,9 @@ fn binary(cursor: &mut Cursor<'_>, least: u8, depth: u8) -> Result<Expr, FormFau
 fn unary(cursor: &mut Cursor<'_>, depth: u8) -> Result<Expr, FormFault>
     ensures shorter { OnOk result (length cursor.new.rest.now < length cursor.old.rest.now) }
 {
+    if cursor.next_is_alone(UNARY) {
+        return leaf(cursor);
+    }
     let Some(sign) = cursor.take_unary() else {
         return cast(cursor, depth);
     };
@@ -49,11 +66,15 @@ fn unary(cursor: &mut Cursor<'_>, depth: u8) -> Result<Expr, FormFault>
     })
 }
 
+// An atom with members, calls and indexes behind it, and the type that it is cast to.
 #[cycle(expression)]
 fn cast(cursor: &mut Cursor<'_>, depth: u8) -> Result<Expr, FormFault>
     ensures shorter { OnOk result (length cursor.new.rest.now < length cursor.old.rest.now) }
 {
-    let of = chain(cursor, depth)?;
+    let mut of = atom(cursor, depth)?;
+    'links: while cursor.next_is_link() {
+        of = link(cursor, of, depth)?;
+    }
     if !cursor.take_keyword(Keyword::As) {
         return Ok(of);
     }
@@ -62,18 +83,6 @@ fn cast(cursor: &mut Cursor<'_>, depth: u8) -> Result<Expr, FormFault>
         of: boxed(cursor.alloc, of)?,
         to,
     })
-}
-
-// An atom with members, calls and indexes behind it.
-#[cycle(expression)]
-fn chain(cursor: &mut Cursor<'_>, depth: u8) -> Result<Expr, FormFault>
-    ensures shorter { OnOk result (length cursor.new.rest.now < length cursor.old.rest.now) }
-{
-    let mut of = atom(cursor, depth)?;
-    'links: while cursor.next_is_link() {
-        of = link(cursor, of, depth)?;
-    }
-    Ok(of)
 }
 
 // A member, a call of one, or an index.
@@ -127,13 +136,12 @@ fn bracketed(cursor: &mut Cursor<'_>, close: Sign, depth: u8) -> Result<Expr, Fo
 fn atom(cursor: &mut Cursor<'_>, depth: u8) -> Result<Expr, FormFault>
     ensures shorter { OnOk result (length cursor.new.rest.now < length cursor.old.rest.now) }
 {
-    if let Some(word) = cursor.take_word() {
-        return word_or_call(cursor, word, depth);
-    }
     if cursor.take_sign(Sign::OpenParen) {
         bracketed(cursor, Sign::CloseParen, depth)
     } else if cursor.take_keyword(Keyword::Parent) {
         parent_call(cursor, depth)
+    } else if is_sign_at(cursor.rest, 1, Sign::OpenParen) {
+        call(cursor, depth)
     } else {
         leaf(cursor)
     }
@@ -150,15 +158,12 @@ fn parent_call(cursor: &mut Cursor<'_>, depth: u8) -> Result<Expr, FormFault>
     Ok(Expr::ParentCall { name, arguments })
 }
 
-// A word, or a call of what it names; the word is taken.
 #[cycle(expression)]
-fn word_or_call(cursor: &mut Cursor<'_>, word: &Name, depth: u8) -> Result<Expr, FormFault>
-    ensures bound { OnOk result (length cursor.new.rest.now ≤ length cursor.old.rest.now) }
+fn call(cursor: &mut Cursor<'_>, depth: u8) -> Result<Expr, FormFault>
+    ensures shorter { OnOk result (length cursor.new.rest.now < length cursor.old.rest.now) }
 {
-    let name = word.try_clone(cursor.alloc)?;
-    if !cursor.take_sign(Sign::OpenParen) {
-        return Ok(Expr::Word(name));
-    }
+    let name = cursor.expect_word()?;
+    cursor.expect_sign(Sign::OpenParen)?;
     let arguments = arguments(cursor, depth)?;
     Ok(Expr::Call { name, arguments })
 }

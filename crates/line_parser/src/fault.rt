@@ -57,6 +57,16 @@ impl<T: Drop> From<AllocFailed<T>> for FormFault {
     }
 }
 
+impl From<OutOfMemory> for LineFault {
+    ghost use Rattle.line_parser.specs.declared.fault.LineFault.TheVariants.{OutOfMemory};
+
+    ghost from_gives = { λ _ e. e ≡ OutOfMemory };
+
+    fn from(_e: OutOfMemory) -> LineFault {
+        LineFault::OutOfMemory
+    }
+}
+
 impl From<FormFault> for LineFault {
     ghost use Rattle.line_parser.specs.Fault.{line_fault};
 

@@ -11,6 +11,7 @@ use crate::fault::{FormFault, LineFault, LineRule};
 use crate::nesting::{BRACKET_LIMIT, is_too_deep};
 use crate::simple::{begins_declaration, constant, flags, initial_constant, parameters, type_name};
 use crate::tree::{Heading, LineForm, LineTree, TypeName};
+use crate::type_words::TypeWords;
 use papy_base::{OutOfMemory, Text};
 use script_lexer::{Keyword, Line, Sign, Spanned, Token};
 use std::alloc::Global;
@@ -20,7 +21,7 @@ use std::alloc::Global;
 /// # Errors
 /// `TooDeep` where over 64 brackets are open at once or the line has over 8,000 tokens, else `BadLine`
 /// where the line has no form, and never `BadBlock`. `OutOfMemory` where no memory is found.
-pub fn parse_line(alloc: Global, line: &Line) -> Result<LineTree, LineFault>
+pub fn parse_line(alloc: Global, types: &TypeWords, line: &Line) -> Result<LineTree, LineFault>
     ensures too_deep { IsErrOf result (Broken TooDeep) ↔ IsTooDeep line.now.tokens.items }
     ensures no_block { result ≢ Err (Broken BadBlock) }
     // The form of `If` or `While` is that of a line that begins so.
@@ -32,16 +33,21 @@ pub fn parse_line(alloc: Global, line: &Line) -> Result<LineTree, LineFault>
             rule: LineRule::TooDeep,
         });
     }
-    Ok(line_tree(alloc, tokens)?)
-}
-
-// A form, and a documentation text where one is last.
-fn line_tree(alloc: Global, tokens: &[Spanned]) -> Result<LineTree, FormFault>
-    ensures { IfOk result (λ tree. IsTrue (opens_block tree.form) → IsTrue (begins_block tokens.now)) }
-{
     let doc = doc_at_end(alloc, tokens)?;
-    let form = whole_form(alloc, without_doc(tokens))?;
-    Ok(LineTree { form, doc })
+    let mut cursor = Cursor {
+        alloc,
+        types,
+        rest: without_doc(tokens),
+    };
+    let form = form(&mut cursor)?;
+    if cursor.is_at_end() {
+        Ok(LineTree { form, doc })
+    } else {
+        drop(form);
+        Err(LineFault::Broken {
+            rule: LineRule::BadLine,
+        })
+    }
 }
 
 // The tokens before a documentation text where one is last, or else all.
@@ -67,23 +73,6 @@ pub fn doc_at_end(alloc: Global, tokens: &[Spanned]) -> Result<Option<Text>, Out
         return Ok(None);
     };
     Ok(Some(text.try_clone(alloc)?))
-}
-
-// The form that all of the tokens have.
-fn whole_form(alloc: Global, tokens: &[Spanned]) -> Result<LineForm, FormFault>
-    ensures { IfOk result (λ form. IsTrue (opens_block form) → IsTrue (begins_block tokens.now)) }
-{
-    let mut cursor = Cursor {
-        alloc,
-        rest: tokens,
-    };
-    let form = form(&mut cursor)?;
-    if cursor.is_at_end() {
-        Ok(form)
-    } else {
-        drop(form);
-        Err(FormFault::NoForm)
-    }
 }
 
 fn form(cursor: &mut Cursor<'_>) -> Result<LineForm, FormFault>

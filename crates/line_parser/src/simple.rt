@@ -12,14 +12,15 @@ use std::alloc::Global;
 pub(crate) fn type_word(cursor: &mut Cursor<'_>) -> Result<Name, FormFault>
     ensures shorter { OnOk result (length cursor.new.rest.now < length cursor.old.rest.now) }
 {
-    let word: &[u8] = match cursor.next_keyword() {
-        Some(Keyword::Int) => b"Int",
-        Some(Keyword::Bool) => b"Bool",
-        Some(Keyword::String) => b"String",
+    let types = cursor.types;
+    let word = match cursor.next_keyword() {
+        Some(Keyword::Int) => &types.int,
+        Some(Keyword::Bool) => &types.bool,
+        Some(Keyword::String) => &types.string,
         _ => return cursor.expect_word(),
     };
     cursor.skip();
-    Ok(Name::from_bytes(cursor.alloc, word)?)
+    Ok(word.try_clone(cursor.alloc)?)
 }
 
 /// A type, with `[]` for an array.
@@ -31,30 +32,27 @@ pub(crate) fn type_name(cursor: &mut Cursor<'_>) -> Result<TypeName, FormFault>
     Ok(TypeName { word, is_array })
 }
 
-/// An atom that holds no expression: `Self`, a new array, or a constant without `-`.
+/// An atom that holds no expression: a word, `Self`, a new array, or a constant without `-`.
 pub(crate) fn leaf(cursor: &mut Cursor<'_>) -> Result<Expr, FormFault>
     ensures shorter { OnOk result (length cursor.new.rest.now < length cursor.old.rest.now) }
 {
-    match cursor.next_keyword() {
-        Some(Keyword::SelfWord) => {
-            cursor.skip();
-            Ok(Expr::SelfValue)
-        }
-        Some(Keyword::New) => {
-            cursor.skip();
-            new_array(cursor)
-        }
-        _ => Ok(value_of(plain_constant(cursor)?)),
+    let token = cursor.take()?;
+    match token {
+        Token::Word(name) => Ok(Expr::Word(name.try_clone(cursor.alloc)?)),
+        Token::Int(number) => Ok(Expr::Int(*number)),
+        Token::Key(Keyword::SelfWord) => Ok(Expr::SelfValue),
+        Token::Key(Keyword::New) => new_array(cursor),
+        _ => value_of(cursor.alloc, token),
     }
 }
 
-fn value_of(constant: Constant) -> Expr {
-    match constant {
+fn value_of(alloc: Global, token: &Token) -> Result<Expr, FormFault> {
+    Ok(match constant_of(alloc, token)? {
         Constant::Int(number) => Expr::Int(number),
         Constant::Bool(truth) => Expr::Bool(truth),
         Constant::Quoted(text) => Expr::Quoted(text),
         Constant::NoneValue => Expr::NoneValue,
-    }
+    })
 }
 
 fn new_array(cursor: &mut Cursor<'_>) -> Result<Expr, FormFault>
@@ -71,9 +69,7 @@ fn new_array(cursor: &mut Cursor<'_>) -> Result<Expr, FormFault>
 fn plain_constant(cursor: &mut Cursor<'_>) -> Result<Constant, FormFault>
     ensures shorter { OnOk result (length cursor.new.rest.now < length cursor.old.rest.now) }
 {
-    let found = constant_of(cursor.alloc, cursor.next()?)?;
-    cursor.skip();
-    Ok(found)
+    constant_of(cursor.alloc, cursor.take()?)
 }
 
 fn constant_of(alloc: Global, token: &Token) -> Result<Constant, FormFault> {

@@ -60,7 +60,7 @@ fn script(alloc: Global, lines: &[Line]) -> Result<Script, BlockFault>
     ensures stands { IfOk result (ScriptStands lines.now) }
     ensures fault { IfErr result (IsBlockFault lines.now) }
 {
-    let mut reader = Reader::new(alloc, lines);
+    let mut reader = Reader::new(alloc, lines)?;
     let mut script = heading(&mut reader)?;
     'members: while let Some(first) = reader.next_form() {
         member(&mut reader, &mut script, first)?;

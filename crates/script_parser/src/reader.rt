@@ -3,8 +3,8 @@ ghost use Rattle.std.specs.Prelude.{◌≡◌, ◌<◌, ◌≤◌, IfErr, IfOk, 
 ghost use Rattle.line_parser.specs.Blocks.{begins_block, opens_block};
 
 use crate::fault::BlockFault;
-use line_parser::{LineForm, LineTree, doc_at_end, parse_line};
-use papy_base::Text;
+use line_parser::{LineForm, LineTree, TypeWords, doc_at_end, parse_line};
+use papy_base::{OutOfMemory, Text};
 use script_lexer::{Line, Spanned, Token};
 use std::alloc::Global;
 
@@ -12,6 +12,7 @@ use std::alloc::Global;
 #[derive(Drop)]
 pub(crate) struct Reader<'a> {
     pub(crate) alloc: Global,
+    types: TypeWords,
     lines: &'a [Line],
     /// The place of the next line.
     at: usize,
@@ -27,14 +28,15 @@ pub(crate) struct LineAt<'a> {
 impl<'a> Reader<'a> {
     ghost use Rattle.script_parser.specs.Reader.{Found, GoesOn, IsBlockFault, StandsAt, left};
 
-    pub(crate) fn new(alloc: Global, lines: &'a [Line]) -> Self
-        ensures { result.lines.now ≡ lines.now }
+    pub(crate) fn new(alloc: Global, lines: &'a [Line]) -> Result<Self, OutOfMemory>
+        ensures { IfOk result (λ reader. reader.lines.now ≡ lines.now) }
     {
-        Reader {
+        Ok(Reader {
             alloc,
+            types: TypeWords::new(alloc)?,
             lines,
             at: 0,
-        }
+        })
     }
 
     /// The form of a line, and the documentation text at its end.
@@ -43,7 +45,7 @@ impl<'a> Reader<'a> {
         ensures block { IfOk result (λ tree. IsTrue (opens_block tree.form) → IsTrue (begins_block found.now.line.now.tokens.items)) }
         ensures fault { IfErr result (IsBlockFault self.now.lines.now) }
     {
-        match parse_line(self.alloc, found.line) {
+        match parse_line(self.alloc, &self.types, found.line) {
             Ok(tree) => Ok(tree),
             Err(fault) => Err(BlockFault::of_line(found.at, fault)),
         }

@@ -94,6 +94,8 @@ fn are_same(left: &[u8], right: &[u8]) -> bool
     left.len() == right.len() && left.iter().zip(right).all(|(a, b)| a == b)
 }
 
+// It is rare, so it stays out of the way of the words that came lately.
+#[inline(never)]
 fn insert<'a>(words: &mut Words<'a>, place: usize, bytes: &'a [u8]) -> Result<(), OutOfMemory>
     ensures { OnOk result
         (held words.new.all ≡ insert_all same_bytes (held words.old.all) (bytes.now ∷ [])) }

@@ -3,19 +3,19 @@ use Rattle.std.proofs.Common.{◌+◌, ◌-◌, ◌*◌, ◌<◌, ◌≤◌, len
 use Rattle.line_parser.proofs.expression.+expression.Given as goal
 
 abbrev pub decreases-expression : goal.decreases-expression
-decreases-expression l = 30 * l.depth + 12
+decreases-expression l = 30 * l.depth + 20
+
+abbrev pub decreases-operands : goal.decreases-operands
+decreases-operands l = 30 * l.depth + 7 + 2 * (6 - l.least)
 
 abbrev pub decreases-binary : goal.decreases-binary
-decreases-binary l = 30 * l.depth + 6 + (6 - l.least)
+decreases-binary l = 30 * l.depth + 6 + 2 * (6 - l.least)
 
 abbrev pub decreases-unary : goal.decreases-unary
 decreases-unary l = 30 * l.depth + 5
 
 abbrev pub decreases-cast : goal.decreases-cast
-decreases-cast l = 30 * l.depth + 4
-
-abbrev pub decreases-chain : goal.decreases-chain
-decreases-chain l = 30 * l.depth + 3
+decreases-cast l = 30 * l.depth + 3
 
 abbrev pub decreases-link : goal.decreases-link
 decreases-link l = 30 * l.depth + 2
@@ -32,8 +32,8 @@ decreases-atom l = 30 * l.depth + 2
 abbrev pub decreases-parent_call : goal.decreases-parent_call
 decreases-parent_call l = 30 * l.depth + 1
 
-abbrev pub decreases-word_or_call : goal.decreases-word_or_call
-decreases-word_or_call l = 30 * l.depth + 1
+abbrev pub decreases-call : goal.decreases-call
+decreases-call l = 30 * l.depth + 1
 
 abbrev pub decreases-arguments : goal.decreases-arguments
 decreases-arguments l = 30 * l.depth + 0
@@ -44,11 +44,11 @@ invariant-binary-signs l = length l.cursor.rest.now < length l.fn.cursor.rest.no
 abbrev pub decreases-binary-signs : goal.decreases-binary-signs
 decreases-binary-signs l = length l.cursor.rest.now
 
-abbrev pub invariant-chain-links : goal.invariant-chain-links
-invariant-chain-links l = length l.cursor.rest.now < length l.fn.cursor.rest.now
+abbrev pub invariant-cast-links : goal.invariant-cast-links
+invariant-cast-links l = length l.cursor.rest.now < length l.fn.cursor.rest.now
 
-abbrev pub decreases-chain-links : goal.decreases-chain-links
-decreases-chain-links l = length l.cursor.rest.now
+abbrev pub decreases-cast-links : goal.decreases-cast-links
+decreases-cast-links l = length l.cursor.rest.now
 
 abbrev pub invariant-arguments-commas : goal.invariant-arguments-commas
 invariant-arguments-commas l = length l.cursor.rest.now ≤ length l.fn.cursor.rest.now
