@@ -5,8 +5,8 @@ use Rattle.std.proofs.lemmas.Bool.Decides.{same_from_decides}
 use Rattle.pex_set.specs.declared.descent.Span.{Span}
 use Rattle.pex_set.specs.Lineage.{stands_below, AreAmong, AreRooted}
 use Rattle.pex_set.specs.Orders.{parent_number, IsForest, IsBelow, itself, below_parent, IsOrder, AreReached}
-use Rattle.pex_set.specs.Ranks.{has, span_at, is_below, IsDescentOf}
-use Rattle.pex_set.proofs.LineageLemmas.{below_below, stands_from_below, below_from_stands}
+use Rattle.pex_set.specs.Ranks.{has, span_at, is_below, AreApart, Nests, IsDescentOf}
+use Rattle.pex_set.proofs.LineageLemmas.{below_below, below_both, stands_from_below, below_from_stands}
 use Rattle.pex_set.proofs.ReachLemmas.{rank_of, parent_before}
 
 -- ---- from the spans in order
@@ -85,3 +85,41 @@ module _ (parents : List (Option ℕ)) (spans : List Span) (descent : IsDescentO
         λ stands. or_right (child == above) (has (span_at spans above) (span_at spans child).start) (has_start child above h stands),
       )
       (λ e. e, λ e. e)
+
+  inside : (outer inner : ℕ) → outer < length parents → inner < length parents → (span_at spans outer).start ≤ (span_at spans inner).start → (span_at spans inner).start < (span_at spans outer).end → stands_below parents inner outer ≡ true
+  inside outer inner h g low high =
+      descent.only inner outer g h
+      (and_from (nat_le (span_at spans outer).start (span_at spans inner).start) (nat_lt (span_at spans inner).start (span_at spans outer).end)
+      (le-leb (span_at spans outer).start (span_at spans inner).start low) (lt-ltb (span_at spans inner).start (span_at spans outer).end high))
+
+  later : (one other : ℕ) → one < length parents → other < length parents → (span_at spans one).start ≤ (span_at spans other).start → AreApart (span_at spans one) (span_at spans other) ⊎ ((stands_below parents other one ≡ true) × Nests (span_at spans one) (span_at spans other))
+  later one other h g low =
+      ⊎_elim
+      (λ (inner : (span_at spans other).start < (span_at spans one).end).
+      let stands = inside one other h g low inner in
+      inr (stands, descent.nested other one g stands))
+      (λ (behind : (span_at spans one).end ≤ (span_at spans other).start). inl (inl behind))
+      (cases_lt (span_at spans other).start (span_at spans one).end)
+
+  -- of two objects one stands below the other, with ranks among the other's, or they have no rank in common
+  pub spans_nest : (one other : ℕ) → one < length parents → other < length parents → AreApart (span_at spans one) (span_at spans other) ⊎ (((stands_below parents one other ≡ true) × Nests (span_at spans other) (span_at spans one)) ⊎ ((stands_below parents other one ≡ true) × Nests (span_at spans one) (span_at spans other)))
+  spans_nest one other h g =
+      ⊎_elim
+      (λ (first : (span_at spans one).start < (span_at spans other).start).
+      ⊎_elim
+      (λ (apart : AreApart (span_at spans one) (span_at spans other)). inl apart)
+      (λ (below : (stands_below parents other one ≡ true) × Nests (span_at spans one) (span_at spans other)). inr (inr below))
+      (later one other h g (omega arith)))
+      (λ (second : (span_at spans other).start ≤ (span_at spans one).start).
+      ⊎_elim
+      (λ (apart : AreApart (span_at spans other) (span_at spans one)). inl (⊎_elim (λ (e : (span_at spans other).end ≤ (span_at spans one).start). inr e) (λ (e : (span_at spans one).end ≤ (span_at spans other).start). inl e) apart))
+      (λ (below : (stands_below parents one other ≡ true) × Nests (span_at spans other) (span_at spans one)). inr (inl below))
+      (later other one g h second))
+      (cases_lt (span_at spans one).start (span_at spans other).start)
+
+  -- each object has a rank of its own
+  pub ranks_differ : IsForest parents → (one other : ℕ) → one < length parents → other < length parents → (span_at spans one).start ≡ (span_at spans other).start → one ≡ other
+  ranks_differ forest one other h g e =
+      let own = descent.within one h in
+      let of_other = descent.within other g in
+      below_both parents forest one other h g (below_from_stands parents forest one other (inside other one g h (omega arith) (omega arith))) (below_from_stands parents forest other one (inside one other h g (omega arith) (omega arith)))

@@ -5,8 +5,7 @@ use Rattle.std.proofs.lemmas.List.{reverse-append, length-append, length-reverse
 use Rattle.std.proofs.lemmas.List.Elements.{All-from_get_or}
 use Rattle.pex_set.specs.Lineage.{parent_of}
 use Rattle.pex_set.specs.Orders.{number_of, parent_number, IsForest, IsLast, AreLinked, IsBelow, itself, below_parent, IsOrder}
-use Rattle.pex_set.proofs.LineageLemmas.{below_below, depth, depth_above}
-use Rattle.pex_set.proofs.LinkLemmas.{parent_number_within}
+use Rattle.pex_set.proofs.LineageLemmas.{below_below, depth, depth_above, parent_number_within}
 use Rattle.pex_set.proofs.Lists.{In, Differ, in_left, in_right, in_either, in_at, place_of, pairs_differ, length_differ}
 use Rattle.pex_set.proofs.WalkLemmas.{Follows, Follow, IsNext, AreKnown, IsWalk, IsWalk-turn}
 

@@ -3,8 +3,7 @@ use Rattle.std.proofs.Common.{◌≡◌, ℕ, zero, suc, ◌+◌, ◌<◌, ◌�
 use Rattle.std.proofs.lemmas.Bool.{cases_eq, cases_lt, cases_order}
 use Rattle.pex_set.specs.Lineage.{parent_of}
 use Rattle.pex_set.specs.Orders.{number_of, parent_number, IsForest, IsLast, AreLinked, IsBelow, itself, below_parent, IsOrder}
-use Rattle.pex_set.proofs.LineageLemmas.{below_below, depth, depth_above}
-use Rattle.pex_set.proofs.LinkLemmas.{parent_number_within}
+use Rattle.pex_set.proofs.LineageLemmas.{below_below, depth, depth_above, parent_number_within}
 use Rattle.pex_set.proofs.Lists.{In, Differ, in_left, in_right, in_either, differ_left, in_more, in_new, in_cases, differ_more, in_at, place_of, pairs_differ, length_differ}
 
 -- whether the object may stand right behind the other one
