@@ -1,10 +1,10 @@
 -- The objects above an object, as a test, as a relation, and by how many they are.
-use Rattle.std.proofs.Common.{◌≡◌, ℕ, zero, suc, ◌<◌, ◌≤◌, ◌⊎◌, min, ◌==◌, ◌||◌, true, false, List, [], ◌∷◌, length, Option, Some, None, IfSome, All, slice_get, refl, sym, ap, subst, ◌∙◌, inl, inr, ⊎_elim, arith}
+use Rattle.std.proofs.Common.{◌≡◌, ℕ, zero, suc, ◌<◌, ◌≤◌, ◌⊎◌, min, ◌==◌, true, List, [], ◌∷◌, length, Option, Some, None, IfSome, All, slice_get, refl, sym, ap, subst, ◌∙◌, inl, inr, ⊎_elim, arith}
 use Rattle.std.specs.List.{list_any}
 use Rattle.std.specs.Option.{option_and_then}
 use Rattle.std.proofs.lemmas.Bool.{eqb-true, eq-eqb, or_cases, or_left, or_right}
 use Rattle.std.proofs.lemmas.List.Elements.{All-head, All-tail}
-use Rattle.pex_set.specs.Lineage.{parent_of, upward, lineage, stands_below, AreAmong, AreRooted}
+use Rattle.pex_set.specs.Lineage.{parent_of, upward, lineage, stands_below}
 use Rattle.pex_set.specs.Orders.{number_of, parent_number, IsForest, IsBelow, itself, below_parent}
 
 pub below_below : {parents : List (Option ℕ)} {one other above : ℕ} → IsBelow parents one other → IsBelow parents other above → IsBelow parents one above
