@@ -1,3 +1,4 @@
 pub mod Ranks
 pub mod Lineage
 pub mod Inherited
+pub mod Sweep

@@ -1,6 +1,8 @@
 // What objects have from the objects above them.
 ghost use Rattle.std.specs.Prelude.{◌≡◌, [], ◌∷◌, ◌++◌, OnOk};
+ghost use Rattle.std.specs.List.{last_or};
 ghost use Rattle.pex_set.specs.Inherited.{found_in, is_up_to as comes_by};
+ghost use Rattle.pex_set.specs.Sweep.{member_of as member_by};
 
 use crate::descent::Span;
 use papy_base::OutOfMemory;
@@ -123,12 +125,16 @@ impl Inherited {
 }
 
 // The last of the stretches.
-fn last(stretches: &[Stretch]) -> Option<Stretch> {
+fn last(stretches: &[Stretch]) -> Option<Stretch>
+    ensures { result ≡ last_or None stretches.now }
+{
     stretches.last().copied()
 }
 
 // What the stretch has.
-fn member_of(stretch: Option<Stretch>) -> Option<MemberPlace> {
+fn member_of(stretch: Option<Stretch>) -> Option<MemberPlace>
+    ensures { result ≡ member_by stretch }
+{
     stretch?.member
 }
 
