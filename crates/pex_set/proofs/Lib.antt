@@ -1,3 +1,4 @@
 pub mod Positions
 pub mod Stretches
 pub mod Sweeps
+pub mod Members

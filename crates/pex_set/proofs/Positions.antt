@@ -9,7 +9,7 @@ use Rattle.std.proofs.lemmas.Bool.{true≢false, false≢true, both_ways, leb-tr
 use Rattle.std.proofs.lemmas.Cmp.{then_total, on_total, nat_cmp_total, upto, tied_itself, ranked}
 use Rattle.pex_set.specs.Inherited.{Names, Position, position_cmp, is_up_to}
 
-position_total : IsTotalOrder position_cmp
+pub position_total : IsTotalOrder position_cmp
 position_total =
     then_total (then_total (on_total (λ (p : Position). p.0.0) nat_cmp_total) (on_total (λ (p : Position). p.0.1) nat_cmp_total)) (on_total (λ (p : Position). p.1) nat_cmp_total)
 

@@ -1,8 +1,8 @@
 // What objects have from the objects above them.
-ghost use Rattle.std.specs.Prelude.{◌≡◌, ◌<◌, true, List, [], ◌∷◌, ◌++◌, reverse, vec_len, IsSome, MatchOption, IfOk, OnOk};
+ghost use Rattle.std.specs.Prelude.{◌≡◌, ◌↔◌, ℕ, ◌<◌, true, All, List, [], ◌∷◌, ◌++◌, reverse, vec_len, IsSome, MatchOption, IfOk, OnOk};
 ghost use Rattle.std.specs.List.{last_or};
 ghost use Rattle.pex_set.specs.declared.inherited.OwnMember.{OwnMember};
-ghost use Rattle.pex_set.specs.Inherited.{found_in, is_up_to as comes_by, Ascends};
+ghost use Rattle.pex_set.specs.Inherited.{found_in, is_up_to as comes_by, Ascends, Names, Reaches, AreLaminar, IsNearest};
 ghost use Rattle.pex_set.specs.Sweep.{member_of as member_by, is_reached, earlier_end, AreSorted, AreInOrder, AreCovered, IsBehind, Fits, IsOrdered, IsSwept, AreMoved, IsLastBehind, IsOpened};
 
 use crate::descent::Span;
@@ -80,7 +80,12 @@ impl OwnMembers {
     }
 
     /// What each object has from itself upward.
-    pub fn inherited(self, alloc: Global) -> Result<Inherited, OutOfMemory> {
+    pub fn inherited(self, alloc: Global) -> Result<Inherited, OutOfMemory>
+        ensures nearest { IfOk result
+            (λ inherited. AreLaminar self → (names : Names) (rank : ℕ) → IsNearest self names rank (found_in inherited names rank)) }
+        ensures absent { IfOk result
+            (λ inherited. AreLaminar self → (names : Names) (rank : ℕ) → (found_in inherited names rank ≡ None) ↔ All (λ member. ¬ Reaches member names rank) self) }
+    {
         let mut members = self.members;
         members.sort_by_key(|member| (member.names, member.span.start))?;
         swept(alloc, members.as_slice())
