@@ -1,19 +1,19 @@
 -- Members in the order in which they were added, and in that of their names and starts.
-use Rattle.std.proofs.Common.{◌≡◌, ◌≢◌, ◌↔◌, ℕ, zero, suc, ◌+◌, ◌<◌, ◌≤◌, Bool, true, false, not, cond, ◌&&◌, ◌⊎◌, ⊎_elim, inl, inr, List, [], ◌∷◌, length, get_or, take, Option, Some, None, sym, ap, ◌∙◌, refl, arith, subst, length-take, get_or-take}
-use Rattle.std.specs.Prelude.{All, IsTrue, slice_get, nat_le, nat_lt}
-use Rattle.std.specs.List.{Contains, filter}
+use Rattle.std.proofs.Common.{◌≡◌, ◌≢◌, ◌↔◌, ℕ, zero, suc, ◌<◌, ◌≤◌, Bool, true, false, not, cond, ◌&&◌, ◌⊎◌, ⊎_elim, inl, inr, List, [], ◌∷◌, get_or, take, Option, Some, None, sym, ap, ◌∙◌, refl, arith, subst, length-take, get_or-take}
+use Rattle.std.specs.Prelude.{All, slice_get, nat_le, nat_lt}
+use Rattle.std.specs.List.{filter}
 use Rattle.std.specs.List.Sorted.{IsPermutation, IsSortedByKey, IsStableByKey, ties}
 use Rattle.std.specs.Ordering.{is_lt}
 use Rattle.std.proofs.lemmas.Bool.{both_ways, and_parts, and_from, not-true, not-false, leb-true, leb-false, le-leb, lt-leb, lt-ltb, le-ltb, cases_lt}
-use Rattle.std.proofs.lemmas.List.Elements.{All-weaker, All-contains, All-get_or, All-from_get_or, All-take, filter_agree}
+use Rattle.std.proofs.lemmas.List.Elements.{All-weaker, All-contains, All-from_get_or, All-take, filter_agree}
 use Rattle.std.proofs.lemmas.List.Sorted.{All-permutation, IsPermutation-sym, ranks_by, sorted_far}
 use Rattle.std.proofs.lemmas.Option.{none-some, slice_get_within, get_or_from_slice_get, same_Some}
 use Rattle.pex_set.specs.declared.inherited.MemberPlace.{MemberPlace}
 use Rattle.pex_set.specs.declared.inherited.OwnMember.{OwnMember}
 use Rattle.pex_set.specs.declared.inherited.Stretch.{Stretch}
 use Rattle.pex_set.specs.Ranks.{has}
-use Rattle.pex_set.specs.Inherited.{Names, Position, position_cmp, is_up_to, found_in, Reaches, IsNearest, IsInnermost, AreOfTree, AreLaminar}
-use Rattle.pex_set.specs.Sweep.{start_of, end_of, covers, starts_with, IsLatestCover, IsCover, AreCovered, IsBehind, Fits, AreSorted, AreInOrder}
+use Rattle.pex_set.specs.Inherited.{Names, position_cmp, is_up_to, found_in, Reaches, IsNearest, AreOfTree, AreLaminar}
+use Rattle.pex_set.specs.Sweep.{start_of, end_of, covers, starts_with, IsCover, AreCovered, AreSorted, AreInOrder}
 use Rattle.pex_set.proofs.Positions.{position_total, is_up_to-same, names-between, lt-not_up}
 
 -- a list sorted by its starts
@@ -22,9 +22,9 @@ AreSorted-from_key xs up k d l =
     let P : OwnMember → Type 0 = λ o. is_up_to (start_of o) (start_of (get_or xs k d)) ≡ true in
     let lt : OwnMember → OwnMember → Bool = λ x y. is_lt (position_cmp (start_of x) (start_of y)) in
     All-from_get_or P (take k xs) d (λ i m.
-        let less : i < k = omega (arith, length-take k xs) in
-        let far = sorted_far lt (ranks_by position_total start_of) xs up i k d (omega arith) l in
-        rw get_or-take (not-false _ (sym (lt-not_up (start_of (get_or xs k d)) (start_of (get_or xs i d))) ∙ far)))
+    let less : i < k = omega (arith, length-take k xs) in
+    let far = sorted_far lt (ranks_by position_total start_of) xs up i k d (omega arith) l in
+    rw get_or-take (not-false _ (sym (lt-not_up (start_of (get_or xs k d)) (start_of (get_or xs i d))) ∙ far)))
 
 up-same : (a b : Names) (x y : ℕ) → a ≡ b → is_up_to (a, x) (b, y) ≡ nat_le x y
 up-same a b x y e = ap (λ n. is_up_to (a, x) (n, y)) (sym e) ∙ is_up_to-same a x y
@@ -32,9 +32,9 @@ up-same a b x y e = ap (λ n. is_up_to (a, x) (n, y)) (sym e) ∙ is_up_to-same 
 inner_end : (a b : OwnMember) → AreOfTree a b → b.span.start < b.span.end → a.span.start ≤ b.span.start → b.span.start < a.span.end → b.span.end ≤ a.span.end
 inner_end a b tree filled starts goes_on =
     ⊎_elim
-        (λ same. let e : b.span.end ≡ a.span.end = ap (λ s. s.end) (sym same.1) in omega arith)
-        (λ two. ⊎_elim (⊎_elim (λ (before : a.span.end ≤ b.span.start). omega arith) (λ (after : b.span.end ≤ a.span.start). omega arith)) (⊎_elim (λ within. absurd (two.1 (omega arith))) (λ within. within.1)) two.2)
-        tree
+    (λ same. let e : b.span.end ≡ a.span.end = ap (λ s. s.end) (sym same.1) in omega arith)
+    (λ two. ⊎_elim (⊎_elim (λ (before : a.span.end ≤ b.span.start). omega arith) (λ (after : b.span.end ≤ a.span.start). omega arith)) (⊎_elim (λ within. absurd (two.1 (omega arith))) (λ within. within.1)) two.2)
+    tree
 
 nested : (a b : OwnMember) → AreOfTree a b → b.span.start < b.span.end → is_up_to (start_of a) (start_of b) ≡ true → is_up_to (end_of a) (start_of b) ≡ false → is_up_to (end_of b) (end_of a) ≡ true
 nested a b tree filled starts goes_on =
@@ -54,16 +54,16 @@ pub AreInOrder-from_sorted : (ys : List OwnMember) → AreLaminar ys → AreSort
 AreInOrder-from_sorted ys h sorted k d l =
     let m = get_or ys k d in
     let filled : All (λ o. is_up_to (end_of o) (start_of o) ≡ false) ys =
-        All-weaker (λ a. (a.span.start < a.span.end) × All (AreOfTree a) ys) (λ o. is_up_to (end_of o) (start_of o) ≡ false) (λ o w. not_at_start o w.0) ys h
+    All-weaker (λ a. (a.span.start < a.span.end) × All (AreOfTree a) ys) (λ o. is_up_to (end_of o) (start_of o) ≡ false) (λ o w. not_at_start o w.0) ys h
     in
     let trees : All (λ o. AreOfTree o m) (take k ys) =
-        All-take (λ o. AreOfTree o m) k ys (All-weaker (λ a. (a.span.start < a.span.end) × All (AreOfTree a) ys) (λ o. AreOfTree o m) (λ o w. w.1 k d l) ys h)
+    All-take (λ o. AreOfTree o m) k ys (All-weaker (λ a. (a.span.start < a.span.end) × All (AreOfTree a) ys) (λ o. AreOfTree o m) (λ o w. w.1 k d l) ys h)
     in
     record {
-        after = sorted k d l;
-        filled = All-take (λ o. is_up_to (end_of o) (start_of o) ≡ false) k ys filled;
-        goes_on = filled k d l;
-        inside = λ i e n. nested (get_or (take k ys) i e) m (trees i e n) (h k d l).0 (sorted k d l i e n);
+      after = sorted k d l;
+      filled = All-take (λ o. is_up_to (end_of o) (start_of o) ≡ false) k ys filled;
+      goes_on = filled k d l;
+      inside = λ i e n. nested (get_or (take k ys) i e) m (trees i e n) (h k d l).0 (sorted k d l i e n);
     }
 
 lt-not_le : (x y : ℕ) → nat_lt x y ≡ not (nat_le y x)
@@ -129,12 +129,12 @@ module _ (xs ys : List OwnMember) (moved : IsPermutation xs ys) (stable : IsStab
   other_by m o k j s t ne first same up =
       let low = leb-true o.span.start m.span.start (sym (up-same o.names m.names _ _ (sym same)) ∙ up) in
       ⊎_elim
-          (λ less. inl less)
-          (λ ge. ⊎_elim
-              (λ one. let l = first (and_from _ _ (up-same m.names o.names _ _ same ∙ le-leb m.span.start o.span.start ge) up) in inr (one.0, omega arith))
-              (λ two. absurd (two.1 (omega arith)))
-              (tree_of o m j k t s))
-          (cases_lt o.span.start m.span.start)
+      (λ less. inl less)
+      (λ ge. ⊎_elim
+      (λ one. let l = first (and_from _ _ (up-same m.names o.names _ _ same ∙ le-leb m.span.start o.span.start ge) up) in inr (one.0, omega arith))
+      (λ two. absurd (two.1 (omega arith)))
+      (tree_of o m j k t s))
+      (cases_lt o.span.start m.span.start)
 
   pub IsNearest-from_cover : (r : Option MemberPlace) → IsCover ys (names, rank) r → IsNearest xs names rank r
   IsNearest-from_cover None c =
@@ -146,12 +146,12 @@ module _ (xs ys : List OwnMember) (moved : IsPermutation xs ys) (stable : IsStab
       let first = first_at (starts_with m) xs m (first_as_added m c.first) in
       let reached = reaches-from_covers m names rank c.covered in
       record {
-          index = first.index;
-          member = m;
-          stands = first.stands;
-          placed = c.placed;
-          reaches = reached;
-          others = λ j o s ne r. other_by m o first.index j first.stands s ne (first.before j o s) (reached.0 ∙ sym r.0) (All-contains P xs o latest (j, slice_get_within xs j o s, get_or_from_slice_get xs j o o s) (covers-from_reaches o names rank r));
+        index = first.index;
+        member = m;
+        stands = first.stands;
+        placed = c.placed;
+        reaches = reached;
+        others = λ j o s ne r. other_by m o first.index j first.stands s ne (first.before j o s) (reached.0 ∙ sym r.0) (All-contains P xs o latest (j, slice_get_within xs j o s, get_or_from_slice_get xs j o o s) (covers-from_reaches o names rank r));
       }
 
 -- what covers the sorted members has the nearest of those that were added

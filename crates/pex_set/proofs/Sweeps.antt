@@ -1,8 +1,8 @@
 -- One member more is added to those that were swept.
-use Rattle.std.proofs.Common.{◌≡◌, ℕ, zero, suc, ◌+◌, ◌-◌, ◌<◌, ◌≤◌, Bool, true, false, not, cond, ◌&&◌, ◌⊎◌, ⊎_elim, inl, inr, List, [], ◌∷◌, ◌++◌, length, get_or, take, drop, Option, Some, None, sym, ap, ◌∙◌, refl, arith, subst, append_assoc}
+use Rattle.std.proofs.Common.{◌≡◌, Bool, true, false, not, cond, ◌&&◌, List, [], ◌∷◌, ◌++◌, get_or, Option, Some, None, sym, ap, ◌∙◌, refl, subst, append_assoc}
 use Rattle.std.specs.Prelude.{All, IfSome, slice_get, reverse}
 use Rattle.std.specs.List.{Contains, filter, last_or}
-use Rattle.std.proofs.lemmas.Bool.{both_ways, cases_Bool, and_parts, and_from, and_left, and_right, and_cases, not-true, not-false, true≢false}
+use Rattle.std.proofs.lemmas.Bool.{both_ways, and_parts, and_from, and_left, not-true, true≢false}
 use Rattle.std.proofs.lemmas.Option.{none-some}
 use Rattle.std.proofs.lemmas.List.{reverse-append, reverse-reverse, append-nil}
 use Rattle.std.proofs.lemmas.List.Elements.{All-nil, All-cons, All-head, All-tail, All-append, All-weaker, All-push, All-same, All-contains, All-contains_itself, Contains-append_left, Contains-push, filter-append}
@@ -11,7 +11,7 @@ use Rattle.pex_set.specs.declared.inherited.MemberPlace.{MemberPlace}
 use Rattle.pex_set.specs.declared.inherited.OwnMember.{OwnMember}
 use Rattle.pex_set.specs.declared.inherited.Stretch.{Stretch}
 use Rattle.pex_set.specs.Inherited.{Position, is_up_to, found_from, Ascends}
-use Rattle.pex_set.specs.Sweep.{start_of, end_of, covers, starts_with, member_of, IsLatestCover, IsCover, IsBehind, Fits, IsOrdered, earlier_end, is_reached, IsOpened, AreCovered, IsLatestStart, IsLatest, IsEnd, IsSwept, AreMoved, IsLastBehind}
+use Rattle.pex_set.specs.Sweep.{start_of, end_of, covers, starts_with, member_of, IsLatestCover, IsCover, IsBehind, Fits, IsOrdered, earlier_end, is_reached, IsOpened, IsLatest, IsEnd, IsSwept, AreMoved, IsLastBehind}
 use Rattle.pex_set.proofs.Positions.{falsely, is_up_to-trans, is_up_to-total, is_up_to-refl, not_up-before, not_up-behind}
 use Rattle.pex_set.proofs.Stretches.{found_from-append, found_from-later, found_from-earlier, first_of_reverse, last_or-push}
 
@@ -66,11 +66,11 @@ Ascends-inserted xs ys start end place up before behind h =
     let first : Stretch = record { start = start; member = Some place } in
     let last : Stretch = record { start = end; member = member_of (last_or None xs) } in
     let later : All P (last ∷ ys) =
-        All-cons P last ys up (All-weaker (λ y. is_up_to end y.start ≡ true) P (λ y e. is_up_to-trans start end y.start up e) ys behind)
+    All-cons P last ys up (All-weaker (λ y. is_up_to end y.start ≡ true) P (λ y e. is_up_to-trans start end y.start up e) ys behind)
     in
     let all : All P (first ∷ (last ∷ ys)) = All-cons P first (last ∷ ys) (is_up_to-refl start) later in
     let across : All (λ x. All (λ y. is_up_to x.start y.start ≡ true) (first ∷ (last ∷ ys))) xs =
-        All-weaker (λ x. is_up_to x.start start ≡ true) (λ x. All (λ y. is_up_to x.start y.start ≡ true) (first ∷ (last ∷ ys))) (λ x e. All-weaker P (λ y. is_up_to x.start y.start ≡ true) (λ y k. is_up_to-trans x.start start y.start e k) (first ∷ (last ∷ ys)) all) xs before
+    All-weaker (λ x. is_up_to x.start start ≡ true) (λ x. All (λ y. is_up_to x.start y.start ≡ true) (first ∷ (last ∷ ys))) (λ x e. All-weaker P (λ y. is_up_to x.start y.start ≡ true) (λ y k. is_up_to-trans x.start start y.start e k) (first ∷ (last ∷ ys)) all) xs before
     in
     Ascends-append xs (first ∷ (last ∷ ys)) (Ascends-front xs ys h) (later, (behind, Ascends-rest xs ys h)) across
 
@@ -96,11 +96,11 @@ module _ (done : List OwnMember) (h : OwnMember) (after : All (λ d. is_up_to (s
       let none = filter_none (starts_with h) done (All-weaker (λ d. is_up_to (start_of h) (start_of d) ≡ false) (λ d. starts_with h d ≡ false) (λ d k. and_left _ _ k) done strictly) in
       let P : OwnMember → Type 0 = λ d. covers d q ≡ true → is_up_to (start_of d) (start_of h) ≡ true in
       record {
-          member = h;
-          placed = refl;
-          covered = e;
-          first = rw (filter-append (starts_with h) done (h ∷ []), none, starts_with-itself h) refl;
-          latest = All-push P done h (All-weaker (λ d. is_up_to (start_of d) (start_of h) ≡ true) P (λ d k c. k) done after) (λ c. is_up_to-refl (start_of h));
+        member = h;
+        placed = refl;
+        covered = e;
+        first = rw (filter-append (starts_with h) done (h ∷ []), none, starts_with-itself h) refl;
+        latest = All-push P done h (All-weaker (λ d. is_up_to (start_of d) (start_of h) ≡ true) P (λ d k c. k) done after) (λ c. is_up_to-refl (start_of h));
       }
 
 -- a member that does not cover a position, or of which another that starts with it does
@@ -110,11 +110,11 @@ cover_other done h q None other c =
 cover_other done h q (Some place) other c =
     let P : OwnMember → Type 0 = λ d. covers d q ≡ true → is_up_to (start_of d) (start_of c.member) ≡ true in
     record {
-        member = c.member;
-        placed = c.placed;
-        covered = c.covered;
-        first = first-append (starts_with c.member) done (h ∷ []) c.member c.first;
-        latest = All-push P done h c.latest (λ e. let t = other e in is_up_to-trans (start_of h) (start_of t.0) (start_of c.member) t.3 (All-contains P done t.0 c.latest t.1 t.2));
+      member = c.member;
+      placed = c.placed;
+      covered = c.covered;
+      first = first-append (starts_with c.member) done (h ∷ []) c.member c.first;
+      latest = All-push P done h c.latest (λ e. let t = other e in is_up_to-trans (start_of h) (start_of t.0) (start_of c.member) t.3 (All-contains P done t.0 c.latest t.1 t.2));
     }
 
 cover_push : (done : List OwnMember) (h : OwnMember) → IsBehind done h → All (λ d. is_up_to (start_of h) (start_of d) ≡ false) done → (q : Position) (r : Option MemberPlace) (b : Bool) → covers h q ≡ b → IsCover done q r → IsCover (done ++ h ∷ []) q (cond b (Some h.place) r)
@@ -128,10 +128,10 @@ AreMoved-none p stretches ends =
 pub AreMoved-more : (p : Position) (s e s' e' e'' : List Stretch) (end : Stretch) → AreMoved p s e s' e' → e' ≡ e'' ++ end ∷ [] → is_up_to end.start p ≡ true → AreMoved p s e (s' ++ end ∷ []) e''
 AreMoved-more p s e s' e' e'' end m same up =
     record {
-        moved = m.moved ++ end ∷ [];
-        behind = ap (λ l. l ++ end ∷ []) m.behind ∙ append_assoc s m.moved (end ∷ []);
-        from_ends = m.from_ends ∙ ap (λ l. l ++ reverse m.moved) same ∙ append_assoc e'' (end ∷ []) (reverse m.moved) ∙ ap (λ l. e'' ++ l) (sym (reverse-append m.moved (end ∷ [])));
-        come = All-push (λ x. is_up_to x.start p ≡ true) m.moved end m.come up;
+      moved = m.moved ++ end ∷ [];
+      behind = ap (λ l. l ++ end ∷ []) m.behind ∙ append_assoc s m.moved (end ∷ []);
+      from_ends = m.from_ends ∙ ap (λ l. l ++ reverse m.moved) same ∙ append_assoc e'' (end ∷ []) (reverse m.moved) ∙ ap (λ l. e'' ++ l) (sym (reverse-append m.moved (end ∷ [])));
+      come = All-push (λ x. is_up_to x.start p ≡ true) m.moved end m.come up;
     }
 
 pub IsOrdered-none : IsOrdered [] [] []
@@ -210,8 +210,8 @@ module _ (done : List OwnMember) (h : OwnMember) (s e s' e' : List Stretch) (o :
     pub IsOrdered-opened : IsBehind done h → is_up_to (end_of h) (start_of h) ≡ false → IsOrdered (done ++ h ∷ []) s'' e''
     unfolding opened_end
     IsOrdered-opened after goes_on = record {
-        ascends = subst Ascends (sym opened_whole) (Ascends-inserted s' (reverse e') (start_of h) opened_end h.place (earlier_up (start_of h) (end_of h) (last_or None e') goes_on rest) (before_start after) (subst (λ r. All (λ y. is_up_to (earlier_end (end_of h) r) y.start ≡ true) (reverse e')) (sym (first_of_reverse e')) (earlier_all (end_of h) (reverse e') ends_ascend)) moved_ascends);
-        before = λ p all. All-same (λ x. is_up_to x.start p ≡ true) s'' _ opened.begun (All-push (λ x. is_up_to x.start p ≡ true) s' _ (moved_before p after (All-last (λ d. is_up_to (start_of d) p ≡ true) done h all) (All-front (λ d. is_up_to (start_of d) p ≡ true) done (h ∷ []) all)) (All-last (λ d. is_up_to (start_of d) p ≡ true) done h all));
+      ascends = subst Ascends (sym opened_whole) (Ascends-inserted s' (reverse e') (start_of h) opened_end h.place (earlier_up (start_of h) (end_of h) (last_or None e') goes_on rest) (before_start after) (subst (λ r. All (λ y. is_up_to (earlier_end (end_of h) r) y.start ≡ true) (reverse e')) (sym (first_of_reverse e')) (earlier_all (end_of h) (reverse e') ends_ascend)) moved_ascends);
+      before = λ p all. All-same (λ x. is_up_to x.start p ≡ true) s'' _ opened.begun (All-push (λ x. is_up_to x.start p ≡ true) s' _ (moved_before p after (All-last (λ d. is_up_to (start_of d) p ≡ true) done h all) (All-front (λ d. is_up_to (start_of d) p ≡ true) done (h ∷ []) all)) (All-last (λ d. is_up_to (start_of d) p ≡ true) done h all));
     }
 
     module _ (w : IsSwept done s e) (fits : Fits done h) (unreached : is_reached (start_of h) (last_or None s) ≡ false) where
@@ -252,10 +252,10 @@ module _ (done : List OwnMember) (h : OwnMember) (s e s' e' : List Stretch) (o :
           let first : Stretch = record { start = start_of h; member = Some h.place } in
           let last : last_or None s'' ≡ Some first = ap (last_or None) opened.begun ∙ last_or-push None s' first in
           subst (IsLatest (done ++ h ∷ [])) (sym last) (record {
-              member = h;
-              added = Contains-push done h;
-              start = refl;
-              members = All-push (λ d. is_up_to (start_of d) (start_of h) ≡ true) done h fits.after (is_up_to-refl (start_of h));
+            member = h;
+            added = Contains-push done h;
+            start = refl;
+            members = All-push (λ d. is_up_to (start_of d) (start_of h) ≡ true) done h fits.after (is_up_to-refl (start_of h));
           })
 
       more_ends : (es : List Stretch) → All (IsEnd done) es → All (IsEnd (done ++ h ∷ [])) es
@@ -266,9 +266,9 @@ module _ (done : List OwnMember) (h : OwnMember) (s e s' e' : List Stretch) (o :
       IsSwept-opened =
           let last : Stretch = record { start = opened_end; member = member_of (last_or None s') } in
           record {
-              answers = λ q. subst (IsCover (done ++ h ∷ []) q) (sym (opened_found q)) (cover_push done h fits.after strictly q (found_from (s ++ reverse e) q None) (covers h q) refl (w.answers q));
-              latest = latest_opened;
-              all_ends = All-same (IsEnd (done ++ h ∷ [])) e'' (e' ++ last ∷ []) opened.ended (All-push (IsEnd (done ++ h ∷ [])) e' last (more_ends e' ends_left) (h, Contains-push done h, opened_end_same));
+            answers = λ q. subst (IsCover (done ++ h ∷ []) q) (sym (opened_found q)) (cover_push done h fits.after strictly q (found_from (s ++ reverse e) q None) (covers h q) refl (w.answers q));
+            latest = latest_opened;
+            all_ends = All-same (IsEnd (done ++ h ∷ [])) e'' (e' ++ last ∷ []) opened.ended (All-push (IsEnd (done ++ h ∷ [])) e' last (more_ends e' ends_left) (h, Contains-push done h, opened_end_same));
           }
 
 -- a member that starts with an earlier one, which counts in its place
@@ -283,20 +283,22 @@ module _ (done : List OwnMember) (h : OwnMember) (s e : List Stretch) (w : IsSwe
 
   kept_by : (r : Option Stretch) → IsLatest done r → is_reached (start_of h) r ≡ true → IsLatest (done ++ h ∷ []) r × ((t : OwnMember) × Contains done t × (is_up_to (start_of h) (start_of t) ≡ true))
   kept_by None l k = absurd (true≢false (sym k))
-  kept_by (Some latest) l k =
-      (record {
-          member = l.member;
-          added = Contains-append_left done (h ∷ []) l.member l.added;
-          start = l.start;
-          members = All-push (λ d. is_up_to (start_of d) latest.start ≡ true) done h l.members k;
-      }, (l.member, l.added, subst (λ p. is_up_to (start_of h) p ≡ true) l.start k))
+  kept_by (Some latest) l k = (
+    record {
+      member = l.member;
+      added = Contains-append_left done (h ∷ []) l.member l.added;
+      start = l.start;
+      members = All-push (λ d. is_up_to (start_of d) latest.start ≡ true) done h l.members k;
+    },
+    (l.member, l.added, subst (λ p. is_up_to (start_of h) p ≡ true) l.start k),
+  )
 
   pub IsSwept-kept : is_reached (start_of h) (last_or None s) ≡ true → IsSwept (done ++ h ∷ []) s e
   IsSwept-kept reached =
       let kept = kept_by (last_or None s) w.latest reached in
       let t = kept.1 in
       record {
-          answers = λ q. cover_other done h q (found_from (s ++ reverse e) q None) (λ k. (t.0, t.1, covered_too t.0 q t.1 t.2 k, t.2)) (w.answers q);
-          latest = kept.0;
-          all_ends = All-weaker (IsEnd done) (IsEnd (done ++ h ∷ [])) (λ y d. (d.0, Contains-append_left done (h ∷ []) d.0 d.1, d.2)) e w.all_ends;
+        answers = λ q. cover_other done h q (found_from (s ++ reverse e) q None) (λ k. (t.0, t.1, covered_too t.0 q t.1 t.2 k, t.2)) (w.answers q);
+        latest = kept.0;
+        all_ends = All-weaker (IsEnd done) (IsEnd (done ++ h ∷ [])) (λ y d. (d.0, Contains-append_left done (h ∷ []) d.0 d.1, d.2)) e w.all_ends;
       }

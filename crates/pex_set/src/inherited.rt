@@ -169,7 +169,7 @@ fn swept(alloc: Global, members: &[OwnMember]) -> Result<Inherited, OutOfMemory>
 }
 
 impl Sweep {
-    // Adds a member, unless its object has an earlier one of these names.
+    // Adds a member, unless its object has an earlier one of these names, or no ranks.
     fn add(&mut self, member: &OwnMember) -> Result<(), OutOfMemory>
         ensures ordered { (done : List OwnMember)
             → IsOrdered done self.old.stretches.items self.old.ends.items

@@ -1,4 +1,4 @@
-use Rattle.std.proofs.Common.{◌≡◌, ◌<◌, ◌≤◌, ◌+◌, length, take, ◌++◌, arith, sym, subst}
+use Rattle.std.proofs.Common.{◌≡◌, ◌<◌, ◌≤◌, length, take, ◌++◌, arith, sym, subst}
 use Rattle.std.specs.Prelude.{reverse}
 use Rattle.std.proofs.lemmas.List.{take_more, take_all}
 use Rattle.std.proofs.lemmas.Result.{IfOk-weaker}
@@ -14,8 +14,8 @@ loop-member-preserved c =
     let before = c.loop-member.invariant in
     let item : OwnMember = record { names = (0, 0); span = record { start = 0; end = 0 }; place = record { object = 0; state = 0; place = 0 } } in
     rw (take_more members i item less) (record {
-        ordered = c.in_ok-add.ensures.ordered (take i members) before.ordered (c.requires i item less);
-        swept = λ all. c.in_ok-add.ensures.swept (take i members) before.ordered (before.swept all) (all i item less);
+      ordered = c.in_ok-add.ensures.ordered (take i members) before.ordered (c.requires i item less);
+      swept = λ all. c.in_ok-add.ensures.swept (take i members) before.ordered (before.swept all) (all i item less);
     })
 
 pub returns : goal.returns

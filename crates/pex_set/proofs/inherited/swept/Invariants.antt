@@ -4,6 +4,6 @@ use Rattle.pex_set.proofs.inherited.swept.Given as goal
 
 abbrev pub invariant-loop-member : goal.invariant-loop-member
 invariant-loop-member l = record {
-    ordered : IsOrdered (take l.member-index l.members) l.sweep.stretches.items l.sweep.ends.items;
-    swept : AreInOrder l.members → IsSwept (take l.member-index l.members) l.sweep.stretches.items l.sweep.ends.items;
+  ordered : IsOrdered (take l.member-index l.members) l.sweep.stretches.items l.sweep.ends.items;
+  swept : AreInOrder l.members → IsSwept (take l.member-index l.members) l.sweep.stretches.items l.sweep.ends.items;
 }

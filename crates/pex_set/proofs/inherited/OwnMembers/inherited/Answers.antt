@@ -21,10 +21,10 @@ returns-clause-nearest c =
     let same = c.as_slice.ensures.value in
     let moved : IsPermutation added members = subst (IsPermutation added) (sym same) c.in_ok-sort_by_key.ensures.permutation in
     let stable : IsStableByKey start_of position_cmp added members =
-        subst (IsStableByKey start_of position_cmp added) (sym same) (c.in_ok-sort_by_key.ensures.stable start_of (answers_always _ _ _ (λ f a r q k. search rules)))
+    subst (IsStableByKey start_of position_cmp added) (sym same) (c.in_ok-sort_by_key.ensures.stable start_of (answers_always _ _ _ (λ f a r q k. search rules)))
     in
     let sorted : IsSortedByKey start_of position_cmp members =
-        subst (IsSortedByKey start_of position_cmp) (sym same) (c.in_ok-sort_by_key.ensures.sorted start_of (answers_always _ _ _ (λ f a r q k. search rules)))
+    subst (IsSortedByKey start_of position_cmp) (sym same) (c.in_ok-sort_by_key.ensures.sorted start_of (answers_always _ _ _ (λ f a r q k. search rules)))
     in
     subst (λ l. IfOk c.swept.result (λ found. AreLaminar l → (names : Names) (rank : ℕ) → IsNearest l names rank (found_in found names rank))) c.self.view_is (IfOk-weaker c.swept.result (λ found. AreInOrder members → AreCovered members found) (λ found. AreLaminar added → (names : Names) (rank : ℕ) → IsNearest added names rank (found_in found names rank)) (λ found covered laminar names rank. nearest_from_sorted added members found moved stable (AreSorted-from_key members sorted) covered laminar names rank) c.swept.ensures)
 

@@ -8,8 +8,8 @@ use Rattle.pex_set.proofs.inherited.Sweep.add.Goals.{then-has_come_to-via-then-h
 pub returns-then-has_come_to-clause-swept : goal.returns-then-has_come_to-clause-swept
 returns-then-has_come_to-clause-swept c =
     λ done o w fits. elim c.then-has_come_to.branch [
-        then-has_come_to-via-then-has_come_to b ↦ IsSwept-kept done c.args.member.now _ _ w fits (sym c.has_come_to.ensures ∙ b.if-has_come_to.true)
-        | then-has_come_to-via-else-has_come_to+then-is_up_to b ↦ absurd (both_ways _ fits.goes_on (sym b.is_up_to.ensures ∙ b.if-is_up_to.true))
+      | then-has_come_to-via-then-has_come_to b ↦ IsSwept-kept done c.args.member.now _ _ w fits (sym c.has_come_to.ensures ∙ b.if-has_come_to.true)
+      | then-has_come_to-via-else-has_come_to+then-is_up_to b ↦ absurd (both_ways _ fits.goes_on (sym b.is_up_to.ensures ∙ b.if-is_up_to.true))
     ]
 
 pub returns-clause-ordered : goal.returns-clause-ordered

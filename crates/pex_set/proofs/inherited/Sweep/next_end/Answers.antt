@@ -1,4 +1,4 @@
-use Rattle.std.proofs.Common.{◌≡◌, Some, None, ◌∙◌, sym, ap, arith}
+use Rattle.std.proofs.Common.{None, ◌∙◌, sym, ap, arith}
 use Rattle.std.specs.List.{last_or}
 use Rattle.pex_set.proofs.Stretches.{popped, last_or-nonempty}
 use Rattle.pex_set.proofs.inherited.Sweep.next_end.Goals as goal
