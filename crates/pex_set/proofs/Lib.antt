@@ -5,3 +5,7 @@ pub mod WalkLemmas
 pub mod OrderLemmas
 pub mod ReachLemmas
 pub mod DescentLemmas
+pub mod Positions
+pub mod Stretches
+pub mod Sweeps
+pub mod Members

@@ -1,3 +1,5 @@
 pub mod Ranks
 pub mod Lineage
 pub mod Orders
+pub mod Inherited
+pub mod Sweep
