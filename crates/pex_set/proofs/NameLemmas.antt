@@ -59,13 +59,13 @@ shown-insert_key ks k =
 first_cond : (n : ℕ) → cond {A = Option ℕ} (ltb 0 (suc n)) (Some 0) None ≡ Some 0
 first_cond n = grind (arith, nat_tests)
 
-position-head : {X : Type 0} (p : X → Bool) (y : X) (xs : List X) → p y ≡ true → position p (y ∷ xs) ≡ Some 0
+pub position-head : {X : Type 0} (p : X → Bool) (y : X) (xs : List X) → p y ≡ true → position p (y ∷ xs) ≡ Some 0
 position-head p y xs q = rw q (first_cond (length xs))
 
 shift_cond : (m n : ℕ) → cond (ltb (1 + m) (suc n)) (Some (1 + m)) None ≡ option_map (λ k. 1 + k) (cond (ltb m n) (Some m) None)
 shift_cond m n = ⊎_elim (λ h. grind (arith, nat_tests)) (λ h. grind (arith, nat_tests)) (cases_lt m n)
 
-position-tail : {X : Type 0} (p : X → Bool) (y : X) (xs : List X) → p y ≡ false → position p (y ∷ xs) ≡ option_map (λ k. 1 + k) (position p xs)
+pub position-tail : {X : Type 0} (p : X → Bool) (y : X) (xs : List X) → p y ≡ false → position p (y ∷ xs) ≡ option_map (λ k. 1 + k) (position p xs)
 position-tail p y xs q = rw q (shift_cond (position_or_len p xs) (length xs))
 
 cons_cond : {X : Type 0} (b : Bool) (y : X) (xs ys : List X) → cond b (y ∷ xs) (y ∷ ys) ≡ y ∷ cond b xs ys

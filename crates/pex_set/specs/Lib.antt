@@ -1,3 +1,4 @@
 pub mod Ranks
 pub mod Lineage
 pub mod Names
+pub mod Objects

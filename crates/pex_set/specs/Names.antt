@@ -3,6 +3,10 @@ use Rattle.std.specs.Prelude.{◌≡◌, ℕ, List, [], ◌∷◌, ◌++◌, Opt
 use Rattle.std.specs.List.{list_any}
 use Rattle.std.specs.Str.{bytes_eq, str_to_ascii_lowercase}
 
+-- the number of the empty name
+abbrev pub empty_name : ℕ
+empty_name = 0
+
 -- the number of a name in a table of names with A to Z read as a to z
 abbrev pub number_in : List (List ℕ) → List ℕ → Option ℕ
 number_in table name = position (bytes_eq (str_to_ascii_lowercase name)) table
