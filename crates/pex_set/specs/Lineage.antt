@@ -8,7 +8,7 @@ abbrev pub parent_of : List (Option ℕ) → ℕ → Option ℕ
 parent_of parents object = option_and_then (λ parent. parent) (slice_get parents object)
 
 -- so many objects at most: this one, its parent, the parent of that one ..
-pub upward : ℕ → List (Option ℕ) → Option ℕ → List ℕ
+unfoldable pub upward : ℕ → List (Option ℕ) → Option ℕ → List ℕ
 upward zero parents object = []
 upward (suc left) parents None = []
 upward (suc left) parents (Some object) = object ∷ upward left parents (parent_of parents object)
