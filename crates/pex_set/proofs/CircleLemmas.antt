@@ -1,228 +1,259 @@
--- Walks up along parents: where each comes to an end, no object is above itself.
+-- Circles of parents, as they are marked, and what walks from all objects find.
 use Rattle.std.specs.Prelude.{zero, suc}
-use Rattle.std.proofs.Common.{◌≡◌, ◌≢◌, ℕ, ◌+◌, ◌-◌, ◌<◌, ◌≤◌, ◌⊎◌, inl, inr, Bool, true, false, cond, List, ◌∷◌, length, set, get_or, Option, None, Some, IsSome, IfSome, is_some, refl, sym, ap, subst, ◌∙◌, ⊎_elim, arith}
-use Rattle.std.specs.Option.{option_and_then}
-use Rattle.std.proofs.lemmas.Bool.{cases_eq, cases_Bool, false≢true}
-use Rattle.std.proofs.lemmas.List.{get_or-set_same, get_or-set_other, get_or_default}
-use Rattle.std.proofs.lemmas.List.Sums.{sum_by-set, count_by-le-length}
-use Rattle.std.proofs.lemmas.Option.{slice_get-get_or, slice_get_read}
-use Rattle.pex_set.specs.Lineage.{parent_of, upward, AreAmong, AreRooted}
-use Rattle.pex_set.specs.Circles.{climb, walk_at, visits, AllEnd, CanStart, HasEnded, NoneFound, AreSearched}
+use Rattle.std.proofs.Common.{◌≡◌, ◌≢◌, ℕ, ◌+◌, ◌-◌, ◌*◌, ◌<◌, ◌≤◌, ◌⊎◌, inl, inr, Bool, true, false, List, length, replicate, get_or, Option, None, Some, IsSome, IfSome, is_some, refl, sym, ap, subst, ◌∙◌, ⊎_elim, arith}
+use Rattle.std.proofs.lemmas.Bool.{cases_eq, cases_lt, false≢true}
+use Rattle.std.proofs.lemmas.List.{get_or-replicate, length-replicate}
+use Rattle.std.proofs.lemmas.List.Sums.{count_by-le-length}
+use Rattle.std.proofs.Math.ListN.{get_or-eq_default}
+use Rattle.pex_set.specs.Lineage.{parent_of, AreRooted}
+use Rattle.pex_set.specs.Circles.{climb, walk_at, visits, is_marked, IsOnWay, HasWalked, Walked, IsOnCircle, IsMarked, AreSearched, NoneMarked, MarksCircles}
+use Rattle.pex_set.proofs.ClimbLemmas.{climb-zero, climb-one, climb-add, climb-rest, climb-stays, climb-next, climb-around, child_within, enough_times, no_end, round_above, rooted_from_end}
 
--- ---- steps upward
-climb-none : (parents : List (Option ℕ)) (steps : ℕ) → climb parents steps None ≡ None
-unfolding climb
-climb-none parents zero = refl
-climb-none parents (suc steps) = climb-none parents steps
+same_object : {a b : ℕ} → Some a ≡ Some b → a ≡ b
+same_object e = cc
 
-climb-add : (parents : List (Option ℕ)) (first more : ℕ) (object : Option ℕ) → climb parents (first + more) object ≡ climb parents more (climb parents first object)
-unfolding climb
-climb-add parents zero more object =
-    let e : zero + more ≡ more = omega arith in
-    ap (λ (n : ℕ). climb parents n object) e
-climb-add parents (suc first) more object =
-    let e : suc first + more ≡ suc (first + more) = omega arith in
-    ap (λ (n : ℕ). climb parents n object) e
-    ∙ climb-add parents first more (option_and_then (parent_of parents) object)
+-- ---- one circle
+-- from this object upward the marks have come here
+pub record IsMarking (parents : List (Option ℕ)) (before : List Bool) (start : ℕ) (marks : List Bool) (here turns : ℕ) : Type 0 where
+  pub here_is : climb parents turns (Some start) ≡ Some here
+  pub stay : (object : ℕ) → is_marked before object ≡ true → is_marked marks object ≡ true
+  pub done : (steps object : ℕ) → steps < turns → climb parents steps (Some start) ≡ Some object → is_marked marks object ≡ true
+  pub only : (object : ℕ) → is_marked marks object ≡ true
+      → (is_marked before object ≡ true) ⊎ ((steps : ℕ) × (climb parents steps (Some start) ≡ Some object))
+  pub apart : (steps : ℕ) → 0 < steps → steps ≤ turns → climb parents steps (Some start) ≢ Some start
 
-climb-one : (parents : List (Option ℕ)) (object : Option ℕ) → climb parents 1 object ≡ option_and_then (parent_of parents) object
-unfolding climb
-climb-one parents object = refl
-
-climb-stays : (parents : List (Option ℕ)) (first more : ℕ) (object : Option ℕ) → first ≤ more → climb parents first object ≡ None → climb parents more object ≡ None
-climb-stays parents first more object le e =
-    let sum : more ≡ first + (more - first) = omega arith in
-    ap (λ (n : ℕ). climb parents n object) sum
-    ∙ climb-add parents first (more - first) object
-    ∙ ap (climb parents (more - first)) e
-    ∙ climb-none parents (more - first)
-
-climb-next : (parents : List (Option ℕ)) (steps : ℕ) (object : Option ℕ) (here : ℕ) → climb parents steps object ≡ Some here → climb parents (steps + 1) object ≡ parent_of parents here
-climb-next parents steps object here e =
-    climb-add parents steps 1 object
-    ∙ ap (climb parents 1) e
-    ∙ climb-one parents (Some here)
-
--- ---- a walk notes itself at one more object
-module _ (walks : List (Option ℕ)) (here start : ℕ) (within : here < length walks) where
-  at_here : walk_at (set walks here (Some start)) here ≡ Some start
-  at_here = get_or-set_same walks here (Some start) None within
-
-  at_other : (object : ℕ) → object ≢ here → walk_at (set walks here (Some start)) object ≡ walk_at walks object
-  at_other object ne = get_or-set_other walks here object (Some start) None ne
-
-  one_more : walk_at walks here ≡ None → visits (set walks here (Some start)) ≡ visits walks + 1
-  one_more none =
-      let s = sum_by-set (λ (o : Option ℕ). cond (is_some o) 1 0) walks here (Some start) None within in
-      let z : cond {A = ℕ} (is_some (walk_at walks here)) 1 0 ≡ 0 = ap (λ (o : Option ℕ). cond {A = ℕ} (is_some o) 1 0) none in
-      omega arith
-
-  some_stays : (object : ℕ) → IsSome (walk_at walks object) → IsSome (walk_at (set walks here (Some start)) object)
-  some_stays object some =
-      ⊎_elim
-      (λ e. subst (λ (n : ℕ). IsSome (walk_at (set walks here (Some start)) n)) (sym e) (ap is_some at_here))
-      (λ ne. ap is_some (at_other object ne) ∙ some)
-      (cases_eq object here)
-
--- ---- where a walk is
-pub record IsOnWay (parents before : List (Option ℕ)) (start : ℕ) (walks : List (Option ℕ)) (here object : ℕ) : Type 0 where
-  pub noted : walk_at walks object ≡ Some start
-  pub steps : ℕ
-  pub few : steps + visits before ≤ visits walks
-  pub leads : climb parents steps (Some object) ≡ Some here
-
-pub record OnWalk (parents before : List (Option ℕ)) (start : ℕ) (walks : List (Option ℕ)) (here : ℕ) : Type 0 where
-  pub within : here < length parents
-  pub more : visits before ≤ visits walks
-  pub first : (here ≡ start) ⊎ IsSome (walk_at walks start)
-  pub each : (object : ℕ) → (walk_at walks object ≡ walk_at before object) ⊎ IsOnWay parents before start walks here object
-
-pub begins : (parents walks : List (Option ℕ)) (start : ℕ) → CanStart parents walks start → OnWalk parents walks start walks start
-begins parents walks start can = record {
-  within = can.within;
-  more = omega arith;
-  first = inl refl;
-  each = λ object. inl refl;
+pub starts : (parents : List (Option ℕ)) (marks : List Bool) (start : ℕ) → IsMarking parents marks start marks start 0
+starts parents marks start = record {
+  here_is = climb-zero parents (Some start);
+  stay = λ object e. e;
+  done = λ steps object h. absurd (omega arith);
+  only = λ object e. inl e;
+  apart = λ steps some few. absurd (omega arith);
 }
 
-parent_within : (parents : List (Option ℕ)) (here parent : ℕ) → AreAmong parents → here < length parents → parent_of parents here ≡ Some parent → parent < length parents
-parent_within parents here parent among within e =
-    let f : get_or parents here None ≡ Some parent = ap (option_and_then (λ (o : Option ℕ). o)) (sym (slice_get-get_or parents here None within)) ∙ e in
-    subst (λ (o : Option ℕ). IfSome o (λ n. n < length parents)) f (among here None within)
-
-pub parent_read : (parents : List (Option ℕ)) (here : ℕ) (parent : Option ℕ) → here < length parents → parent ≡ get_or parents here parent → parent_of parents here ≡ parent
-parent_read parents here parent within e =
-    ap (option_and_then (λ (o : Option ℕ). o)) (slice_get_read parents (length parents) here parent refl within e)
-
-module _ (parents before : List (Option ℕ)) (start : ℕ) (walks : List (Option ℕ)) (here : ℕ) (walk : OnWalk parents before start walks here) where
-  -- what was visited stays so
-  stay : (object : ℕ) → IsSome (walk_at before object) → IsSome (walk_at walks object)
-  stay object some = ⊎_elim (λ same. ap is_some same ∙ some) (λ way. ap is_some way.noted) (walk.each object)
-
-  module _ (within : here < length walks) (fresh : walk_at walks here ≡ None) where
-    start_visited : IsSome (walk_at (set walks here (Some start)) start)
-    start_visited =
-        ⊎_elim
-        (λ e. subst (λ (n : ℕ). IsSome (walk_at (set walks here (Some start)) n)) e (ap is_some (at_here walks here start within)))
-        (λ some. some_stays walks here start within start some)
-        walk.first
-
-    pub goes_on : (parent : ℕ) → AreAmong parents → parent_of parents here ≡ Some parent → OnWalk parents before start (set walks here (Some start)) parent
-    goes_on parent among e =
-        let count = one_more walks here start within fresh in
-        record {
-          within = parent_within parents here parent among walk.within e;
-          more = omega (arith, walk.more);
-          first = inr start_visited;
-          each = λ object. ⊎_elim
-              (λ same. inr (record {
-                noted = subst (λ (n : ℕ). walk_at (set walks here (Some start)) n ≡ Some start) (sym same) (at_here walks here start within);
-                steps = 1;
-                few = omega (arith, walk.more);
-                leads = climb-one parents (Some object) ∙ ap (parent_of parents) same ∙ e;
-              }))
-              (λ ne. ⊎_elim
-                (λ old. inl (at_other walks here start within object ne ∙ old))
-                (λ way. inr (record {
-                  noted = at_other walks here start within object ne ∙ way.noted;
-                  steps = way.steps + 1;
-                  few = omega (arith, way.few);
-                  leads = climb-next parents way.steps (Some object) here way.leads ∙ e;
-                }))
-                (walk.each object))
-              (cases_eq object here);
-        }
-
-    pub comes_out : CanStart parents before start → parent_of parents here ≡ None → HasEnded parents before (set walks here (Some start)) start
-    comes_out can e =
-        let count = one_more walks here start within fresh in
-        let after = visits (set walks here (Some start)) in
-        record {
-          ends = λ object some. ⊎_elim
-              (λ same. climb-stays parents 1 after (Some object) (omega arith) (climb-one parents (Some object) ∙ ap (parent_of parents) same ∙ e))
-              (λ ne. ⊎_elim
-                (λ old. climb-stays parents (visits before) after (Some object) (omega (arith, walk.more))
-                    (can.ends object (ap is_some (sym (at_other walks here start within object ne ∙ old)) ∙ some)))
-                (λ way. climb-stays parents (way.steps + 1) after (Some object) (omega (arith, way.few))
-                    (climb-next parents way.steps (Some object) here way.leads ∙ e))
-                (walk.each object))
-              (cases_eq object here);
-          visited = start_visited;
-          stay = λ object some. some_stays walks here start within object (stay object some);
-        }
-
-  -- an object that an earlier walk visited
-  pub meets : (other : ℕ) → CanStart parents before start → walk_at walks here ≡ Some other → other ≢ start → HasEnded parents before walks start
-  meets other can e ne =
-      let last : climb parents (visits before) (Some here) ≡ None =
-          ⊎_elim
-          (λ old. can.ends here (ap is_some (sym old ∙ e)))
-          (λ way. absurd (ne (same_walk (sym e ∙ way.noted))))
-          (walk.each here) in
-      record {
-        ends = λ object some. ⊎_elim
-            (λ old. climb-stays parents (visits before) (visits walks) (Some object) walk.more (can.ends object (ap is_some (sym old) ∙ some)))
-            (λ way. climb-stays parents (way.steps + visits before) (visits walks) (Some object) way.few
-                (climb-add parents way.steps (visits before) (Some object) ∙ ap (climb parents (visits before)) way.leads ∙ last))
-            (walk.each object);
-        visited = ⊎_elim (λ same. ap (λ (n : ℕ). is_some (walk_at walks n)) (sym same) ∙ ap is_some e) (λ some. some) walk.first;
-        stay = stay;
-      }
+module _ (parents : List (Option ℕ)) (before : List Bool) (start : ℕ) (marks : List Bool) (here turns : ℕ) (marking : IsMarking parents before start marks here turns) where
+  pub no_parent : IsOnCircle parents start → parent_of parents here ≡ None → ⊥
+  no_parent circle e =
+      ⊎_elim
+      (λ later. none_is_some (sym (climb-stays parents (turns + 1) circle.steps (Some start) (omega arith) (climb-next parents turns (Some start) here marking.here_is ∙ e)) ∙ circle.round))
+      (λ sooner. marking.apart circle.steps circle.some sooner circle.round)
+      (cases_lt turns circle.steps)
     where
-      same_walk : {a b : ℕ} → Some a ≡ Some b → a ≡ b
-      same_walk h = cc
+      none_is_some : {n : ℕ} → None ≡ Some n → ⊥
+      none_is_some h = cc
+
+  -- the object is marked too
+  module _ (later : List Bool) (long : length marks ≡ length parents)
+      (mark : here < length marks → is_marked later here ≡ true)
+      (stays : (object : ℕ) → is_marked marks object ≡ true → is_marked later object ≡ true)
+      (fresh : (object : ℕ) → is_marked later object ≡ true → (is_marked marks object ≡ true) ⊎ (object ≡ here)) where
+    only_later : (object : ℕ) → is_marked later object ≡ true → (is_marked before object ≡ true) ⊎ ((steps : ℕ) × (climb parents steps (Some start) ≡ Some object))
+    only_later object e =
+        ⊎_elim
+        (marking.only object)
+        (λ same. inr (turns, marking.here_is ∙ ap Some (sym same)))
+        (fresh object e)
+
+    done_later : (parent : ℕ) → parent_of parents here ≡ Some parent → (steps object : ℕ) → steps < turns + 1 → climb parents steps (Some start) ≡ Some object → is_marked later object ≡ true
+    done_later parent up steps object h e =
+        ⊎_elim
+        (λ last.
+          let same : here ≡ object = same_object (sym marking.here_is ∙ ap (λ (n : ℕ). climb parents n (Some start)) (sym last) ∙ e) in
+          let within = child_within parents here parent up in
+          subst (λ (n : ℕ). is_marked later n ≡ true) same (mark (omega arith)))
+        (λ ne. stays object (marking.done steps object (omega (arith, ne)) e))
+        (cases_eq steps turns)
+
+    pub marks_on : (parent : ℕ) → parent_of parents here ≡ Some parent → parent ≢ start → IsMarking parents before start later parent (turns + 1)
+    marks_on parent up ne =
+        let next = climb-next parents turns (Some start) here marking.here_is ∙ up in
+        record {
+          here_is = next;
+          stay = λ object e. stays object (marking.stay object e);
+          done = done_later parent up;
+          only = only_later;
+          apart = λ steps some few e. ⊎_elim
+              (λ last. ne (same_object (sym next ∙ ap (λ (n : ℕ). climb parents n (Some start)) (sym last) ∙ e)))
+              (λ sooner. marking.apart steps some (omega (arith, sooner)) e)
+              (cases_eq steps (turns + 1));
+        }
+
+    -- the circle closes
+    pub marks_all : parent_of parents here ≡ Some start → IsMarked parents before start later
+    marks_all up = record {
+      stay = λ object e. stays object (marking.stay object e);
+      all = λ steps object e. around (steps + 1) steps object (omega arith) e;
+      only = only_later;
+    }
+      where
+        next : climb parents (turns + 1) (Some start) ≡ Some start
+        next = climb-next parents turns (Some start) here marking.here_is ∙ up
+
+        around : (bound steps object : ℕ) → steps < bound → climb parents steps (Some start) ≡ Some object → is_marked later object ≡ true
+        around zero steps object h e = absurd (omega arith)
+        around (suc bound) steps object h e =
+            ⊎_elim
+            (λ sooner. done_later start up steps object sooner e)
+            (λ past. around bound (steps - (turns + 1)) object (omega arith)
+              (ap (climb parents (steps - (turns + 1))) (sym next) ∙ sym (climb-rest parents (turns + 1) steps (Some start) past) ∙ e))
+            (cases_lt steps (turns + 1))
 
 -- ---- all walks
-ends_up : (parents : List (Option ℕ)) (left : ℕ) (object : Option ℕ) → climb parents left object ≡ None → upward left parents object ≡ upward (suc left) parents object
-unfolding climb upward
-ends_up parents zero None e = refl
-ends_up parents zero (Some object) e = absurd (cc)
-ends_up parents (suc left) None e = refl
-ends_up parents (suc left) (Some object) e = ap (λ (l : List ℕ). object ∷ l) (ends_up parents left (parent_of parents object) e)
+read_replicate : {A : Type 0} (x : A) (n i : ℕ) → get_or (replicate n x) i x ≡ x
+read_replicate x n i =
+    ⊎_elim
+    (λ lt. get_or-replicate n i x x lt)
+    (λ past. get_or-eq_default (replicate n x) x (omega (arith, length-replicate n x)))
+    (cases_lt i n)
 
-goes_up : (parents : List (Option ℕ)) (left object : ℕ) → climb parents left (Some object) ≡ None → upward left parents (Some object) ≡ object ∷ upward left parents (parent_of parents object)
-unfolding climb upward
-goes_up parents zero object e = absurd (cc)
-goes_up parents (suc left) object e = ap (λ (l : List ℕ). object ∷ l) (ends_up parents left (parent_of parents object) e)
+pub nothing_yet : (parents walks : List (Option ℕ)) (marks : List Bool) → walks ≡ replicate (length parents) None → marks ≡ replicate (length parents) false → length walks ≡ length parents → length marks ≡ length parents → AreSearched parents walks marks 0
+nothing_yet parents walks marks no_walks no_marks walks_long marks_long = record {
+  walks_as_long = walks_long;
+  marks_as_long = marks_long;
+  earlier = λ object walk e. absurd (false≢true (ap is_some (sym (unvisited object) ∙ e)));
+  visited = λ object h. absurd (omega arith);
+  ends = λ object some. absurd (false≢true (sym (ap is_some (unvisited object)) ∙ some));
+  closed = λ object parent e. absurd (false≢true (sym (unmarked object) ∙ e));
+  sound = λ object e. absurd (false≢true (sym (unmarked object) ∙ e));
+}
+  where
+    unvisited : (object : ℕ) → walk_at walks object ≡ None
+    unvisited object = ap (λ (l : List (Option ℕ)). walk_at l object) no_walks ∙ read_replicate None (length parents) object
 
-pub AreRooted-from_walks : (parents walks : List (Option ℕ)) → length walks ≡ length parents → AllEnd parents walks → ((object : ℕ) → object < length parents → IsSome (walk_at walks object)) → AreRooted parents
-AreRooted-from_walks parents walks long ends visited =
-    λ object within.
-    let few : visits walks ≤ length parents = omega (arith, count_by-le-length {X = Option ℕ} is_some walks) in
-    goes_up parents (length parents) object
-    (climb-stays parents (visits walks) (length parents) (Some object) few (ends object (visited object within)))
+    unmarked : (object : ℕ) → is_marked marks object ≡ false
+    unmarked object = ap (λ (l : List Bool). is_marked l object) no_marks ∙ read_replicate false (length parents) object
 
--- a walk that came to a circle, and what was marked then
-module _ (parents walks later : List (Option ℕ)) (found marked : List Bool) (start circle : ℕ) (searched : AreSearched parents walks found start)
-    (long : length later ≡ length walks) (as_long : length marked ≡ length found) (among : AreAmong parents) (within : start < length parents)
-    (on_circle : CanStart parents walks start → circle < length parents)
-    (mark : circle < length parents → circle < length found → get_or marked circle false ≡ true)
-    (stays : (object : ℕ) → get_or found object false ≡ true → get_or marked object false ≡ true) where
-  none_before : NoneFound marked → NoneFound found
-  none_before none object d in_found =
-      ⊎_elim
-      (λ yes. absurd (false≢true
-        (sym (none object false (omega arith))
-        ∙ stays object (get_or_default found object false d in_found ∙ yes))))
-      (λ no. no)
-      (cases_Bool (get_or found object d))
+-- one more walk
+module _ (parents walks later : List (Option ℕ)) (marks : List Bool) (start : ℕ) (searched : AreSearched parents walks marks start) where
+  module _ (here : Option ℕ) (walked : HasWalked parents walks later start here) where
+    earlier_later : (object walk : ℕ) → walk_at later object ≡ Some walk → walk < start + 1
+    earlier_later object walk e =
+        ⊎_elim
+        (λ same. omega (arith, searched.earlier object walk (sym same ∙ e)))
+        (λ way. let own : walk ≡ start = same_object (sym e ∙ way.noted) in omega arith)
+        (walked.each object)
 
-  some_marked : NoneFound marked → ⊥
-  some_marked none =
-      let can : CanStart parents walks start = record {
-        among = among;
-        within = within;
-        as_long = searched.walks_as_long;
-        ends = searched.ends (none_before none);
-      } in
-      let there = on_circle can in
-      let in_found : circle < length found = omega (arith, searched.found_as_long, there) in
-      false≢true (sym (none circle false (omega arith)) ∙ mark there in_found)
+    visited_later : (object : ℕ) → object < start + 1 → IsSome (walk_at later object)
+    visited_later object h =
+        ⊎_elim
+        (λ same. subst (λ (n : ℕ). IsSome (walk_at later n)) (sym same) walked.visited)
+        (λ ne. ⊎_elim
+          (λ same. ap is_some same ∙ searched.visited object (omega (arith, ne)))
+          (λ way. ap is_some way.noted)
+          (walked.each object))
+        (cases_eq object start)
 
-  pub AreSearched-marked : AreSearched parents later marked (start + 1)
-  AreSearched-marked = record {
+    end_stays : (object : ℕ) → climb parents (visits walks) (Some object) ≡ None → climb parents (visits later) (Some object) ≡ None
+    end_stays object e = climb-stays parents (visits walks) (visits later) (Some object) walked.more e
+
+  pub AreSearched-ended : length later ≡ length walks → Walked parents walks start None later → AreSearched parents later marks (start + 1)
+  AreSearched-ended long walked = record {
     walks_as_long = long ∙ searched.walks_as_long;
-    found_as_long = as_long ∙ searched.found_as_long;
-    ends = λ none. absurd (some_marked none);
-    visited = λ none. absurd (some_marked none);
+    marks_as_long = searched.marks_as_long;
+    earlier = earlier_later walked.0 walked.1;
+    visited = visited_later walked.0 walked.1;
+    ends = λ object some. ⊎_elim
+        (λ same. ⊎_elim
+          (λ end. inl (end_stays walked.0 walked.1 object end))
+          (λ leads. inr leads)
+          (searched.ends object (ap is_some (sym same) ∙ some)))
+        (λ way. goes_on object walked.0 walked.2 way)
+        (walked.1.each object);
+    closed = searched.closed;
+    sound = searched.sound;
   }
+    where
+      goes_on : (object : ℕ) (here : Option ℕ) → IfSome here (λ above. IsSome (walk_at walks above)) → IsOnWay parents walks later start here object
+          → (climb parents (visits later) (Some object) ≡ None) ⊎ ((steps above : ℕ) × (climb parents steps (Some object) ≡ Some above) × (is_marked marks above ≡ true))
+      goes_on object None met way = inl (climb-stays parents way.steps (visits later) (Some object) (omega (arith, way.few)) way.leads)
+      goes_on object (Some above) met way =
+          ⊎_elim
+          (λ end. inl (climb-stays parents (way.steps + visits walks) (visits later) (Some object) way.few
+            (climb-add parents way.steps (visits walks) (Some object) ∙ ap (climb parents (visits walks)) way.leads ∙ end)))
+          (λ leads. inr (way.steps + leads.0, leads.1, climb-add parents way.steps leads.0 (Some object) ∙ ap (climb parents leads.0) way.leads ∙ leads.2, leads.3))
+          (searched.ends above met)
+
+  module _ (marked : List Bool) (circle : ℕ) (long : length later ≡ length walks) (walked : HasWalked parents walks later start (Some circle)) (way : IsOnWay parents walks later start (Some circle) circle) where
+    on_circle : IsOnCircle parents circle
+    on_circle =
+        let most = count_by-le-length {X = Option ℕ} is_some later in
+        record {
+          steps = way.steps;
+          some = way.some;
+          few = omega (arith, way.few, searched.walks_as_long);
+          round = way.leads;
+        }
+
+    pub AreSearched-marked : length marked ≡ length marks → (IsOnCircle parents circle → IsMarked parents marks circle marked) → AreSearched parents later marked (start + 1)
+    AreSearched-marked as_long mark =
+        let all = mark on_circle in
+        record {
+          walks_as_long = long ∙ searched.walks_as_long;
+          marks_as_long = as_long ∙ searched.marks_as_long;
+          earlier = earlier_later (Some circle) walked;
+          visited = visited_later (Some circle) walked;
+          ends = λ object some. ⊎_elim
+              (λ same. ⊎_elim
+                (λ end. inl (end_stays (Some circle) walked object end))
+                (λ leads. inr (leads.0, leads.1, leads.2, all.stay leads.1 leads.3))
+                (searched.ends object (ap is_some (sym same) ∙ some)))
+              (λ on. inr (on.steps, circle, on.leads, all.all 0 circle (climb-zero parents (Some circle))))
+              (walked.each object);
+          closed = λ object parent e up. ⊎_elim
+              (λ old. all.stay parent (searched.closed object parent old up))
+              (λ above. all.all (above.0 + 1) parent (climb-next parents above.0 (Some circle) object above.1 ∙ up))
+              (all.only object e);
+          sound = λ object e. ⊎_elim
+              (searched.sound object)
+              (λ above. (way.steps, way.some, round_above parents way.steps circle above.0 object way.leads above.1))
+              (all.only object e);
+        }
+
+module _ (parents walks : List (Option ℕ)) (marks : List Bool) (bound : ℕ) (searched : AreSearched parents walks marks bound) (all : length parents ≤ bound) where
+  marked_above : (steps object above : ℕ) → is_marked marks object ≡ true → climb parents steps (Some object) ≡ Some above → is_marked marks above ≡ true
+  marked_above zero object above e up = subst (λ (n : ℕ). is_marked marks n ≡ true) (same_object (sym (climb-zero parents (Some object)) ∙ up)) e
+  marked_above (suc steps) object above e up = by (parent_of parents object) refl (λ parent. marked_above steps parent above)
+    where
+      one : climb parents (1 + steps) (Some object) ≡ Some above
+      one = let s : 1 + steps ≡ suc steps = omega arith in ap (λ (n : ℕ). climb parents n (Some object)) s ∙ up
+
+      first : (o : Option ℕ) → parent_of parents object ≡ o → climb parents 1 (Some object) ≡ o
+      first o q = climb-one parents (Some object) ∙ q
+
+      none_is_some : {n : ℕ} → None ≡ Some n → ⊥
+      none_is_some h = cc
+
+      by : (o : Option ℕ) → parent_of parents object ≡ o
+          → ((parent : ℕ) → is_marked marks parent ≡ true → climb parents steps (Some parent) ≡ Some above → is_marked marks above ≡ true)
+          → is_marked marks above ≡ true
+      by None q rest = absurd (none_is_some (sym (climb-stays parents 1 (1 + steps) (Some object) (omega arith) (first None q)) ∙ one))
+      by (Some parent) q rest =
+          rest parent (searched.closed object parent e q)
+          (ap (climb parents steps) (sym (first (Some parent) q)) ∙ sym (climb-add parents 1 steps (Some object)) ∙ one)
+
+  pub MarksCircles-from_search : MarksCircles parents marks
+  MarksCircles-from_search object within =
+      (searched.sound object,
+       λ circle. ⊎_elim
+         (λ end. no_end parents circle.0 object (visits walks) circle.1 circle.2 end)
+         (λ leads.
+           let times = leads.0 * circle.0 in
+           marked_above (times - leads.0) leads.1 object leads.3
+           (ap (climb parents (times - leads.0)) (sym leads.2)
+           ∙ sym (climb-rest parents leads.0 times (Some object) (enough_times leads.0 circle.0 circle.1))
+           ∙ climb-around parents circle.0 object leads.0 circle.2))
+         (searched.ends object (searched.visited object (omega arith))))
+
+  pub AreRooted-from_search : NoneMarked marks → AreRooted parents
+  AreRooted-from_search none object within =
+      ⊎_elim
+      (λ end. rooted_from_end parents (visits walks) object (omega (arith, count_by-le-length {X = Option ℕ} is_some walks, searched.walks_as_long)) end)
+      (λ leads. absurd (false≢true (sym (unmarked leads.1) ∙ leads.3)))
+      (searched.ends object (searched.visited object (omega arith)))
+    where
+      unmarked : (above : ℕ) → is_marked marks above ≡ false
+      unmarked above =
+          ⊎_elim
+          (λ lt. none above false lt)
+          (λ past. get_or-eq_default marks false past)
+          (cases_lt above (length marks))

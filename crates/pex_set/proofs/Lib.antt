@@ -1,3 +1,5 @@
+pub mod CircleLemmas
+pub mod ClimbLemmas
 pub mod NameLemmas
 pub mod ObjectLemmas
-pub mod CircleLemmas
+pub mod WalkLemmas

@@ -150,13 +150,6 @@ found_name keys value name folded =
     ∙ ap (λ (n : ℕ). cond (ltb (position_or_len (bytes_eq value) (shown keys)) n) (Some (position_or_len (bytes_eq value) (shown keys))) None) (sym (length-map keys (λ k. k.items)))
     ∙ ap (λ (l : List ℕ). position (bytes_eq l) (shown keys)) folded
 
-pub IsGrown-with_names : (table : List (List ℕ)) (names : List (List ℕ)) → IsGrown table (with_names table names)
-IsGrown-with_names table [] = IsGrown-refl table
-IsGrown-with_names table (name ∷ names) =
-    IsGrown-trans table (with_name table name) (with_names table (name ∷ names))
-    (IsGrown-with_name table name)
-    (IsGrown-with_names (with_name table name) names)
-
 -- one more name, as at a turn of a loop
 pub numbers-push : (earlier later : List (List ℕ)) (numbers : List ℕ) (names : List (List ℕ)) (number : ℕ) (name : List ℕ) → later ≡ with_name earlier name → map Some numbers ≡ map (number_in earlier) names → number_in later name ≡ Some number → map Some (numbers ++ number ∷ []) ≡ map (number_in later) (names ++ name ∷ [])
 numbers-push earlier later numbers names number name grown before e =

@@ -1,9 +1,8 @@
 // Which objects stand above themselves.
-ghost use Rattle.std.specs.Prelude.{◌≡◌, ℕ, ◌+◌, ◌<◌, true, false, length, vec_len, slice_index_or, IfOk};
-ghost use Rattle.pex_set.specs.Circles.{CanStart, Walked, NoneFound, AreSearched};
-ghost use Rattle.pex_set.specs.Lineage.{AreAmong, AreRooted};
+ghost use Rattle.std.specs.Prelude.{◌≡◌, ◌⊎◌, ℕ, ◌+◌, ◌<◌, true, length, vec_len, IfOk};
+ghost use Rattle.pex_set.specs.Circles.{is_marked, CanStart, Walked, IsOnCircle, IsMarked, AreSearched, MarksCircles, NoneMarked};
+ghost use Rattle.pex_set.specs.Lineage.{parent_of, AreAmong, AreRooted};
 
-use crate::descent::item_at;
 use papy_base::OutOfMemory;
 use std::alloc::Global;
 
@@ -11,7 +10,8 @@ use std::alloc::Global;
 /// doesn't.
 pub fn on_circles(alloc: Global, parents: &[Option<usize>]) -> Result<Vec<bool>, OutOfMemory>
     ensures length { IfOk result (λ found. vec_len found ≡ length parents.now) }
-    ensures rooted { IfOk result (λ found. AreAmong parents.now → NoneFound found.items → AreRooted parents.now) }
+    ensures exact { IfOk result (λ found. AreAmong parents.now → MarksCircles parents.now found.items) }
+    ensures rooted { IfOk result (λ found. AreAmong parents.now → NoneMarked found.items → AreRooted parents.now) }
 {
     let mut is_above_itself = vec![in alloc; false; parents.len()]?;
     let mut walks = vec![in alloc; None; parents.len()]?;
@@ -50,31 +50,43 @@ fn walk(parents: &[Option<usize>], walks: &mut [Option<usize>], start: usize) ->
             return if walk == start { Some(here) } else { None };
         }
         walks[here] = Some(start);
-        here = (*parents.get(here)?)?;
+        here = parent_at(parents, here)?;
     }
     // It has been at each of the objects.
     Some(here)
 }
 
+// Marks the objects of the circle that this one stands on.
 fn mark_circle(parents: &[Option<usize>], is_above_itself: &mut [bool], start: usize)
-    ensures marked { start < length parents.now → start < length is_above_itself.old → slice_index_or is_above_itself.new start false ≡ true }
-    ensures stay { (object : ℕ) → slice_index_or is_above_itself.old object false ≡ true → slice_index_or is_above_itself.new object false ≡ true }
+    ensures { length is_above_itself.old ≡ length parents.now → IsOnCircle parents.now start
+        → IsMarked parents.now is_above_itself.old start is_above_itself.new }
 {
     let mut here = start;
     for _ in 0..parents.len() {
         mark(is_above_itself, here);
-        match item_at(parents, here) {
-            Some(parent) if parent != start => here = parent,
-            _ => return,
+        let Some(parent) = parent_at(parents, here) else {
+            return;
+        };
+        if parent == start {
+            return;
         }
+        here = parent;
     }
 }
 
 fn mark(is_above_itself: &mut [bool], object: usize)
-    ensures marked { object < length is_above_itself.old → slice_index_or is_above_itself.new object false ≡ true }
-    ensures stay { (other : ℕ) → slice_index_or is_above_itself.old other false ≡ true → slice_index_or is_above_itself.new other false ≡ true }
+    ensures marked { object < length is_above_itself.old → is_marked is_above_itself.new object ≡ true }
+    ensures stay { (other : ℕ) → is_marked is_above_itself.old other ≡ true → is_marked is_above_itself.new other ≡ true }
+    ensures only { (other : ℕ) → is_marked is_above_itself.new other ≡ true
+        → (is_marked is_above_itself.old other ≡ true) ⊎ (other ≡ object) }
 {
     if object < is_above_itself.len() {
         is_above_itself[object] = true;
     }
+}
+
+fn parent_at(parents: &[Option<usize>], object: usize) -> Option<usize>
+    ensures { result ≡ parent_of parents.now object }
+{
+    *parents.get(object)?
 }
