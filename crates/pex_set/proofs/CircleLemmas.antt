@@ -58,9 +58,9 @@ module _ (parents : List (Option ℕ)) (before : List Bool) (start : ℕ) (marks
     done_later parent up steps object h e =
         ⊎_elim
         (λ last.
-          let same : here ≡ object = same_object (sym marking.here_is ∙ ap (λ (n : ℕ). climb parents n (Some start)) (sym last) ∙ e) in
-          let within = child_within parents here parent up in
-          subst (λ (n : ℕ). is_marked later n ≡ true) same (mark (omega arith)))
+        let same : here ≡ object = same_object (sym marking.here_is ∙ ap (λ (n : ℕ). climb parents n (Some start)) (sym last) ∙ e) in
+        let within = child_within parents here parent up in
+        subst (λ (n : ℕ). is_marked later n ≡ true) same (mark (omega arith)))
         (λ ne. stays object (marking.done steps object (omega (arith, ne)) e))
         (cases_eq steps turns)
 
@@ -95,7 +95,7 @@ module _ (parents : List (Option ℕ)) (before : List Bool) (start : ℕ) (marks
             ⊎_elim
             (λ sooner. done_later start up steps object sooner e)
             (λ past. around bound (steps - (turns + 1)) object (omega arith)
-              (ap (climb parents (steps - (turns + 1))) (sym next) ∙ sym (climb-rest parents (turns + 1) steps (Some start) past) ∙ e))
+            (ap (climb parents (steps - (turns + 1))) (sym next) ∙ sym (climb-rest parents (turns + 1) steps (Some start) past) ∙ e))
             (cases_lt steps (turns + 1))
 
 -- ---- all walks
@@ -138,9 +138,9 @@ module _ (parents walks later : List (Option ℕ)) (marks : List Bool) (start : 
         ⊎_elim
         (λ same. subst (λ (n : ℕ). IsSome (walk_at later n)) (sym same) walked.visited)
         (λ ne. ⊎_elim
-          (λ same. ap is_some same ∙ searched.visited object (omega (arith, ne)))
-          (λ way. ap is_some way.noted)
-          (walked.each object))
+        (λ same. ap is_some same ∙ searched.visited object (omega (arith, ne)))
+        (λ way. ap is_some way.noted)
+        (walked.each object))
         (cases_eq object start)
 
     end_stays : (object : ℕ) → climb parents (visits walks) (Some object) ≡ None → climb parents (visits later) (Some object) ≡ None
@@ -154,9 +154,9 @@ module _ (parents walks later : List (Option ℕ)) (marks : List Bool) (start : 
     visited = visited_later walked.0 walked.1;
     ends = λ object some. ⊎_elim
         (λ same. ⊎_elim
-          (λ end. inl (end_stays walked.0 walked.1 object end))
-          (λ leads. inr leads)
-          (searched.ends object (ap is_some (sym same) ∙ some)))
+        (λ end. inl (end_stays walked.0 walked.1 object end))
+        (λ leads. inr leads)
+        (searched.ends object (ap is_some (sym same) ∙ some)))
         (λ way. goes_on object walked.0 walked.2 way)
         (walked.1.each object);
     closed = searched.closed;
@@ -169,7 +169,7 @@ module _ (parents walks later : List (Option ℕ)) (marks : List Bool) (start : 
       goes_on object (Some above) met way =
           ⊎_elim
           (λ end. inl (climb-stays parents (way.steps + visits walks) (visits later) (Some object) way.few
-            (climb-add parents way.steps (visits walks) (Some object) ∙ ap (climb parents (visits walks)) way.leads ∙ end)))
+          (climb-add parents way.steps (visits walks) (Some object) ∙ ap (climb parents (visits walks)) way.leads ∙ end)))
           (λ leads. inr (way.steps + leads.0, leads.1, climb-add parents way.steps leads.0 (Some object) ∙ ap (climb parents leads.0) way.leads ∙ leads.2, leads.3))
           (searched.ends above met)
 
@@ -194,9 +194,9 @@ module _ (parents walks later : List (Option ℕ)) (marks : List Bool) (start : 
           visited = visited_later (Some circle) walked;
           ends = λ object some. ⊎_elim
               (λ same. ⊎_elim
-                (λ end. inl (end_stays (Some circle) walked object end))
-                (λ leads. inr (leads.0, leads.1, leads.2, all.stay leads.1 leads.3))
-                (searched.ends object (ap is_some (sym same) ∙ some)))
+              (λ end. inl (end_stays (Some circle) walked object end))
+              (λ leads. inr (leads.0, leads.1, leads.2, all.stay leads.1 leads.3))
+              (searched.ends object (ap is_some (sym same) ∙ some)))
               (λ on. inr (on.steps, circle, on.leads, all.all 0 circle (climb-zero parents (Some circle))))
               (walked.each object);
           closed = λ object parent e up. ⊎_elim
@@ -232,17 +232,18 @@ module _ (parents walks : List (Option ℕ)) (marks : List Bool) (bound : ℕ) (
           (ap (climb parents steps) (sym (first (Some parent) q)) ∙ sym (climb-add parents 1 steps (Some object)) ∙ one)
 
   pub MarksCircles-from_search : MarksCircles parents marks
-  MarksCircles-from_search object within =
-      (searched.sound object,
-       λ circle. ⊎_elim
-         (λ end. no_end parents circle.0 object (visits walks) circle.1 circle.2 end)
-         (λ leads.
-           let times = leads.0 * circle.0 in
-           marked_above (times - leads.0) leads.1 object leads.3
-           (ap (climb parents (times - leads.0)) (sym leads.2)
-           ∙ sym (climb-rest parents leads.0 times (Some object) (enough_times leads.0 circle.0 circle.1))
-           ∙ climb-around parents circle.0 object leads.0 circle.2))
-         (searched.ends object (searched.visited object (omega arith))))
+  MarksCircles-from_search object within = (
+    searched.sound object,
+    λ circle. ⊎_elim
+        (λ end. no_end parents circle.0 object (visits walks) circle.1 circle.2 end)
+        (λ leads.
+        let times = leads.0 * circle.0 in
+        marked_above (times - leads.0) leads.1 object leads.3
+        (ap (climb parents (times - leads.0)) (sym leads.2)
+        ∙ sym (climb-rest parents leads.0 times (Some object) (enough_times leads.0 circle.0 circle.1))
+        ∙ climb-around parents circle.0 object leads.0 circle.2))
+        (searched.ends object (searched.visited object (omega arith))),
+  )
 
   pub AreRooted-from_search : NoneMarked marks → AreRooted parents
   AreRooted-from_search none object within =

@@ -12,7 +12,7 @@ use Rattle.std.proofs.lemmas.List.{map-append, append_assoc, append-nil, get_or_
 use Rattle.std.proofs.lemmas.List.Sums.{position_or_len_is}
 use Rattle.std.proofs.lemmas.List.Quantifiers.{position-Some}
 use Rattle.indexmap.specs.IndexSet.{insert_key}
-use Rattle.pex_set.specs.Names.{number_in, with_name, with_names, IsGrown}
+use Rattle.pex_set.specs.Names.{number_in, with_name, IsGrown}
 
 -- ---- the first place of what passes a test
 pub position-first : {X : Type 0} (p : X → Bool) (xs : List X) (i : ℕ) (d : X) → i < length xs → p (get_or xs i d) ≡ true → ((k : ℕ) → k < i → p (get_or xs k d) ≡ false) → position p xs ≡ Some i
@@ -124,12 +124,13 @@ numbers-grown earlier later (x ∷ xs) (y ∷ ys) grown e =
 pub alike-number : (table : List (List ℕ)) (a b : List ℕ) (number : ℕ) → number_in table a ≡ Some number → (number_in table b ≡ Some number) ↔ (str_eq_ignore_ascii_case a b ≡ true)
 alike-number table a b number e =
     let left = position-Some (bytes_eq (str_to_ascii_lowercase a)) table number [] e in
-    let stored = get_or table number [] in
-    (λ f. let right = position-Some (bytes_eq (str_to_ascii_lowercase b)) table number [] f in
-        (bytes_decides (str_to_ascii_lowercase a) (str_to_ascii_lowercase b)).1
-        ((bytes_decides (str_to_ascii_lowercase a) stored).0 left.1 ∙ sym ((bytes_decides (str_to_ascii_lowercase b) stored).0 right.1)),
-     λ same. let q = (bytes_decides (str_to_ascii_lowercase a) (str_to_ascii_lowercase b)).0 same in
-        subst (λ (folded : List ℕ). position (bytes_eq folded) table ≡ Some number) q e)
+    let stored = get_or table number [] in (
+      λ f. let right = position-Some (bytes_eq (str_to_ascii_lowercase b)) table number [] f in
+          (bytes_decides (str_to_ascii_lowercase a) (str_to_ascii_lowercase b)).1
+          ((bytes_decides (str_to_ascii_lowercase a) stored).0 left.1 ∙ sym ((bytes_decides (str_to_ascii_lowercase b) stored).0 right.1)),
+      λ same. let q = (bytes_decides (str_to_ascii_lowercase a) (str_to_ascii_lowercase b)).0 same in
+          subst (λ (folded : List ℕ). position (bytes_eq folded) table ≡ Some number) q e,
+    )
 
 -- what the set of names has after an insert
 pub inserted_name : (keys later : List (Vec ℕ Global)) (value : Vec ℕ Global) (name : List ℕ) → value.items ≡ str_to_ascii_lowercase name → later ≡ insert_key same keys value → shown later ≡ with_name (shown keys) name
@@ -155,6 +156,6 @@ pub numbers-push : (earlier later : List (List ℕ)) (numbers : List ℕ) (names
 numbers-push earlier later numbers names number name grown before e =
     map-append Some numbers (number ∷ [])
     ∙ ap (λ (l : List (Option ℕ)). l ++ Some number ∷ [])
-      (numbers-grown earlier later numbers names (subst (IsGrown earlier) (sym grown) (IsGrown-with_name earlier name)) before)
+    (numbers-grown earlier later numbers names (subst (IsGrown earlier) (sym grown) (IsGrown-with_name earlier name)) before)
     ∙ ap (λ (o : Option ℕ). map (number_in later) names ++ o ∷ []) (sym e)
     ∙ sym (map-append (number_in later) names (name ∷ []))

@@ -34,9 +34,9 @@ some_visits : (walks : List (Option ℕ)) (object : ℕ) → IsSome (walk_at wal
 some_visits walks object some =
     ⊎_elim
     (λ within.
-      let s = sum_by-set (λ (o : Option ℕ). cond (is_some o) 1 0) walks object None None within in
-      let one : cond {A = ℕ} (is_some (walk_at walks object)) 1 0 ≡ 1 = ap (λ (b : Bool). cond {A = ℕ} b 1 0) some in
-      omega arith)
+    let s = sum_by-set (λ (o : Option ℕ). cond (is_some o) 1 0) walks object None None within in
+    let one : cond {A = ℕ} (is_some (walk_at walks object)) 1 0 ≡ 1 = ap (λ (b : Bool). cond {A = ℕ} b 1 0) some in
+    omega arith)
     (λ past. absurd (false≢true (ap is_some (sym (get_or-eq_default walks None past)) ∙ some)))
     (cases_lt object (length walks))
 
@@ -109,11 +109,13 @@ module _ (parents before : List (Option ℕ)) (start : ℕ) (walks : List (Optio
   pub fills : CanStart parents before start → length walks ≡ length parents → length parents ≤ turns → HasWalked parents before walks start (Some here) × IsOnWay parents before walks start (Some here) here
   fills can long full =
       let most = count_by-le-length {X = Option ℕ} is_some walks in
-      let some = all_visited walks here (omega (arith, walk.count)) (omega (arith, walk.within)) in
-      (has_walked some, ⊎_elim
-        (λ old. absurd (omega (arith, walk.count, some_visits before here (ap is_some (sym old) ∙ some))))
-        (λ way. way)
-        (walk.each here))
+      let some = all_visited walks here (omega (arith, walk.count)) (omega (arith, walk.within)) in (
+        has_walked some,
+        ⊎_elim
+            (λ old. absurd (omega (arith, walk.count, some_visits before here (ap is_some (sym old) ∙ some))))
+            (λ way. way)
+            (walk.each here),
+      )
 
   module _ (within : here < length walks) (fresh : walk_at walks here ≡ None) where
     each_next : (next : Option ℕ) → parent_of parents here ≡ next → (object : ℕ) → (walk_at (set walks here (Some start)) object ≡ walk_at before object) ⊎ IsOnWay parents before (set walks here (Some start)) start next object
@@ -128,15 +130,15 @@ module _ (parents before : List (Option ℕ)) (start : ℕ) (walks : List (Optio
           leads = climb-one parents (Some object) ∙ ap (parent_of parents) same ∙ e;
         }))
         (λ ne. ⊎_elim
-          (λ old. inl (at_other walks here start within object ne ∙ old))
-          (λ way. inr (record {
-            noted = at_other walks here start within object ne ∙ way.noted;
-            steps = way.steps + 1;
-            some = omega arith;
-            few = omega (arith, way.few);
-            leads = climb-next parents way.steps (Some object) here way.leads ∙ e;
-          }))
-          (walk.each object))
+        (λ old. inl (at_other walks here start within object ne ∙ old))
+        (λ way. inr (record {
+          noted = at_other walks here start within object ne ∙ way.noted;
+          steps = way.steps + 1;
+          some = omega arith;
+          few = omega (arith, way.few);
+          leads = climb-next parents way.steps (Some object) here way.leads ∙ e;
+        }))
+        (walk.each object))
         (cases_eq object here)
 
     start_visited : IsSome (walk_at (set walks here (Some start)) start)
@@ -156,8 +158,12 @@ module _ (parents before : List (Option ℕ)) (start : ℕ) (walks : List (Optio
 
     -- at an object without parent
     pub comes_out : parent_of parents here ≡ None → Walked parents before start None (set walks here (Some start))
-    comes_out e = (None, record {
-      more = omega (arith, walk.count, one_more walks here start within fresh);
-      visited = start_visited;
-      each = each_next None e;
-    }, tt)
+    comes_out e = (
+      None,
+      record {
+        more = omega (arith, walk.count, one_more walks here start within fresh);
+        visited = start_visited;
+        each = each_next None e;
+      },
+      tt,
+    )
