@@ -6,13 +6,15 @@ use Rattle.std.specs.Str.{bytes_eq, str_to_ascii_lowercase, str_eq_ignore_ascii_
 use Rattle.std.specs.Cmp.Lexicographic.{bytes_decides}
 use Rattle.std.specs.declared.alloc.Global.{Global}
 use Rattle.std.specs.declared.vec.Vec.{Vec}
-use Rattle.std.proofs.lemmas.Bool.{cases_lt}
+use Rattle.std.proofs.lemmas.Bool.{cases_lt, or_parts}
 use Rattle.std.proofs.lemmas.Bool.Decides.{nat_tests}
-use Rattle.std.proofs.lemmas.List.{map-append, append_assoc, append-nil, get_or_append_left, length-append, length-map}
+use Rattle.std.proofs.lemmas.List.{map-append, append_assoc, append-nil, get_or_append_left, get_or_push, length-append, length-map}
+use Rattle.std.proofs.lemmas.Str.Ascii.{lowercase-lowercase}
+use Rattle.std.specs.Char.{to_ascii_lowercase}
 use Rattle.std.proofs.lemmas.List.Sums.{position_or_len_is}
 use Rattle.std.proofs.lemmas.List.Quantifiers.{position-Some}
 use Rattle.indexmap.specs.IndexSet.{insert_key}
-use Rattle.pex_set.specs.Names.{number_in, with_name, IsGrown}
+use Rattle.pex_set.specs.Names.{number_in, with_name, IsGrown, IsNumbered, empty_name}
 
 -- ---- the first place of what passes a test
 pub position-first : {X : Type 0} (p : X → Bool) (xs : List X) (i : ℕ) (d : X) → i < length xs → p (get_or xs i d) ≡ true → ((k : ℕ) → k < i → p (get_or xs k d) ≡ false) → position p xs ≡ Some i
@@ -159,3 +161,49 @@ numbers-push earlier later numbers names number name grown before e =
     (numbers-grown earlier later numbers names (subst (IsGrown earlier) (sym grown) (IsGrown-with_name earlier name)) before)
     ∙ ap (λ (o : Option ℕ). map (number_in later) names ++ o ∷ []) (sym e)
     ∙ sym (map-append (number_in later) names (name ∷ []))
+
+-- ---- each name has its own number
+lowered_twice : (name : List ℕ) → str_to_ascii_lowercase (str_to_ascii_lowercase name) ≡ str_to_ascii_lowercase name
+lowered_twice [] = refl
+lowered_twice (byte ∷ name) =
+    ap (λ (b : ℕ). b ∷ str_to_ascii_lowercase (str_to_ascii_lowercase name)) (lowercase-lowercase byte)
+    ∙ ap (λ (l : List ℕ). to_ascii_lowercase byte ∷ l) (lowered_twice name)
+
+position_or_len-absent : {X : Type 0} (p : X → Bool) (xs : List X) → list_any p xs ≡ false → position_or_len p xs ≡ length xs
+position_or_len-absent p [] e = refl
+position_or_len-absent p (x ∷ xs) e =
+    let parts = or_parts (p x) (list_any p xs) e in
+    let rest = position_or_len-absent p xs parts.1 in
+    let here : position_or_len p (x ∷ xs) ≡ 1 + position_or_len p xs = ap (λ (b : Bool). cond (not b) (1 + position_or_len p xs) 0) parts.0 in
+    omega arith
+
+-- a new name has the number past those that are there
+number-new : (table : List (List ℕ)) (name : List ℕ) → list_any (bytes_eq (str_to_ascii_lowercase name)) table ≡ false → number_in (table ++ str_to_ascii_lowercase name ∷ []) (str_to_ascii_lowercase name) ≡ Some (length table)
+number-new table name absent =
+    let folded = str_to_ascii_lowercase name in
+    let test = bytes_eq folded in
+    ap (λ (l : List ℕ). position (bytes_eq l) (table ++ folded ∷ [])) (lowered_twice name)
+    ∙ ap (λ (b : Bool). position test (cond b table (table ++ folded ∷ []))) (sym absent)
+    ∙ position-inserted test folded table ((bytes_decides folded folded).1 refl)
+    ∙ ap Some (position_or_len-absent test table absent)
+
+pub IsNumbered-with_name : (table : List (List ℕ)) (name : List ℕ) → IsNumbered table → IsNumbered (with_name table name)
+IsNumbered-with_name table name numbered = by (list_any (bytes_eq (str_to_ascii_lowercase name)) table) refl
+  where
+    by : (b : Bool) → list_any (bytes_eq (str_to_ascii_lowercase name)) table ≡ b → IsNumbered (cond b table (table ++ str_to_ascii_lowercase name ∷ []))
+    by true e = numbered
+    by false e =
+        let folded = str_to_ascii_lowercase name in
+        let later = table ++ folded ∷ [] in
+        let grown : IsGrown table later = (folded ∷ [], refl) in
+        record {
+          each = λ number h. ⊎_elim
+              (λ old.
+              ap (number_in later) (get_or_append_left table (folded ∷ []) [] number old)
+              ∙ number-grown table later (get_or table number []) number grown (numbered.each number old))
+              (λ new.
+              let last : number ≡ length table = omega (arith, h, length-append table (folded ∷ [])) in
+              ap (number_in later) (get_or_push table folded [] number (sym last)) ∙ number-new table name e ∙ ap Some (sym last))
+              (cases_lt number (length table));
+          empty = number-grown table later [] empty_name grown numbered.empty;
+        }

@@ -1,5 +1,5 @@
 -- Names as numbers, with the case of A to Z ignored.
-use Rattle.std.specs.Prelude.{◌≡◌, ℕ, List, [], ◌∷◌, ◌++◌, Option, fold, position, if◌then◌else◌}
+use Rattle.std.specs.Prelude.{◌≡◌, ℕ, ◌<◌, List, [], ◌∷◌, ◌++◌, Option, Some, fold, length, position, slice_index_or, if◌then◌else◌}
 use Rattle.std.specs.List.{list_any}
 use Rattle.std.specs.Str.{bytes_eq, str_to_ascii_lowercase}
 
@@ -25,3 +25,8 @@ with_names table names = fold with_name table names
 -- the later table begins with the names of the earlier one
 abbrev pub IsGrown : List (List ℕ) → List (List ℕ) → Type 0
 IsGrown earlier later = (added : List (List ℕ)) × (later ≡ earlier ++ added)
+
+-- the numbers below the count are those of the names, each of its own, and the first is the empty name
+pub record IsNumbered (table : List (List ℕ)) : Type 0 where
+  pub each : (number : ℕ) → number < length table → number_in table (slice_index_or table number []) ≡ Some number
+  pub empty : number_in table [] ≡ Some empty_name

@@ -1,7 +1,7 @@
 // Names as numbers, with the case of A to Z ignored.
 ghost use Rattle.std.specs.Prelude.{◌≡◌, ◌↔◌, ℕ, List, [], ◌∷◌, ◌++◌, Some, true, length, slice_index_or, IfOk, OnOk, OnErr};
 ghost use Rattle.std.specs.Str.{str_to_ascii_lowercase, str_eq_ignore_ascii_case};
-ghost use Rattle.pex_set.specs.Names.{number_in, with_name, IsGrown};
+ghost use Rattle.pex_set.specs.Names.{number_in, with_name, IsGrown, IsNumbered};
 
 use indexmap::IndexSet;
 use papy_base::OutOfMemory;
@@ -24,6 +24,10 @@ impl Model for NameTable {
     ghost Value = { List (List ℕ) };
 
     ghost view = { λ table. map (λ name. name.items) table.names.keys };
+
+    ghost use Rattle.pex_set.specs.Names.{IsNumbered};
+
+    ghost invariant = { λ table. IsNumbered (map (λ name. name.items) table.names.keys) };
 }
 
 impl NameTable {
@@ -57,7 +61,8 @@ impl NameTable {
 
     /// How many names there are. Their numbers are those below it.
     pub fn count(&self) -> usize
-        ensures { result ≡ length self.now }
+        ensures count { result ≡ length self.now }
+        ensures numbers { IsNumbered self.now }
     {
         self.names.len()
     }

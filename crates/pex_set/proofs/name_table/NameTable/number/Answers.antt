@@ -1,7 +1,14 @@
-use Rattle.std.proofs.Common.{ap, ◌∙◌}
-use Rattle.pex_set.specs.Names.{number_in, with_name}
-use Rattle.pex_set.proofs.NameLemmas.{inserted_name, inserted_number}
+use Rattle.std.proofs.Common.{sym, ap, subst, ◌∙◌}
+use Rattle.pex_set.specs.Names.{number_in, with_name, IsNumbered}
+use Rattle.pex_set.proofs.NameLemmas.{shown, inserted_name, inserted_number, IsNumbered-with_name}
 use Rattle.pex_set.proofs.name_table.NameTable.number.Goals as goal
+
+pub invariant_of-self-2 : goal.invariant_of-self-2
+invariant_of-self-2 c =
+    let keys = c.self.inside.names.keys in
+    subst IsNumbered
+    (sym (inserted_name keys c.insert_full.new.self.keys c.in_ok-folded.folded c.args.name.now c.in_ok-folded.ensures c.in_ok-number.ensures.keys))
+    (IsNumbered-with_name (shown keys) c.args.name.now c.self.invariant)
 
 pub returns-clause-table : goal.returns-clause-table
 returns-clause-table c =
