@@ -6,7 +6,7 @@ use Rattle.std.specs.Str.{bytes_eq, str_to_ascii_lowercase, str_eq_ignore_ascii_
 use Rattle.std.specs.Cmp.Lexicographic.{bytes_decides}
 use Rattle.std.specs.declared.alloc.Global.{Global}
 use Rattle.std.specs.declared.vec.Vec.{Vec}
-use Rattle.std.proofs.lemmas.Bool.{cases_lt, or_parts}
+use Rattle.std.proofs.lemmas.Bool.{cases_lt, or_parts, false≢true}
 use Rattle.std.proofs.lemmas.Bool.Decides.{nat_tests}
 use Rattle.std.proofs.lemmas.List.{map-append, append_assoc, append-nil, get_or_append_left, get_or_push, length-append, length-map}
 use Rattle.std.proofs.lemmas.Str.Ascii.{lowercase-lowercase}
@@ -207,3 +207,12 @@ IsNumbered-with_name table name numbered = by (list_any (bytes_eq (str_to_ascii_
               (cases_lt number (length table));
           empty = number-grown table later [] empty_name grown numbered.empty;
         }
+
+pub empty_number : (table : List (List ℕ)) (name : List ℕ) → IsNumbered table → (number_in table name ≡ Some empty_name) ↔ (name ≡ [])
+empty_number table name numbered =
+    let like = alike-number table [] name empty_name numbered.empty in
+    (λ e. no_bytes name (like.0 e), λ e. like.1 (ap (str_eq_ignore_ascii_case []) e))
+  where
+    no_bytes : (bytes : List ℕ) → str_eq_ignore_ascii_case [] bytes ≡ true → bytes ≡ []
+    no_bytes [] e = refl
+    no_bytes (byte ∷ bytes) e = absurd (false≢true e)

@@ -87,11 +87,14 @@ pub fn folded(alloc: Global, name: &[u8]) -> Result<Vec<u8>, OutOfMemory>
     Ok(bytes)
 }
 
-/// Names have one number where they are alike and no other, and a number stays as the table grows.
+/// Names have one number where they are alike and no other, and a number stays as the table grows. `EMPTY_NAME` is that of
+/// the empty name alone.
 pub fn one_number_of_a_name()
     ensures alike { (table : List (List ℕ)) (a b : List ℕ) (number : ℕ) → number_in table a ≡ Some number
         → (number_in table b ≡ Some number) ↔ (str_eq_ignore_ascii_case a b ≡ true) }
     ensures stays { (table more : List (List ℕ)) (name : List ℕ) (number : ℕ) → number_in table name ≡ Some number
         → number_in (table ++ more) name ≡ Some number }
+    ensures empty { (table : List (List ℕ)) (name : List ℕ) → IsNumbered table
+        → (number_in table name ≡ Some EMPTY_NAME) ↔ (name ≡ []) }
     ensures grows { (table : List (List ℕ)) (name : List ℕ) → IsGrown table (with_name table name) }
 {}

@@ -1,4 +1,4 @@
-use Rattle.pex_set.proofs.NameLemmas.{alike-number, position-grown, IsGrown-with_name}
+use Rattle.pex_set.proofs.NameLemmas.{alike-number, empty_number, position-grown, IsGrown-with_name}
 use Rattle.std.specs.Str.{bytes_eq, str_to_ascii_lowercase}
 use Rattle.pex_set.proofs.name_table.one_number_of_a_name.Goals as goal
 
@@ -11,3 +11,6 @@ returns-clause-stays c =
 
 pub returns-clause-grows : goal.returns-clause-grows
 returns-clause-grows c = IsGrown-with_name
+
+pub returns-clause-empty : goal.returns-clause-empty
+returns-clause-empty c = empty_number
