@@ -6,8 +6,8 @@ ghost use Rattle.pex_set.specs.Lineage.{parent_of, AreAmong, AreRooted};
 use papy_base::OutOfMemory;
 use std::alloc::Global;
 
-/// Of each object, whether it stands above itself: on a circle of parents. An object that only leads to a circle of parents
-/// doesn't.
+/// Of each object, whether it stands above itself: on a circle of parents, each of which is one of the objects. An object that
+/// only leads to a circle of parents doesn't.
 pub fn on_circles(alloc: Global, parents: &[Option<usize>]) -> Result<Vec<bool>, OutOfMemory>
     ensures length { IfOk result (λ found. vec_len found ≡ length parents.now) }
     ensures exact { IfOk result (λ found. AreAmong parents.now → MarksCircles parents.now found.items) }
