@@ -9,3 +9,8 @@ pub mod Positions
 pub mod Stretches
 pub mod Sweeps
 pub mod Members
+pub mod CircleLemmas
+pub mod ClimbLemmas
+pub mod NameLemmas
+pub mod ObjectLemmas
+pub mod CircleWalks

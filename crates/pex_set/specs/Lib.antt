@@ -3,3 +3,6 @@ pub mod Lineage
 pub mod Orders
 pub mod Inherited
 pub mod Sweep
+pub mod Names
+pub mod Objects
+pub mod Circles

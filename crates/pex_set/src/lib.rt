@@ -14,6 +14,6 @@ pub use circles::on_circles;
 pub use descent::{Descent, Span};
 pub use file_names::{FileNames, text_at};
 pub use inherited::{Inherited, MemberNames, MemberPlace, OwnMembers};
-pub use name_table::{EMPTY_NAME, NameTable, folded};
+pub use name_table::{EMPTY_NAME, NameTable, folded, one_number_of_a_name};
 pub use objects::{Head, Objects};
 pub use prelude::{LIBRARY_COUNT, PRELUDE_COUNT, Prelude};
