@@ -1,3 +1,4 @@
 pub mod ActionTable
 pub mod Lists
 pub mod Sets
+pub mod LoadedRows

@@ -6,3 +6,5 @@ pub mod Objects
 pub mod Places
 pub mod Sources
 pub mod Sets
+pub mod Plain
+pub mod Meanings

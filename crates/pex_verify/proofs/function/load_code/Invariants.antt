@@ -5,4 +5,4 @@ use Rattle.pex_verify.proofs.function.load_code.Given as goal
 
 abbrev pub invariant-loop-place : goal.invariant-loop-place
 invariant-loop-place l =
-    (vec_len l.loaded ≡ l.place) × ((length l.code ≤ vec_capacity l.loaded) × AreSoundInstructions (bounds_of l.scope.home.now) (vec_len l.scope.slots.now.kinds) (length l.code) l.loaded.items)
+    (vec_len l.loaded ≡ l.place) × ((length l.code ≤ vec_capacity l.loaded) × AreSoundInstructions (bounds_of l.scope.home.now) (vec_len l.scope.slots.now.list) (length l.code) l.loaded.items)
