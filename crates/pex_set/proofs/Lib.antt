@@ -5,3 +5,6 @@ pub mod WalkLemmas
 pub mod OrderLemmas
 pub mod ReachLemmas
 pub mod DescentLemmas
+pub mod NameLemmas
+pub mod ObjectLemmas
+pub mod CircleLemmas

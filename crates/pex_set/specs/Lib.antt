@@ -1,3 +1,6 @@
 pub mod Ranks
 pub mod Lineage
 pub mod Orders
+pub mod Names
+pub mod Objects
+pub mod Circles
