@@ -8,3 +8,6 @@ pub mod DescentLemmas
 pub mod NameLemmas
 pub mod ObjectLemmas
 pub mod CircleLemmas
+pub mod Positions
+pub mod Stretches
+pub mod Sweeps

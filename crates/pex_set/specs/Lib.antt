@@ -4,3 +4,5 @@ pub mod Orders
 pub mod Names
 pub mod Objects
 pub mod Circles
+pub mod Inherited
+pub mod Sweep
