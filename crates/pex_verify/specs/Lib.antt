@@ -8,3 +8,9 @@ pub mod Sources
 pub mod Sets
 pub mod Plain
 pub mod Meanings
+pub mod Fitting
+pub mod Judgement
+pub mod Accepted
+pub mod Found
+pub mod Agreement
+pub mod Judged

@@ -1,5 +1,6 @@
 // One function.
 ghost use Rattle.std.specs.Prelude.{◌≡◌, ◌+◌, ℕ, length, vec_len, All, IfOk, OnOk, IfSome};
+ghost use Rattle.pex_verify.specs.Judged.{AreTypedIn};
 ghost use Rattle.pex_verify.specs.Places.{bounds_of};
 ghost use Rattle.pex_verify.specs.Types.{IsTypeAmong, IsValueTypeAmong};
 ghost use Rattle.pex_verify.specs.Soundness.{IsSoundFunction, AreSoundInstructions};
@@ -161,7 +162,8 @@ fn load_code(
     code: &[Instruction],
     operands: &mut Operands,
 ) -> Result<Vec<LoadedInstruction>, Refusal>
-    ensures { IfOk result (λ loaded. AreSoundInstructions (bounds_of scope.now.home.now) (vec_len scope.now.slots.now.list) (vec_len loaded) loaded.items) }
+    ensures sound { IfOk result (λ loaded. AreSoundInstructions (bounds_of scope.now.home.now) (vec_len scope.now.slots.now.list) (vec_len loaded) loaded.items) }
+    ensures typed { IfOk result (λ loaded. AreTypedIn scope.now loaded.items) }
 {
     if !scope.home.keeps_code {
         judge_code(scope, code, operands)?;

@@ -1,5 +1,8 @@
 // One instruction.
-ghost use Rattle.std.specs.Prelude.{◌≡◌, ◌<◌, ◌≤◌, ◌+ℤ◌, ℕ, pos, vec_len, All, IfOk, OnOk, IfSome, Some, option_copied};
+ghost use Rattle.std.specs.Prelude.{◌≡◌, ◌<◌, ◌≤◌, ◌+ℤ◌, ℕ, pos, length, vec_len, All, IfOk, OnOk, IfSome, Some, option_copied};
+ghost use Rattle.pex_verify.specs.Accepted.{HasInstance, OperandsFit};
+ghost use Rattle.pex_verify.specs.Found.{Allows};
+ghost use Rattle.pex_verify.specs.Judged.{IsJudged, IsTypedIn};
 ghost use Rattle.pex_verify.specs.Places.{bounds_of, IsFoundAmong};
 ghost use Rattle.pex_verify.specs.declared.action.Use.TheVariants.{Read};
 ghost use Rattle.pex_verify.specs.Uses.{action_of as action_by, uses_by};
@@ -33,7 +36,8 @@ pub(crate) fn load_instruction(
     instruction: &Instruction,
     operands: &mut Operands,
 ) -> Result<LoadedInstruction, Refusal>
-    ensures { IfOk result (IsSoundInstruction (bounds_of scope.now.home.now) (vec_len scope.now.slots.now.list) count place) }
+    ensures sound { IfOk result (IsSoundInstruction (bounds_of scope.now.home.now) (vec_len scope.now.slots.now.list) count place) }
+    ensures typed { IfOk result (IsTypedIn scope.now) }
 {
     let link = judge_instruction(scope, place, count, instruction, operands)?;
     let alloc = scope.home.alloc;
@@ -60,6 +64,7 @@ pub(crate) fn judge_instruction(
     ensures more { OnOk result (All (IsResolved (vec_len scope.now.slots.now.list) (vec_len scope.now.home.now.variables.now.list) Read) operands.new.more.items) }
     ensures jump { IfOk result (λ link. Leads (action_by instruction.now.opcode) place count operands.new.fixed.items link.jump) }
     ensures function { IfOk result (λ link. IfSome link.function (λ f. f.script < vec_len scope.now.home.now.set.now.heads)) }
+    ensures judged { OnOk result (IsJudged scope.now instruction.now operands.new.fixed.items operands.new.more.items) }
 {
     let action = judged_action(instruction)?;
     let data = instruction.fixed.as_slice();
@@ -105,7 +110,11 @@ fn broken_rule(
     fixed: &[Operand],
     more: &[Operand],
     found: Lookup<'_>,
-) -> Option<VerifyRule> {
+) -> Option<VerifyRule>
+    ensures instance { result ≡ None → HasInstance scope.now action }
+    ensures fit { result ≡ None → OperandsFit scope.now action fixed.now more.now found.entry }
+    ensures allowed { result ≡ None → Allows action (length more.now) found.entry }
+{
     // A call of a parent's method uses the instance, and a global function has none.
     if action == Action::CallParent && scope.is_global {
         return Some(VerifyRule::UnknownVariable);

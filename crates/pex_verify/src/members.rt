@@ -1,5 +1,8 @@
 // Where the machine and the rules find the methods and properties of scripts.
 ghost use Rattle.std.specs.Prelude.{◌≡◌, IfSome};
+ghost use Rattle.pex_set.specs.Inherited.{found_in};
+ghost use Rattle.pex_set.specs.Names.{empty_name};
+ghost use Rattle.pex_set.specs.Ranks.{is_below, span_at};
 
 use crate::loaded::{MethodPlace, PropertyPlace};
 use crate::scripts::ScriptHead;
@@ -128,7 +131,9 @@ impl MemberTable {
     }
 
     /// The nearest method of the name in states of this name, from the script upward.
-    pub(crate) fn in_state(&self, script: usize, state: usize, name: usize) -> Option<MemberPlace> {
+    pub(crate) fn in_state(&self, script: usize, state: usize, name: usize) -> Option<MemberPlace>
+        ensures { result ≡ found_in self.now.methods (state, name) (span_at self.now.descent script).start }
+    {
         self.methods.find((state, name), self.rank(script))
     }
 
@@ -142,17 +147,23 @@ impl MemberTable {
     }
 
     /// The nearest property of the name, from the script upward.
-    pub(crate) fn property(&self, script: usize, name: usize) -> Option<MemberPlace> {
+    pub(crate) fn property(&self, script: usize, name: usize) -> Option<MemberPlace>
+        ensures { result ≡ found_in self.now.properties (empty_name, name) (span_at self.now.descent script).start }
+    {
         self.properties.find((EMPTY_NAME, name), self.rank(script))
     }
 
     /// Whether the parent is the script itself or stands above it.
-    pub(crate) fn is_child(&self, script: u16, parent: u16) -> bool {
+    pub(crate) fn is_child(&self, script: u16, parent: u16) -> bool
+        ensures { result ≡ is_below self.now.descent script parent }
+    {
         self.descent
             .is_below(usize::from(script), usize::from(parent))
     }
 
-    fn rank(&self, script: usize) -> usize {
+    fn rank(&self, script: usize) -> usize
+        ensures { result ≡ (span_at self.now.descent script).start }
+    {
         self.descent.span(script).start
     }
 }

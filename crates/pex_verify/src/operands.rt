@@ -1,7 +1,9 @@
 // Operands with their identifiers resolved.
 ghost use Rattle.std.specs.Prelude.{◌≡◌, vec_len, IfOk, OnOk};
+ghost use Rattle.pex_verify.specs.Found.{AreTold, IsTold};
 ghost use Rattle.pex_verify.specs.Uses.{use_at as use_in};
 ghost use Rattle.pex_verify.specs.Soundness.{IsResolved, AreResolved};
+ghost use Rattle.pex_values.specs.declared.values.Datum.TheVariants.{Word};
 
 use crate::action::Use;
 use crate::fault::{Refusal, VerifyRule};
@@ -35,7 +37,8 @@ pub(crate) fn resolve_all(
     data: &[Datum],
     operands: &mut Vec<Operand>,
 ) -> Result<(), Refusal>
-    ensures { OnOk result (AreResolved (vec_len scope.now.slots.now.list) (vec_len scope.now.home.now.variables.now.list) uses.now operands.new.items) }
+    ensures resolved { OnOk result (AreResolved (vec_len scope.now.slots.now.list) (vec_len scope.now.home.now.variables.now.list) uses.now operands.new.items) }
+    ensures told { OnOk result (AreTold scope.now uses.now «data».now operands.new.items) }
 {
     operands.clear();
     operands.reserve_exact(data.len())?;
@@ -55,7 +58,8 @@ fn use_at(uses: &[Use], place: usize) -> Use
 }
 
 fn resolve(scope: &FunctionScope<'_>, purpose: Use, datum: Datum) -> Result<Operand, Refusal>
-    ensures { IfOk result (IsResolved (vec_len scope.now.slots.now.list) (vec_len scope.now.home.now.variables.now.list) purpose) }
+    ensures resolved { IfOk result (IsResolved (vec_len scope.now.slots.now.list) (vec_len scope.now.home.now.variables.now.list) purpose) }
+    ensures told { IfOk result (IsTold scope.now purpose datum) }
 {
     match datum {
         Datum::NoneValue => Ok(Operand::NoneValue),
@@ -71,7 +75,8 @@ fn resolve(scope: &FunctionScope<'_>, purpose: Use, datum: Datum) -> Result<Oper
 }
 
 fn resolve_word(scope: &FunctionScope<'_>, purpose: Use, reference: u16) -> Result<Operand, Refusal>
-    ensures { IfOk result (IsResolved (vec_len scope.now.slots.now.list) (vec_len scope.now.home.now.variables.now.list) purpose) }
+    ensures resolved { IfOk result (IsResolved (vec_len scope.now.slots.now.list) (vec_len scope.now.home.now.variables.now.list) purpose) }
+    ensures told { IfOk result (IsTold scope.now purpose (Word reference)) }
 {
     match purpose {
         Use::Read | Use::Write => {

@@ -1,6 +1,8 @@
 // What is seen where code stands.
-ghost use Rattle.std.specs.Prelude.{vec_len, IfSome};
+ghost use Rattle.std.specs.Prelude.{◌≡◌, vec_len, IfSome, IsTrue, slice_get, slice_index_or};
+ghost use Rattle.pex_verify.specs.Judgement.{IsFor, IsSeenIn, Takes, TakesCast, stored_by, type_by, variable_type};
 ghost use Rattle.pex_verify.specs.Soundness.{IsIdentifier};
+ghost use Rattle.pex_verify.specs.declared.value_type.ValueType.TheVariants.{Unknown};
 
 use crate::fault::{Refusal, VerifyFault};
 use crate::lines::FileLines;
@@ -55,7 +57,8 @@ impl FunctionScope<'_> {
     /// What the name of this number means where it is read or written: the first of a parameter or local, a variable
     /// of the script, the instance, and its state that has the name. Global functions see the first alone.
     pub(crate) fn meaning(&self, name: usize) -> Option<Operand>
-        ensures { IfSome result (IsIdentifier (vec_len self.now.slots.now.list) (vec_len self.now.home.now.variables.now.list)) }
+        ensures meant { IfSome result (IsIdentifier (vec_len self.now.slots.now.list) (vec_len self.now.home.now.variables.now.list)) }
+        ensures seen { IfSome result (IsSeenIn self.now.is_global) }
     {
         if let Some(place) = self.slots.place(name) {
             return Some(Operand::Slot(place));
@@ -77,7 +80,9 @@ impl FunctionScope<'_> {
     }
 
     /// What an operand's value is. A name that stands for itself has none.
-    pub(crate) fn type_of(&self, operand: &Operand) -> ValueType {
+    pub(crate) fn type_of(&self, operand: &Operand) -> ValueType
+        ensures { result ≡ type_by self.now operand.now }
+    {
         match operand {
             Operand::NoneValue => ValueType::Nothing,
             Operand::Word(_) => ValueType::Unknown,
@@ -90,14 +95,18 @@ impl FunctionScope<'_> {
         }
     }
 
-    fn slot_type(&self, place: u16) -> ValueType {
+    fn slot_type(&self, place: u16) -> ValueType
+        ensures { result ≡ slice_index_or self.now.slots.now.list.items place Unknown }
+    {
         match self.slots.list.get(usize::from(place)) {
             Some(found) => *found,
             None => ValueType::Unknown,
         }
     }
 
-    fn variable_type(&self, place: u16) -> ValueType {
+    fn variable_type(&self, place: u16) -> ValueType
+        ensures { result ≡ variable_type (slice_get self.now.home.now.variables.now.list.items place) }
+    {
         match self.home.variables.list.get(usize::from(place)) {
             Some(variable) => ValueType::Of(variable.kind),
             None => ValueType::Unknown,
@@ -106,7 +115,9 @@ impl FunctionScope<'_> {
 
     /// The type of what can be stored in an operand, none where it isn't a parameter, a local, a variable or
     /// the state.
-    pub(crate) fn stored_type(&self, operand: &Operand) -> Option<ValueType> {
+    pub(crate) fn stored_type(&self, operand: &Operand) -> Option<ValueType>
+        ensures { result ≡ stored_by self.now operand.now }
+    {
         match operand {
             Operand::Slot(_) | Operand::Variable(_) | Operand::State => Some(self.type_of(operand)),
             _ => None,
@@ -114,17 +125,23 @@ impl FunctionScope<'_> {
     }
 
     /// Whether the operand is a value of exactly this type.
-    pub(crate) fn is_of(&self, operand: &Operand, wanted: ValueType) -> bool {
+    pub(crate) fn is_of(&self, operand: &Operand, wanted: ValueType) -> bool
+        ensures { IsTrue result → type_by self.now operand.now ≡ wanted }
+    {
         self.type_of(operand) == wanted
     }
 
     /// Whether the operand's value fits this type.
-    pub(crate) fn fits(&self, operand: &Operand, wanted: ValueType) -> bool {
+    pub(crate) fn fits(&self, operand: &Operand, wanted: ValueType) -> bool
+        ensures { IsTrue result → IsFor self.now wanted operand.now }
+    {
         self.home.set.fits(self.type_of(operand), wanted)
     }
 
     /// Whether a value of this type can be stored in the operand. What has the type None takes any value.
-    pub(crate) fn takes(&self, to: &Operand, value: ValueType) -> bool {
+    pub(crate) fn takes(&self, to: &Operand, value: ValueType) -> bool
+        ensures { IsTrue result → Takes self.now to.now value }
+    {
         match self.stored_type(to) {
             Some(ValueType::Nothing) => true,
             Some(wanted) => self.home.set.fits(value, wanted),
@@ -133,7 +150,9 @@ impl FunctionScope<'_> {
     }
 
     /// The same of a value that is cast to the operand's type.
-    pub(crate) fn takes_cast(&self, to: &Operand, value: ValueType) -> bool {
+    pub(crate) fn takes_cast(&self, to: &Operand, value: ValueType) -> bool
+        ensures { IsTrue result → TakesCast self.now to.now value }
+    {
         match self.stored_type(to) {
             Some(ValueType::Nothing) => true,
             Some(wanted) => self.home.set.casts(value, wanted),

@@ -1,5 +1,6 @@
 // The scripts of a set, as other scripts see them.
-ghost use Rattle.std.specs.Prelude.{◌≡◌, ◌+◌, ◌<◌, length, vec_len, IfOk, IfSome, OnOk};
+ghost use Rattle.std.specs.Prelude.{◌≡◌, ◌+◌, ◌<◌, length, vec_len, IfOk, IfSome, IsTrue, OnOk};
+ghost use Rattle.pex_verify.specs.Fitting.{CastsIn, FitsIn};
 ghost use Rattle.pex_verify.specs.Types.{IsValueTypeAmong};
 ghost use Rattle.pex_verify.specs.Meanings.{result_meaning, value_meaning};
 ghost use Rattle.pex_verify.specs.Sources.{object_count};
@@ -172,6 +173,9 @@ fn has_members(number: usize, names: &FileNames, object: &PexObject) -> bool {
 }
 
 impl ScriptSet {
+    ghost use Rattle.std.specs.Prelude.{Some};
+    ghost use Rattle.pex_verify.specs.Found as found;
+
     /// The scripts of these files, the first of which is the prelude, whose objects are these.
     pub(crate) fn of(
         alloc: Global,
@@ -203,7 +207,8 @@ impl ScriptSet {
 
     /// The nearest function of this name in the empty states, from the script upward.
     pub(crate) fn find_function(&self, script: usize, name: usize) -> Option<Callee<'_>>
-        ensures { IfSome result (λ callee. callee.place.script < vec_len self.now.heads) }
+        ensures among { IfSome result (λ callee. callee.place.script < vec_len self.now.heads) }
+        ensures nearest { IfSome result (λ callee. found.function_found self.now script name ≡ Some callee.signature.now) }
     {
         let found = self.table.in_state(script, EMPTY_NAME, name)?;
         let head = self.heads.get(found.object)?;
@@ -213,7 +218,9 @@ impl ScriptSet {
     }
 
     /// The nearest property of this name, from the script upward.
-    pub(crate) fn find_property(&self, script: usize, name: usize) -> Option<PropertyHead> {
+    pub(crate) fn find_property(&self, script: usize, name: usize) -> Option<PropertyHead>
+        ensures { result ≡ found.property_found self.now script name }
+    {
         let found = self.table.property(script, name)?;
         self.heads
             .get(found.object)?
@@ -252,7 +259,9 @@ impl ScriptSet {
         }
     }
 
-    pub(crate) fn parent(&self, script: usize) -> Option<usize> {
+    pub(crate) fn parent(&self, script: usize) -> Option<usize>
+        ensures { result ≡ found.parent_of self.now script }
+    {
         self.heads.get(script)?.parent
     }
 
@@ -279,36 +288,37 @@ impl ScriptSet {
 
     /// Whether a value of one type fits the other: it has the type, or is of a script below it, or is None
     /// and the type is a script or array type.
-    pub(crate) fn fits(&self, value: ValueType, to: ValueType) -> bool {
+    pub(crate) fn fits(&self, value: ValueType, to: ValueType) -> bool
+        ensures { IsTrue result → FitsIn self.now.table.descent value to }
+    {
         match (value, to) {
             (ValueType::Of(CoreType::Script(script)), ValueType::Of(CoreType::Script(parent))) => {
                 self.table.is_child(script, parent)
             }
-            (ValueType::Nothing, to) if to.holds_none() => true,
-            _ => value == to && value.is_known(),
+            (ValueType::Of(from), ValueType::Of(to)) => from == to,
+            (ValueType::Nothing, ValueType::Of(_)) => to.holds_none(),
+            (ValueType::Nothing, ValueType::Nothing) => true,
+            _ => false,
         }
     }
 
     /// Whether `as` gives the other type from a value of this one.
-    pub(crate) fn casts(&self, value: ValueType, to: ValueType) -> bool {
-        if !value.is_known() || !to.is_known() {
-            return false;
-        }
-        if to == BOOL || self.fits(value, to) {
-            return true;
-        }
-        if to == TEXT {
-            return value == INT
-                || value == BOOL
-                || value == ValueType::Nothing
-                || value.script().is_some();
-        }
-        if to == INT {
-            return value == BOOL || value == TEXT;
-        }
-        match (value.script(), to.script()) {
-            (Some(parent), Some(script)) => self.table.is_child(script, parent),
-            _ => false,
+    pub(crate) fn casts(&self, value: ValueType, to: ValueType) -> bool
+        ensures { IsTrue result → CastsIn self.now.table.descent value to }
+    {
+        match (value, to) {
+            (ValueType::Float | ValueType::Unknown, _) => false,
+            (_, ValueType::Of(CoreType::Bool)) => true,
+            (ValueType::Of(CoreType::Bool | CoreType::Text), ValueType::Of(CoreType::Int)) => true,
+            (
+                ValueType::Nothing
+                | ValueType::Of(CoreType::Int | CoreType::Bool | CoreType::Script(_)),
+                ValueType::Of(CoreType::Text),
+            ) => true,
+            (ValueType::Of(CoreType::Script(from)), ValueType::Of(CoreType::Script(to))) => {
+                self.table.is_child(from, to) || self.table.is_child(to, from)
+            }
+            _ => self.fits(value, to),
         }
     }
 }

@@ -1,5 +1,5 @@
 // The values of a set, with the numbers of their names.
-ghost use Rattle.std.specs.Prelude.{◌≡◌, ◌+◌, ◌<◌, length, vec_len, sum_by, IfOk};
+ghost use Rattle.std.specs.Prelude.{◌≡◌, ◌+◌, ◌<◌, [], length, vec_len, slice_index_or, sum_by, IfOk};
 ghost use Rattle.pex_verify.specs.Sources.{object_count, objects_in, objects_of};
 
 use crate::fault::Site;
@@ -26,7 +26,9 @@ impl<'a> SetFile<'a> {
     }
 
     /// The string at this reference as a name.
-    pub(crate) fn title(&self, alloc: Global, reference: u16) -> Result<Name, OutOfMemory> {
+    pub(crate) fn title(&self, alloc: Global, reference: u16) -> Result<Name, OutOfMemory>
+        ensures { IfOk result (λ name. name ≡ slice_index_or self.now.titles.now reference []) }
+    {
         match self.titles.get(usize::from(reference)) {
             Some(title) => title.try_clone(alloc),
             None => Name::from_bytes(alloc, &[]),

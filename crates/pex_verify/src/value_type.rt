@@ -1,6 +1,6 @@
 // The types that values, variables and results have while code is judged.
 ghost use Rattle.std.specs.Prelude.{◌≡◌, ℕ, IfSome};
-ghost use Rattle.pex_verify.specs.Meanings.{where_none_is_none};
+ghost use Rattle.pex_verify.specs.Meanings.{element_type, script_type, takes_none, where_none_is_none};
 ghost use Rattle.pex_verify.specs.Types.{IsValueTypeAmong};
 
 use core_tree::CoreType;
@@ -35,18 +35,21 @@ impl ValueType {
         }
     }
 
-    /// Whether a value can have it.
-    pub(crate) fn is_known(self) -> bool {
-        !matches!(self, ValueType::Float | ValueType::Unknown)
-    }
-
     /// Whether it is a script type or an array type, to which None belongs.
-    pub(crate) fn holds_none(self) -> bool {
-        matches!(self, ValueType::Of(CoreType::Script(_))) || self.element().is_some()
+    pub(crate) fn holds_none(self) -> bool
+        ensures { result ≡ takes_none self }
+    {
+        match self {
+            ValueType::Of(CoreType::Int | CoreType::Bool | CoreType::Text) => false,
+            ValueType::Of(_) => true,
+            _ => false,
+        }
     }
 
     /// The type of an array's elements.
-    pub(crate) fn element(self) -> Option<ValueType> {
+    pub(crate) fn element(self) -> Option<ValueType>
+        ensures { result ≡ element_type self }
+    {
         match self {
             ValueType::Of(CoreType::IntArray) => Some(INT),
             ValueType::Of(CoreType::BoolArray) => Some(BOOL),
@@ -59,7 +62,9 @@ impl ValueType {
     }
 
     /// The script of a script type.
-    pub(crate) fn script(self) -> Option<u16> {
+    pub(crate) fn script(self) -> Option<u16>
+        ensures { result ≡ script_type self }
+    {
         match self {
             ValueType::Of(CoreType::Script(script)) => Some(script),
             _ => None,
@@ -69,7 +74,8 @@ impl ValueType {
 
 /// The type of arrays of this element type, where there are such.
 pub(crate) fn array_of(element: ValueType) -> Option<ValueType>
-    ensures { (count : ℕ) → IsValueTypeAmong count element → IfSome result (IsValueTypeAmong count) }
+    ensures among { (count : ℕ) → IsValueTypeAmong count element → IfSome result (IsValueTypeAmong count) }
+    ensures elements { IfSome result (λ array. element_type array ≡ Some element) }
 {
     match element {
         ValueType::Of(CoreType::Int) => Some(ValueType::Of(CoreType::IntArray)),
