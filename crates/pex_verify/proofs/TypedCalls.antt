@@ -22,7 +22,7 @@ use Rattle.pex_verify.specs.Judgement.{IsFor, IsSeenIn, Takes, type_by}
 use Rattle.pex_verify.specs.Meanings.{of_result, result_meaning, script_type, value_meaning, where_none_is_none}
 use Rattle.pex_verify.specs.Plain.{operand_of}
 use Rattle.pex_verify.specs.Types.{IsValueTypeAmong}
-use Rattle.pex_verify.proofs.Typing.{gives, gives_own, stores}
+use Rattle.pex_verify.proofs.Typing.{gives, gives_own, stores, type_among}
 
 script_kind : (value : ValueType) (script : ℕ) → script_type value ≡ Some script → value ≡ Of (kinds.Script script)
 script_kind Nothing script same = absurd (cc)
@@ -44,6 +44,10 @@ module _ (scope : FunctionScope) (outline : List ScriptShape) (scripts : List Sc
   pub gives_object : (o : Operand) (script : ℕ) → IsSeenIn scope.is_global o → script_type (type_by scope o) ≡ Some script → Gives placed (kinds.Script script) (operand_of o)
   gives_object o script s same =
       gives_own scope outline scripts function types stands o (kinds.Script script) s (script_kind (type_by scope o) script same)
+
+  pub object_below : (o : Operand) (script : ℕ) → script_type (type_by scope o) ≡ Some script → script < vec_len scope.home.now.set.now.heads
+  object_below o script same =
+      subst (λ (v : ValueType). IsValueTypeAmong (vec_len scope.home.now.set.now.heads) v) (script_kind (type_by scope o) script same) (type_among scope outline scripts function types stands o)
 
   -- a result of the type that a name means
   pub stores_named : (o : Operand) (name : ℕ) (result : Option CoreType) → IsSeenIn scope.is_global o → of_result result ≡ result_meaning scope.home.now.set.now.types name → Takes scope o (result_meaning scope.home.now.set.now.types name) → Stores placed (operand_of o) result

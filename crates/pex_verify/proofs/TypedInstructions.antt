@@ -1,5 +1,5 @@
 -- Instructions are typed where they are accepted, by cases on opcodes.
-use Rattle.std.proofs.Common.{◌≡◌, ℕ, zero, suc, ◌<◌, List, [], ◌∷◌, Option, Some, None, length, refl, sym, ap, subst, ◌∙◌, arith}
+use Rattle.std.proofs.Common.{◌≡◌, ℕ, zero, suc, ◌<◌, List, [], ◌∷◌, Option, Some, None, length, refl, sym, ap, subst, ◌∙◌, arith, vec_len}
 use Rattle.std.specs.Prelude.{map, slice_get, slice_index_or, unsigned_abs}
 use Rattle.std.proofs.lemmas.Option.{get_or_from_slice_get, slice_get_within}
 use Rattle.core_tree.specs.declared.core_type.CoreType.TheVariants as kinds
@@ -30,7 +30,7 @@ use Rattle.pex_verify.specs.Judgement.{IsSeenIn, spans_of, type_by}
 use Rattle.pex_verify.specs.Plain.{Operands, forms, instruction_by, name_of, none, number_of, operand_of, script_named}
 use Rattle.pex_verify.specs.Uses.{action_table, use_at, uses_of}
 use Rattle.pex_verify.proofs.Typing.{gives_result, seen, takes_cast, takes_value}
-use Rattle.pex_verify.proofs.TypedCalls.{calls_method, calls_parent, calls_static, gets_property, sets_property}
+use Rattle.pex_verify.proofs.TypedCalls.{calls_method, calls_parent, calls_static, gets_property, object_below, sets_property}
 use Rattle.pex_verify.proofs.TypedValues.{compare, compares, computes, creates, finds, gets_element, measures, own, sets_element, takes_kind}
 
 -- ---- two tables, by place
@@ -176,7 +176,7 @@ module _ (scope : FunctionScope) (names : List (List ℕ)) (outline : List Scrip
   call_method j (Function callee) sought fit allowed =
       let s = given_seen action.CallMethod j in
       let f = sought.0 in
-      let offered = agrees.functions f.from f.number (name_of (at fixed 0)) callee.signature.now (named_at action.CallMethod j 0 f.number refl f.named) f.found in
+      let offered = agrees.functions f.from f.number (name_of (at fixed 0)) callee.signature.now (object_below scope outline scripts function agrees.types stands (at fixed 1) f.from f.sought) (named_at action.CallMethod j 0 f.number refl f.named) f.found in
       calls_method scope outline scripts function agrees.types stands (at fixed 1) (at fixed 2) more (name_of (at fixed 0)) f.from callee.signature.now offered allowed.1 f.sought (s 1) fit.1.0 (s 2) allowed.0 (more_seen action.CallMethod j) fit.1.1
 
   call_parent : (j : IsJudgedAs scope action.CallParent instruction fixed more) (found : Lookup) → LooksUp scope action.CallParent instruction.fixed.items fixed found → OperandsFit scope action.CallParent fixed more found → Allows action.CallParent (length more) found
@@ -187,11 +187,11 @@ module _ (scope : FunctionScope) (names : List (List ℕ)) (outline : List Scrip
   call_parent j (Function callee) sought fit allowed =
       let s = given_seen action.CallParent j in
       let f = sought.0 in
-      let offered = agrees.functions f.from f.number (name_of (at fixed 0)) callee.signature.now (named_at action.CallParent j 0 f.number refl f.named) f.found in
       let above = agrees.parents scope.home.now.here f.from f.sought in
-      calls_parent scope outline scripts function agrees.types stands (at fixed 1) more (name_of (at fixed 0)) f.from callee.signature.now offered allowed.1 above.0 above.1 j.instance fit.0 (s 1) allowed.0 (more_seen action.CallParent j) fit.1
+      let offered = agrees.functions f.from f.number (name_of (at fixed 0)) callee.signature.now above.0 (named_at action.CallParent j 0 f.number refl f.named) f.found in
+      calls_parent scope outline scripts function agrees.types stands (at fixed 1) more (name_of (at fixed 0)) f.from callee.signature.now offered allowed.1 above.1 above.2 j.instance fit.0 (s 1) allowed.0 (more_seen action.CallParent j) fit.1
 
-  script_at : (j : IsJudgedAs scope action.CallStatic instruction fixed more) (script : ℕ) (name : Option ℕ) → name_by scope instruction.fixed.items 0 ≡ name → script_named_by scope.home.now.set.now name ≡ Some script → script_named outline (name_of (at fixed 0)) ≡ script
+  script_at : (j : IsJudgedAs scope action.CallStatic instruction fixed more) (script : ℕ) (name : Option ℕ) → name_by scope instruction.fixed.items 0 ≡ name → script_named_by scope.home.now.set.now name ≡ Some script → (script < vec_len scope.home.now.set.now.heads) × (script_named outline (name_of (at fixed 0)) ≡ script)
   script_at j script None is same = absurd (cc)
   script_at j script (Some number) is same =
       agrees.named number script (name_of (at fixed 0)) (named_at action.CallStatic j 0 number refl is) same
@@ -204,8 +204,9 @@ module _ (scope : FunctionScope) (names : List (List ℕ)) (outline : List Scrip
   call_static j (Function callee) sought fit allowed =
       let s = given_seen action.CallStatic j in
       let f = sought.0 in
-      let offered = agrees.functions f.from f.number (name_of (at fixed 1)) callee.signature.now (named_at action.CallStatic j 1 f.number refl f.named) f.found in
-      calls_static scope outline scripts function agrees.types stands (at fixed 2) more (name_of (at fixed 1)) f.from (script_named outline (name_of (at fixed 0))) callee.signature.now offered allowed.1 (script_at j f.from (name_by scope instruction.fixed.items 0) refl f.sought) fit.0 (s 2) allowed.0 (more_seen action.CallStatic j) fit.1
+      let named = script_at j f.from (name_by scope instruction.fixed.items 0) refl f.sought in
+      let offered = agrees.functions f.from f.number (name_of (at fixed 1)) callee.signature.now named.0 (named_at action.CallStatic j 1 f.number refl f.named) f.found in
+      calls_static scope outline scripts function agrees.types stands (at fixed 2) more (name_of (at fixed 1)) f.from (script_named outline (name_of (at fixed 0))) callee.signature.now offered allowed.1 named.1 fit.0 (s 2) allowed.0 (more_seen action.CallStatic j) fit.1
 
   get_property : (j : IsJudgedAs scope action.GetProperty instruction fixed more) (found : Lookup) → LooksUp scope action.GetProperty instruction.fixed.items fixed found → OperandsFit scope action.GetProperty fixed more found → Allows action.GetProperty (length more) found
       → IsTyped placed (op.PropGet (name_of (at fixed 0)) (operand_of (at fixed 1)) (operand_of (at fixed 2)))
@@ -215,7 +216,7 @@ module _ (scope : FunctionScope) (names : List (List ℕ)) (outline : List Scrip
   get_property j (Property property) sought fit allowed =
       let s = given_seen action.GetProperty j in
       let f = sought.0 in
-      let offered = agrees.properties f.from f.number (name_of (at fixed 0)) property (named_at action.GetProperty j 0 f.number refl f.named) f.found in
+      let offered = agrees.properties f.from f.number (name_of (at fixed 0)) property (object_below scope outline scripts function agrees.types stands (at fixed 1) f.from f.sought) (named_at action.GetProperty j 0 f.number refl f.named) f.found in
       gets_property scope outline scripts function agrees.types stands (at fixed 1) (at fixed 2) (name_of (at fixed 0)) f.from property offered allowed f.sought (s 1) fit.1.0 (s 2)
 
   set_property : (j : IsJudgedAs scope action.SetProperty instruction fixed more) (found : Lookup) → LooksUp scope action.SetProperty instruction.fixed.items fixed found → OperandsFit scope action.SetProperty fixed more found → Allows action.SetProperty (length more) found
@@ -226,7 +227,7 @@ module _ (scope : FunctionScope) (names : List (List ℕ)) (outline : List Scrip
   set_property j (Property property) sought fit allowed =
       let s = given_seen action.SetProperty j in
       let f = sought.0 in
-      let offered = agrees.properties f.from f.number (name_of (at fixed 0)) property (named_at action.SetProperty j 0 f.number refl f.named) f.found in
+      let offered = agrees.properties f.from f.number (name_of (at fixed 0)) property (object_below scope outline scripts function agrees.types stands (at fixed 1) f.from f.sought) (named_at action.SetProperty j 0 f.number refl f.named) f.found in
       sets_property scope outline scripts function agrees.types stands (at fixed 1) (at fixed 2) (name_of (at fixed 0)) f.from property offered allowed f.sought (s 1) fit.1 (s 2)
 
   -- ---- all rows

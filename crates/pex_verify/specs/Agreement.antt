@@ -47,10 +47,10 @@ pub record IsPropertyOffered (types : Meanings) (outline : List ScriptShape) (sc
 -- what the tables of a set and its table of names find is what the scripts offer
 pub record Agrees (set : ScriptSet) (names : List (List ℕ)) (outline : List ScriptShape) (scripts : List Script) : Type 0 where
   pub types : HaveTypesOf set outline
-  pub parents : (script parent : ℕ) → parent_of set script ≡ Some parent → (parent_in (slice_get outline script) ≡ Some parent) × (is_child outline parent parent ≡ true)
-  pub named : (number script : ℕ) (name : List ℕ) → number_in names name ≡ Some number → first_named set.objects number ≡ Some script → script_named outline name ≡ script
-  pub functions : (script number : ℕ) (name : List ℕ) (signature : Signature) → number_in names name ≡ Some number → function_found set script number ≡ Some signature → IsOffered set.types outline scripts script name signature
-  pub properties : (script number : ℕ) (name : List ℕ) (property : PropertyHead) → number_in names name ≡ Some number → property_found set script number ≡ Some property → IsPropertyOffered set.types outline scripts script name property
+  pub parents : (script parent : ℕ) → parent_of set script ≡ Some parent → (parent < vec_len set.heads) × (parent_in (slice_get outline script) ≡ Some parent) × (is_child outline parent parent ≡ true)
+  pub named : (number script : ℕ) (name : List ℕ) → number_in names name ≡ Some number → first_named set.objects number ≡ Some script → (script < vec_len set.heads) × (script_named outline name ≡ script)
+  pub functions : (script number : ℕ) (name : List ℕ) (signature : Signature) → script < vec_len set.heads → number_in names name ≡ Some number → function_found set script number ≡ Some signature → IsOffered set.types outline scripts script name signature
+  pub properties : (script number : ℕ) (name : List ℕ) (property : PropertyHead) → script < vec_len set.heads → number_in names name ≡ Some number → property_found set script number ≡ Some property → IsPropertyOffered set.types outline scripts script name property
 
 -- ---- functions
 -- a function has the types that are seen where its code is judged

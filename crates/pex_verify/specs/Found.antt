@@ -9,7 +9,7 @@ use Rattle.pex_set.specs.declared.inherited.MemberPlace.{MemberPlace}
 use Rattle.pex_values.specs.declared.values.Datum.{Datum}
 use Rattle.pex_values.specs.declared.values.Datum.TheVariants.{Word}
 use Rattle.pex_verify.specs.declared.action.Action.{Action}
-use Rattle.pex_verify.specs.declared.action.Action.TheVariants as action
+use Rattle.pex_verify.specs.declared.action.Action.TheVariants as actions
 use Rattle.pex_verify.specs.declared.action.Use.{Use}
 use Rattle.pex_verify.specs.declared.action.Use.TheVariants as purpose
 use Rattle.pex_verify.specs.declared.loaded.Operand.{Operand}
@@ -98,15 +98,15 @@ IsProperty _ = Unit {0}
 
 -- what the instruction looks up
 abbrev pub LooksUp : FunctionScope → Action → List Datum → List Operand → Lookup → Type 0
-LooksUp scope action.CallMethod given fixed found =
+LooksUp scope actions.CallMethod given fixed found =
     IsFoundBy scope.home.now.set.now (object_by scope fixed) (name_by scope given 0) found × IsFunction found
-LooksUp scope action.CallParent given fixed found =
+LooksUp scope actions.CallParent given fixed found =
     IsFoundBy scope.home.now.set.now (parent_of scope.home.now.set.now scope.home.now.here) (name_by scope given 0) found × IsFunction found
-LooksUp scope action.CallStatic given fixed found =
+LooksUp scope actions.CallStatic given fixed found =
     IsFoundBy scope.home.now.set.now (script_named_by scope.home.now.set.now (name_by scope given 0)) (name_by scope given 1) found × IsFunction found
-LooksUp scope action.GetProperty given fixed found =
+LooksUp scope actions.GetProperty given fixed found =
     IsFoundBy scope.home.now.set.now (object_by scope fixed) (name_by scope given 0) found × IsProperty found
-LooksUp scope action.SetProperty given fixed found =
+LooksUp scope actions.SetProperty given fixed found =
     IsFoundBy scope.home.now.set.now (object_by scope fixed) (name_by scope given 0) found × IsProperty found
 LooksUp scope _ given fixed found = Unit {0}
 
@@ -123,20 +123,20 @@ abbrev pub is_writable : PropertyHead → Bool
 is_writable property = not (bit_and property.bits 2 == 0)
 
 abbrev pub is_static : Action → Bool
-is_static action.CallStatic = true
+is_static actions.CallStatic = true
 is_static _ = false
 
 abbrev pub PropertyAllows : Action → PropertyHead → Type 0
-PropertyAllows action.GetProperty property = is_readable property ≡ true
+PropertyAllows actions.GetProperty property = is_readable property ≡ true
 PropertyAllows _ property = is_writable property ≡ true
 
 -- with so many arguments
 abbrev pub Allows : Action → ℕ → Lookup → Type 0
-Allows done arguments Unsought = Unit {0}
-Allows done arguments Missing = ⊥
-Allows done arguments (Function callee) =
-    (arguments ≡ length callee.signature.now.parameters.items) × (is_global callee.signature.now ≡ is_static done)
-Allows done arguments (Property property) = PropertyAllows done property
+Allows action arguments Unsought = Unit {0}
+Allows action arguments Missing = ⊥
+Allows action arguments (Function callee) =
+    (arguments ≡ length callee.signature.now.parameters.items) × (is_global callee.signature.now ≡ is_static action)
+Allows action arguments (Property property) = PropertyAllows action property
 
 -- ---- names that stand for themselves
 -- the operand of a name, as the file spells it
