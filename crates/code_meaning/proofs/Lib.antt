@@ -1,6 +1,5 @@
 pub mod Enters
 pub mod Keeps
-pub mod LoadedRows
 pub mod Rows
 pub mod Runs
 pub mod TurnBounds

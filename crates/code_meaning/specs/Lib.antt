@@ -2,7 +2,6 @@ pub mod Code
 pub mod Engine
 pub mod Execution
 pub mod Laws
-pub mod Loaded
 pub mod LookUp
 pub mod Operands
 pub mod Steps

@@ -5,12 +5,12 @@ pub mod WalkLemmas
 pub mod OrderLemmas
 pub mod ReachLemmas
 pub mod DescentLemmas
+pub mod NameLemmas
+pub mod ObjectLemmas
+pub mod CircleLemmas
 pub mod Positions
 pub mod Stretches
 pub mod Sweeps
 pub mod Members
-pub mod CircleLemmas
 pub mod ClimbLemmas
-pub mod NameLemmas
-pub mod ObjectLemmas
 pub mod CircleWalks

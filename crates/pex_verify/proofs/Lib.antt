@@ -1,3 +1,9 @@
 pub mod ActionTable
 pub mod Lists
 pub mod Sets
+pub mod LoadedRows
+pub mod Fitting
+pub mod Typing
+pub mod TypedValues
+pub mod TypedCalls
+pub mod TypedInstructions

@@ -1,5 +1,6 @@
 -- What holds of each item of a list that one more was put behind.
-use Rattle.std.proofs.Common.{◌≡◌, ℕ, ◌<◌, ◌≤◌, List, [], ◌∷◌, ◌++◌, length, get_or, sym, subst, ⊎_elim, length-append, arith}
+use Rattle.std.proofs.Common.{◌≡◌, ℕ, ◌<◌, ◌≤◌, List, [], ◌∷◌, ◌++◌, length, map, get_or, sym, subst, ⊎_elim, length-append, arith}
+use Rattle.std.specs.List.{AllByRecursion}
 use Rattle.std.proofs.lemmas.Bool.{cases_lt}
 use Rattle.std.proofs.lemmas.List.{get_or_append_left}
 use Rattle.std.proofs.Math.Seq.{get_or-append_seam}
@@ -26,3 +27,8 @@ each_grown {X} P xs ys y same below here =
 pub all_grown : {X : Type 0} (P : X → Type 0) (xs ys : List X) (y : X) → ys ≡ xs ++ y ∷ [] → ((k : ℕ) (d : X) → k < length xs → P (get_or xs k d)) → P y
     → (k : ℕ) (d : X) → k < length ys → P (get_or ys k d)
 all_grown P xs ys y same all here = each_grown (λ k x. P x) xs ys y same all here
+
+-- a fact of what each item is mapped to
+pub mapped_grown : {X Y : Type 0} (P : Y → Type 0) (f : X → Y) (xs : List X) (y : X) → AllByRecursion P (map f xs) → P (f y) → AllByRecursion P (map f (xs ++ y ∷ []))
+mapped_grown P f [] y all here = (here, tt)
+mapped_grown P f (x ∷ xs) y all here = (all.0, mapped_grown P f xs y all.1 here)

@@ -6,3 +6,11 @@ pub mod Objects
 pub mod Places
 pub mod Sources
 pub mod Sets
+pub mod Plain
+pub mod Meanings
+pub mod Fitting
+pub mod Judgement
+pub mod Accepted
+pub mod Found
+pub mod Agreement
+pub mod Judged

@@ -1,7 +1,7 @@
 -- What holds where code stands, and of what calls look up.
 use Rattle.std.specs.Prelude.{ℕ, ◌<◌, vec_len}
-use Rattle.pex_verify.specs.declared.calls.Target.{Target}
-use Rattle.pex_verify.specs.declared.calls.Target.TheVariants.{Function}
+use Rattle.pex_verify.specs.declared.lookup.Lookup.{Lookup}
+use Rattle.pex_verify.specs.declared.lookup.Lookup.TheVariants.{Function}
 use Rattle.pex_verify.specs.declared.scope.Home.{Home}
 use Rattle.pex_verify.specs.Soundness.{Bounds, bounds_with}
 
@@ -10,6 +10,6 @@ abbrev pub bounds_of : Home → Bounds
 bounds_of home = bounds_with (vec_len home.set.now.heads) (vec_len home.variables.now.list)
 
 -- the script of a function that was found is one of so many
-abbrev pub IsTargetAmong : ℕ → Target → Type 0
-IsTargetAmong count (Function callee) = callee.script < count
-IsTargetAmong count _ = Unit {0}
+abbrev pub IsFoundAmong : ℕ → Lookup → Type 0
+IsFoundAmong count (Function callee) = callee.place.script < count
+IsFoundAmong count _ = Unit {0}

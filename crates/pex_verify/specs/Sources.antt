@@ -1,7 +1,7 @@
 -- How many objects and scripts files have.
 use Rattle.std.specs.Prelude.{ℕ, ◌+◌, List, sum_by, vec_len}
 use Rattle.pex_values.specs.declared.values.Pex.{Pex}
-use Rattle.pex_verify.specs.declared.sources.Source.{Source}
+use Rattle.pex_verify.specs.declared.sources.SetFile.{SetFile}
 
 abbrev pub objects_of : Pex → ℕ
 objects_of file = vec_len file.objects
@@ -10,8 +10,8 @@ objects_of file = vec_len file.objects
 abbrev pub script_count : List Pex → ℕ
 script_count files = 6 + sum_by objects_of files
 
-abbrev pub objects_in : Source → ℕ
+abbrev pub objects_in : SetFile → ℕ
 objects_in source = vec_len source.pex.now.objects
 
-abbrev pub object_count : List Source → ℕ
+abbrev pub object_count : List SetFile → ℕ
 object_count sources = sum_by objects_in sources

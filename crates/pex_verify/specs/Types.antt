@@ -2,8 +2,8 @@
 use Rattle.std.specs.Prelude.{ℕ, ◌<◌}
 use Rattle.core_tree.specs.declared.core_type.CoreType.{CoreType}
 use Rattle.core_tree.specs.declared.core_type.CoreType.TheVariants as types
-use Rattle.pex_verify.specs.declared.kind.Kind.{Kind}
-use Rattle.pex_verify.specs.declared.kind.Kind.TheVariants.{Of}
+use Rattle.pex_verify.specs.declared.value_type.ValueType.{ValueType}
+use Rattle.pex_verify.specs.declared.value_type.ValueType.TheVariants.{Of}
 
 -- the script of a type is one of so many
 abbrev pub IsTypeAmong : ℕ → CoreType → Type 0
@@ -12,6 +12,6 @@ IsTypeAmong count (types.ScriptArray n) = n < count
 IsTypeAmong count _ = Unit {0}
 
 -- the script of what a type name means
-abbrev pub IsKindAmong : ℕ → Kind → Type 0
-IsKindAmong count (Of kind) = IsTypeAmong count kind
-IsKindAmong count _ = Unit {0}
+abbrev pub IsValueTypeAmong : ℕ → ValueType → Type 0
+IsValueTypeAmong count (Of found) = IsTypeAmong count found
+IsValueTypeAmong count _ = Unit {0}

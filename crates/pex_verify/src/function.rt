@@ -1,23 +1,44 @@
 // One function.
 ghost use Rattle.std.specs.Prelude.{◌≡◌, ◌+◌, ℕ, length, vec_len, All, IfOk, OnOk, IfSome};
+ghost use Rattle.pex_verify.specs.Judged.{AreTypedIn};
 ghost use Rattle.pex_verify.specs.Places.{bounds_of};
-ghost use Rattle.pex_verify.specs.Types.{IsTypeAmong, IsKindAmong};
+ghost use Rattle.pex_verify.specs.Types.{IsTypeAmong, IsValueTypeAmong};
 ghost use Rattle.pex_verify.specs.Soundness.{IsSoundFunction, AreSoundInstructions};
 
 use crate::fault::{Refusal, VerifyRule};
-use crate::instruction::{add_instruction, judge_instruction};
-use crate::kind::Kind;
+use crate::instruction::{judge_instruction, load_instruction};
 use crate::lines::lines_of;
 use crate::loaded::{LoadedFunction, LoadedInstruction};
-use crate::scope::{Home, Scope, Slots};
+use crate::named_list::NamedList;
+use crate::operands::Operands;
+use crate::scope::{FunctionScope, Home};
 use crate::signature::{GLOBAL, NATIVE};
-use crate::sources::Source;
+use crate::sources::SetFile;
+use crate::value_type::ValueType;
 use core_tree::CoreType;
-use papy_base::Name;
+use papy_base::{Name, OutOfMemory};
 use pex_values::{Instruction, PexFunction};
+use std::alloc::Global;
 
 /// How many parameters and locals a function may have.
 const SLOT_LIMIT: usize = 8192;
+
+/// Lists that the functions of a set use one after the other.
+#[derive(Drop)]
+pub(crate) struct FunctionLists {
+    slots: NamedList<ValueType>,
+    operands: Operands,
+}
+
+impl FunctionLists {
+    /// Empty lists, in a set with so many names.
+    pub(crate) fn new(alloc: Global, names: usize) -> Result<FunctionLists, OutOfMemory> {
+        Ok(FunctionLists {
+            slots: NamedList::new(alloc, names)?,
+            operands: Operands::new(alloc),
+        })
+    }
+}
 
 /// Whether a function has too many parameters and locals.
 pub(crate) fn has_too_many_slots(function: &PexFunction) -> bool {
@@ -29,8 +50,8 @@ pub(crate) fn has_too_many_slots(function: &PexFunction) -> bool {
 /// and its instructions break.
 pub(crate) fn load_function(
     home: &Home<'_>,
-    source: &Source<'_>,
-    slots: &mut Slots,
+    source: &SetFile<'_>,
+    lists: &mut FunctionLists,
     name: u16,
     function: &PexFunction,
     lines: &[u16],
@@ -38,20 +59,21 @@ pub(crate) fn load_function(
     ensures { IfOk result (IsSoundFunction (bounds_of home.now)) }
 {
     let alloc = home.alloc;
-    let answer = home.set.kind(source.names.number(function.result));
-    let result = known_kind(answer)?;
+    let answer = home.set.result_type(source.names.number(function.result));
+    let result = known_type(answer)?;
+    let slots = &mut lists.slots;
     slots.clear();
     let parameters = load_parameters(home, source, slots, function.parameters.as_slice())?;
     let locals = load_locals(home, source, slots, function.locals.as_slice())?;
     let is_global = function.bits & GLOBAL != 0;
-    let scope = Scope {
+    let scope = FunctionScope {
         home,
         source,
-        slots,
+        slots: &lists.slots,
         is_global,
         answer,
     };
-    let code = kept_code(&scope, function.code.as_slice())?;
+    let code = load_code(&scope, function.code.as_slice(), &mut lists.operands)?;
     let lines = lines_of(alloc, lines, code.len())?;
     Ok(LoadedFunction {
         name: source.title(alloc, name)?,
@@ -66,30 +88,30 @@ pub(crate) fn load_function(
 }
 
 /// The type of a type name that must mean one, none for `None`.
-pub(crate) fn known_kind(kind: Kind) -> Result<Option<CoreType>, Refusal>
-    ensures { (count : ℕ) → IsKindAmong count kind → IfOk result (λ found. IfSome found (IsTypeAmong count)) }
+pub(crate) fn known_type(declared: ValueType) -> Result<Option<CoreType>, Refusal>
+    ensures { (count : ℕ) → IsValueTypeAmong count declared → IfOk result (λ found. IfSome found (IsTypeAmong count)) }
 {
-    match kind {
-        Kind::Nothing => Ok(None),
-        Kind::Float => Err(Refusal::of(VerifyRule::FloatValue)),
-        Kind::Unknown => Err(Refusal::of(VerifyRule::OperandType)),
-        Kind::Of(found) => Ok(Some(found)),
+    match declared {
+        ValueType::Nothing => Ok(None),
+        ValueType::Float => Err(Refusal::of(VerifyRule::FloatValue)),
+        ValueType::Unknown => Err(Refusal::of(VerifyRule::OperandType)),
+        ValueType::Of(found) => Ok(Some(found)),
     }
 }
 
 fn load_parameters(
     home: &Home<'_>,
-    source: &Source<'_>,
-    slots: &mut Slots,
+    source: &SetFile<'_>,
+    slots: &mut NamedList<ValueType>,
     pairs: &[(u16, u16)],
 ) -> Result<Vec<(Name, CoreType)>, Refusal>
-    ensures count { IfOk result (λ parameters. vec_len slots.new.kinds ≡ vec_len slots.old.kinds + vec_len parameters) }
+    ensures count { IfOk result (λ parameters. vec_len slots.new.list ≡ vec_len slots.old.list + vec_len parameters) }
     ensures typed { IfOk result (λ parameters. All (λ p. IsTypeAmong (vec_len home.now.set.now.heads) p.1) parameters.items) }
 {
     let mut parameters = Vec::with_capacity(home.alloc, pairs.len())?;
     for pair in pairs {
-        let kind = home.set.value_kind(source.names.number(pair.1));
-        match judged_slot(source, slots, *pair, kind)? {
+        let declared = home.set.value_type(source.names.number(pair.1));
+        match judged_slot(source, slots, *pair, declared)? {
             Some(found) => parameters.push((source.title(home.alloc, pair.0)?, found))?,
             None => return Err(Refusal::of(VerifyRule::OperandType)),
         }
@@ -99,17 +121,17 @@ fn load_parameters(
 
 fn load_locals(
     home: &Home<'_>,
-    source: &Source<'_>,
-    slots: &mut Slots,
+    source: &SetFile<'_>,
+    slots: &mut NamedList<ValueType>,
     pairs: &[(u16, u16)],
 ) -> Result<Vec<(Name, Option<CoreType>)>, Refusal>
-    ensures count { IfOk result (λ locals. vec_len slots.new.kinds ≡ vec_len slots.old.kinds + vec_len locals) }
+    ensures count { IfOk result (λ locals. vec_len slots.new.list ≡ vec_len slots.old.list + vec_len locals) }
     ensures typed { IfOk result (λ locals. All (λ l. IfSome l.1 (IsTypeAmong (vec_len home.now.set.now.heads))) locals.items) }
 {
     let mut locals = Vec::with_capacity(home.alloc, pairs.len())?;
     for pair in pairs {
-        let kind = home.set.kind(source.names.number(pair.1));
-        let found = judged_slot(source, slots, *pair, kind)?;
+        let declared = home.set.result_type(source.names.number(pair.1));
+        let found = judged_slot(source, slots, *pair, declared)?;
         locals.push((source.title(home.alloc, pair.0)?, found))?;
     }
     Ok(locals)
@@ -117,59 +139,55 @@ fn load_locals(
 
 // Adds a parameter or local of this type, unless it breaks a rule: V2, V5, then V7.
 fn judged_slot(
-    source: &Source<'_>,
-    slots: &mut Slots,
+    source: &SetFile<'_>,
+    slots: &mut NamedList<ValueType>,
     pair: (u16, u16),
-    kind: Kind,
+    declared: ValueType,
 ) -> Result<Option<CoreType>, Refusal>
-    ensures count { OnOk result (vec_len slots.new.kinds ≡ vec_len slots.old.kinds + 1) }
-    ensures typed { (count : ℕ) → IsKindAmong count kind → IfOk result (λ found. IfSome found (IsTypeAmong count)) }
+    ensures count { OnOk result (vec_len slots.new.list ≡ vec_len slots.old.list + 1) }
+    ensures typed { (count : ℕ) → IsValueTypeAmong count declared → IfOk result (λ found. IfSome found (IsTypeAmong count)) }
 {
     let name = source.names.number(pair.0);
-    if kind != Kind::Float && slots.has(name) {
+    if declared != ValueType::Float && slots.place(name).is_some() {
         return Err(Refusal::of(VerifyRule::DuplicateName));
     }
-    let found = known_kind(kind)?;
-    slots.add(name, pair.0, kind)?;
+    let found = known_type(declared)?;
+    slots.add(name, declared)?;
     Ok(found)
 }
 
-// The code of a function, empty where a set is judged alone.
-fn kept_code(scope: &Scope<'_>, code: &[Instruction]) -> Result<Vec<LoadedInstruction>, Refusal>
-    ensures { IfOk result (λ loaded. AreSoundInstructions (bounds_of scope.now.home.now) (vec_len scope.now.slots.now.kinds) (vec_len loaded) loaded.items) }
+// The code of a function with its operands resolved, none where it isn't kept.
+fn load_code(
+    scope: &FunctionScope<'_>,
+    code: &[Instruction],
+    operands: &mut Operands,
+) -> Result<Vec<LoadedInstruction>, Refusal>
+    ensures sound { IfOk result (λ loaded. AreSoundInstructions (bounds_of scope.now.home.now) (vec_len scope.now.slots.now.list) (vec_len loaded) loaded.items) }
+    ensures typed { IfOk result (λ loaded. AreTypedIn scope.now loaded.items) }
 {
-    if scope.home.keeps_code {
-        return load_code(scope, code);
+    if !scope.home.keeps_code {
+        judge_code(scope, code, operands)?;
+        return Ok(Vec::new(scope.home.alloc));
     }
-    judge_code(scope, code)?;
-    Ok(Vec::new(scope.home.alloc))
+    let mut loaded = Vec::with_capacity(scope.home.alloc, code.len())?;
+    for (place, instruction) in code.iter().enumerate() {
+        match load_instruction(scope, place, code.len(), instruction, operands) {
+            Ok(found) => loaded.push_reserved(found),
+            Err(refusal) => return Err(refusal.at(place.min(usize::from(u16::MAX)) as u16)),
+        }
+    }
+    Ok(loaded)
 }
 
-fn judge_code(scope: &Scope<'_>, code: &[Instruction]) -> Result<(), Refusal> {
-    let mut operands = Vec::new(scope.home.alloc);
+fn judge_code(
+    scope: &FunctionScope<'_>,
+    code: &[Instruction],
+    operands: &mut Operands,
+) -> Result<(), Refusal> {
     for (place, instruction) in code.iter().enumerate() {
-        if let Err(refusal) = judge_instruction(
-            scope,
-            place,
-            code.len(),
-            instruction,
-            &mut operands,
-        ) {
+        if let Err(refusal) = judge_instruction(scope, place, code.len(), instruction, operands) {
             return Err(refusal.at(place.min(usize::from(u16::MAX)) as u16));
         }
     }
     Ok(())
-}
-
-fn load_code(scope: &Scope<'_>, code: &[Instruction]) -> Result<Vec<LoadedInstruction>, Refusal>
-    ensures count { IfOk result (λ loaded. vec_len loaded ≡ length code.now) }
-    ensures sound { IfOk result (λ loaded. AreSoundInstructions (bounds_of scope.now.home.now) (vec_len scope.now.slots.now.kinds) (length code.now) loaded.items) }
-{
-    let mut loaded = Vec::with_capacity(scope.home.alloc, code.len())?;
-    for (place, instruction) in code.iter().enumerate() {
-        if let Err(refusal) = add_instruction(scope, code.len(), instruction, &mut loaded) {
-            return Err(refusal.at(place.min(usize::from(u16::MAX)) as u16));
-        }
-    }
-    Ok(loaded)
 }

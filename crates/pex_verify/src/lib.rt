@@ -6,18 +6,17 @@
 
 mod accessors;
 mod action;
-mod arrays;
-mod calls;
 mod fault;
 mod function;
 mod instruction;
-mod kind;
 mod lines;
 mod loaded;
+mod lookup;
 mod members;
-mod name_places;
+mod named_list;
 mod object;
 mod object_rules;
+mod operand_types;
 mod operands;
 mod outlining;
 mod scope;
@@ -25,7 +24,7 @@ mod scripts;
 mod signature;
 mod sources;
 mod type_names;
-mod values;
+mod value_type;
 mod variables;
 mod verifier;
 

@@ -31,7 +31,13 @@ impl<'a> FileLines<'a> {
             Some(debug) => debug.functions.as_slice(),
             None => &[],
         };
-        let places = places_of_entries(alloc, names, entries)?;
+        let mut places = HashMap::new(alloc);
+        for (place, entry) in entries.iter().enumerate() {
+            let object = names.number(entry.object);
+            let state = names.number(entry.state);
+            let key = (entry.kind, (object, state, names.number(entry.function)));
+            places.entry(key)?.or_insert(place);
+        }
         Ok(FileLines { entries, places })
     }
 
@@ -46,21 +52,6 @@ impl<'a> FileLines<'a> {
             None => &[],
         }
     }
-}
-
-fn places_of_entries(
-    alloc: Global,
-    names: &FileNames,
-    entries: &[PexLines],
-) -> Result<HashMap<(u8, (usize, usize, usize)), usize>, OutOfMemory> {
-    let mut places = HashMap::new(alloc);
-    for (place, entry) in entries.iter().enumerate() {
-        let object = names.number(entry.object);
-        let state = names.number(entry.state);
-        let key = (entry.kind, (object, state, names.number(entry.function)));
-        places.entry(key)?.or_insert(place);
-    }
-    Ok(places)
 }
 
 /// One line for each of so many instructions: the lines that were found, and 0 past them.

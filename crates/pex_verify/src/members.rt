@@ -1,16 +1,19 @@
 // Where the machine and the rules find the methods and properties of scripts.
+ghost use Rattle.std.specs.Prelude.{◌≡◌, IfSome};
+ghost use Rattle.pex_set.specs.Inherited.{found_in};
+ghost use Rattle.pex_set.specs.Names.{empty_name};
+ghost use Rattle.pex_set.specs.Ranks.{is_below, span_at};
+
 use crate::loaded::{MethodPlace, PropertyPlace};
 use crate::scripts::ScriptHead;
-use crate::sources::Members;
 use papy_base::OutOfMemory;
-use pex_set::{Descent, EMPTY_NAME, FileNames, Inherited, MemberPlace, OwnMembers, Span};
-use pex_values::{PexObject, PexState};
+use pex_set::{Descent, EMPTY_NAME, FileNames, Inherited, MemberPlace, OwnMembers};
+use pex_values::PexObject;
 use std::alloc::Global;
 
 /// The methods and properties of scripts, as they are collected.
 #[derive(Drop)]
 pub(crate) struct MemberLists {
-    alloc: Global,
     descent: Descent,
     methods: OwnMembers,
     properties: OwnMembers,
@@ -23,7 +26,6 @@ impl MemberLists {
         parents: &[Option<usize>],
     ) -> Result<MemberLists, OutOfMemory> {
         Ok(MemberLists {
-            alloc,
             descent: Descent::of(alloc, parents)?,
             methods: OwnMembers::new(alloc),
             properties: OwnMembers::new(alloc),
@@ -37,90 +39,64 @@ impl MemberLists {
         names: &FileNames,
         object: &PexObject,
         head: &ScriptHead,
-        members: &Members<'_>,
     ) -> Result<(), OutOfMemory> {
-        self.add_properties(number, head)?;
-        self.add_states(number, names, object, head)?;
-        self.add_lacking(number, head, members)
-    }
-
-    fn add_properties(&mut self, number: usize, head: &ScriptHead) -> Result<(), OutOfMemory> {
-        let span = self.descent.span(number);
         for (place, property) in head.properties.iter().enumerate() {
             let member = MemberPlace {
                 object: number,
                 state: 0,
                 place,
             };
+            let span = self.descent.span(number);
             self.properties
                 .add((EMPTY_NAME, property.name), member, span)?;
         }
-        Ok(())
+        for (place, function) in head.functions.iter().enumerate() {
+            self.add_method(number, head.empty_state, place, (EMPTY_NAME, function.name))?;
+        }
+        self.add_named_states(number, names, object)
     }
 
-    // Of two empty states, only the first counts.
-    fn add_states(
+    // The functions of the states that have a name.
+    fn add_named_states(
         &mut self,
         number: usize,
         names: &FileNames,
         object: &PexObject,
-        head: &ScriptHead,
     ) -> Result<(), OutOfMemory> {
-        for (place, state) in object.states.iter().enumerate() {
-            if names.number(state.name) != EMPTY_NAME || place == head.empty_state {
-                self.add_methods(number, names, place, state)?;
+        for (state_place, state) in object.states.iter().enumerate() {
+            let state_name = names.number(state.name);
+            if state_name == EMPTY_NAME {
+                continue;
+            }
+            for (place, (name, _)) in state.functions.iter().enumerate() {
+                self.add_method(
+                    number,
+                    state_place,
+                    place,
+                    (state_name, names.number(*name)),
+                )?;
             }
         }
         Ok(())
     }
 
-    fn add_methods(
+    fn add_method(
         &mut self,
-        number: usize,
-        names: &FileNames,
-        state_place: usize,
-        state: &PexState,
+        object: usize,
+        state: usize,
+        place: usize,
+        names: (usize, usize),
     ) -> Result<(), OutOfMemory> {
-        let span = self.descent.span(number);
-        let state_name = names.number(state.name);
-        for (place, (name, _)) in state.functions.iter().enumerate() {
-            let member = MemberPlace {
-                object: number,
-                state: state_place,
-                place,
-            };
-            self.methods
-                .add((state_name, names.number(*name)), member, span)?;
-        }
-        Ok(())
-    }
-
-    // The members that the script lacks stand last in its empty state.
-    fn add_lacking(
-        &mut self,
-        number: usize,
-        head: &ScriptHead,
-        members: &Members<'_>,
-    ) -> Result<(), OutOfMemory> {
-        let span = self.descent.span(number);
-        let own = head.functions.len().saturating_sub(head.lacking.len());
-        for (nth, lacking) in head.lacking.iter().enumerate() {
-            let member = MemberPlace {
-                object: number,
-                state: head.empty_state,
-                place: own.saturating_add(nth),
-            };
-            if let Some((name, _)) = members.list.get(*lacking) {
-                let names = (EMPTY_NAME, members.names.number(*name));
-                self.methods.add(names, member, span)?;
-            }
-        }
-        Ok(())
+        let member = MemberPlace {
+            object,
+            state,
+            place,
+        };
+        self.methods.add(names, member, self.descent.span(object))
     }
 
     /// What each script has from itself upward.
-    pub(crate) fn inherited(self) -> Result<MemberTable, OutOfMemory> {
-        let alloc = self.alloc;
+    pub(crate) fn inherited(self, alloc: Global) -> Result<MemberTable, OutOfMemory> {
         Ok(MemberTable {
             descent: self.descent,
             methods: self.methods.inherited(alloc)?,
@@ -148,19 +124,16 @@ impl MemberTable {
         name: usize,
     ) -> Option<MethodPlace> {
         let script = usize::from(script);
-        let found = match self.in_state(script, state, name) {
-            Some(found) => found,
-            None => self.in_state(script, EMPTY_NAME, name)?,
-        };
-        Some(MethodPlace {
-            script: u16::try_from(found.object).ok()?,
-            state: found.state,
-            place: found.place,
-        })
+        match self.in_state(script, state, name) {
+            Some(found) => method_place(found),
+            None => method_place(self.in_state(script, EMPTY_NAME, name)?),
+        }
     }
 
     /// The nearest method of the name in states of this name, from the script upward.
-    pub(crate) fn in_state(&self, script: usize, state: usize, name: usize) -> Option<MemberPlace> {
+    pub(crate) fn in_state(&self, script: usize, state: usize, name: usize) -> Option<MemberPlace>
+        ensures { result ≡ found_in self.now.methods (state, name) (span_at self.now.descent script).start }
+    {
         self.methods.find((state, name), self.rank(script))
     }
 
@@ -174,17 +147,34 @@ impl MemberTable {
     }
 
     /// The nearest property of the name, from the script upward.
-    pub(crate) fn property(&self, script: usize, name: usize) -> Option<MemberPlace> {
+    pub(crate) fn property(&self, script: usize, name: usize) -> Option<MemberPlace>
+        ensures { result ≡ found_in self.now.properties (empty_name, name) (span_at self.now.descent script).start }
+    {
         self.properties.find((EMPTY_NAME, name), self.rank(script))
     }
 
     /// Whether the parent is the script itself or stands above it.
-    pub(crate) fn is_child(&self, script: u16, parent: u16) -> bool {
+    pub(crate) fn is_child(&self, script: u16, parent: u16) -> bool
+        ensures { result ≡ is_below self.now.descent script parent }
+    {
         self.descent
             .is_below(usize::from(script), usize::from(parent))
     }
 
-    fn rank(&self, script: usize) -> usize {
+    fn rank(&self, script: usize) -> usize
+        ensures { result ≡ (span_at self.now.descent script).start }
+    {
         self.descent.span(script).start
     }
+}
+
+/// The place of a method with the number of its script.
+pub(crate) fn method_place(found: MemberPlace) -> Option<MethodPlace>
+    ensures { IfSome result (λ place. place.script ≡ found.object) }
+{
+    Some(MethodPlace {
+        script: u16::try_from(found.object).ok()?,
+        state: found.state,
+        place: found.place,
+    })
 }

@@ -1,41 +1,49 @@
 // Operands with their identifiers resolved.
 ghost use Rattle.std.specs.Prelude.{◌≡◌, vec_len, IfOk, OnOk};
+ghost use Rattle.pex_verify.specs.Found.{AreTold, IsTold};
 ghost use Rattle.pex_verify.specs.Uses.{use_at as use_in};
 ghost use Rattle.pex_verify.specs.Soundness.{IsResolved, AreResolved};
+ghost use Rattle.pex_values.specs.declared.values.Datum.TheVariants.{Word};
 
 use crate::action::Use;
 use crate::fault::{Refusal, VerifyRule};
 use crate::loaded::Operand;
-use crate::scope::Scope;
+use crate::scope::FunctionScope;
 use papy_base::{TEXT_LIMIT, Text};
 use pex_values::Datum;
+use std::alloc::Global;
 
-/// Operands that are used so. Those behind the last use are read.
-pub(crate) fn resolve_all(
-    scope: &Scope<'_>,
-    uses: &[Use],
-    data: &[Datum],
-) -> Result<Vec<Operand>, Refusal>
-    ensures { IfOk result (λ operands. AreResolved (vec_len scope.now.slots.now.kinds) (vec_len scope.now.home.now.variables.now.list) uses.now operands.items) }
-{
-    let mut operands = Vec::new(scope.home.alloc);
-    resolve_into(scope, uses, data, &mut operands)?;
-    Ok(operands)
+/// The operands that an instruction's opcode always has, and the arguments of a call behind them. One value serves all
+/// instructions that are judged, one after the other.
+#[derive(Drop)]
+pub(crate) struct Operands {
+    pub(crate) fixed: Vec<Operand>,
+    pub(crate) more: Vec<Operand>,
 }
 
-/// Puts operands that are used so in the place of these. Those behind the last use are read.
-pub(crate) fn resolve_into(
-    scope: &Scope<'_>,
+impl Operands {
+    pub(crate) fn new(alloc: Global) -> Operands {
+        Operands {
+            fixed: Vec::new(alloc),
+            more: Vec::new(alloc),
+        }
+    }
+}
+
+/// Puts operands that are used so in place of those of the list. Those behind the last use are read.
+pub(crate) fn resolve_all(
+    scope: &FunctionScope<'_>,
     uses: &[Use],
     data: &[Datum],
     operands: &mut Vec<Operand>,
 ) -> Result<(), Refusal>
-    ensures { OnOk result (AreResolved (vec_len scope.now.slots.now.kinds) (vec_len scope.now.home.now.variables.now.list) uses.now operands.new.items) }
+    ensures resolved { OnOk result (AreResolved (vec_len scope.now.slots.now.list) (vec_len scope.now.home.now.variables.now.list) uses.now operands.new.items) }
+    ensures told { OnOk result (AreTold scope.now uses.now «data».now operands.new.items) }
 {
     operands.clear();
     operands.reserve_exact(data.len())?;
     for (place, datum) in data.iter().enumerate() {
-        operands.push_reserved(resolve(scope, use_at(uses, place), *datum)?);
+        operands.push(resolve(scope, use_at(uses, place), *datum)?)?;
     }
     Ok(())
 }
@@ -49,8 +57,9 @@ fn use_at(uses: &[Use], place: usize) -> Use
     }
 }
 
-fn resolve(scope: &Scope<'_>, purpose: Use, datum: Datum) -> Result<Operand, Refusal>
-    ensures { IfOk result (IsResolved (vec_len scope.now.slots.now.kinds) (vec_len scope.now.home.now.variables.now.list) purpose) }
+fn resolve(scope: &FunctionScope<'_>, purpose: Use, datum: Datum) -> Result<Operand, Refusal>
+    ensures resolved { IfOk result (IsResolved (vec_len scope.now.slots.now.list) (vec_len scope.now.home.now.variables.now.list) purpose) }
+    ensures told { IfOk result (IsTold scope.now purpose datum) }
 {
     match datum {
         Datum::NoneValue => Ok(Operand::NoneValue),
@@ -65,12 +74,13 @@ fn resolve(scope: &Scope<'_>, purpose: Use, datum: Datum) -> Result<Operand, Ref
     }
 }
 
-fn resolve_word(scope: &Scope<'_>, purpose: Use, reference: u16) -> Result<Operand, Refusal>
-    ensures { IfOk result (IsResolved (vec_len scope.now.slots.now.kinds) (vec_len scope.now.home.now.variables.now.list) purpose) }
+fn resolve_word(scope: &FunctionScope<'_>, purpose: Use, reference: u16) -> Result<Operand, Refusal>
+    ensures resolved { IfOk result (IsResolved (vec_len scope.now.slots.now.list) (vec_len scope.now.home.now.variables.now.list) purpose) }
+    ensures told { IfOk result (IsTold scope.now purpose (Word reference)) }
 {
     match purpose {
         Use::Read | Use::Write => {
-            match scope.meaning(reference) {
+            match scope.meaning(scope.source.names.number(reference)) {
                 Some(operand) => Ok(operand),
                 None => Err(Refusal::of(VerifyRule::UnknownVariable)),
             }
@@ -87,8 +97,8 @@ pub(crate) fn has_float(values: &[Datum]) -> bool {
 }
 
 /// Whether one of these operands is a text of over 1,024 bytes.
-pub(crate) fn has_long_text(scope: &Scope<'_>, operands: &[Operand]) -> bool {
-    scope.source.has_long_string && operands.iter().any(|operand| is_long_text(operand))
+pub(crate) fn has_long_text(operands: &[Operand]) -> bool {
+    operands.iter().any(|operand| is_long_text(operand))
 }
 
 fn is_long_text(operand: &Operand) -> bool {

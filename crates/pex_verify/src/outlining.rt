@@ -4,38 +4,37 @@ ghost use Rattle.pex_verify.specs.Places.{bounds_of};
 ghost use Rattle.pex_verify.specs.Types.{IsTypeAmong};
 ghost use Rattle.pex_verify.specs.Soundness.{IsSoundFunction, AreSoundFunctions, IsSoundProperty, IsSoundScript, AreTyped, IsOutlineProperty, IsOutlineFunction, IsSoundOutline};
 
-use crate::accessors::PropertySite;
 use crate::loaded::{LoadedFunction, LoadedProperty, LoadedScript};
-use crate::sources::Source;
+use crate::scope::Home;
+use crate::sources::SetFile;
 use core_tree::{CoreType, OutlineFunction, OutlineProperty, OutlineScript, OutlineVariable};
 use papy_base::{Name, OutOfMemory};
 use std::alloc::Global;
 
 /// A script's name, parent, auto state, variables, auto properties and functions of the empty state.
 pub(crate) fn outline_script(
-    alloc: Global,
-    site: &PropertySite<'_>,
+    home: &Home<'_>,
     script: &LoadedScript,
 ) -> Result<OutlineScript, OutOfMemory>
-    requires sound { IsSoundScript (bounds_of site.now.home.now) script.now }
-    requires typed { AreTyped (vec_len site.now.home.now.set.now.heads) site.now.home.now.variables.now.list.items }
-    ensures count { IfOk result (λ outline. vec_len outline.variables ≡ vec_len site.now.home.now.variables.now.list) }
-    ensures sound { IfOk result (IsSoundOutline (vec_len site.now.home.now.set.now.heads)) }
+    requires sound { IsSoundScript (bounds_of home.now) script.now }
+    requires typed { AreTyped (vec_len home.now.set.now.heads) home.now.variables.now.list.items }
+    ensures count { IfOk result (λ outline. vec_len outline.variables ≡ vec_len home.now.variables.now.list) }
+    ensures sound { IfOk result (IsSoundOutline (vec_len home.now.set.now.heads)) }
 {
-    let source = site.source;
+    let source = home.source;
     Ok(OutlineScript {
-        name: source.title(alloc, site.object.name)?,
-        parent: site.home.set.parent_number(usize::from(site.home.here)),
-        auto_state: name_unless_empty(alloc, source, site.object.auto_state)?,
-        variables: outline_variables(site)?,
-        properties: outline_properties(site, script.properties.as_slice())?,
-        functions: outline_functions(site, empty_state(site, script))?,
+        name: source.title(home.alloc, home.object.name)?,
+        parent: home.set.parent_number(usize::from(home.here)),
+        auto_state: name_unless_empty(home.alloc, source, home.object.auto_state)?,
+        variables: outline_variables(home)?,
+        properties: outline_properties(home, script.properties.as_slice())?,
+        functions: outline_functions(home, empty_state(home, script))?,
     })
 }
 
 fn name_unless_empty(
     alloc: Global,
-    source: &Source<'_>,
+    source: &SetFile<'_>,
     reference: u16,
 ) -> Result<Option<Name>, OutOfMemory> {
     if source.text(reference).is_empty() {
@@ -44,13 +43,13 @@ fn name_unless_empty(
     Ok(Some(source.title(alloc, reference)?))
 }
 
-fn outline_variables(site: &PropertySite<'_>) -> Result<Vec<OutlineVariable>, OutOfMemory>
-    requires { AreTyped (vec_len site.now.home.now.set.now.heads) site.now.home.now.variables.now.list.items }
-    ensures count { IfOk result (λ found. vec_len found ≡ vec_len site.now.home.now.variables.now.list) }
-    ensures typed { IfOk result (λ found. AreTyped (vec_len site.now.home.now.set.now.heads) found.items) }
+fn outline_variables(home: &Home<'_>) -> Result<Vec<OutlineVariable>, OutOfMemory>
+    requires { AreTyped (vec_len home.now.set.now.heads) home.now.variables.now.list.items }
+    ensures count { IfOk result (λ found. vec_len found ≡ vec_len home.now.variables.now.list) }
+    ensures typed { IfOk result (λ found. AreTyped (vec_len home.now.set.now.heads) found.items) }
 {
-    let alloc = site.home.alloc;
-    let variables = &site.home.variables.list;
+    let alloc = home.alloc;
+    let variables = &home.variables.list;
     let mut found = Vec::with_capacity(alloc, variables.len())?;
     for variable in variables {
         found.push(OutlineVariable {
@@ -63,13 +62,13 @@ fn outline_variables(site: &PropertySite<'_>) -> Result<Vec<OutlineVariable>, Ou
 }
 
 fn outline_properties(
-    site: &PropertySite<'_>,
+    home: &Home<'_>,
     properties: &[LoadedProperty],
 ) -> Result<Vec<OutlineProperty>, OutOfMemory>
-    requires { All (IsSoundProperty (bounds_of site.now.home.now)) properties.now }
-    ensures { IfOk result (λ found. All (IsOutlineProperty (bounds_of site.now.home.now)) found.items) }
+    requires { All (IsSoundProperty (bounds_of home.now)) properties.now }
+    ensures { IfOk result (λ found. All (IsOutlineProperty (bounds_of home.now)) found.items) }
 {
-    let alloc = site.home.alloc;
+    let alloc = home.alloc;
     let mut found = Vec::new(alloc);
     for property in properties {
         if let Some(variable) = property.variable {
@@ -84,9 +83,9 @@ fn outline_properties(
 }
 
 // The functions of the state without name.
-fn empty_state<'a>(site: &PropertySite<'_>, script: &'a LoadedScript) -> &'a [LoadedFunction]
-    requires { IsSoundScript (bounds_of site.now.home.now) script.now }
-    ensures { AreSoundFunctions (bounds_of site.now.home.now) result.now }
+fn empty_state<'a>(home: &Home<'_>, script: &'a LoadedScript) -> &'a [LoadedFunction]
+    requires { IsSoundScript (bounds_of home.now) script.now }
+    ensures { AreSoundFunctions (bounds_of home.now) result.now }
 {
     for state in &script.states {
         if state.0.as_bytes().is_empty() {
@@ -97,29 +96,29 @@ fn empty_state<'a>(site: &PropertySite<'_>, script: &'a LoadedScript) -> &'a [Lo
 }
 
 fn outline_functions(
-    site: &PropertySite<'_>,
+    home: &Home<'_>,
     functions: &[LoadedFunction],
 ) -> Result<Vec<OutlineFunction>, OutOfMemory>
-    requires { AreSoundFunctions (bounds_of site.now.home.now) functions.now }
-    ensures { IfOk result (λ found. All (IsOutlineFunction (vec_len site.now.home.now.set.now.heads)) found.items) }
+    requires { AreSoundFunctions (bounds_of home.now) functions.now }
+    ensures { IfOk result (λ found. All (IsOutlineFunction (vec_len home.now.set.now.heads)) found.items) }
 {
-    let mut found = Vec::with_capacity(site.home.alloc, functions.len())?;
+    let mut found = Vec::with_capacity(home.alloc, functions.len())?;
     for function in functions {
-        found.push(outline_function(site, function)?)?;
+        found.push(outline_function(home, function)?)?;
     }
     Ok(found)
 }
 
 fn outline_function(
-    site: &PropertySite<'_>,
+    home: &Home<'_>,
     function: &LoadedFunction,
 ) -> Result<OutlineFunction, OutOfMemory>
-    requires { IsSoundFunction (bounds_of site.now.home.now) function.now }
-    ensures { IfOk result (IsOutlineFunction (vec_len site.now.home.now.set.now.heads)) }
+    requires { IsSoundFunction (bounds_of home.now) function.now }
+    ensures { IfOk result (IsOutlineFunction (vec_len home.now.set.now.heads)) }
 {
     Ok(OutlineFunction {
-        name: function.name.try_clone(site.home.alloc)?,
-        parameters: outline_parameters(site, function)?,
+        name: function.name.try_clone(home.alloc)?,
+        parameters: outline_parameters(home, function)?,
         result: function.result,
         is_global: function.is_global,
         is_native: function.is_native,
@@ -127,13 +126,13 @@ fn outline_function(
 }
 
 fn outline_parameters(
-    site: &PropertySite<'_>,
+    home: &Home<'_>,
     function: &LoadedFunction,
 ) -> Result<Vec<CoreType>, OutOfMemory>
-    requires { IsSoundFunction (bounds_of site.now.home.now) function.now }
-    ensures { IfOk result (λ parameters. All (IsTypeAmong (vec_len site.now.home.now.set.now.heads)) parameters.items) }
+    requires { IsSoundFunction (bounds_of home.now) function.now }
+    ensures { IfOk result (λ parameters. All (IsTypeAmong (vec_len home.now.set.now.heads)) parameters.items) }
 {
-    let mut parameters = Vec::with_capacity(site.home.alloc, function.parameters.len())?;
+    let mut parameters = Vec::with_capacity(home.alloc, function.parameters.len())?;
     for parameter in &function.parameters {
         parameters.push(parameter.1)?;
     }

@@ -1,13 +1,16 @@
 // The scripts of a set, as other scripts see them.
-ghost use Rattle.std.specs.Prelude.{◌≡◌, ◌+◌, ◌<◌, length, vec_len, IfOk, IfSome, OnOk};
-ghost use Rattle.pex_verify.specs.Types.{IsKindAmong};
+ghost use Rattle.std.specs.Prelude.{◌≡◌, ◌+◌, ◌<◌, length, vec_len, IfOk, IfSome, IsTrue, OnOk};
+ghost use Rattle.pex_verify.specs.Fitting.{CastsIn, FitsIn};
+ghost use Rattle.pex_verify.specs.Types.{IsValueTypeAmong};
+ghost use Rattle.pex_verify.specs.Meanings.{result_meaning, value_meaning};
 ghost use Rattle.pex_verify.specs.Sources.{object_count};
 
-use crate::kind::{BOOL, INT, Kind, TEXT};
-use crate::members::{MemberLists, MemberTable};
+use crate::loaded::MethodPlace;
+use crate::members::{MemberLists, MemberTable, method_place};
 use crate::signature::Signature;
-use crate::sources::{Members, Source};
+use crate::sources::{DefaultMembers, SetFile};
 use crate::type_names::TypeNames;
+use crate::value_type::{BOOL, INT, TEXT, ValueType};
 use core_tree::CoreType;
 use papy_base::OutOfMemory;
 use pex_set::{EMPTY_NAME, FileNames, LIBRARY_COUNT, NameTable, Objects};
@@ -22,12 +25,10 @@ pub(crate) struct PropertyHead {
     pub(crate) bits: u8,
 }
 
-/// A function of an empty state: its script's number, the place of the state there, and its own in the state.
+/// A function of an empty state, where it stands and what it gives and takes.
 #[derive(Clone, Copy)]
 pub(crate) struct Callee<'a> {
-    pub(crate) script: usize,
-    pub(crate) state: usize,
-    pub(crate) place: usize,
+    pub(crate) place: MethodPlace,
     pub(crate) signature: &'a Signature,
 }
 
@@ -46,7 +47,7 @@ pub(crate) struct ScriptHead {
 
 /// The scripts of a set.
 #[derive(Drop)]
-pub(crate) struct Scripts {
+pub(crate) struct ScriptSet {
     pub(crate) heads: Vec<ScriptHead>,
     /// The four members of every script without parent.
     pub(crate) members: Vec<Signature>,
@@ -55,7 +56,10 @@ pub(crate) struct Scripts {
     pub(crate) objects: Objects,
     /// What each script has from itself upward.
     pub(crate) table: MemberTable,
-    ghost one_each: { types ≡ vec_len heads },
+    /// The numbers of the words `self` and `::State`.
+    pub(crate) instance_word: Option<usize>,
+    pub(crate) state_word: Option<usize>,
+    ghost one_each: { types.scripts ≡ vec_len heads },
 }
 
 impl ScriptHead {
@@ -81,11 +85,10 @@ impl ScriptHead {
     }
 
     /// Adds those of the four members that the script doesn't have.
-    fn complete(&mut self, alloc: Global, members: &Members<'_>) -> Result<(), OutOfMemory> {
+    fn complete(&mut self, alloc: Global, members: &DefaultMembers<'_>) -> Result<(), OutOfMemory> {
         for (place, member) in members.list.iter().enumerate() {
-            let name = members.names.number(member.0);
-            if !self.has_function(name) {
-                let signature = Signature::of(alloc, members.names, member.0, &member.1)?;
+            let signature = Signature::of(alloc, members.source.names, member.0, &member.1)?;
+            if !self.has_function(signature.name) {
                 self.functions.push(signature)?;
                 self.lacking.push(place)?;
             }
@@ -143,29 +146,25 @@ fn add_heads(
     heads: &mut Vec<ScriptHead>,
     lists: &mut MemberLists,
     parents: &[Option<usize>],
-    members: &Members<'_>,
-    source: &Source<'_>,
+    members: &DefaultMembers<'_>,
+    source: &SetFile<'_>,
 ) -> Result<(), OutOfMemory>
     ensures { OnOk result (vec_len heads.new ≡ vec_len heads.old + vec_len source.now.pex.now.objects) }
 {
     for object in &source.pex.objects {
         let number = heads.len();
-        let parent = parent_at(parents, number);
+        let parent = match parents.get(number) {
+            Some(parent) => *parent,
+            None => None,
+        };
         let mut head = ScriptHead::of(alloc, source.names, object, parent)?;
         if has_members(number, source.names, object) {
             head.complete(alloc, members)?;
         }
-        lists.add(number, source.names, object, &head, members)?;
+        lists.add(number, source.names, object, &head)?;
         heads.push(head)?;
     }
     Ok(())
-}
-
-fn parent_at(parents: &[Option<usize>], number: usize) -> Option<usize> {
-    match parents.get(number) {
-        Some(parent) => *parent,
-        None => None,
-    }
 }
 
 // Whether the object of this number is read as if it had the four members.
@@ -173,16 +172,19 @@ fn has_members(number: usize, names: &FileNames, object: &PexObject) -> bool {
     number >= LIBRARY_COUNT && names.number(object.parent) == EMPTY_NAME
 }
 
-impl Scripts {
+impl ScriptSet {
+    ghost use Rattle.std.specs.Prelude.{Some};
+    ghost use Rattle.pex_verify.specs.Found as found;
+
     /// The scripts of these files, the first of which is the prelude, whose objects are these.
     pub(crate) fn of(
         alloc: Global,
         table: &NameTable,
-        members: &Members<'_>,
-        sources: &[Source<'_>],
+        members: &DefaultMembers<'_>,
+        sources: &[SetFile<'_>],
         objects: Objects,
         parents: &[Option<usize>],
-    ) -> Result<Scripts, OutOfMemory>
+    ) -> Result<ScriptSet, OutOfMemory>
         requires { length objects ≡ object_count sources.now }
         ensures { IfOk result (λ scripts. vec_len scripts.heads ≡ object_count sources.now) }
     {
@@ -192,32 +194,33 @@ impl Scripts {
         for source in sources {
             add_heads(alloc, &mut heads, &mut lists, parents, members, source)?;
         }
-        Ok(Scripts {
+        Ok(ScriptSet {
             heads,
-            members: signatures(alloc, members.names, members.list)?,
+            members: signatures(alloc, members.source.names, members.list)?,
             types,
             objects,
-            table: lists.inherited()?,
+            table: lists.inherited(alloc)?,
+            instance_word: table.find(alloc, b"self")?,
+            state_word: table.find(alloc, b"::State")?,
         })
     }
 
     /// The nearest function of this name in the empty states, from the script upward.
     pub(crate) fn find_function(&self, script: usize, name: usize) -> Option<Callee<'_>>
-        ensures { IfSome result (λ callee. callee.script < vec_len self.now.heads) }
+        ensures among { IfSome result (λ callee. callee.place.script < vec_len self.now.heads) }
+        ensures nearest { IfSome result (λ callee. found.function_found self.now script name ≡ Some callee.signature.now) }
     {
         let found = self.table.in_state(script, EMPTY_NAME, name)?;
         let head = self.heads.get(found.object)?;
         let signature = head.functions.get(found.place)?;
-        Some(Callee {
-            script: found.object,
-            state: found.state,
-            place: found.place,
-            signature,
-        })
+        let place = method_place(found)?;
+        Some(Callee { place, signature })
     }
 
     /// The nearest property of this name, from the script upward.
-    pub(crate) fn find_property(&self, script: usize, name: usize) -> Option<PropertyHead> {
+    pub(crate) fn find_property(&self, script: usize, name: usize) -> Option<PropertyHead>
+        ensures { result ≡ found.property_found self.now script name }
+    {
         let found = self.table.property(script, name)?;
         self.heads
             .get(found.object)?
@@ -256,13 +259,10 @@ impl Scripts {
         }
     }
 
-    pub(crate) fn parent(&self, script: usize) -> Option<usize> {
+    pub(crate) fn parent(&self, script: usize) -> Option<usize>
+        ensures { result ≡ found.parent_of self.now script }
+    {
         self.heads.get(script)?.parent
-    }
-
-    /// The script of this name.
-    pub(crate) fn script_named(&self, name: usize) -> Option<usize> {
-        self.objects.first_named(name)
     }
 
     /// The member that every script without parent has, where the name is that of one.
@@ -271,64 +271,54 @@ impl Scripts {
     }
 
     /// What this name means as the name of the type of a result or a local.
-    pub(crate) fn kind(&self, name: usize) -> Kind
-        ensures { IsKindAmong (vec_len self.now.heads) result }
+    pub(crate) fn result_type(&self, name: usize) -> ValueType
+        ensures meaning { result ≡ result_meaning self.now.types name }
+        ensures among { IsValueTypeAmong (vec_len self.now.heads) result }
     {
-        self.types.kind(name)
+        self.types.meaning(name)
     }
 
     /// What this name means as the name of any other type, where None is none.
-    pub(crate) fn value_kind(&self, name: usize) -> Kind
-        ensures { IsKindAmong (vec_len self.now.heads) result }
+    pub(crate) fn value_type(&self, name: usize) -> ValueType
+        ensures meaning { result ≡ value_meaning self.now.types name }
+        ensures among { IsValueTypeAmong (vec_len self.now.heads) result }
     {
-        self.kind(name).without_none()
-    }
-
-    /// What each script has from itself upward.
-    pub(crate) fn into_table(self) -> MemberTable {
-        self.table
+        self.result_type(name).without_none()
     }
 
     /// Whether a value of one type fits the other: it has the type, or is of a script below it, or is None
     /// and the type is a script or array type.
-    #[inline(always)]
-    pub(crate) fn fits(&self, kind: Kind, to: Kind) -> bool {
-        if kind == to {
-            kind.is_known()
-        } else {
-            self.is_among(kind, to)
-        }
-    }
-
-    // The same of two types that differ.
-    #[inline(never)]
-    fn is_among(&self, kind: Kind, to: Kind) -> bool {
-        match (kind, to) {
-            (Kind::Nothing, to) => to.holds_none(),
-            (Kind::Of(CoreType::Script(script)), Kind::Of(CoreType::Script(parent))) => {
+    pub(crate) fn fits(&self, value: ValueType, to: ValueType) -> bool
+        ensures { IsTrue result → FitsIn self.now.table.descent value to }
+    {
+        match (value, to) {
+            (ValueType::Of(CoreType::Script(script)), ValueType::Of(CoreType::Script(parent))) => {
                 self.table.is_child(script, parent)
             }
+            (ValueType::Of(from), ValueType::Of(to)) => from == to,
+            (ValueType::Nothing, ValueType::Of(_)) => to.holds_none(),
+            (ValueType::Nothing, ValueType::Nothing) => true,
             _ => false,
         }
     }
 
     /// Whether `as` gives the other type from a value of this one.
-    pub(crate) fn casts(&self, kind: Kind, to: Kind) -> bool {
-        if !kind.is_known() || !to.is_known() {
-            return false;
-        }
-        if to == BOOL || self.fits(kind, to) {
-            return true;
-        }
-        if to == TEXT {
-            return kind == INT || kind == BOOL || kind == Kind::Nothing || kind.script().is_some();
-        }
-        if to == INT {
-            return kind == BOOL || kind == TEXT;
-        }
-        match (kind.script(), to.script()) {
-            (Some(parent), Some(script)) => self.table.is_child(script, parent),
-            _ => false,
+    pub(crate) fn casts(&self, value: ValueType, to: ValueType) -> bool
+        ensures { IsTrue result → CastsIn self.now.table.descent value to }
+    {
+        match (value, to) {
+            (ValueType::Float | ValueType::Unknown, _) => false,
+            (_, ValueType::Of(CoreType::Bool)) => true,
+            (ValueType::Of(CoreType::Bool | CoreType::Text), ValueType::Of(CoreType::Int)) => true,
+            (
+                ValueType::Nothing
+                | ValueType::Of(CoreType::Int | CoreType::Bool | CoreType::Script(_)),
+                ValueType::Of(CoreType::Text),
+            ) => true,
+            (ValueType::Of(CoreType::Script(from)), ValueType::Of(CoreType::Script(to))) => {
+                self.table.is_child(from, to) || self.table.is_child(to, from)
+            }
+            _ => self.fits(value, to),
         }
     }
 }

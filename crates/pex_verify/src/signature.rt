@@ -1,4 +1,6 @@
 // What a function gives and takes, by the numbers of its type names.
+ghost use Rattle.std.specs.Prelude.{◌≡◌, ◌==◌, bit_and, not};
+
 use papy_base::OutOfMemory;
 use pex_set::FileNames;
 use pex_values::PexFunction;
@@ -40,7 +42,9 @@ impl Signature {
         })
     }
 
-    pub(crate) fn is_global(&self) -> bool {
+    pub(crate) fn is_global(&self) -> bool
+        ensures { result ≡ not (bit_and self.now.bits 1 == 0) }
+    {
         self.bits & GLOBAL != 0
     }
 

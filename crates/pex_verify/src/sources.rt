@@ -1,16 +1,16 @@
 // The values of a set, with the numbers of their names.
-ghost use Rattle.std.specs.Prelude.{◌≡◌, ◌+◌, ◌<◌, length, vec_len, sum_by, IfOk};
+ghost use Rattle.std.specs.Prelude.{◌≡◌, ◌+◌, ◌<◌, [], length, vec_len, slice_index_or, sum_by, IfOk};
 ghost use Rattle.pex_verify.specs.Sources.{object_count, objects_in, objects_of};
 
 use crate::fault::Site;
-use papy_base::{Name, OutOfMemory, TEXT_LIMIT, Text};
-use pex_set::{FileNames, NameTable, Objects, Prelude, text_at};
+use papy_base::{Name, OutOfMemory, Text};
+use pex_set::{FileNames, NameTable, Objects, text_at};
 use pex_values::{Pex, PexFunction, PexObject};
 use std::alloc::Global;
 
 /// One file of a set.
 #[derive(Clone, Copy)]
-pub(crate) struct Source<'a> {
+pub(crate) struct SetFile<'a> {
     /// The number that faults give.
     pub(crate) file: u16,
     pub(crate) pex: &'a Pex,
@@ -18,21 +18,17 @@ pub(crate) struct Source<'a> {
     pub(crate) names: &'a FileNames,
     /// Its strings as names, which share their bytes with all names that are made from them.
     pub(crate) titles: &'a [Name],
-    /// Whether one of its strings has over 1,024 bytes.
-    pub(crate) has_long_string: bool,
 }
 
-impl<'a> Source<'a> {
-    pub(crate) fn strings(&self) -> &'a [Text] {
-        self.pex.strings.as_slice()
-    }
-
+impl<'a> SetFile<'a> {
     pub(crate) fn text(&self, reference: u16) -> &'a [u8] {
         text_at(self.pex.strings.as_slice(), reference)
     }
 
     /// The string at this reference as a name.
-    pub(crate) fn title(&self, alloc: Global, reference: u16) -> Result<Name, OutOfMemory> {
+    pub(crate) fn title(&self, alloc: Global, reference: u16) -> Result<Name, OutOfMemory>
+        ensures { IfOk result (λ name. name ≡ slice_index_or self.now.titles.now reference []) }
+    {
         match self.titles.get(usize::from(reference)) {
             Some(title) => title.try_clone(alloc),
             None => Name::from_bytes(alloc, &[]),
@@ -47,19 +43,19 @@ impl<'a> Source<'a> {
     }
 }
 
-/// The members that every script without parent has, with the numbers of the strings that they refer to.
+/// The members that every script without parent has.
 #[derive(Clone, Copy)]
-pub(crate) struct Members<'a> {
+pub(crate) struct DefaultMembers<'a> {
     pub(crate) list: &'a [(u16, PexFunction)],
-    pub(crate) names: &'a FileNames,
+    /// The prelude, which has their strings.
+    pub(crate) source: &'a SetFile<'a>,
 }
 
 /// The strings of a file as names, and their numbers.
 #[derive(Drop)]
 pub(crate) struct FileStrings {
-    pub(crate) names: FileNames,
+    names: FileNames,
     titles: Vec<Name>,
-    has_long_string: bool,
 }
 
 impl FileStrings {
@@ -74,13 +70,7 @@ impl FileStrings {
         for string in strings {
             titles.push(Name::from_bytes(alloc, string.as_bytes())?)?;
         }
-        Ok(FileStrings {
-            names,
-            titles,
-            has_long_string: strings
-                .iter()
-                .any(|string| string.as_bytes().len() > TEXT_LIMIT),
-        })
+        Ok(FileStrings { names, titles })
     }
 }
 
@@ -99,32 +89,25 @@ pub(crate) fn strings_of_files(
     Ok(strings)
 }
 
-/// The prelude as a file. No fault lies in it.
-pub(crate) fn prelude_source<'a>(prelude: &'a Prelude, strings: &'a FileStrings) -> Source<'a>
-    ensures { result.pex.now ≡ prelude.now.file }
-{
-    source_of(0, &prelude.file, strings)
-}
-
-fn source_of<'a>(file: u16, pex: &'a Pex, strings: &'a FileStrings) -> Source<'a>
+/// The file that has this number in faults, with its strings.
+pub(crate) fn source_of<'a>(file: u16, pex: &'a Pex, strings: &'a FileStrings) -> SetFile<'a>
     ensures { result.pex.now ≡ pex.now }
 {
-    Source {
+    SetFile {
         file,
         pex,
         names: &strings.names,
         titles: strings.titles.as_slice(),
-        has_long_string: strings.has_long_string,
     }
 }
 
 /// The prelude and these files behind it.
 pub(crate) fn all_sources<'a>(
     alloc: Global,
-    prelude: Source<'a>,
+    prelude: SetFile<'a>,
     files: &'a [Pex],
     strings: &'a [FileStrings],
-) -> Result<Vec<Source<'a>>, OutOfMemory>
+) -> Result<Vec<SetFile<'a>>, OutOfMemory>
     requires few { length files.now < 65536 }
     requires strings { length strings.now ≡ length files.now }
     ensures { IfOk result (λ sources. object_count sources.items ≡ objects_in prelude.entry + sum_by objects_of files.now) }
@@ -137,17 +120,8 @@ pub(crate) fn all_sources<'a>(
     Ok(sources)
 }
 
-/// The most strings that one of these files has.
-pub(crate) fn most_strings(sources: &[Source<'_>]) -> usize {
-    let mut most = 0;
-    for source in sources {
-        most = most.max(source.strings().len());
-    }
-    most
-}
-
 /// The objects of these files.
-pub(crate) fn objects_of(alloc: Global, sources: &[Source<'_>]) -> Result<Objects, OutOfMemory>
+pub(crate) fn objects_of(alloc: Global, sources: &[SetFile<'_>]) -> Result<Objects, OutOfMemory>
     ensures { IfOk result (λ objects. length objects ≡ object_count sources.now) }
 {
     let mut objects = Objects::new(alloc);

@@ -1,8 +1,9 @@
 // What each name means as the name of a type.
 ghost use Rattle.std.specs.Prelude.{◌≡◌, ℕ, length, All, IfOk, IfSome};
-ghost use Rattle.pex_verify.specs.Types.{IsKindAmong};
+ghost use Rattle.pex_verify.specs.Meanings.{result_meaning};
+ghost use Rattle.pex_verify.specs.Types.{IsValueTypeAmong};
 
-use crate::kind::{BOOL, INT, Kind, TEXT, array_of};
+use crate::value_type::{BOOL, INT, TEXT, ValueType, array_of};
 use core_tree::CoreType;
 use papy_base::OutOfMemory;
 use pex_set::{LIBRARY_COUNT, NameTable, Objects};
@@ -14,18 +15,19 @@ use std::marker::Model;
 pub(crate) struct TypeNames {
     scripts: usize,
     // By the numbers of the names.
-    kinds: Vec<Kind>,
+    meanings: Vec<ValueType>,
 }
 
 impl Model for TypeNames {
-    ghost use Rattle.std.specs.Prelude.{ℕ, All};
-    ghost use Rattle.pex_verify.specs.Types.{IsKindAmong};
+    ghost use Rattle.std.specs.Prelude.{All};
+    ghost use Rattle.pex_verify.specs.Meanings.{Meanings};
+    ghost use Rattle.pex_verify.specs.Types.{IsValueTypeAmong};
 
-    ghost Value = { ℕ };
+    ghost Value = { Meanings };
 
-    ghost view = { λ types. types.scripts };
+    ghost view = { λ types. record { scripts = types.scripts; meanings = types.meanings.items } };
 
-    ghost invariant = { λ types. All (IsKindAmong types.scripts) types.kinds.items };
+    ghost invariant = { λ types. All (IsValueTypeAmong types.scripts) types.meanings.items };
 }
 
 impl TypeNames {
@@ -35,118 +37,114 @@ impl TypeNames {
         table: &NameTable,
         objects: &Objects,
     ) -> Result<TypeNames, OutOfMemory>
-        ensures { IfOk result (λ types. types ≡ length objects.now) }
+        ensures { IfOk result (λ types. types.scripts ≡ length objects.now) }
     {
         Ok(TypeNames {
             scripts: objects.count(),
-            kinds: kinds_of_names(alloc, table, objects)?,
+            meanings: meanings_of_names(alloc, table, objects)?,
         })
     }
 
     /// What the name of this number means.
-    pub(crate) fn kind(&self, name: usize) -> Kind
-        ensures { IsKindAmong self.now result }
+    pub(crate) fn meaning(&self, name: usize) -> ValueType
+        ensures meaning { result ≡ result_meaning self.now name }
+        ensures among { IsValueTypeAmong self.now.scripts result }
     {
-        match self.kinds.get(name) {
-            Some(kind) => *kind,
-            None => Kind::Unknown,
+        match self.meanings.get(name) {
+            Some(meaning) => *meaning,
+            None => ValueType::Unknown,
         }
     }
 }
 
-fn kinds_of_names(
+fn meanings_of_names(
     alloc: Global,
     table: &NameTable,
     objects: &Objects,
-) -> Result<Vec<Kind>, OutOfMemory>
-    ensures { IfOk result (λ kinds. All (IsKindAmong (length objects.now)) kinds.items) }
+) -> Result<Vec<ValueType>, OutOfMemory>
+    ensures { IfOk result (λ meanings. All (IsValueTypeAmong (length objects.now)) meanings.items) }
 {
-    let mut kinds = Vec::with_capacity(alloc, table.count())?;
+    let mut meanings = Vec::with_capacity(alloc, table.count())?;
     for number in 0..table.count() {
-        kinds.push(kind_of_name(alloc, table, objects, number)?)?;
+        meanings.push(meaning_of_name(alloc, table, objects, number)?)?;
     }
-    Ok(kinds)
+    Ok(meanings)
 }
 
-fn kind_of_name(
+fn meaning_of_name(
     alloc: Global,
     table: &NameTable,
     objects: &Objects,
     number: usize,
-) -> Result<Kind, OutOfMemory>
-    ensures { IfOk result (IsKindAmong (length objects.now)) }
+) -> Result<ValueType, OutOfMemory>
+    ensures { IfOk result (IsValueTypeAmong (length objects.now)) }
 {
     let name = table.name(number);
     if name == b"none".as_slice() {
-        return Ok(Kind::Nothing);
+        return Ok(ValueType::Nothing);
     }
-    if let Some(array) = array_kind(alloc, table, objects, name)? {
+    if let Some(array) = array_meaning(alloc, table, objects, name)? {
         return Ok(array);
     }
-    Ok(plain_kind(objects, name, Some(number)))
+    Ok(plain_meaning(objects, name, Some(number)))
 }
 
 // The array type of a name that ends with `[]` behind the name of a type.
-fn array_kind(
+fn array_meaning(
     alloc: Global,
     table: &NameTable,
     objects: &Objects,
     name: &[u8],
-) -> Result<Option<Kind>, OutOfMemory>
-    ensures { IfOk result (λ kind. IfSome kind (IsKindAmong (length objects.now))) }
+) -> Result<Option<ValueType>, OutOfMemory>
+    ensures { IfOk result (λ found. IfSome found (IsValueTypeAmong (length objects.now))) }
 {
     let Some(element) = name.strip_suffix(b"[]") else {
         return Ok(None);
     };
     let number = table.find(alloc, element)?;
-    Ok(array_of(plain_kind(objects, element, number)))
+    Ok(array_of(plain_meaning(objects, element, number)))
 }
 
 // The meaning of a name that is no array type, and has this number if any.
-fn plain_kind(objects: &Objects, name: &[u8], number: Option<usize>) -> Kind
-    ensures { IsKindAmong (length objects.now) result }
+fn plain_meaning(objects: &Objects, name: &[u8], number: Option<usize>) -> ValueType
+    ensures { IsValueTypeAmong (length objects.now) result }
 {
-    if let Some(kind) = word_kind(name) {
-        return kind;
+    if let Some(found) = word_meaning(name) {
+        return found;
     }
     let script = match number {
         Some(number) => objects.first_named(number),
         None => None,
     };
     match script {
-        Some(script) => script_kind(script, objects.count()),
-        None => Kind::Unknown,
+        Some(script) => script_meaning(script, objects.count()),
+        None => ValueType::Unknown,
     }
 }
 
 // The meaning of the words of the language. They win over scripts of such a name.
-fn word_kind(name: &[u8]) -> Option<Kind>
-    ensures { (count : ℕ) → IfSome result (IsKindAmong count) }
+fn word_meaning(name: &[u8]) -> Option<ValueType>
+    ensures { (count : ℕ) → IfSome result (IsValueTypeAmong count) }
 {
-    if name == b"int".as_slice() {
-        Some(INT)
-    } else if name == b"bool".as_slice() {
-        Some(BOOL)
-    } else if name == b"string".as_slice() {
-        Some(TEXT)
-    } else if name == b"float".as_slice() || name == b"float[]".as_slice() {
-        Some(Kind::Float)
-    } else if name == b"none".as_slice() {
-        Some(Kind::Unknown)
-    } else {
-        None
+    match name {
+        b"int" => Some(INT),
+        b"bool" => Some(BOOL),
+        b"string" => Some(TEXT),
+        b"float" | b"float[]" => Some(ValueType::Float),
+        b"none" => Some(ValueType::Unknown),
+        _ => None,
     }
 }
 
 // The type of the instances of a script among so many. A library has none.
-fn script_kind(script: usize, count: usize) -> Kind
-    ensures { IsKindAmong count result }
+fn script_meaning(script: usize, count: usize) -> ValueType
+    ensures { IsValueTypeAmong count result }
 {
     if script < LIBRARY_COUNT || script >= count {
-        return Kind::Unknown;
+        return ValueType::Unknown;
     }
     match u16::try_from(script) {
-        Ok(script) => Kind::Of(CoreType::Script(script)),
-        Err(_) => Kind::Unknown,
+        Ok(script) => ValueType::Of(CoreType::Script(script)),
+        Err(_) => ValueType::Unknown,
     }
 }

@@ -3,23 +3,23 @@ ghost use Rattle.std.specs.Prelude.{vec_len, OnOk};
 ghost use Rattle.pex_verify.specs.Soundness.{AreTyped};
 
 use crate::fault::{Refusal, VerifyFault, VerifyRule};
-use crate::function::known_kind;
-use crate::kind::Kind;
-use crate::scope::Variables;
-use crate::scripts::Scripts;
-use crate::sources::Source;
+use crate::function::known_type;
+use crate::named_list::NamedList;
+use crate::scripts::ScriptSet;
+use crate::sources::SetFile;
+use crate::value_type::ValueType;
 use core_tree::{CoreType, OutlineVariable, Value};
 use papy_base::{OutOfMemory, TEXT_LIMIT, Text};
 use pex_values::{Datum, PexObject, PexVariable};
 use std::alloc::Global;
 
-/// Takes the variables of an object, in their order.
+/// Puts the variables of an object, in their order, in place of those of the list.
 pub(crate) fn load_variables(
     alloc: Global,
-    set: &Scripts,
-    source: &Source<'_>,
+    set: &ScriptSet,
+    source: &SetFile<'_>,
     object: &PexObject,
-    variables: &mut Variables,
+    variables: &mut NamedList<OutlineVariable>,
 ) -> Result<(), VerifyFault>
     ensures { OnOk result (AreTyped (vec_len set.now.heads) variables.new.list.items) }
 {
@@ -36,22 +36,22 @@ pub(crate) fn load_variables(
 // Adds a variable, unless it breaks a rule: V2, V5, V7, then V12.
 fn load_variable(
     alloc: Global,
-    set: &Scripts,
-    source: &Source<'_>,
-    variables: &mut Variables,
+    set: &ScriptSet,
+    source: &SetFile<'_>,
+    variables: &mut NamedList<OutlineVariable>,
     variable: &PexVariable,
 ) -> Result<(), Refusal>
     ensures { AreTyped (vec_len set.now.heads) variables.old.list.items → OnOk result (AreTyped (vec_len set.now.heads) variables.new.list.items) }
 {
     let name = source.names.number(variable.name);
-    let kind = set.value_kind(source.names.number(variable.kind));
-    if kind == Kind::Float || matches!(variable.value, Datum::Float(_)) {
+    let declared = set.value_type(source.names.number(variable.kind));
+    if declared == ValueType::Float || matches!(variable.value, Datum::Float(_)) {
         return Err(Refusal::of(VerifyRule::FloatValue));
     }
-    if variables.has(name) {
+    if variables.place(name).is_some() {
         return Err(Refusal::of(VerifyRule::DuplicateName));
     }
-    let Some(kind) = known_kind(kind)? else {
+    let Some(kind) = known_type(declared)? else {
         return Err(Refusal::of(VerifyRule::OperandType));
     };
     let value = judged_value(alloc, source, kind, variable.value)?;
@@ -70,7 +70,7 @@ fn load_variable(
 // The value at the start: V7 where it isn't of the type, and V12 where a text is too long.
 fn judged_value(
     alloc: Global,
-    source: &Source<'_>,
+    source: &SetFile<'_>,
     kind: CoreType,
     datum: Datum,
 ) -> Result<Value, Refusal> {

@@ -8,13 +8,11 @@ use crate::fault::{VerifyFault, VerifyRule};
 use crate::lines::FileLines;
 use crate::loaded::{Loaded, LoadedScript};
 use crate::members::MemberTable;
-use crate::object::{Loader, load_object};
+use crate::object::{Loader, ObjectLists, load_object};
 use crate::object_rules::{SCRIPT_LIMIT, judge_objects};
-use crate::scope::{Seen, Words};
-use crate::scripts::Scripts;
+use crate::scripts::ScriptSet;
 use crate::sources::{
-    FileStrings, Members, Source, all_sources, most_strings, objects_of, prelude_source,
-    strings_of_files,
+    DefaultMembers, FileStrings, SetFile, all_sources, objects_of, source_of, strings_of_files,
 };
 use core_tree::{Outline, OutlineScript};
 use pex_set::{NameTable, Prelude};
@@ -35,8 +33,7 @@ pub fn verify(alloc: Global, files: Vec<Pex>) -> Result<Loaded, VerifyFault>
     ensures count { IfOk result (λ loaded. length loaded.scripts ≡ script_count files.items) }
 {
     let mut table = NameTable::new(alloc)?;
-    let words = Words::of(alloc, &mut table)?;
-    let tables = load_tables(alloc, &mut table, words, files.as_slice(), true)?;
+    let tables = load_tables(alloc, &mut table, files.as_slice(), true)?;
     Ok(Loaded {
         outline: Outline {
             scripts: tables.parts.outlines,
@@ -57,8 +54,7 @@ pub fn judge(alloc: Global, files: &[Pex]) -> Result<Outline, VerifyFault>
     ensures { IfOk result (λ outline. AreSoundOutlines (script_count files.now) outline.scripts.items) }
 {
     let mut table = NameTable::new(alloc)?;
-    let words = Words::of(alloc, &mut table)?;
-    let tables = load_tables(alloc, &mut table, words, files, false)?;
+    let tables = load_tables(alloc, &mut table, files, false)?;
     Ok(Outline {
         scripts: tables.parts.outlines,
     })
@@ -78,20 +74,10 @@ struct Tables {
     members: MemberTable,
 }
 
-// The prelude and the files of a set.
-#[derive(Clone, Copy)]
-struct SourceSet<'a> {
-    prelude: &'a Source<'a>,
-    members: &'a Members<'a>,
-    // All of them, the prelude first.
-    all: &'a [Source<'a>],
-}
-
 // All scripts of these files, behind those of the prelude. Their code is empty unless it is to be kept.
 fn load_tables(
     alloc: Global,
     table: &mut NameTable,
-    words: Words,
     files: &[Pex],
     keeps_code: bool,
 ) -> Result<Tables, VerifyFault>
@@ -100,14 +86,13 @@ fn load_tables(
     ensures sound { IfOk result (λ tables. AreSoundScripts (vec_len tables.parts.scripts) tables.parts.outlines.items tables.parts.scripts.items) }
 {
     let prelude = Prelude::new(alloc)?;
-    load_behind(alloc, table, words, &prelude, files, keeps_code)
+    load_behind(alloc, table, &prelude, files, keeps_code)
 }
 
 // The same behind this prelude.
 fn load_behind(
     alloc: Global,
     table: &mut NameTable,
-    words: Words,
     prelude: &Prelude,
     files: &[Pex],
     keeps_code: bool,
@@ -119,58 +104,48 @@ fn load_behind(
 {
     let prelude_strings = FileStrings::of(alloc, table, prelude.file.strings.as_slice())?;
     let strings = strings_of_files(alloc, table, files)?;
-    let first = prelude_source(prelude, &prelude_strings);
+    // No fault lies in the prelude, so its number is never told.
+    let first = source_of(0, &prelude.file, &prelude_strings);
     let sources = all_sources(alloc, first, files, strings.as_slice())?;
-    let members = Members {
+    let members = DefaultMembers {
         list: prelude.members.as_slice(),
-        names: &prelude_strings.names,
+        source: &first,
     };
-    let set = SourceSet {
-        prelude: &first,
-        members: &members,
-        all: sources.as_slice(),
-    };
-    load_set(alloc, table, words, files, &set, keeps_code)
+    load_set(
+        alloc,
+        table,
+        files,
+        &members,
+        sources.as_slice(),
+        keeps_code,
+    )
 }
 
+// The scripts of these files, the first of which is the prelude.
 fn load_set(
     alloc: Global,
     table: &NameTable,
-    words: Words,
     files: &[Pex],
-    set: &SourceSet<'_>,
+    members: &DefaultMembers<'_>,
+    sources: &[SetFile<'_>],
     keeps_code: bool,
 ) -> Result<Tables, VerifyFault>
-    ensures count { IfOk result (λ tables. vec_len tables.parts.scripts ≡ object_count set.now.all.now) }
+    ensures count { IfOk result (λ tables. vec_len tables.parts.scripts ≡ object_count sources.now) }
     ensures sound { IfOk result (λ tables. AreSoundScripts (vec_len tables.parts.scripts) tables.parts.outlines.items tables.parts.scripts.items) }
 {
-    let scripts = judged_scripts(alloc, table, files, set.members, set.all)?;
+    let set = judged_scripts(alloc, table, files, members, sources)?;
     let loader = Loader {
         alloc,
-        set: &scripts,
-        words,
-        prelude: set.prelude,
-        members: set.members,
+        set: &set,
+        members,
         keeps_code,
     };
-    let parts = load_sources(&loader, table.count(), set.all)?;
+    let mut lists = ObjectLists::new(alloc, table.count())?;
+    let parts = load_files(&loader, &mut lists, sources)?;
     Ok(Tables {
         parts,
-        members: scripts.into_table(),
+        members: set.table,
     })
-}
-
-// Loads the objects of all files, which have so many names.
-fn load_sources(
-    loader: &Loader<'_>,
-    names: usize,
-    sources: &[Source<'_>],
-) -> Result<Parts, VerifyFault>
-    ensures count { IfOk result (λ parts. vec_len parts.scripts ≡ object_count sources.now) }
-    ensures sound { IfOk result (λ parts. AreSoundScripts (vec_len loader.now.set.now.heads) parts.outlines.items parts.scripts.items) }
-{
-    let mut seen = Seen::new(loader.alloc, names, most_strings(sources))?;
-    load_files(loader, &mut seen, sources)
 }
 
 // What the scripts offer, once their names, parents and numbers were judged.
@@ -178,22 +153,22 @@ fn judged_scripts(
     alloc: Global,
     table: &NameTable,
     files: &[Pex],
-    members: &Members<'_>,
-    sources: &[Source<'_>],
-) -> Result<Scripts, VerifyFault>
+    members: &DefaultMembers<'_>,
+    sources: &[SetFile<'_>],
+) -> Result<ScriptSet, VerifyFault>
     ensures { IfOk result (λ scripts. vec_len scripts.heads ≡ object_count sources.now) }
 {
     let objects = objects_of(alloc, sources)?;
     let parents = objects.parents(alloc)?;
     judge_objects(alloc, files, &objects, parents.as_slice())?;
-    let scripts = Scripts::of(alloc, table, members, sources, objects, parents.as_slice())?;
-    Ok(scripts)
+    Ok(ScriptSet::of(alloc, table, members, sources, objects, parents.as_slice())?)
 }
 
+// Loads the objects of all files.
 fn load_files(
     loader: &Loader<'_>,
-    seen: &mut Seen,
-    sources: &[Source<'_>],
+    lists: &mut ObjectLists,
+    sources: &[SetFile<'_>],
 ) -> Result<Parts, VerifyFault>
     ensures count { IfOk result (λ parts. vec_len parts.scripts ≡ object_count sources.now) }
     ensures sound { IfOk result (λ parts. AreSoundScripts (vec_len loader.now.set.now.heads) parts.outlines.items parts.scripts.items) }
@@ -203,7 +178,7 @@ fn load_files(
         scripts: Vec::new(loader.alloc),
     };
     for source in sources {
-        load_file(loader, seen, source, &mut parts)?;
+        load_file(loader, lists, source, &mut parts)?;
     }
     Ok(parts)
 }
@@ -211,8 +186,8 @@ fn load_files(
 // Loads the objects of the next file.
 fn load_file(
     loader: &Loader<'_>,
-    seen: &mut Seen,
-    source: &Source<'_>,
+    lists: &mut ObjectLists,
+    source: &SetFile<'_>,
     parts: &mut Parts,
 ) -> Result<(), VerifyFault>
     ensures count { OnOk result (vec_len parts.new.scripts ≡ vec_len parts.old.scripts + vec_len source.now.pex.now.objects) }
@@ -221,7 +196,7 @@ fn load_file(
 {
     let lines = FileLines::of(loader.alloc, source.names, source.pex)?;
     for object in &source.pex.objects {
-        load_next(loader, seen, source, &lines, object, parts)?;
+        load_next(loader, lists, source, &lines, object, parts)?;
     }
     Ok(())
 }
@@ -229,8 +204,8 @@ fn load_file(
 // Loads an object as the next script.
 fn load_next(
     loader: &Loader<'_>,
-    seen: &mut Seen,
-    source: &Source<'_>,
+    lists: &mut ObjectLists,
+    source: &SetFile<'_>,
     lines: &FileLines<'_>,
     object: &PexObject,
     parts: &mut Parts,
@@ -243,7 +218,7 @@ fn load_next(
     if number >= SCRIPT_LIMIT {
         return Err(source.site(object).fault(loader.alloc, VerifyRule::TooMany));
     }
-    let loaded = load_object(loader, seen, number as u16, source, lines, object)?;
+    let loaded = load_object(loader, lists, number as u16, source, lines, object)?;
     parts.outlines.push(loaded.outline)?;
     parts.scripts.push(loaded.script)?;
     Ok(())

@@ -4,4 +4,4 @@ use Rattle.pex_verify.proofs.function.load_locals.Given as goal
 
 abbrev pub invariant-loop-pair : goal.invariant-loop-pair
 invariant-loop-pair l =
-    (vec_len l.slots.kinds ≡ vec_len l.fn.slots.kinds + vec_len l.locals) × All (λ local. IfSome local.1 (IsTypeAmong (vec_len l.home.set.now.heads))) l.locals.items
+    (vec_len l.slots.list ≡ vec_len l.fn.slots.list + vec_len l.locals) × All (λ local. IfSome local.1 (IsTypeAmong (vec_len l.home.set.now.heads))) l.locals.items

@@ -4,4 +4,4 @@ use Rattle.pex_verify.proofs.function.load_parameters.Given as goal
 
 abbrev pub invariant-loop-pair : goal.invariant-loop-pair
 invariant-loop-pair l =
-    (vec_len l.slots.kinds ≡ vec_len l.fn.slots.kinds + vec_len l.parameters) × All (λ p. IsTypeAmong (vec_len l.home.set.now.heads) p.1) l.parameters.items
+    (vec_len l.slots.list ≡ vec_len l.fn.slots.list + vec_len l.parameters) × All (λ p. IsTypeAmong (vec_len l.home.set.now.heads) p.1) l.parameters.items

@@ -3,4 +3,4 @@ use Rattle.pex_verify.specs.Soundness.{AreSoundFunctions}
 use Rattle.pex_verify.proofs.object.load_functions.Given as goal
 
 abbrev pub invariant-loop-name : goal.invariant-loop-name
-invariant-loop-name l = AreSoundFunctions (bounds_of l.site.home.now) l.functions.items
+invariant-loop-name l = AreSoundFunctions (bounds_of l.home) l.functions.items

@@ -8,6 +8,6 @@ use Rattle.pex_verify.proofs.object.with_members.Goals as goal
 
 pub returns : goal.returns
 returns c =
-    let bounds = bounds_of c.args.site.now.home.now in
+    let bounds = bounds_of c.args.home.now in
     let IsSound : Name × Vec LoadedFunction Global → Type 0 = λ state. IsSoundState bounds state.1.items in
     all_grown IsSound c.args.states.items c.push.new.self.items (c.in_ok-from_bytes.field-0, c.in_ok-added.added) c.in_ok-push.ensures.items c.requires c.in_ok-added.ensures

@@ -7,7 +7,7 @@ use Rattle.pex_verify.proofs.outlining.empty_state.Goals as goal
 
 pub returns-then-is_empty : goal.returns-then-is_empty
 returns-then-is_empty c =
-    let bounds = bounds_of c.args.site.now.home.now in
+    let bounds = bounds_of c.args.home.now in
     let state = c.state-item.result in
     let items = c.deref-state-items.result.now in
     let IsSound : Name × Vec LoadedFunction Global → Type 0 = λ state. IsSoundState bounds state.1.items in

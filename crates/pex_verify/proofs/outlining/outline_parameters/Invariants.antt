@@ -3,4 +3,4 @@ use Rattle.pex_verify.specs.Types.{IsTypeAmong}
 use Rattle.pex_verify.proofs.outlining.outline_parameters.Given as goal
 
 abbrev pub invariant-loop-parameter : goal.invariant-loop-parameter
-invariant-loop-parameter l = All (IsTypeAmong (vec_len l.site.home.now.set.now.heads)) l.parameters.items
+invariant-loop-parameter l = All (IsTypeAmong (vec_len l.home.set.now.heads)) l.parameters.items

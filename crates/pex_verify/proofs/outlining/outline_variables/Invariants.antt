@@ -4,4 +4,4 @@ use Rattle.pex_verify.proofs.outlining.outline_variables.Given as goal
 
 abbrev pub invariant-loop-variable : goal.invariant-loop-variable
 invariant-loop-variable l =
-    (vec_len l.found ≡ l.variable-index) × AreTyped (vec_len l.site.home.now.set.now.heads) l.found.items
+    (vec_len l.found ≡ l.variable-index) × AreTyped (vec_len l.home.set.now.heads) l.found.items

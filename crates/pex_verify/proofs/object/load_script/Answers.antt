@@ -1,13 +1,13 @@
 use Rattle.std.proofs.Common.{ℕ, vec_len, sym, subst}
 use Rattle.pex_verify.specs.declared.loaded.LoadedScript.{LoadedScript}
 use Rattle.pex_verify.specs.Soundness.{bounds_with, IsSoundScript}
-use Rattle.pex_verify.proofs.object.load_object.Goals as goal
+use Rattle.pex_verify.proofs.object.load_script.Goals as goal
 
 pub returns : goal.returns
 returns c =
-    let count = vec_len c.args.loader.now.set.now.heads in
+    let count = vec_len c.args.home.now.set.now.heads in
     let script : LoadedScript = record { properties = c.in_ok-properties.properties; states = c.in_ok-states.states } in
-    let sound : IsSoundScript (bounds_with count (vec_len c.load_variables.new.variables.list)) script = record { properties = c.in_ok-properties.ensures; states = c.in_ok-states.ensures } in
+    let sound : IsSoundScript (bounds_with count (vec_len c.args.home.now.variables.now.list)) script = record { properties = c.in_ok-properties.ensures; states = c.in_ok-states.ensures } in
     record {
       script = subst (λ (n : ℕ). IsSoundScript (bounds_with count n) script) (sym c.in_ok-outline.ensures.count) sound;
       outline = c.in_ok-outline.ensures.sound;

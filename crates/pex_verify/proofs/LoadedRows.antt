@@ -7,7 +7,7 @@ use Rattle.pex_verify.specs.declared.loaded.Operand.{Operand as Loaded}
 use Rattle.pex_verify.specs.declared.loaded.Operand.TheVariants as loaded
 use Rattle.code_meaning.specs.Code.{Instruction, Literal, Slot, Variable, Itself, StateText}
 use Rattle.code_meaning.specs.Code as op
-use Rattle.code_meaning.specs.Loaded.{instruction_by}
+use Rattle.pex_verify.specs.Plain.{instruction_by}
 
 abbrev named : List ℕ → ScriptShape
 named name =
