@@ -10,7 +10,7 @@ use crate::members::{MemberLists, MemberTable, method_place};
 use crate::signature::Signature;
 use crate::sources::{DefaultMembers, SetFile};
 use crate::type_names::TypeNames;
-use crate::value_type::{BOOL, INT, TEXT, ValueType};
+use crate::value_type::ValueType;
 use core_tree::CoreType;
 use papy_base::OutOfMemory;
 use pex_set::{EMPTY_NAME, FileNames, LIBRARY_COUNT, NameTable, Objects};
