@@ -1,12 +1,12 @@
 -- What follows of ranks by which all below an object follow it at once.
-use Rattle.std.proofs.Common.{◌≡◌, ℕ, ◌<◌, ◌≤◌, ◌⊎◌, ◌==◌, ◌&&◌, ◌||◌, true, nat_le, nat_lt, List, length, get_or, Option, refl, sym, ap, subst, ◌∙◌, inl, inr, ⊎_elim, arith}
-use Rattle.std.proofs.lemmas.Bool.{and_parts, and_from, leb-true, ltb-true, le-leb, lt-ltb, eqb-true, or_cases, or_left, or_right, cases_Bool, cases_lt}
+use Rattle.std.proofs.Common.{◌≡◌, ℕ, ◌<◌, ◌≤◌, ◌⊎◌, ◌==◌, true, nat_le, nat_lt, List, length, get_or, Option, sym, ap, subst, ◌∙◌, inl, inr, ⊎_elim, arith}
+use Rattle.std.proofs.lemmas.Bool.{and_parts, and_from, leb-true, ltb-true, le-leb, lt-ltb, eqb-true, or_cases, or_right, cases_lt}
 use Rattle.std.proofs.lemmas.Bool.Decides.{same_from_decides}
 use Rattle.pex_set.specs.declared.descent.Span.{Span}
-use Rattle.pex_set.specs.Lineage.{stands_below, AreAmong, AreRooted}
+use Rattle.pex_set.specs.Lineage.{stands_below}
 use Rattle.pex_set.specs.Orders.{parent_number, IsForest, IsBelow, itself, below_parent, IsOrder, AreReached}
-use Rattle.pex_set.specs.Ranks.{has, span_at, is_below, IsDescentOf}
-use Rattle.pex_set.proofs.LineageLemmas.{below_below, stands_from_below, below_from_stands}
+use Rattle.pex_set.specs.Ranks.{has, span_at, is_below, AreApart, Nests, IsDescentOf}
+use Rattle.pex_set.proofs.LineageLemmas.{below_both, stands_from_below, below_from_stands}
 use Rattle.pex_set.proofs.ReachLemmas.{rank_of, parent_before}
 
 -- ---- from the spans in order
@@ -57,31 +57,60 @@ module _ (parents : List (Option ℕ)) (order : List ℕ) (spans : List Span) (f
   }
 
 -- ---- laws
-module _ (parents : List (Option ℕ)) (spans : List Span) (descent : IsDescentOf parents spans) where
-  has_start : (child above : ℕ) → child < length parents → stands_below parents child above ≡ true → has (span_at spans above) (span_at spans child).start ≡ true
-  has_start child above h stands =
-      let own = descent.within child h in
-      let nest = descent.nested child above h stands in
-      and_from (nat_le (span_at spans above).start (span_at spans child).start) (nat_lt (span_at spans child).start (span_at spans above).end)
-      (le-leb (span_at spans above).start (span_at spans child).start nest.0) (lt-ltb (span_at spans child).start (span_at spans above).end (omega arith))
+has_rank : (span : Span) (rank : ℕ) → span.start ≤ rank → rank < span.end → has span rank ≡ true
+has_rank span rank low high = and_from (nat_le span.start rank) (nat_lt rank span.end) (le-leb span.start rank low) (lt-ltb rank span.end high)
 
-  -- an object stands below itself
-  stands_itself : (object : ℕ) → object < length parents → stands_below parents object object ≡ true
-  stands_itself object h =
-      let own = descent.within object h in
-      descent.only object object h h
-      (and_from (nat_le (span_at spans object).start (span_at spans object).start) (nat_lt (span_at spans object).start (span_at spans object).end)
-      (le-leb (span_at spans object).start (span_at spans object).start (omega arith)) (lt-ltb (span_at spans object).start (span_at spans object).end (omega arith)))
+apart_too : (one other : Span) → AreApart one other → AreApart other one
+apart_too one other apart = ⊎_elim (λ (e : one.end ≤ other.start). inr e) (λ (e : other.end ≤ one.start). inl e) apart
+
+module _ (parents : List (Option ℕ)) (spans : List Span) (descent : IsDescentOf parents spans) where
+  inside : (outer inner : ℕ) → outer < length parents → inner < length parents → (span_at spans outer).start ≤ (span_at spans inner).start → (span_at spans inner).start < (span_at spans outer).end → stands_below parents inner outer ≡ true
+  inside outer inner h g low high = descent.only inner outer g h (has_rank (span_at spans outer) (span_at spans inner).start low high)
 
   -- the ranks tell which objects stand below which
   pub is_below-stands_below : (child above : ℕ) → child < length parents → above < length parents → is_below spans child above ≡ stands_below parents child above
   is_below-stands_below child above h g =
-      let inside = has (span_at spans above) (span_at spans child).start in
+      let own = descent.within child h in
+      let between = has (span_at spans above) (span_at spans child).start in
       same_from_decides {P = stands_below parents child above ≡ true} (is_below spans child above) (stands_below parents child above) (
         λ e. ⊎_elim
-            (λ (same : (child == above) ≡ true). subst (λ n. stands_below parents child n ≡ true) (eqb-true child above same) (stands_itself child h))
+            (λ (same : (child == above) ≡ true). subst (λ n. stands_below parents child n ≡ true) (eqb-true child above same) (inside child child h h (omega arith) (omega arith)))
             (λ (inner : has (span_at spans above) (span_at spans child).start ≡ true). descent.only child above h g inner)
-            (or_cases (child == above) (has (span_at spans above) (span_at spans child).start) e),
-        λ stands. or_right (child == above) (has (span_at spans above) (span_at spans child).start) (has_start child above h stands),
+            (or_cases (child == above) between e),
+        λ stands.
+            let nest = descent.nested child above h stands in
+            or_right (child == above) between (has_rank (span_at spans above) (span_at spans child).start nest.0 (omega arith)),
       )
       (λ e. e, λ e. e)
+
+  later : (one other : ℕ) → one < length parents → other < length parents → (span_at spans one).start ≤ (span_at spans other).start → AreApart (span_at spans one) (span_at spans other) ⊎ ((stands_below parents other one ≡ true) × Nests (span_at spans one) (span_at spans other))
+  later one other h g low =
+      ⊎_elim
+      (λ (inner : (span_at spans other).start < (span_at spans one).end).
+      let stands = inside one other h g low inner in
+      inr (stands, descent.nested other one g stands))
+      (λ (behind : (span_at spans one).end ≤ (span_at spans other).start). inl (inl behind))
+      (cases_lt (span_at spans other).start (span_at spans one).end)
+
+  -- of two objects one stands below the other, with ranks among the other's, or they have no rank in common
+  pub spans_nest : (one other : ℕ) → one < length parents → other < length parents → AreApart (span_at spans one) (span_at spans other) ⊎ (((stands_below parents one other ≡ true) × Nests (span_at spans other) (span_at spans one)) ⊎ ((stands_below parents other one ≡ true) × Nests (span_at spans one) (span_at spans other)))
+  spans_nest one other h g =
+      ⊎_elim
+      (λ (first : (span_at spans one).start < (span_at spans other).start).
+      ⊎_elim
+      (λ (apart : AreApart (span_at spans one) (span_at spans other)). inl apart)
+      (λ (below : (stands_below parents other one ≡ true) × Nests (span_at spans one) (span_at spans other)). inr (inr below))
+      (later one other h g (omega arith)))
+      (λ (second : (span_at spans other).start ≤ (span_at spans one).start).
+      ⊎_elim
+      (λ (apart : AreApart (span_at spans other) (span_at spans one)). inl (apart_too (span_at spans other) (span_at spans one) apart))
+      (λ (below : (stands_below parents one other ≡ true) × Nests (span_at spans other) (span_at spans one)). inr (inl below))
+      (later other one g h second))
+      (cases_lt (span_at spans one).start (span_at spans other).start)
+
+  -- each object has a rank of its own
+  pub ranks_differ : IsForest parents → (one other : ℕ) → one < length parents → other < length parents → (span_at spans one).start ≡ (span_at spans other).start → one ≡ other
+  ranks_differ forest one other h g e =
+      let own = descent.within one h in
+      let of_other = descent.within other g in
+      below_both parents forest one other h g (below_from_stands parents forest one other (inside other one g h (omega arith) (omega arith))) (below_from_stands parents forest other one (inside one other h g (omega arith) (omega arith)))

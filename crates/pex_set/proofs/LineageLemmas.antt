@@ -1,10 +1,10 @@
 -- The objects above an object, as a test, as a relation, and by how many they are.
-use Rattle.std.proofs.Common.{◌≡◌, ℕ, zero, suc, ◌<◌, ◌≤◌, ◌⊎◌, min, ◌==◌, ◌||◌, true, false, List, [], ◌∷◌, length, Option, Some, None, IfSome, All, slice_get, refl, sym, ap, subst, ◌∙◌, inl, inr, ⊎_elim, arith}
+use Rattle.std.proofs.Common.{◌≡◌, ℕ, zero, suc, ◌<◌, ◌≤◌, ◌⊎◌, min, ◌==◌, true, List, [], ◌∷◌, length, Option, Some, None, IfSome, All, slice_get, refl, sym, ap, subst, ◌∙◌, inl, inr, ⊎_elim, arith}
 use Rattle.std.specs.List.{list_any}
 use Rattle.std.specs.Option.{option_and_then}
 use Rattle.std.proofs.lemmas.Bool.{eqb-true, eq-eqb, or_cases, or_left, or_right}
 use Rattle.std.proofs.lemmas.List.Elements.{All-head, All-tail}
-use Rattle.pex_set.specs.Lineage.{parent_of, upward, lineage, stands_below, AreAmong, AreRooted}
+use Rattle.pex_set.specs.Lineage.{parent_of, upward, lineage, stands_below}
 use Rattle.pex_set.specs.Orders.{number_of, parent_number, IsForest, IsBelow, itself, below_parent}
 
 pub below_below : {parents : List (Option ℕ)} {one other above : ℕ} → IsBelow parents one other → IsBelow parents other above → IsBelow parents one above
@@ -21,6 +21,13 @@ item_among (x ∷ xs) count h (suc place) item e = item_among xs count (All-tail
 
 below_min : (parent count : ℕ) → parent < count → min parent count ≡ parent
 below_min parent count h = omega arith
+
+pub parent_number_within : (parents : List (Option ℕ)) (object : ℕ) → parent_number parents object ≤ length parents
+parent_number_within parents object = by (parent_of parents object)
+  where
+    by : (o : Option ℕ) → number_of (length parents) o ≤ length parents
+    by None = omega arith
+    by (Some parent) = omega arith
 
 -- an object has no parent, or one that is an object
 pub parent_cases : (parents : List (Option ℕ)) → IsForest parents → (object : ℕ) → ((parent_of parents object ≡ None) × (parent_number parents object ≡ length parents)) ⊎ ((parent_of parents object ≡ Some (parent_number parents object)) × (parent_number parents object < length parents))
@@ -46,6 +53,22 @@ depth_above parents forest object within is_object =
     let longer : length (lineage parents (Some object)) ≡ suc (length (lineage parents (Some (parent_number parents object)))) = ap length (forest.rooted object within) ∙ ap (λ o. suc (length (lineage parents o))) some.0 in
     omega arith)
     (parent_cases parents forest object)
+
+lower_below : (parents : List (Option ℕ)) → IsForest parents → {object above : ℕ} → IsBelow parents object above → object < length parents → depth parents above ≤ depth parents object
+lower_below parents forest itself within = omega arith
+lower_below parents forest (below_parent {object} {above} is_object h) within =
+    let one = depth_above parents forest object within is_object in
+    let further = lower_below parents forest h is_object in
+    omega arith
+
+-- two objects that stand below one another are one
+pub below_both : (parents : List (Option ℕ)) → IsForest parents → (one other : ℕ) → one < length parents → other < length parents → IsBelow parents one other → IsBelow parents other one → one ≡ other
+below_both parents forest one other within within' itself h = refl
+below_both parents forest one other within within' (below_parent is_object g) h =
+    let step = depth_above parents forest one within is_object in
+    let down = lower_below parents forest g is_object in
+    let up = lower_below parents forest h within' in
+    absurd (omega arith)
 
 -- ---- the test and the relation
 stands_further : (parents : List (Option ℕ)) → IsForest parents → (object above : ℕ) → object < length parents → parent_number parents object < length parents → stands_below parents (parent_number parents object) above ≡ true → stands_below parents object above ≡ true

@@ -1,7 +1,7 @@
 -- Lists of numbers without repeats, by recursion, with one number put in behind another.
-use Rattle.std.proofs.Common.{◌≡◌, ℕ, zero, suc, ◌+◌, ◌<◌, ◌≤◌, ◌⊎◌, false, true, ◌||◌, List, [], ◌∷◌, ◌++◌, length, get_or, eqb, AllPairs, All, Contains, Option, Some, None, option_to_list, refl, sym, ap, subst, ◌∙◌, inl, inr, ⊎_elim, arith}
+use Rattle.std.proofs.Common.{◌≡◌, ℕ, zero, suc, ◌<◌, ◌≤◌, ◌⊎◌, false, true, List, [], ◌∷◌, ◌++◌, length, get_or, eqb, AllPairs, Contains, refl, sym, subst, inl, inr, ⊎_elim, arith}
 use Rattle.std.specs.List.{list_any, IsDistinct, AllByRecursion}
-use Rattle.std.proofs.lemmas.Bool.{eqb-true, eqb-false, ne_eqb, or_cases}
+use Rattle.std.proofs.lemmas.Bool.{eqb-true, ne_eqb, or_cases}
 use Rattle.std.proofs.lemmas.Map.Steps.{length-le_from_distinct_below}
 
 abbrev pub In : ℕ → List ℕ → Type 0

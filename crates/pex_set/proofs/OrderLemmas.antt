@@ -1,14 +1,12 @@
 -- A walk begins with the last object without parent, and where it ends it has visited all objects in order.
-use Rattle.std.proofs.Common.{◌≡◌, ℕ, zero, suc, ◌+◌, ◌<◌, ◌≤◌, ◌⊎◌, List, [], ◌∷◌, ◌++◌, reverse, length, get_or, slice_get, slice_index_or, Contains, All, Option, Some, None, option_to_list, option_and_then, refl, sym, ap, subst, ◌∙◌, inl, inr, ⊎_elim, append_assoc, append-nil, add-one, arith}
-use Rattle.std.proofs.lemmas.Bool.{cases_eq, cases_lt, cases_order}
-use Rattle.std.proofs.lemmas.List.{reverse-append, length-append, length-reverse, nil_from_length, reverse-reverse}
+use Rattle.std.proofs.Common.{◌≡◌, ℕ, zero, suc, ◌+◌, ◌<◌, ◌≤◌, ◌⊎◌, List, [], ◌∷◌, ◌++◌, reverse, length, get_or, slice_get, slice_index_or, Option, Some, None, option_to_list, option_and_then, refl, sym, ap, subst, ◌∙◌, inl, ⊎_elim, append_assoc, append-nil, add-one, arith}
+use Rattle.std.proofs.lemmas.Bool.{cases_eq, cases_lt}
+use Rattle.std.proofs.lemmas.List.{reverse-append, length-append, length-reverse, nil_from_length}
 use Rattle.std.proofs.lemmas.List.Elements.{All-from_get_or}
-use Rattle.pex_set.specs.Lineage.{parent_of}
 use Rattle.pex_set.specs.Orders.{number_of, parent_number, IsForest, IsLast, AreLinked, IsBelow, itself, below_parent, IsOrder}
-use Rattle.pex_set.proofs.LineageLemmas.{below_below, depth, depth_above}
-use Rattle.pex_set.proofs.LinkLemmas.{parent_number_within}
-use Rattle.pex_set.proofs.Lists.{In, Differ, in_left, in_right, in_either, in_at, place_of, pairs_differ, length_differ}
-use Rattle.pex_set.proofs.WalkLemmas.{Follows, Follow, IsNext, AreKnown, IsWalk, IsWalk-turn}
+use Rattle.pex_set.proofs.LineageLemmas.{depth, depth_above, parent_number_within}
+use Rattle.pex_set.proofs.Lists.{In, in_at, place_of, pairs_differ, length_differ}
+use Rattle.pex_set.proofs.WalkLemmas.{Follows, Follow, IsNext, IsWalk, IsWalk-turn}
 
 -- ---- stacks
 pub item_is : (xs : List (Option ℕ)) (place : ℕ) → option_and_then (λ item. item) (slice_get xs place) ≡ slice_index_or xs place None

@@ -1,10 +1,9 @@
 -- Spans in an order of the objects, as they reach as far as those of the objects below.
-use Rattle.std.proofs.Common.{◌≡◌, ℕ, zero, suc, ◌+◌, ◌-◌, ◌<◌, ◌≤◌, ◌⊎◌, min, max, set, List, [], ◌∷◌, length, get_or, slice_index_or, Contains, Option, refl, sym, ap, subst, ◌∙◌, inl, inr, ⊎_elim, add-one, arith}
+use Rattle.std.proofs.Common.{◌≡◌, ℕ, zero, suc, ◌+◌, ◌-◌, ◌<◌, ◌≤◌, ◌⊎◌, max, set, List, length, get_or, slice_index_or, Option, refl, sym, ap, subst, ◌∙◌, inl, inr, ⊎_elim, add-one, arith}
 use Rattle.std.proofs.lemmas.Bool.{cases_eq, cases_lt, cases_order}
 use Rattle.std.proofs.lemmas.List.{length-set, get_or-set_same, get_or-set_other, get_or_default, set_past}
 use Rattle.pex_set.specs.declared.descent.Span.{Span}
-use Rattle.pex_set.specs.Lineage.{parent_of}
-use Rattle.pex_set.specs.Orders.{number_of, parent_number, IsForest, IsBelow, itself, below_parent, IsOrder, AreReached, reaching}
+use Rattle.pex_set.specs.Orders.{parent_number, IsForest, IsBelow, itself, below_parent, IsOrder, AreReached, reaching}
 use Rattle.pex_set.specs.Ranks.{no_ranks, span_at}
 use Rattle.pex_set.proofs.LineageLemmas.{below_below, depth, depth_above}
 

@@ -1,11 +1,9 @@
 -- A walk over the objects: those that were visited, and behind them those to go on with.
-use Rattle.std.proofs.Common.{◌≡◌, ℕ, zero, suc, ◌+◌, ◌<◌, ◌≤◌, ◌⊎◌, List, [], ◌∷◌, ◌++◌, length, slice_get, slice_index_or, Option, Some, None, option_to_list, option_and_then, refl, sym, ap, subst, ◌∙◌, inl, inr, ⊎_elim, arith}
-use Rattle.std.proofs.lemmas.Bool.{cases_eq, cases_lt, cases_order}
-use Rattle.pex_set.specs.Lineage.{parent_of}
-use Rattle.pex_set.specs.Orders.{number_of, parent_number, IsForest, IsLast, AreLinked, IsBelow, itself, below_parent, IsOrder}
-use Rattle.pex_set.proofs.LineageLemmas.{below_below, depth, depth_above}
-use Rattle.pex_set.proofs.LinkLemmas.{parent_number_within}
-use Rattle.pex_set.proofs.Lists.{In, Differ, in_left, in_right, in_either, differ_left, in_more, in_new, in_cases, differ_more, in_at, place_of, pairs_differ, length_differ}
+use Rattle.std.proofs.Common.{◌≡◌, ℕ, ◌<◌, ◌≤◌, ◌⊎◌, List, [], ◌∷◌, ◌++◌, length, slice_index_or, Option, Some, None, option_to_list, refl, sym, ap, subst, ◌∙◌, inl, inr, ⊎_elim, arith}
+use Rattle.std.proofs.lemmas.Bool.{cases_lt, cases_order}
+use Rattle.pex_set.specs.Orders.{parent_number, IsLast, AreLinked, IsBelow, itself, below_parent}
+use Rattle.pex_set.proofs.LineageLemmas.{parent_number_within}
+use Rattle.pex_set.proofs.Lists.{In, Differ, in_left, in_right, in_either, differ_left, in_more, in_new, in_cases, differ_more}
 
 -- whether the object may stand right behind the other one
 abbrev pub Follows : List (Option ℕ) → ℕ → ℕ → Type 0

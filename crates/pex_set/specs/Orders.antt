@@ -2,7 +2,7 @@
 use Rattle.std.specs.Prelude.{◌≡◌, ℕ, ◌+◌, ◌<◌, ◌≤◌, ◌⊎◌, min, max, length, set, List, Option, Some, None, All, slice_index_or}
 use Rattle.std.specs.List.{AllPairs, Contains}
 use Rattle.pex_set.specs.declared.descent.Span.{Span}
-use Rattle.pex_set.specs.Lineage.{parent_of, stands_below, AreAmong, AreRooted}
+use Rattle.pex_set.specs.Lineage.{parent_of, AreAmong, AreRooted}
 use Rattle.pex_set.specs.Ranks.{span_at}
 
 -- the parent's number, and one past all objects where there is none

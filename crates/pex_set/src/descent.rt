@@ -157,15 +157,14 @@ impl Links {
     fn of(alloc: Global, parents: &[Option<usize>]) -> Result<Links, OutOfMemory>
         ensures { IfOk result (λ links. AreLinked parents.now (length parents.now) links.last.items links.before.items) }
     {
-        let mut links = Links {
-            last: vec![in alloc; None; parents.len() + 1]?,
-            before: vec![in alloc; None; parents.len()]?,
-        };
+        let mut last = vec![in alloc; None; parents.len() + 1]?;
+        let mut before = vec![in alloc; None; parents.len()]?;
         for object in 0..parents.len() {
             let parent = parent_number(parents, object);
-            links.before[object] = links.last[parent].replace(object);
+            before[object] = last[parent];
+            last[parent] = Some(object);
         }
-        Ok(links)
+        Ok(Links { last, before })
     }
 }
 

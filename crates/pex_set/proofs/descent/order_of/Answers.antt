@@ -1,4 +1,4 @@
-use Rattle.std.proofs.Common.{◌≡◌, ℕ, length, List, [], ◌∷◌, ◌++◌, Option, slice_get, option_and_then, option_to_list, inl, inr, sym, ap, ◌∙◌, arith, rules}
+use Rattle.std.proofs.Common.{ℕ, length, List, ◌++◌, Option, slice_get, option_and_then, option_to_list, inl, inr, ap, ◌∙◌, arith, rules}
 use Rattle.pex_set.proofs.OrderLemmas.{IsWalk-started, IsWalk-turned, IsOrder-end}
 use Rattle.pex_set.proofs.descent.order_of.Goals as goal
 use Rattle.pex_set.proofs.descent.order_of.Goals.{else-loop-test, then-loop-test+in_default}

@@ -1,4 +1,4 @@
-use Rattle.std.proofs.Common.{◌≡◌, length, take, drop, ◌++◌, sym, subst, ◌∙◌, arith}
+use Rattle.std.proofs.Common.{length, take, drop, ◌++◌, sym, subst, ◌∙◌}
 use Rattle.std.proofs.lemmas.List.{take_at}
 use Rattle.pex_set.specs.Orders.{IsForest, IsOrder, AreReached}
 use Rattle.pex_set.specs.Ranks.{IsDescentOf}
