@@ -12,3 +12,4 @@ pub mod Positions
 pub mod Stretches
 pub mod Sweeps
 pub mod Members
+pub mod NearestLemmas

@@ -6,3 +6,4 @@ pub mod Objects
 pub mod Circles
 pub mod Inherited
 pub mod Sweep
+pub mod Nearest

@@ -22,12 +22,12 @@ is_below spans object above = object == above || has (span_at spans above) (span
 abbrev pub AreApart : Span → Span → Type 0
 AreApart one other = (one.end ≤ other.start) ⊎ (other.end ≤ one.start)
 
--- all ranks of the inner one are the outer one's
-abbrev pub Nests : Span → Span → Type 0
-Nests outer inner = (outer.start ≤ inner.start) × (inner.end ≤ outer.end)
+-- all ranks of the first are the other's
+abbrev pub IsWithin : Span → Span → Type 0
+IsWithin inner outer = (outer.start ≤ inner.start) × (inner.end ≤ outer.end)
 
 -- ranks of the objects: each has one of its own, those of all below it follow at once, and no others do
 pub record IsDescentOf (parents : List (Option ℕ)) (spans : List Span) : Type 0 where
   pub within : (object : ℕ) → object < length parents → ((span_at spans object).start < (span_at spans object).end) × ((span_at spans object).end ≤ length parents)
-  pub nested : (child above : ℕ) → child < length parents → stands_below parents child above ≡ true → Nests (span_at spans above) (span_at spans child)
+  pub nested : (child above : ℕ) → child < length parents → stands_below parents child above ≡ true → IsWithin (span_at spans child) (span_at spans above)
   pub only : (child above : ℕ) → child < length parents → above < length parents → has (span_at spans above) (span_at spans child).start ≡ true → stands_below parents child above ≡ true
