@@ -3,9 +3,10 @@ use Rattle.std.proofs.Common.{◌≡◌, ℕ, ◌<◌, ◌≤◌, ◌⊎◌, ◌
 use Rattle.std.proofs.lemmas.Bool.{and_parts, and_from, leb-true, ltb-true, le-leb, lt-ltb, eqb-true, or_cases, or_right, cases_lt}
 use Rattle.std.proofs.lemmas.Bool.Decides.{same_from_decides}
 use Rattle.pex_set.specs.declared.descent.Span.{Span}
+use Rattle.pex_set.specs.Inherited.{AreApart, IsWithin}
 use Rattle.pex_set.specs.Lineage.{stands_below}
 use Rattle.pex_set.specs.Orders.{parent_number, IsForest, IsBelow, itself, below_parent, IsOrder, AreReached}
-use Rattle.pex_set.specs.Ranks.{has, span_at, is_below, AreApart, IsWithin, IsDescentOf}
+use Rattle.pex_set.specs.Ranks.{has, span_at, is_below, IsDescentOf}
 use Rattle.pex_set.proofs.LineageLemmas.{below_both, stands_from_below, below_from_stands}
 use Rattle.pex_set.proofs.ReachLemmas.{rank_of, parent_before}
 

@@ -7,11 +7,11 @@ use Rattle.pex_set.specs.declared.descent.Span.{Span}
 use Rattle.pex_set.specs.declared.inherited.MemberPlace.{MemberPlace}
 use Rattle.pex_set.specs.declared.inherited.OwnMember.{OwnMember}
 use Rattle.pex_set.specs.declared.inherited.Stretch.{Stretch}
-use Rattle.pex_set.specs.Inherited.{Names, Reaches, IsInnermost, IsNearest, AreOfTree, AreLaminar, found_in}
+use Rattle.pex_set.specs.Inherited.{Names, AreApart, IsWithin, Reaches, IsInnermost, IsNearest, AreOfTree, AreLaminar, found_in}
 use Rattle.pex_set.specs.Lineage.{parent_of, upward, lineage, stands_below, AreAmong, AreRooted}
 use Rattle.pex_set.specs.Nearest.{is_own, own_member, nearest, AreRanked}
 use Rattle.pex_set.specs.Orders.{parent_number, IsForest, IsBelow, itself, below_parent}
-use Rattle.pex_set.specs.Ranks.{span_at, has, AreApart, IsWithin, IsDescentOf}
+use Rattle.pex_set.specs.Ranks.{span_at, has, IsDescentOf}
 use Rattle.pex_set.proofs.DescentLemmas.{has_start, spans_nest, ranks_differ}
 use Rattle.pex_set.proofs.LineageLemmas.{below_below, not_above_itself, parent_cases, stands_from_below, below_from_stands}
 
