@@ -1,5 +1,5 @@
 -- What is found by rank is the nearest member in the object's lineage.
-use Rattle.std.proofs.Common.{◌≡◌, ℕ, zero, suc, ◌<◌, ◌≤◌, ◌⊎◌, Bool, true, false, cond, ◌==◌, ◌&&◌, IsTrue, List, [], ◌∷◌, ◌++◌, length, get_or, slice_get, find, Option, Some, None, All, refl, sym, ap, subst, ◌∙◌, inl, inr, ⊎_elim, arith}
+use Rattle.std.proofs.Common.{◌≡◌, ℕ, zero, suc, ◌<◌, ◌≤◌, ◌⊎◌, Bool, true, false, cond, ◌==◌, ◌&&◌, IsTrue, List, [], ◌∷◌, length, get_or, slice_get, find, Option, Some, None, refl, sym, ap, subst, ◌∙◌, inl, inr, ⊎_elim, arith}
 use Rattle.std.specs.Option.{option_map, option_or}
 use Rattle.std.proofs.lemmas.Bool.{true≢false, and_parts, and_from, eqb-true, eq-eqb, cases_eq}
 use Rattle.std.proofs.lemmas.Option.{slice_get_within, get_or_from_slice_get, slice_get-get_or}
@@ -8,7 +8,7 @@ use Rattle.pex_set.specs.declared.inherited.MemberPlace.{MemberPlace}
 use Rattle.pex_set.specs.declared.inherited.OwnMember.{OwnMember}
 use Rattle.pex_set.specs.declared.inherited.Stretch.{Stretch}
 use Rattle.pex_set.specs.Inherited.{Names, AreApart, IsWithin, Reaches, IsInnermost, IsNearest, AreOfTree, AreLaminar, found_in}
-use Rattle.pex_set.specs.Lineage.{parent_of, upward, lineage, stands_below, AreAmong, AreRooted}
+use Rattle.pex_set.specs.Lineage.{parent_of, upward, lineage, stands_below}
 use Rattle.pex_set.specs.Nearest.{is_own, own_member, nearest, AreRanked}
 use Rattle.pex_set.specs.Orders.{parent_number, IsForest, IsBelow, itself, below_parent}
 use Rattle.pex_set.specs.Ranks.{span_at, has, IsDescentOf}
