@@ -3,9 +3,10 @@ use Rattle.std.proofs.Common.{◌≡◌, ℕ, ◌<◌, ◌≤◌, ◌⊎◌, ◌
 use Rattle.std.proofs.lemmas.Bool.{and_parts, and_from, leb-true, ltb-true, le-leb, lt-ltb, eqb-true, or_cases, or_right, cases_lt}
 use Rattle.std.proofs.lemmas.Bool.Decides.{same_from_decides}
 use Rattle.pex_set.specs.declared.descent.Span.{Span}
+use Rattle.pex_set.specs.Inherited.{AreApart, IsWithin}
 use Rattle.pex_set.specs.Lineage.{stands_below}
 use Rattle.pex_set.specs.Orders.{parent_number, IsForest, IsBelow, itself, below_parent, IsOrder, AreReached}
-use Rattle.pex_set.specs.Ranks.{has, span_at, is_below, AreApart, Nests, IsDescentOf}
+use Rattle.pex_set.specs.Ranks.{has, span_at, is_below, IsDescentOf}
 use Rattle.pex_set.proofs.LineageLemmas.{below_both, stands_from_below, below_from_stands}
 use Rattle.pex_set.proofs.ReachLemmas.{rank_of, parent_before}
 
@@ -67,6 +68,12 @@ module _ (parents : List (Option ℕ)) (spans : List Span) (descent : IsDescentO
   inside : (outer inner : ℕ) → outer < length parents → inner < length parents → (span_at spans outer).start ≤ (span_at spans inner).start → (span_at spans inner).start < (span_at spans outer).end → stands_below parents inner outer ≡ true
   inside outer inner h g low high = descent.only inner outer g h (has_rank (span_at spans outer) (span_at spans inner).start low high)
 
+  pub has_start : (child above : ℕ) → child < length parents → stands_below parents child above ≡ true → has (span_at spans above) (span_at spans child).start ≡ true
+  has_start child above h stands =
+      let own = descent.within child h in
+      let nest = descent.nested child above h stands in
+      has_rank (span_at spans above) (span_at spans child).start nest.0 (omega arith)
+
   -- the ranks tell which objects stand below which
   pub is_below-stands_below : (child above : ℕ) → child < length parents → above < length parents → is_below spans child above ≡ stands_below parents child above
   is_below-stands_below child above h g =
@@ -83,7 +90,7 @@ module _ (parents : List (Option ℕ)) (spans : List Span) (descent : IsDescentO
       )
       (λ e. e, λ e. e)
 
-  later : (one other : ℕ) → one < length parents → other < length parents → (span_at spans one).start ≤ (span_at spans other).start → AreApart (span_at spans one) (span_at spans other) ⊎ ((stands_below parents other one ≡ true) × Nests (span_at spans one) (span_at spans other))
+  later : (one other : ℕ) → one < length parents → other < length parents → (span_at spans one).start ≤ (span_at spans other).start → AreApart (span_at spans one) (span_at spans other) ⊎ ((stands_below parents other one ≡ true) × IsWithin (span_at spans other) (span_at spans one))
   later one other h g low =
       ⊎_elim
       (λ (inner : (span_at spans other).start < (span_at spans one).end).
@@ -93,18 +100,18 @@ module _ (parents : List (Option ℕ)) (spans : List Span) (descent : IsDescentO
       (cases_lt (span_at spans other).start (span_at spans one).end)
 
   -- of two objects one stands below the other, with ranks among the other's, or they have no rank in common
-  pub spans_nest : (one other : ℕ) → one < length parents → other < length parents → AreApart (span_at spans one) (span_at spans other) ⊎ (((stands_below parents one other ≡ true) × Nests (span_at spans other) (span_at spans one)) ⊎ ((stands_below parents other one ≡ true) × Nests (span_at spans one) (span_at spans other)))
+  pub spans_nest : (one other : ℕ) → one < length parents → other < length parents → AreApart (span_at spans one) (span_at spans other) ⊎ (((stands_below parents one other ≡ true) × IsWithin (span_at spans one) (span_at spans other)) ⊎ ((stands_below parents other one ≡ true) × IsWithin (span_at spans other) (span_at spans one)))
   spans_nest one other h g =
       ⊎_elim
       (λ (first : (span_at spans one).start < (span_at spans other).start).
       ⊎_elim
       (λ (apart : AreApart (span_at spans one) (span_at spans other)). inl apart)
-      (λ (below : (stands_below parents other one ≡ true) × Nests (span_at spans one) (span_at spans other)). inr (inr below))
+      (λ (below : (stands_below parents other one ≡ true) × IsWithin (span_at spans other) (span_at spans one)). inr (inr below))
       (later one other h g (omega arith)))
       (λ (second : (span_at spans other).start ≤ (span_at spans one).start).
       ⊎_elim
       (λ (apart : AreApart (span_at spans other) (span_at spans one)). inl (apart_too (span_at spans other) (span_at spans one) apart))
-      (λ (below : (stands_below parents one other ≡ true) × Nests (span_at spans other) (span_at spans one)). inr (inl below))
+      (λ (below : (stands_below parents one other ≡ true) × IsWithin (span_at spans one) (span_at spans other)). inr (inl below))
       (later other one g h second))
       (cases_lt (span_at spans one).start (span_at spans other).start)
 

@@ -14,3 +14,4 @@ pub mod Sweeps
 pub mod Members
 pub mod ClimbLemmas
 pub mod CircleWalks
+pub mod NearestLemmas

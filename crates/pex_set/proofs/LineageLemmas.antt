@@ -1,5 +1,5 @@
 -- The objects above an object, as a test, as a relation, and by how many they are.
-use Rattle.std.proofs.Common.{◌≡◌, ℕ, zero, suc, ◌<◌, ◌≤◌, ◌⊎◌, min, ◌==◌, true, List, [], ◌∷◌, length, Option, Some, None, IfSome, All, slice_get, refl, sym, ap, subst, ◌∙◌, inl, inr, ⊎_elim, arith}
+use Rattle.std.proofs.Common.{◌≡◌, ℕ, zero, suc, ◌<◌, ◌≤◌, ◌⊎◌, min, ◌==◌, true, List, [], ◌∷◌, ◌++◌, length, Option, Some, None, IfSome, All, slice_get, refl, sym, ap, subst, ◌∙◌, inl, inr, ⊎_elim, arith}
 use Rattle.std.specs.List.{list_any}
 use Rattle.std.specs.Option.{option_and_then}
 use Rattle.std.proofs.lemmas.Bool.{eqb-true, eq-eqb, or_cases, or_left, or_right}
@@ -70,6 +70,12 @@ below_both parents forest one other within within' (below_parent is_object g) h 
     let up = lower_below parents forest h within' in
     absurd (omega arith)
 
+pub not_above_itself : (parents : List (Option ℕ)) → IsForest parents → (object : ℕ) → object < length parents → parent_number parents object < length parents → IsBelow parents (parent_number parents object) object → ⊥
+not_above_itself parents forest object within is_object h =
+    let step = depth_above parents forest object within is_object in
+    let back = lower_below parents forest h is_object in
+    absurd (omega arith)
+
 -- ---- the test and the relation
 stands_further : (parents : List (Option ℕ)) → IsForest parents → (object above : ℕ) → object < length parents → parent_number parents object < length parents → stands_below parents (parent_number parents object) above ≡ true → stands_below parents object above ≡ true
 stands_further parents forest object above within is_object h =
@@ -109,3 +115,44 @@ below_at parents forest (suc left) object above h =
 
 pub below_from_stands : (parents : List (Option ℕ)) → IsForest parents → (object above : ℕ) → stands_below parents object above ≡ true → IsBelow parents object above
 below_from_stands parents forest object above h = below_at parents forest (length parents) object above h
+
+-- ---- lineages
+below_within : {parents : List (Option ℕ)} {object above : ℕ} → IsBelow parents object above → object < length parents → above < length parents
+below_within itself within = within
+below_within (below_parent is_object h) within = below_within h is_object
+
+-- what stands above an object is one
+pub above_within : (parents : List (Option ℕ)) → IsForest parents → (object above : ℕ) → object < length parents → stands_below parents object above ≡ true → above < length parents
+above_within parents forest object above within stands = below_within (below_from_stands parents forest object above stands) within
+
+-- what stands above an object is the object, or stands above its parent
+pub stands_cases : (parents : List (Option ℕ)) → IsForest parents → (object above : ℕ) → stands_below parents object above ≡ true → (object ≡ above) ⊎ ((parent : ℕ) × (parent_of parents object ≡ Some parent) × (stands_below parents parent above ≡ true))
+stands_cases parents forest object above stands = by (below_from_stands parents forest object above stands)
+  where
+    by : {one : ℕ} → IsBelow parents one above → (one ≡ above) ⊎ ((parent : ℕ) × (parent_of parents one ≡ Some parent) × (stands_below parents parent above ≡ true))
+    by itself = inl refl
+    by (below_parent {object = one} is_object h) =
+        ⊎_elim
+        (λ (none : (parent_of parents one ≡ None) × (parent_number parents one ≡ length parents)). absurd (omega arith))
+        (λ (some : (parent_of parents one ≡ Some (parent_number parents one)) × (parent_number parents one < length parents)).
+        inr (parent_number parents one, some.0, stands_from_below parents forest h is_object))
+        (parent_cases parents forest one)
+
+-- an object stands below those above the ones that it stands below
+pub stands_on : (parents : List (Option ℕ)) → IsForest parents → (object other above : ℕ) → object < length parents → stands_below parents object other ≡ true → stands_below parents other above ≡ true → stands_below parents object above ≡ true
+stands_on parents forest object other above within lower upper =
+    stands_from_below parents forest (below_below (below_from_stands parents forest object other lower) (below_from_stands parents forest other above upper)) within
+
+ends_in : (parents : List (Option ℕ)) → IsForest parents → {object above : ℕ} → IsBelow parents object above → object < length parents → (nearer : List ℕ) × (lineage parents (Some object) ≡ nearer ++ lineage parents (Some above))
+ends_in parents forest itself within = ([], refl)
+ends_in parents forest (below_parent {object} {above} is_object h) within =
+    ⊎_elim
+    (λ (none : (parent_of parents object ≡ None) × (parent_number parents object ≡ length parents)). absurd (omega arith))
+    (λ (some : (parent_of parents object ≡ Some (parent_number parents object)) × (parent_number parents object < length parents)).
+    let w = ends_in parents forest h is_object in
+    (object ∷ w.0, forest.rooted object within ∙ ap (λ o. object ∷ lineage parents o) some.0 ∙ ap (λ xs. object ∷ xs) w.1))
+    (parent_cases parents forest object)
+
+-- the lineage of what stands above an object is the end of the object's own
+pub lineage_ends : (parents : List (Option ℕ)) → IsForest parents → (object above : ℕ) → object < length parents → stands_below parents object above ≡ true → (nearer : List ℕ) × (lineage parents (Some object) ≡ nearer ++ lineage parents (Some above))
+lineage_ends parents forest object above within stands = ends_in parents forest (below_from_stands parents forest object above stands) within

@@ -6,3 +6,4 @@ pub mod Sweep
 pub mod Names
 pub mod Objects
 pub mod Circles
+pub mod Nearest

@@ -1,5 +1,5 @@
 -- Ranks of objects, by which an object is followed at once by all that stand below it.
-use Rattle.std.specs.Prelude.{◌≡◌, ℕ, ◌<◌, ◌≤◌, ◌⊎◌, ◌==◌, Bool, true, ◌&&◌, ◌||◌, List, length, Option, nat_le, nat_lt, slice_index_or}
+use Rattle.std.specs.Prelude.{◌≡◌, ℕ, ◌<◌, ◌≤◌, ◌==◌, Bool, true, ◌&&◌, ◌||◌, List, length, Option, nat_le, nat_lt, slice_index_or}
 use Rattle.pex_set.specs.declared.descent.Span.{Span}
 use Rattle.pex_set.specs.Lineage.{stands_below}
 
@@ -18,16 +18,8 @@ span_at spans object = slice_index_or spans object no_ranks
 abbrev pub is_below : List Span → ℕ → ℕ → Bool
 is_below spans object above = object == above || has (span_at spans above) (span_at spans object).start
 
--- no rank is one of both
-abbrev pub AreApart : Span → Span → Type 0
-AreApart one other = (one.end ≤ other.start) ⊎ (other.end ≤ one.start)
-
--- all ranks of the inner one are the outer one's
-abbrev pub Nests : Span → Span → Type 0
-Nests outer inner = (outer.start ≤ inner.start) × (inner.end ≤ outer.end)
-
 -- ranks of the objects: each has one of its own, those of all below it follow at once, and no others do
 pub record IsDescentOf (parents : List (Option ℕ)) (spans : List Span) : Type 0 where
   pub within : (object : ℕ) → object < length parents → ((span_at spans object).start < (span_at spans object).end) × ((span_at spans object).end ≤ length parents)
-  pub nested : (child above : ℕ) → child < length parents → stands_below parents child above ≡ true → Nests (span_at spans above) (span_at spans child)
+  pub nested : (child above : ℕ) → child < length parents → stands_below parents child above ≡ true → ((span_at spans above).start ≤ (span_at spans child).start) × ((span_at spans child).end ≤ (span_at spans above).end)
   pub only : (child above : ℕ) → child < length parents → above < length parents → has (span_at spans above) (span_at spans child).start ≡ true → stands_below parents child above ≡ true
