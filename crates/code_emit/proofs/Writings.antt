@@ -27,11 +27,17 @@ get_each P [] i x each here = here
 get_each P (y ∷ ys) zero x each here = each.0
 get_each P (y ∷ ys) (suc i) x each here = get_each P ys i x each.1 here
 
-pub take_each : {X : Type 0} (P : X → Type 0) (n : ℕ) (xs : List X) → AllByRecursion P xs → AllByRecursion P (take n xs)
+take_each : {X : Type 0} (P : X → Type 0) (n : ℕ) (xs : List X) → AllByRecursion P xs → AllByRecursion P (take n xs)
 take_each P n xs each = recursion_from_All P (take n xs) (All-take P n xs (All-from_recursion P xs each))
 
-pub drop_each : {X : Type 0} (P : X → Type 0) (n : ℕ) (xs : List X) → AllByRecursion P xs → AllByRecursion P (drop n xs)
+drop_each : {X : Type 0} (P : X → Type 0) (n : ℕ) (xs : List X) → AllByRecursion P xs → AllByRecursion P (drop n xs)
 drop_each P n xs each = recursion_from_All P (drop n xs) (All-drop P n xs (All-from_recursion P xs each))
+
+pub taken_pairs : (n at : ℕ) (pairs part : List (ℕ × ℕ)) → part ≡ take at pairs → AllByRecursion (ArePair n) pairs → AllByRecursion (ArePair n) part
+taken_pairs n at pairs part is each = subst (λ (ps : List (ℕ × ℕ)). AllByRecursion (ArePair n) ps) (sym is) (take_each (ArePair n) at pairs each)
+
+pub dropped_pairs : (n at : ℕ) (pairs part : List (ℕ × ℕ)) → part ≡ drop at pairs → AllByRecursion (ArePair n) pairs → AllByRecursion (ArePair n) part
+dropped_pairs n at pairs part is each = subst (λ (ps : List (ℕ × ℕ)). AllByRecursion (ArePair n) ps) (sym is) (drop_each (ArePair n) at pairs each)
 
 append_each : {X : Type 0} (P : X → Type 0) (xs ys : List X) → AllByRecursion P xs → AllByRecursion P ys → AllByRecursion P (xs ++ ys)
 append_each P [] ys each more = more

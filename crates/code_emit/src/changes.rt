@@ -2,7 +2,6 @@
 #![tactic(auto, using(crate::proofs::Goes::going))]
 
 ghost use Rattle.std.specs.Prelude.{◌≡◌, ◌≤◌, ◌∷◌, [], IfOk};
-ghost use Rattle.code_emit.specs.Operands.{needs};
 ghost use Rattle.code_emit.specs.Writing.{GoesOn, AreThere};
 
 use crate::expressions::{get_property, kept_value, value};

@@ -5,7 +5,7 @@ ghost use Rattle.std.specs.Prelude.{◌≡◌, [], false, IfOk, IfSome, map, opt
 ghost use Rattle.std.specs.List.{AllByRecursion};
 ghost use Rattle.pex_values.specs.Bits.{has_variable, has_read, has_write};
 ghost use Rattle.pex_values.specs.Plain.{plain_function, plain_named, plain_property, plain_state, plain_object};
-ghost use Rattle.pex_values.specs.Shape.{IsReference, IsShapedFunction, IsShapedNamed, IsShapedVariable, IsShapedProperty, IsShapedState, IsShapedObject};
+ghost use Rattle.pex_values.specs.Shape.{IsShapedFunction, IsShapedNamed, IsShapedVariable, IsShapedProperty, IsShapedState, IsShapedObject};
 ghost use Rattle.code_emit.specs.Writing.{GoesOn, Advances};
 
 use crate::bits::flag_bits;
@@ -15,7 +15,7 @@ use crate::functions::{DebugName, function};
 use crate::strings::Numbered;
 use crate::type_names::script_name;
 use crate::writer::Writer;
-use core_tree::{CoreAccess, CoreFunction, CoreProperty, CoreScript, CoreState, CoreVariable};
+use core_tree::{CoreAccess, CoreFunction, CoreProperty, CoreState, CoreVariable};
 use pex_values::{PexFunction, PexObject, PexProperty, PexState, PexVariable, SizeForm};
 
 /// The kinds of debug entries: of a state's function, of a Get and of a Set.

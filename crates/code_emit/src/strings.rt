@@ -14,7 +14,7 @@ use std::marker::Model;
 /// The most strings of a file.
 const MOST_STRINGS: usize = 65_535;
 
-/// A name that has a number.
+/// A name that is looked up as a string once, and known by a number from then on.
 #[derive(Clone, Copy)]
 pub(crate) enum Numbered {
     /// The name of a type, as of a result or a local. Without a type it is `None`.

@@ -1,9 +1,9 @@
 // The temporaries of a function that are read and may be used again.
-ghost use Rattle.std.specs.Prelude.{◌≡◌, ◌<◌, ◌∷◌, ◌++◌, ◌==◌, [], length, position, vec_len, vec_capacity, IfSome, OnOk, OnErr};
+ghost use Rattle.std.specs.Prelude.{◌≡◌, ◌<◌, ◌∷◌, ◌++◌, ◌==◌, [], length, position, IfSome, OnOk, OnErr};
 ghost use Rattle.code_emit.specs.Temporaries.{TakenFrom};
 
 use papy_base::OutOfMemory;
-use std::alloc::{AllocError, Global};
+use std::alloc::Global;
 use std::marker::Model;
 
 /// Temporaries, each with the places of its type's name and of its own among the file's strings.

@@ -6,8 +6,8 @@ pub end-requires-clause-kind : goal.end-requires-clause-kind
 end-requires-clause-kind c =
     reference_later c.type_name.new.self.strings c.text.new.self.strings c.in_ok-doc.ensures.goes.strings c.in_ok-kind.kind c.in_ok-kind.ensures.place
 
-pub returns-then-is_native-clause-function : goal.returns-then-is_native-clause-function
-returns-then-is_native-clause-function c =
+pub returns-then-function-clause-function : goal.returns-then-function-clause-function
+returns-then-function-clause-function c =
     function_later c.text.new.self.strings c.end.new.self.strings (omega (arith, c.in_ok-written.ensures.strings)) _ c.in_ok-written.ensures.function
 
 pub returns-clause-function : goal.returns-clause-function
