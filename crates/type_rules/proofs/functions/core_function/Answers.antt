@@ -12,7 +12,7 @@ pub returns-clause-in_range : goal.returns-clause-in_range
 returns-clause-in_range c = λ r.
     let work = c.args.work.now in
     let opened = c.open_scope-scope.result in
-    let promised = c.promise_of.new.scope in
+    let promised = c.promise_of-promise.new.scope in
     let added = c.add_parameters.new.scope in
     let judged = c.core_body.new.scope in
     let kept = c.promise_of-promise.ensures.kept in

@@ -5,7 +5,7 @@ use Rattle.type_rules.proofs.statements.definition.Goals as goal
 
 pub returns-clause-in_range : goal.returns-clause-in_range
 returns-clause-in_range c = λ r.
-    let named = c.kind_named.new.self in
+    let named = c.kind_named-kind.new.self in
     let added = c.new_local.new.self in
     let after = c.local_value.new.scope in
     let kept = c.kind_named-kind.ensures.kept in
