@@ -2,3 +2,5 @@ pub mod ActionTable
 pub mod Lists
 pub mod Sets
 pub mod LoadedRows
+pub mod Pairs
+pub mod Heads

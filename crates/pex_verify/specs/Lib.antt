@@ -8,3 +8,7 @@ pub mod Sources
 pub mod Sets
 pub mod Plain
 pub mod Meanings
+pub mod Pairs
+pub mod Signatures
+pub mod Heads
+pub mod Matching

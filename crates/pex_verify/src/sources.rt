@@ -1,6 +1,7 @@
 // The values of a set, with the numbers of their names.
-ghost use Rattle.std.specs.Prelude.{◌≡◌, ◌+◌, ◌<◌, length, vec_len, sum_by, IfOk};
-ghost use Rattle.pex_verify.specs.Sources.{object_count, objects_in, objects_of};
+ghost use Rattle.std.specs.Prelude.{◌≡◌, ◌+◌, ◌<◌, length, vec_len, sum_by, All, IfOk};
+ghost use Rattle.pex_verify.specs.Signatures.{title_at};
+ghost use Rattle.pex_verify.specs.Sources.{object_count, objects_in, objects_of, AreTitled, IsTitled};
 
 use crate::fault::Site;
 use papy_base::{Name, OutOfMemory, Text};
@@ -26,7 +27,9 @@ impl<'a> SetFile<'a> {
     }
 
     /// The string at this reference as a name.
-    pub(crate) fn title(&self, alloc: Global, reference: u16) -> Result<Name, OutOfMemory> {
+    pub(crate) fn title(&self, alloc: Global, reference: u16) -> Result<Name, OutOfMemory>
+        ensures { IfOk result (λ name. name ≡ title_at self.now.titles.now reference) }
+    {
         match self.titles.get(usize::from(reference)) {
             Some(title) => title.try_clone(alloc),
             None => Name::from_bytes(alloc, &[]),
@@ -62,14 +65,25 @@ impl FileStrings {
         alloc: Global,
         table: &mut NameTable,
         strings: &[Text],
-    ) -> Result<FileStrings, OutOfMemory> {
-        let names = FileNames::of_strings(alloc, table, strings)?;
-        let mut titles = Vec::with_capacity(alloc, strings.len())?;
-        for string in strings {
-            titles.push(Name::from_bytes(alloc, string.as_bytes())?)?;
-        }
-        Ok(FileStrings { names, titles })
+    ) -> Result<FileStrings, OutOfMemory>
+        ensures { IfOk result (λ found. found.titles.items ≡ strings.now) }
+    {
+        Ok(FileStrings {
+            names: FileNames::of_strings(alloc, table, strings)?,
+            titles: titles_of(alloc, strings)?,
+        })
     }
+}
+
+// These strings as names.
+fn titles_of(alloc: Global, strings: &[Text]) -> Result<Vec<Name>, OutOfMemory>
+    ensures { IfOk result (λ titles. titles.items ≡ strings.now) }
+{
+    let mut titles = Vec::with_capacity(alloc, strings.len())?;
+    for string in strings {
+        titles.push(Name::from_bytes(alloc, string.as_bytes())?)?;
+    }
+    Ok(titles)
 }
 
 /// The strings of these files, in their order.
@@ -78,7 +92,7 @@ pub(crate) fn strings_of_files(
     table: &mut NameTable,
     files: &[Pex],
 ) -> Result<Vec<FileStrings>, OutOfMemory>
-    ensures { IfOk result (λ strings. vec_len strings ≡ length files.now) }
+    ensures { IfOk result (λ strings. AreTitled files.now strings.items) }
 {
     let mut strings = Vec::with_capacity(alloc, files.len())?;
     for pex in files {
@@ -89,7 +103,9 @@ pub(crate) fn strings_of_files(
 
 /// The file that has this number in faults, with its strings.
 pub(crate) fn source_of<'a>(file: u16, pex: &'a Pex, strings: &'a FileStrings) -> SetFile<'a>
-    ensures { result.pex.now ≡ pex.now }
+    ensures pex { result.pex.now ≡ pex.now }
+    ensures names { result.names.now ≡ strings.now.names }
+    ensures titles { result.titles.now ≡ strings.now.titles.items }
 {
     SetFile {
         file,
@@ -107,8 +123,10 @@ pub(crate) fn all_sources<'a>(
     strings: &'a [FileStrings],
 ) -> Result<Vec<SetFile<'a>>, OutOfMemory>
     requires few { length files.now < 65536 }
-    requires strings { length strings.now ≡ length files.now }
-    ensures { IfOk result (λ sources. object_count sources.items ≡ objects_in prelude.entry + sum_by objects_of files.now) }
+    requires strings { AreTitled files.now strings.now }
+    requires prelude { IsTitled prelude }
+    ensures count { IfOk result (λ sources. object_count sources.items ≡ objects_in prelude.entry + sum_by objects_of files.now) }
+    ensures titled { IfOk result (λ sources. All IsTitled sources.items) }
 {
     let mut sources = Vec::with_capacity(alloc, files.len())?;
     sources.push(prelude)?;
