@@ -12,3 +12,4 @@ pub mod Pairs
 pub mod Signatures
 pub mod Heads
 pub mod Matching
+pub mod States

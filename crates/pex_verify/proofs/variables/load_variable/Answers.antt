@@ -10,5 +10,5 @@ returns c = λ old.
     let count = vec_len c.args.set.now.heads in
     let IsTyped : OutlineVariable → Type 0 = λ variable. IsTypeAmong count variable.kind in
     let variable : OutlineVariable = record { name = c.in_ok-title.title; kind = c.in-Some.kind; value = c.in_ok-value.value } in
-    let typed : IsTypeAmong count c.in-Some.kind = subst (λ (found : Option CoreType). IfSome found (IsTypeAmong count)) c.in-Some.is (c.in_ok-kind.ensures count c.value_type-declared.ensures) in
+    let typed : IsTypeAmong count c.in-Some.kind = subst (λ (found : Option CoreType). IfSome found (IsTypeAmong count)) c.in-Some.is (c.in_ok-kind.ensures.among count c.value_type-declared.ensures.among) in
     all_grown IsTyped c.args.variables.now.list.items c.add.new.self.list.items variable c.in_ok-add.ensures old typed
