@@ -1,6 +1,7 @@
 -- Ranks of objects, by which an object is followed at once by all that stand below it.
-use Rattle.std.specs.Prelude.{ℕ, ◌==◌, Bool, ◌&&◌, ◌||◌, List, nat_le, nat_lt, slice_index_or}
+use Rattle.std.specs.Prelude.{◌≡◌, ℕ, ◌<◌, ◌≤◌, ◌==◌, Bool, true, ◌&&◌, ◌||◌, List, length, Option, nat_le, nat_lt, slice_index_or}
 use Rattle.pex_set.specs.declared.descent.Span.{Span}
+use Rattle.pex_set.specs.Lineage.{stands_below}
 
 abbrev pub no_ranks : Span
 no_ranks = record { start = 0; end = 0 }
@@ -16,3 +17,9 @@ span_at spans object = slice_index_or spans object no_ranks
 -- whether an object is the other one or stands below it
 abbrev pub is_below : List Span → ℕ → ℕ → Bool
 is_below spans object above = object == above || has (span_at spans above) (span_at spans object).start
+
+-- ranks of the objects: each has one of its own, those of all below it follow at once, and no others do
+pub record IsDescentOf (parents : List (Option ℕ)) (spans : List Span) : Type 0 where
+  pub within : (object : ℕ) → object < length parents → ((span_at spans object).start < (span_at spans object).end) × ((span_at spans object).end ≤ length parents)
+  pub nested : (child above : ℕ) → child < length parents → stands_below parents child above ≡ true → ((span_at spans above).start ≤ (span_at spans child).start) × ((span_at spans child).end ≤ (span_at spans above).end)
+  pub only : (child above : ℕ) → child < length parents → above < length parents → has (span_at spans above) (span_at spans child).start ≡ true → stands_below parents child above ≡ true

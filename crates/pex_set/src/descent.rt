@@ -1,6 +1,9 @@
 // Which objects stand below which.
-ghost use Rattle.std.specs.Prelude.{◌≡◌, ◌<◌, length, vec_len, IfOk, IfSome};
-ghost use Rattle.pex_set.specs.Ranks.{has as is_between, span_at, is_below as stands_below};
+ghost use Rattle.std.specs.Prelude.{◌≡◌, ◌<◌, ◌++◌, length, vec_len, IfOk, OnOk, slice_get, set, option_to_list};
+ghost use Rattle.std.specs.Option.{option_and_then};
+ghost use Rattle.pex_set.specs.Lineage.{AreAmong, AreRooted};
+ghost use Rattle.pex_set.specs.Orders.{parent_number as number_of_parent, IsForest, AreLinked, IsOrder, AreReached, reaching};
+ghost use Rattle.pex_set.specs.Ranks.{has as is_between, span_at, is_below as is_by_ranks, IsDescentOf};
 
 use papy_base::OutOfMemory;
 use std::alloc::Global;
@@ -44,140 +47,141 @@ impl Descent {
     /// The ranks of objects with these parents. A parent that is none of the objects counts as none. Objects on a
     /// circle of parents, and those below one, get no ranks.
     pub fn of(alloc: Global, parents: &[Option<usize>]) -> Result<Descent, OutOfMemory>
-        ensures { IfOk result (λ descent. length descent ≡ length parents.now) }
+        ensures count { IfOk result (λ descent. length descent ≡ length parents.now) }
+        ensures exact { IfOk result (λ descent. AreAmong parents.now → AreRooted parents.now → IsDescentOf parents.now descent) }
     {
-        let children = Children::of(alloc, parents)?;
-        let mut walk = Walk {
-            parents,
-            next: children.first_root.map(Step::Enter),
-            children,
-            spans: vec![in alloc; NO_RANKS; parents.len()]?,
-            rank: 0,
-        };
-        for _ in 0..parents.len().saturating_mul(2) {
-            match walk.next {
-                Some(Step::Enter(object)) => walk.enter(object),
-                Some(Step::Leave(object)) => walk.leave(object),
-                None => break,
-            }
-        }
-        Ok(Descent { spans: walk.spans })
+        let order = order_of(alloc, parents)?;
+        let mut spans = vec![in alloc; NO_RANKS; parents.len()]?;
+        number(parents, &order, &mut spans);
+        reach(parents, &order, &mut spans);
+        Ok(Descent { spans })
     }
 
     /// The ranks of the object and of all below it. None where there is no such object.
     pub fn span(&self, object: usize) -> Span
         ensures { result ≡ span_at self.now object }
     {
-        match self.spans.get(object) {
-            Some(span) => *span,
-            None => NO_RANKS,
-        }
+        span_of(&self.spans, object)
     }
 
     /// Whether one object is the other or stands below it.
     pub fn is_below(&self, object: usize, above: usize) -> bool
-        ensures { result ≡ stands_below self.now object above }
+        ensures { result ≡ is_by_ranks self.now object above }
     {
         object == above || self.span(above).has(self.span(object).start)
     }
 }
 
-// The children of each object, linked as lists.
-#[derive(Drop)]
-struct Children {
-    first_root: Option<usize>,
-    first_child: Vec<Option<usize>>,
-    next: Vec<Option<usize>>,
+fn span_of(spans: &[Span], object: usize) -> Span
+    ensures { result ≡ span_at spans.now object }
+{
+    match spans.get(object) {
+        Some(span) => *span,
+        None => NO_RANKS,
+    }
 }
 
-impl Children {
-    fn of(alloc: Global, parents: &[Option<usize>]) -> Result<Children, OutOfMemory> {
-        let mut children = Children {
-            first_root: None,
-            first_child: vec![in alloc; None; parents.len()]?,
-            next: vec![in alloc; None; parents.len()]?,
+// The objects, each followed at once by all below it. Those on a circle of parents or below one are left out.
+fn order_of(alloc: Global, parents: &[Option<usize>]) -> Result<Vec<usize>, OutOfMemory>
+    ensures { IfOk result (λ order. IsForest parents.now → IsOrder parents.now order.items) }
+{
+    let links = Links::of(alloc, parents)?;
+    let mut order = Vec::with_capacity(alloc, parents.len())?;
+    // The objects to go on with, the next one last.
+    let mut open = Vec::new(alloc);
+    push_some(&mut open, item_at(&links.last, parents.len()))?;
+    for _ in 0..parents.len() {
+        let Some(object) = open.pop() else {
+            break;
+        };
+        order.push(object)?;
+        push_some(&mut open, item_at(&links.before, object))?;
+        push_some(&mut open, item_at(&links.last, object))?;
+    }
+    Ok(order)
+}
+
+fn push_some(list: &mut Vec<usize>, object: Option<usize>) -> Result<(), OutOfMemory>
+    ensures { OnOk result (list.new.items ≡ list.old.items ++ option_to_list object) }
+{
+    if let Some(object) = object {
+        list.push(object)?;
+    }
+    Ok(())
+}
+
+// Gives each object its place in the order as its rank.
+fn number(parents: &[Option<usize>], order: &[usize], spans: &mut [Span])
+    requires { length spans.old ≡ length parents.now }
+    ensures { IsOrder parents.now order.now → AreReached parents.now order.now spans.new (length order.now) }
+{
+    for (rank, object) in order.iter().enumerate() {
+        if *object < spans.len() {
+            spans[*object] = Span {
+                start: rank,
+                end: rank + 1,
+            };
+        }
+    }
+}
+
+// Lets the span of each object reach as far as those of the objects below it.
+fn reach(parents: &[Option<usize>], order: &[usize], spans: &mut [Span])
+    ensures { IsForest parents.now → IsOrder parents.now order.now → AreReached parents.now order.now spans.old (length order.now) → AreReached parents.now order.now spans.new 0 }
+{
+    for reached in 0..order.len() {
+        let object = order[order.len() - 1 - reached];
+        reach_parent(spans, object, parent_number(parents, object));
+    }
+}
+
+fn reach_parent(spans: &mut [Span], object: usize, parent: usize)
+    ensures { spans.new ≡ reaching spans.old object parent }
+{
+    let end = span_of(spans, object).end;
+    if parent < spans.len() {
+        spans[parent].end = spans[parent].end.max(end);
+    }
+}
+
+// The objects of each parent, linked as a list from the last to the first.
+#[derive(Drop)]
+struct Links {
+    // The last object of each parent, and at the end the last one without parent.
+    last: Vec<Option<usize>>,
+    // The object before each that has the same parent.
+    before: Vec<Option<usize>>,
+}
+
+impl Links {
+    fn of(alloc: Global, parents: &[Option<usize>]) -> Result<Links, OutOfMemory>
+        ensures { IfOk result (λ links. AreLinked parents.now (length parents.now) links.last.items links.before.items) }
+    {
+        let mut links = Links {
+            last: vec![in alloc; None; parents.len() + 1]?,
+            before: vec![in alloc; None; parents.len()]?,
         };
         for object in 0..parents.len() {
-            children.link(object, parent_among(parents, object));
+            let parent = parent_number(parents, object);
+            links.before[object] = links.last[parent].replace(object);
         }
-        Ok(children)
-    }
-
-    // Puts the object before the other children of its parent, or before the other ones without parent.
-    fn link(&mut self, object: usize, parent: Option<usize>) {
-        let first = match parent {
-            Some(parent) => replace_at(&mut self.first_child, parent, object),
-            None => self.first_root.replace(object),
-        };
-        if let Some(next) = self.next.get_mut(object) {
-            *next = first;
-        }
+        Ok(links)
     }
 }
 
-// Puts the object in the place of what stands there, and gives that.
-fn replace_at(list: &mut [Option<usize>], place: usize, object: usize) -> Option<usize> {
-    list.get_mut(place)?.replace(object)
-}
-
-// The object's parent, where it is one of the objects.
-fn parent_among(parents: &[Option<usize>], object: usize) -> Option<usize>
-    ensures { IfSome result (λ parent. parent < length parents.now) }
+// The number of the object's parent, and one past the objects where it has none among them.
+fn parent_number(parents: &[Option<usize>], object: usize) -> usize
+    ensures { result ≡ number_of_parent parents.now object }
 {
-    let parent = item_at(parents, object)?;
-    if parent < parents.len() {
-        Some(parent)
-    } else {
-        None
-    }
-}
-
-// Where a walk over the objects goes next.
-#[derive(Clone, Copy)]
-enum Step {
-    Enter(usize),
-    Leave(usize),
-}
-
-// A walk that enters each object before all below it, and leaves it behind them.
-#[derive(Drop)]
-struct Walk<'a> {
-    parents: &'a [Option<usize>],
-    children: Children,
-    next: Option<Step>,
-    spans: Vec<Span>,
-    // How many objects were entered.
-    rank: usize,
-}
-
-impl Walk<'_> {
-    fn enter(&mut self, object: usize)
-        ensures { vec_len self.new.spans ≡ vec_len self.old.spans }
-    {
-        if let Some(span) = self.spans.get_mut(object) {
-            span.start = self.rank;
-        }
-        self.rank = self.rank.saturating_add(1);
-        self.next = match item_at(&self.children.first_child, object) {
-            Some(child) => Some(Step::Enter(child)),
-            None => Some(Step::Leave(object)),
-        };
-    }
-
-    fn leave(&mut self, object: usize)
-        ensures { vec_len self.new.spans ≡ vec_len self.old.spans }
-    {
-        if let Some(span) = self.spans.get_mut(object) {
-            span.end = self.rank;
-        }
-        self.next = match item_at(&self.children.next, object) {
-            Some(next) => Some(Step::Enter(next)),
-            None => parent_among(self.parents, object).map(Step::Leave),
-        };
+    match item_at(parents, object) {
+        Some(parent) => parent.min(parents.len()),
+        None => parents.len(),
     }
 }
 
 /// What stands at the place, and none past the list.
-pub(crate) fn item_at(list: &[Option<usize>], place: usize) -> Option<usize> {
+pub(crate) fn item_at(list: &[Option<usize>], place: usize) -> Option<usize>
+    ensures { result ≡ option_and_then (λ item. item) (slice_get list.now place) }
+{
     *list.get(place)?
 }

@@ -1,5 +1,6 @@
 // The strings of one file.
-ghost use Rattle.std.specs.Prelude.{◌≡◌, [], length, slice_index_or, IfOk};
+ghost use Rattle.std.specs.Prelude.{◌≡◌, [], Some, map, length, slice_index_or, IfOk, OnOk};
+ghost use Rattle.pex_set.specs.Names.{number_in, with_names, IsGrown};
 
 use crate::name_table::{EMPTY_NAME, NameTable};
 use papy_base::{OutOfMemory, Text};
@@ -27,7 +28,10 @@ impl FileNames {
         table: &mut NameTable,
         strings: &[Text],
     ) -> Result<FileNames, OutOfMemory>
-        ensures { IfOk result (λ names. length names ≡ length strings.now) }
+        ensures length { IfOk result (λ names. length names ≡ length strings.now) }
+        ensures numbers { IfOk result (λ names. map Some names ≡ map (number_in table.new) strings.now) }
+        ensures table { OnOk result (table.new ≡ with_names table.old strings.now) }
+        ensures grows { IsGrown table.old table.new }
     {
         let mut numbers = Vec::with_capacity(alloc, strings.len())?;
         for string in strings {

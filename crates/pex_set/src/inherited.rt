@@ -1,8 +1,13 @@
 // What objects have from the objects above them.
+ghost use Rattle.std.specs.Prelude.{◌≡◌, [], ◌∷◌, ◌++◌, OnOk};
+ghost use Rattle.std.specs.List.{last_or};
+ghost use Rattle.pex_set.specs.Inherited.{found_in, is_up_to as comes_by};
+ghost use Rattle.pex_set.specs.Sweep.{member_of as member_by};
+
 use crate::descent::Span;
 use papy_base::OutOfMemory;
 use std::alloc::Global;
-use std::collections::HashMap;
+use std::marker::Model;
 
 /// The names by which a member is looked for, as numbers: that of its state, and its own.
 pub type MemberNames = (usize, usize);
@@ -15,24 +20,46 @@ pub struct MemberPlace {
     pub place: usize,
 }
 
+// A rank behind names. Positions ascend by the names first.
+type Position = (MemberNames, usize);
+
+// Whether a position comes no later than the other.
+fn is_up_to(position: Position, other: Position) -> bool
+    ensures { result ≡ comes_by position other }
+{
+    position <= other
+}
+
 /// A member, with the ranks of the objects that have it unless a nearer one hides it.
 #[derive(Clone, Copy)]
-struct Holder {
+struct OwnMember {
+    names: MemberNames,
     span: Span,
-    member: MemberPlace,
+    place: MemberPlace,
 }
 
 /// The members of objects, as they are collected.
 #[derive(Drop)]
 pub struct OwnMembers {
-    holders: Vec<(MemberNames, Holder)>,
+    members: Vec<OwnMember>,
+}
+
+impl Model for OwnMembers {
+    ghost use Rattle.std.specs.Prelude.{List};
+    ghost use Rattle.pex_set.specs.declared.inherited.OwnMember.{OwnMember};
+
+    ghost Value = { List OwnMember };
+
+    ghost view = { λ own. own.members.items };
 }
 
 impl OwnMembers {
     /// No members.
-    pub fn new(alloc: Global) -> OwnMembers {
+    pub fn new(alloc: Global) -> OwnMembers
+        ensures { result ≡ [] }
+    {
         OwnMembers {
-            holders: Vec::new(alloc),
+            members: Vec::new(alloc),
         }
     }
 
@@ -41,132 +68,151 @@ impl OwnMembers {
     pub fn add(
         &mut self,
         names: MemberNames,
-        member: MemberPlace,
+        place: MemberPlace,
         span: Span,
-    ) -> Result<(), OutOfMemory> {
-        Ok(self.holders.push((names, Holder { span, member }))?)
+    ) -> Result<(), OutOfMemory>
+        ensures { OnOk result
+            (self.new ≡ self.old ++ record { names = names; span = span; place = place } ∷ []) }
+    {
+        self.members.push(OwnMember { names, span, place })?;
+        Ok(())
     }
 
     /// What each object has from itself upward.
-    pub fn inherited(mut self, alloc: Global) -> Result<Inherited, OutOfMemory> {
-        self.holders
-            .sort_by_key(|(names, holder)| (*names, holder.span))?;
-        let mut stretches = Stretches::new(alloc, self.holders.len())?;
-        for (names, holder) in self.holders {
-            stretches.add(names, holder)?;
-        }
-        stretches.inherited()
+    pub fn inherited(self, alloc: Global) -> Result<Inherited, OutOfMemory> {
+        let mut members = self.members;
+        members.sort_by_key(|member| (member.names, member.span.start))?;
+        swept(alloc, members.as_slice())
     }
 }
 
-/// From this rank on, up to the next stretch, objects have this member of the names.
+// From this position on, up to the next stretch, objects have this member of the names.
 #[derive(Clone, Copy)]
 struct Stretch {
-    start: usize,
+    start: Position,
     member: Option<MemberPlace>,
 }
 
 /// What objects have from themselves and from the objects above them, the nearest first. A look-up takes about as many
-/// steps as the number of objects with such a member has digits.
+/// steps as the number of members has digits.
 #[derive(Drop)]
 pub struct Inherited {
     stretches: Vec<Stretch>,
-    // Where the stretches of the names begin, and where they end.
-    ranges: HashMap<MemberNames, (usize, usize)>,
+}
+
+impl Model for Inherited {
+    ghost use Rattle.std.specs.Prelude.{List};
+    ghost use Rattle.pex_set.specs.declared.inherited.Stretch.{Stretch};
+    ghost use Rattle.pex_set.specs.Inherited.{Ascends};
+
+    ghost Value = { List Stretch };
+
+    ghost view = { λ inherited. inherited.stretches.items };
+
+    ghost invariant = { λ inherited. Ascends inherited.stretches.items };
 }
 
 impl Inherited {
     /// The nearest member of these names, from the object of this rank upward.
-    pub fn find(&self, names: MemberNames, rank: usize) -> Option<MemberPlace> {
-        let (start, end) = *self.ranges.get(&names)?;
-        let stretches = self.stretches.get(start..end)?;
-        let behind = stretches.partition_point(|stretch| stretch.start <= rank);
-        stretches.get(behind.checked_sub(1)?)?.member
+    pub fn find(&self, names: MemberNames, rank: usize) -> Option<MemberPlace>
+        ensures { result ≡ found_in self.now names rank }
+    {
+        let position = (names, rank);
+        let stretches = self.stretches.as_slice();
+        let behind = stretches.partition_point(|stretch| is_up_to(stretch.start, position));
+        member_of(last(&stretches[..behind]))
     }
 }
 
-// Where the nearest member of some names changes as ranks grow, from one names to the next.
+// The last of the stretches.
+fn last(stretches: &[Stretch]) -> Option<Stretch>
+    ensures { result ≡ last_or None stretches.now }
+{
+    stretches.last().copied()
+}
+
+// What the stretch has.
+fn member_of(stretch: Option<Stretch>) -> Option<MemberPlace>
+    ensures { result ≡ member_by stretch }
+{
+    stretch?.member
+}
+
+// Goes over members in the order of their names and starts.
 #[derive(Drop)]
-struct Stretches {
-    found: Inherited,
-    // The names that are open, and where their stretches begin.
-    names: MemberNames,
-    start: usize,
-    // The members of these names whose ranks go on, the innermost of which stands last.
-    open: Vec<Holder>,
+struct Sweep {
+    stretches: Vec<Stretch>,
+    // What is found behind each member whose ranks go on. That of the innermost stands last.
+    ends: Vec<Stretch>,
 }
 
-impl Stretches {
-    // No stretches, of so many members at most.
-    fn new(alloc: Global, members: usize) -> Result<Stretches, OutOfMemory> {
-        Ok(Stretches {
-            found: Inherited {
-                stretches: Vec::with_capacity(alloc, members.saturating_mul(2))?,
-                ranges: HashMap::new(alloc),
-            },
-            names: (0, 0),
-            start: 0,
-            open: Vec::new(alloc),
-        })
+// What objects have of members in the order of their names and starts.
+fn swept(alloc: Global, members: &[OwnMember]) -> Result<Inherited, OutOfMemory> {
+    let mut sweep = Sweep {
+        stretches: Vec::with_capacity(alloc, members.len().saturating_mul(2))?,
+        ends: Vec::new(alloc),
+    };
+    for member in members {
+        sweep.add(member)?;
     }
+    sweep.inherited()
+}
 
-    // Adds a member. Those of the same names come one after the other, in the order of their ranks.
-    fn add(&mut self, names: MemberNames, holder: Holder) -> Result<(), OutOfMemory> {
-        if names != self.names {
-            self.end()?;
-            self.names = names;
-        }
-        if self.repeats(&holder) {
+impl Sweep {
+    // Adds a member, unless its object has an earlier one of these names.
+    fn add(&mut self, member: &OwnMember) -> Result<(), OutOfMemory> {
+        let start = (member.names, member.span.start);
+        if self.has_come_to(start) {
             return Ok(());
         }
-        close(&mut self.found.stretches, &mut self.open, holder.span.start)?;
-        self.found.stretches.push(Stretch {
-            start: holder.span.start,
-            member: Some(holder.member),
-        })?;
-        self.open.push(holder)?;
-        Ok(())
+        self.close(start)?;
+        self.open(start, member)
     }
 
-    // Whether the object has an earlier member of these names.
-    fn repeats(&self, holder: &Holder) -> bool {
-        match self.open.last() {
-            Some(last) => last.member.object == holder.member.object,
+    // Whether the latest member starts there.
+    fn has_come_to(&self, start: Position) -> bool {
+        match last(self.stretches.as_slice()) {
+            Some(latest) => is_up_to(start, latest.start),
             None => false,
         }
     }
 
-    // Ends the stretches of the open names.
-    fn end(&mut self) -> Result<(), OutOfMemory> {
-        close(&mut self.found.stretches, &mut self.open, usize::MAX)?;
-        let end = self.found.stretches.len();
-        if self.start < end {
-            self.found.ranges.insert(self.names, (self.start, end))?;
+    // Ends the members that end up to this position.
+    fn close(&mut self, position: Position) -> Result<(), OutOfMemory> {
+        while let Some(end) = self.next_end(position) {
+            self.stretches.push(end)?;
         }
-        self.start = end;
         Ok(())
     }
 
-    fn inherited(mut self) -> Result<Inherited, OutOfMemory> {
-        self.end()?;
-        Ok(self.found)
+    // Takes out the end of the innermost member, where it comes up to this position.
+    fn next_end(&mut self, position: Position) -> Option<Stretch> {
+        let end = last(self.ends.as_slice())?;
+        if !is_up_to(end.start, position) {
+            return None;
+        }
+        self.ends.pop()
     }
-}
 
-// Ends those of the open members, the innermost of which stands last, whose ranks all lie below this one.
-fn close(
-    stretches: &mut Vec<Stretch>,
-    open: &mut Vec<Holder>,
-    rank: usize,
-) -> Result<(), OutOfMemory> {
-    for _ in 0..open.len() {
-        let start = match open.last() {
-            Some(last) if last.span.end <= rank => last.span.end,
-            _ => return Ok(()),
-        };
-        open.pop();
-        let member = open.last().map(|outer| outer.member);
-        stretches.push(Stretch { start, member })?;
+    // Begins a member inside those that go on.
+    fn open(&mut self, start: Position, member: &OwnMember) -> Result<(), OutOfMemory> {
+        self.ends.push(Stretch {
+            start: (member.names, member.span.end),
+            member: member_of(last(self.stretches.as_slice())),
+        })?;
+        self.stretches.push(Stretch {
+            start,
+            member: Some(member.place),
+        })?;
+        Ok(())
     }
-    Ok(())
+
+    // Ends all members.
+    fn inherited(mut self) -> Result<Inherited, OutOfMemory> {
+        self.ends.reverse();
+        self.stretches.append(&mut self.ends)?;
+        Ok(Inherited {
+            stretches: self.stretches,
+        })
+    }
 }

@@ -1,5 +1,9 @@
 // The objects of a set, with their names and parents.
-ghost use Rattle.std.specs.Prelude.{◌≡◌, ◌+◌, [], ◌∷◌, ◌++◌, length, vec_len, slice_get, IfOk, OnOk};
+ghost use Rattle.std.specs.Prelude.{◌≡◌, ◌+◌, ◌==◌, ℕ, [], ◌∷◌, ◌++◌, Some, None, length, vec_len, slice_get, nat_eq, if◌then◌else◌, IfOk, OnOk, OnErr};
+ghost use Rattle.std.specs.HashMap.{get};
+ghost use Rattle.std.specs.Option.{option_or};
+ghost use Rattle.pex_set.specs.Lineage.{AreAmong};
+ghost use Rattle.pex_set.specs.Objects.{first_named, parent_in, parents_in, AddsFile};
 
 use crate::file_names::FileNames;
 use crate::name_table::{EMPTY_NAME, NameTable};
@@ -39,6 +43,12 @@ impl Model for Objects {
     ghost Value = { List Head };
 
     ghost view = { λ objects. objects.heads.items };
+
+    ghost use Rattle.std.specs.Prelude.{◌≡◌, ℕ, nat_eq};
+    ghost use Rattle.std.specs.HashMap.{get};
+    ghost use Rattle.pex_set.specs.Objects.{first_named};
+
+    ghost invariant = { λ objects. (name : ℕ) → get nat_eq objects.first name ≡ first_named objects.heads.items name };
 }
 
 impl Objects {
@@ -55,29 +65,30 @@ impl Objects {
 
     /// Adds the objects of the next file, whose strings have these numbers.
     pub fn add_file(&mut self, names: &FileNames, pex: &Pex) -> Result<(), OutOfMemory>
-        ensures { OnOk result (length self.new ≡ length self.old + vec_len pex.now.objects) }
+        ensures length { OnOk result (length self.new ≡ length self.old + vec_len pex.now.objects) }
+        ensures heads { OnOk result (AddsFile self.old names.now pex.now.objects.items self.new) }
     {
+        let file = self.files;
         for object in &pex.objects {
             let head = Head {
-                file: self.files,
+                file,
                 title: object.name,
                 name: names.number(object.name),
                 parent: names.number(object.parent),
             };
             self.add(head)?;
         }
-        self.files = self.files.saturating_add(1);
+        self.files = file.saturating_add(1);
         Ok(())
     }
 
     fn add(&mut self, head: Head) -> Result<(), OutOfMemory>
-        ensures { OnOk result (self.new ≡ self.old ++ head ∷ []) }
+        ensures added { OnOk result (self.new ≡ self.old ++ head ∷ []) }
+        ensures unchanged { OnErr result (self.new ≡ self.old) }
     {
-        let number = self.heads.len();
-        if self.first.get(&head.name).is_none() {
-            self.first.insert(head.name, number)?;
-        }
-        self.heads.push(head)?;
+        self.heads.reserve(1)?;
+        note_first(&mut self.first, head.name, self.heads.len())?;
+        self.heads.push_reserved(head);
         Ok(())
     }
 
@@ -96,13 +107,17 @@ impl Objects {
     }
 
     /// The number of the first object of this name.
-    pub fn first_named(&self, name: usize) -> Option<usize> {
+    pub fn first_named(&self, name: usize) -> Option<usize>
+        ensures { result ≡ first_named self.now name }
+    {
         self.first.get(&name).copied()
     }
 
     /// The number of each object's parent, none where it names none or one that is not there.
     pub fn parents(&self, alloc: Global) -> Result<Vec<Option<usize>>, OutOfMemory>
-        ensures { IfOk result (λ parents. vec_len parents ≡ length self.now) }
+        ensures length { IfOk result (λ parents. vec_len parents ≡ length self.now) }
+        ensures parents { IfOk result (λ parents. parents.items ≡ parents_in self.now) }
+        ensures among { IfOk result (λ parents. AreAmong parents.items) }
     {
         let mut parents = Vec::with_capacity(alloc, self.heads.len())?;
         for head in &self.heads {
@@ -111,10 +126,27 @@ impl Objects {
         Ok(parents)
     }
 
-    fn parent_of(&self, head: &Head) -> Option<usize> {
+    fn parent_of(&self, head: &Head) -> Option<usize>
+        ensures { result ≡ parent_in self.now head.now }
+    {
         if head.parent == EMPTY_NAME {
             return None;
         }
         self.first_named(head.parent)
     }
+}
+
+// Notes this object as the first of its name, where none is noted.
+fn note_first(
+    first: &mut HashMap<usize, usize>,
+    name: usize,
+    number: usize,
+) -> Result<(), OutOfMemory>
+    ensures noted { OnOk result ((other : ℕ) → get nat_eq first.new other ≡ option_or (get nat_eq first.old other) (if name == other then Some number else None)) }
+    ensures unchanged { OnErr result ((other : ℕ) → get nat_eq first.new other ≡ get nat_eq first.old other) }
+{
+    if first.get(&name).is_none() {
+        first.insert(name, number)?;
+    }
+    Ok(())
 }

@@ -1,0 +1,6 @@
+use Rattle.pex_set.specs.Circles.{CanStart}
+use Rattle.pex_set.proofs.CircleLemmas.{OnWalk}
+use Rattle.pex_set.proofs.circles.walk.Given as goal
+
+abbrev pub invariant-loop : goal.invariant-loop
+invariant-loop l = CanStart l.parents l.initial.walks l.start → OnWalk l.parents l.initial.walks l.start l.walks l.here
