@@ -74,6 +74,14 @@ Paired-next X Y P xs ys later i x d y grown within is old here =
     subst (λ (zs : List Y). Paired X Y P (take (i + 1) xs) zs) (sym grown)
     (subst (λ (zs : List X). Paired X Y P zs (ys ++ y ∷ [])) (sym (take_next xs i x d within is)) (Paired-push X Y P (take i xs) ys x y old here))
 
+-- the same where the first list is made of the one that the loop goes over
+pub Paired-mapped : (W X Y : Type 0) (P : ℕ → X → Y → Type 0) (f : W → X) (ws : List W) (ys later : List Y) (i : ℕ) (w d : W) (y : Y) → later ≡ ys ++ y ∷ [] → i < length ws → w ≡ get_or ws i d
+    → Paired X Y P (map f (take i ws)) ys → P (length ys) (f w) y → Paired X Y P (map f (take (i + 1) ws)) later
+Paired-mapped W X Y P f ws ys later i w d y grown within is old here =
+    let wider : map f (take i ws) ++ f w ∷ [] ≡ map f (take (i + 1) ws) = sym (map-append f (take i ws) (w ∷ [])) ∙ ap (map f) (sym (take_next ws i w d within is)) in
+    subst (λ (zs : List Y). Paired X Y P (map f (take (i + 1) ws)) zs) (sym grown)
+    (subst (λ (zs : List X). Paired X Y P zs (ys ++ y ∷ [])) wider (Paired-push X Y P (map f (take i ws)) ys (f w) y old here))
+
 -- the first place that passes a test
 pub first_place : {X : Type 0} (p : X → Bool) (xs : List X) (i : ℕ) → i ≤ length xs → ((k : ℕ) (d : X) → k < i → p (get_or xs k d) ≡ false) → ((d : X) → i < length xs → p (get_or xs i d) ≡ true) → i ≡ position_or_len p xs
 first_place p [] i within before here = omega arith

@@ -72,6 +72,11 @@ pub record IsHeadOf (members : Members) (above : Option ℕ) (numbers : List ℕ
   pub empty_state : head.empty_state ≡ empty_state_of numbers object.states.items
   pub functions : Offers members (map (declared_by numbers) (empty_functions numbers object)) head
 
+-- the places of the members that a script lacks
+abbrev pub lacking_in : Option ScriptHead → List ℕ
+lacking_in None = []
+lacking_in (Some head) = head.lacking.items
+
 -- the parent of a script, by its number
 abbrev pub parent_at : List (Option ℕ) → ℕ → Option ℕ
 parent_at parents number = option_and_then (λ parent. parent) (slice_get parents number)

@@ -8,7 +8,7 @@ use Rattle.pex_values.specs.declared.values.PexFunction.{PexFunction}
 use Rattle.pex_values.specs.declared.values.PexState.{PexState}
 use Rattle.pex_verify.specs.declared.loaded.LoadedFunction.{LoadedFunction}
 use Rattle.pex_verify.specs.declared.scope.Home.{Home}
-use Rattle.pex_verify.specs.declared.scripts.ScriptHead.{ScriptHead}
+use Rattle.pex_verify.specs.Heads.{lacking_in}
 use Rattle.pex_verify.specs.Matching.{Written, AreWritten}
 use Rattle.pex_verify.specs.Meanings.{Meanings}
 use Rattle.pex_verify.specs.Pairs.{Paired}
@@ -20,16 +20,15 @@ own_written home function =
     record { numbers = home.source.now.names.now; titles = home.source.now.titles.now; name = function.0; function = function.1 }
 
 -- a member of every script without parent
+abbrev pub written_member : Home → ℕ × PexFunction → Written
+written_member home member =
+    record { numbers = home.members.now.source.now.names.now; titles = home.members.now.source.now.titles.now; name = member.0; function = member.1 }
+
 abbrev pub member_written : Home → Option (ℕ × PexFunction) → List Written
 member_written home None = []
-member_written home (Some member) =
-    record { numbers = home.members.now.source.now.names.now; titles = home.members.now.source.now.titles.now; name = member.0; function = member.1 } ∷ []
+member_written home (Some member) = written_member home member ∷ []
 
--- the places of the members that a script lacks
-abbrev pub lacking_in : Option ScriptHead → List ℕ
-lacking_in None = []
-lacking_in (Some head) = head.lacking.items
-
+-- the places of the members that the script lacks
 abbrev pub lacking_places : Home → List ℕ
 lacking_places home = lacking_in (slice_get home.set.now.heads.items home.here)
 

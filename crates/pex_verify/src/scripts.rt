@@ -4,7 +4,7 @@ ghost use Rattle.pex_verify.specs.Types.{IsValueTypeAmong};
 ghost use Rattle.pex_verify.specs.Meanings.{result_meaning, value_meaning};
 ghost use Rattle.pex_verify.specs.Sources.{object_count};
 ghost use Rattle.pex_verify.specs.Signatures.{declared_of, declared_by};
-ghost use Rattle.pex_verify.specs.Heads.{Placed, placed_in, placed_objects, Members, members_of, member_at, parent_at, property_by, empty_state_of, functions_of_state, IsHeadOf, AreHeads};
+ghost use Rattle.pex_verify.specs.Heads.{Placed, placed_in, placed_objects, Members, members_of, member_at, parent_at, property_by, empty_state_of, functions_of_state, lacking_in, IsHeadOf, AreHeads};
 ghost use Rattle.pex_values.specs.declared.values.PexObject.{PexObject};
 
 use crate::loaded::MethodPlace;
@@ -308,7 +308,9 @@ impl ScriptSet {
     }
 
     /// The places of the members that the script lacks.
-    pub(crate) fn lacking(&self, script: usize) -> &[usize] {
+    pub(crate) fn lacking(&self, script: usize) -> &[usize]
+        ensures { result.now ≡ lacking_in (slice_get self.now.heads.items script) }
+    {
         match self.heads.get(script) {
             Some(head) => head.lacking.as_slice(),
             None => &[],

@@ -1,7 +1,8 @@
 // The values of a set, with the numbers of their names.
-ghost use Rattle.std.specs.Prelude.{◌≡◌, ◌+◌, ◌<◌, length, vec_len, sum_by, All, IfOk};
+ghost use Rattle.std.specs.Prelude.{◌≡◌, ◌+◌, ◌<◌, ℕ, List, length, sum_by, All, IfOk, OnOk};
+ghost use Rattle.pex_set.specs.Names.{IsGrown};
 ghost use Rattle.pex_verify.specs.Signatures.{title_at};
-ghost use Rattle.pex_verify.specs.Sources.{object_count, objects_in, objects_of, AreTitled, IsTitled};
+ghost use Rattle.pex_verify.specs.Sources.{object_count, objects_in, objects_of, AreStrings, AreNamed, IsNamed};
 
 use crate::fault::Site;
 use papy_base::{Name, OutOfMemory, Text};
@@ -66,7 +67,8 @@ impl FileStrings {
         table: &mut NameTable,
         strings: &[Text],
     ) -> Result<FileStrings, OutOfMemory>
-        ensures { IfOk result (λ found. found.titles.items ≡ strings.now) }
+        ensures strings { IfOk result (AreStrings table.new strings.now) }
+        ensures grows { OnOk result (IsGrown table.old table.new) }
     {
         Ok(FileStrings {
             names: FileNames::of_strings(alloc, table, strings)?,
@@ -92,7 +94,8 @@ pub(crate) fn strings_of_files(
     table: &mut NameTable,
     files: &[Pex],
 ) -> Result<Vec<FileStrings>, OutOfMemory>
-    ensures { IfOk result (λ strings. AreTitled files.now strings.items) }
+    ensures strings { IfOk result (λ strings. AreNamed table.new files.now strings.items) }
+    ensures grows { OnOk result (IsGrown table.old table.new) }
 {
     let mut strings = Vec::with_capacity(alloc, files.len())?;
     for pex in files {
@@ -123,10 +126,9 @@ pub(crate) fn all_sources<'a>(
     strings: &'a [FileStrings],
 ) -> Result<Vec<SetFile<'a>>, OutOfMemory>
     requires few { length files.now < 65536 }
-    requires strings { AreTitled files.now strings.now }
-    requires prelude { IsTitled prelude }
+    requires strings { length strings.now ≡ length files.now }
     ensures count { IfOk result (λ sources. object_count sources.items ≡ objects_in prelude.entry + sum_by objects_of files.now) }
-    ensures titled { IfOk result (λ sources. All IsTitled sources.items) }
+    ensures named { (table : List (List ℕ)) → IsNamed table prelude.entry → AreNamed table files.now strings.now → IfOk result (λ sources. All (IsNamed table) sources.items) }
 {
     let mut sources = Vec::with_capacity(alloc, files.len())?;
     sources.push(prelude)?;
