@@ -11,3 +11,4 @@ pub mod CircleLemmas
 pub mod Positions
 pub mod Stretches
 pub mod Sweeps
+pub mod Members

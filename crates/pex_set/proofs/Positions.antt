@@ -1,15 +1,15 @@
 -- The order of positions.
-use Rattle.std.proofs.Common.{◌≡◌, ℕ, ◌<◌, ◌≤◌, Bool, true, false, not, sym, ap, ◌∙◌, refl, arith}
+use Rattle.std.proofs.Common.{◌≡◌, ℕ, ◌<◌, Bool, true, false, not, sym, ap, ◌∙◌, refl, arith}
 use Rattle.std.specs.Prelude.{nat_le, Some}
-use Rattle.std.specs.Ordering.{is_le, is_lt, is_gt, is_eq, nat_cmp, ordering_then, partial_ordering_then, is_some_and, ordering_reverse, MatchOrdering}
+use Rattle.std.specs.Ordering.{is_le, is_lt, is_gt, nat_cmp, ordering_then, partial_ordering_then, is_some_and, ordering_reverse, MatchOrdering}
 use Rattle.std.specs.declared.cmp.Ordering.{Ordering}
 use Rattle.std.specs.declared.cmp.Ordering.TheVariants.{Less, Equal, Greater}
 use Rattle.std.specs.Cmp.{IsTotalOrder}
-use Rattle.std.proofs.lemmas.Bool.{true≢false, false≢true, both_ways, leb-true, le-leb, lt-leb}
+use Rattle.std.proofs.lemmas.Bool.{true≢false, false≢true, both_ways, le-leb, lt-leb}
 use Rattle.std.proofs.lemmas.Cmp.{then_total, on_total, nat_cmp_total, upto, tied_itself, ranked}
 use Rattle.pex_set.specs.Inherited.{Names, Position, position_cmp, is_up_to}
 
-position_total : IsTotalOrder position_cmp
+pub position_total : IsTotalOrder position_cmp
 position_total =
     then_total (then_total (on_total (λ (p : Position). p.0.0) nat_cmp_total) (on_total (λ (p : Position). p.0.1) nat_cmp_total)) (on_total (λ (p : Position). p.1) nat_cmp_total)
 

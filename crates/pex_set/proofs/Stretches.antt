@@ -1,16 +1,18 @@
 -- What stretches answer, and how members change it.
-use Rattle.std.proofs.Common.{◌≡◌, ℕ, zero, suc, ◌+◌, ◌-◌, ◌<◌, ◌≤◌, Bool, true, false, not, cond, ◌&&◌, List, [], ◌∷◌, ◌++◌, length, get_or, take, drop, Option, Some, None, sym, ap, ◌∙◌, refl, arith, subst, ◌⊎◌, ⊎_elim, inl, inr, length-take, length-drop, get_or-take, get_or-drop}
-use Rattle.std.specs.Prelude.{All, IfSome, slice_get, reverse}
-use Rattle.std.specs.List.{AllWithin, Contains, filter, last_or}
+use Rattle.std.proofs.Common.{◌≡◌, ℕ, zero, suc, ◌+◌, ◌-◌, ◌<◌, ◌≤◌, true, false, cond, List, [], ◌∷◌, ◌++◌, length, get_or, take, drop, Option, Some, None, sym, ap, ◌∙◌, refl, arith, subst, ◌⊎◌, ⊎_elim, inl, inr, length-take, length-drop, get_or-take, get_or-drop}
+use Rattle.std.specs.Prelude.{All, slice_get, reverse}
+use Rattle.std.specs.List.{AllWithin, last_or}
 use Rattle.std.specs.List.Sorted.{IsPartitionedBy, IsPartitionPoint}
-use Rattle.std.proofs.lemmas.Bool.{both_ways, cases_lt}
+use Rattle.std.proofs.lemmas.Bool.{cases_lt, true≢false}
+use Rattle.std.proofs.lemmas.Option.{none-some, same_Some}
+use Rattle.std.specs.Option.{is_some, option_to_list}
 use Rattle.std.proofs.lemmas.List.{take-append-drop, reverse-append}
-use Rattle.std.proofs.lemmas.List.Elements.{All-nil, All-cons, All-head, All-tail, All-append, All-weaker, All-push}
+use Rattle.std.proofs.lemmas.List.Elements.{All-head, All-tail}
 use Rattle.pex_set.specs.declared.inherited.MemberPlace.{MemberPlace}
 use Rattle.pex_set.specs.declared.inherited.Stretch.{Stretch}
 use Rattle.pex_set.specs.Inherited.{Position, is_up_to, found_from, Ascends}
-use Rattle.pex_set.specs.Sweep.{member_of, IsLastBehind}
-use Rattle.pex_set.proofs.Positions.{is_up_to-trans, is_up_to-total, not_up-before, not_up-behind}
+use Rattle.pex_set.specs.Sweep.{member_of}
+use Rattle.pex_set.proofs.Positions.{is_up_to-trans}
 
 pub last_or-slice_get : {A : Type 0} (o : Option A) (x : A) (xs : List A) → slice_get (x ∷ xs) (length xs) ≡ last_or o (x ∷ xs)
 last_or-slice_get o x [] = refl
@@ -19,6 +21,15 @@ last_or-slice_get o x (y ∷ ys) = last_or-slice_get (Some x) y ys
 pub last_or-push : {A : Type 0} (o : Option A) (xs : List A) (x : A) → last_or o (xs ++ x ∷ []) ≡ Some x
 last_or-push o [] x = refl
 last_or-push o (y ∷ ys) x = last_or-push (Some y) ys x
+
+pub last_or-nonempty : {A : Type 0} (xs : List A) (x : A) → last_or None xs ≡ Some x → 0 < length xs
+last_or-nonempty [] x h = absurd (none-some x h)
+last_or-nonempty (y ∷ ys) x h = omega arith
+
+-- what `pop` leaves, where the last was seen before
+pub popped : {A : Type 0} (old new : List A) (r : Option A) (x : A) → last_or None old ≡ Some x → old ≡ new ++ option_to_list r → is_some r ≡ true → old ≡ new ++ x ∷ []
+popped old new None x h e s = absurd (true≢false (sym s))
+popped old new (Some y) x h e s = e ∙ ap (λ z. new ++ z ∷ []) (same_Some y x (sym (last_or-push None new y) ∙ ap (last_or None) (sym e) ∙ h))
 
 first_of_pushed : {A : Type 0} (xs : List A) (y : A) (zs : List A) → slice_get (xs ++ y ∷ []) 0 ≡ slice_get ((xs ++ y ∷ []) ++ zs) 0
 first_of_pushed [] y zs = refl

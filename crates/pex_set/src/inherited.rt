@@ -1,8 +1,9 @@
 // What objects have from the objects above them.
-ghost use Rattle.std.specs.Prelude.{◌≡◌, [], ◌∷◌, ◌++◌, OnOk};
+ghost use Rattle.std.specs.Prelude.{◌≡◌, ◌↔◌, ℕ, ◌<◌, true, All, List, [], ◌∷◌, ◌++◌, reverse, vec_len, IsSome, MatchOption, IfOk, OnOk};
 ghost use Rattle.std.specs.List.{last_or};
-ghost use Rattle.pex_set.specs.Inherited.{found_in, is_up_to as comes_by};
-ghost use Rattle.pex_set.specs.Sweep.{member_of as member_by};
+ghost use Rattle.pex_set.specs.declared.inherited.OwnMember.{OwnMember};
+ghost use Rattle.pex_set.specs.Inherited.{found_in, is_up_to as comes_by, Ascends, Names, Reaches, AreLaminar, IsNearest};
+ghost use Rattle.pex_set.specs.Sweep.{member_of as member_by, is_reached, earlier_end, AreSorted, AreInOrder, AreCovered, IsBehind, Fits, IsOrdered, IsSwept, AreMoved, IsLastBehind, IsOpened};
 
 use crate::descent::Span;
 use papy_base::OutOfMemory;
@@ -79,7 +80,12 @@ impl OwnMembers {
     }
 
     /// What each object has from itself upward.
-    pub fn inherited(self, alloc: Global) -> Result<Inherited, OutOfMemory> {
+    pub fn inherited(self, alloc: Global) -> Result<Inherited, OutOfMemory>
+        ensures nearest { IfOk result
+            (λ inherited. AreLaminar self → (names : Names) (rank : ℕ) → IsNearest self names rank (found_in inherited names rank)) }
+        ensures absent { IfOk result
+            (λ inherited. AreLaminar self → (names : Names) (rank : ℕ) → (found_in inherited names rank ≡ None) ↔ All (λ member. ¬ Reaches member names rank) self) }
+    {
         let mut members = self.members;
         members.sort_by_key(|member| (member.names, member.span.start))?;
         swept(alloc, members.as_slice())
@@ -147,7 +153,11 @@ struct Sweep {
 }
 
 // What objects have of members in the order of their names and starts.
-fn swept(alloc: Global, members: &[OwnMember]) -> Result<Inherited, OutOfMemory> {
+fn swept(alloc: Global, members: &[OwnMember]) -> Result<Inherited, OutOfMemory>
+    requires { AreSorted members.now }
+    ensures { IfOk result
+        (λ inherited. AreInOrder members.now → AreCovered members.now inherited) }
+{
     let mut sweep = Sweep {
         stretches: Vec::with_capacity(alloc, members.len().saturating_mul(2))?,
         ends: Vec::new(alloc),
@@ -159,18 +169,31 @@ fn swept(alloc: Global, members: &[OwnMember]) -> Result<Inherited, OutOfMemory>
 }
 
 impl Sweep {
-    // Adds a member, unless its object has an earlier one of these names.
-    fn add(&mut self, member: &OwnMember) -> Result<(), OutOfMemory> {
+    // Adds a member, unless its object has an earlier one of these names, or no ranks.
+    fn add(&mut self, member: &OwnMember) -> Result<(), OutOfMemory>
+        ensures ordered { (done : List OwnMember)
+            → IsOrdered done self.old.stretches.items self.old.ends.items
+            → IsBehind done member.now
+            → OnOk result (IsOrdered (done ++ member.now ∷ []) self.new.stretches.items self.new.ends.items) }
+        ensures swept { (done : List OwnMember)
+            → IsOrdered done self.old.stretches.items self.old.ends.items
+            → IsSwept done self.old.stretches.items self.old.ends.items
+            → Fits done member.now
+            → OnOk result (IsSwept (done ++ member.now ∷ []) self.new.stretches.items self.new.ends.items) }
+    {
         let start = (member.names, member.span.start);
-        if self.has_come_to(start) {
+        let end = (member.names, member.span.end);
+        if self.has_come_to(start) || is_up_to(end, start) {
             return Ok(());
         }
         self.close(start)?;
-        self.open(start, member)
+        self.open(start, end, member.place)
     }
 
     // Whether the latest member starts there.
-    fn has_come_to(&self, start: Position) -> bool {
+    fn has_come_to(&self, start: Position) -> bool
+        ensures { result ≡ is_reached start (last_or None self.now.stretches.items) }
+    {
         match last(self.stretches.as_slice()) {
             Some(latest) => is_up_to(start, latest.start),
             None => false,
@@ -178,7 +201,11 @@ impl Sweep {
     }
 
     // Ends the members that end up to this position.
-    fn close(&mut self, position: Position) -> Result<(), OutOfMemory> {
+    fn close(&mut self, position: Position) -> Result<(), OutOfMemory>
+        ensures moved { OnOk result
+            (AreMoved position self.old.stretches.items self.old.ends.items self.new.stretches.items self.new.ends.items) }
+        ensures rest { OnOk result (IsLastBehind position self.new.ends.items) }
+    {
         while let Some(end) = self.next_end(position) {
             self.stretches.push(end)?;
         }
@@ -186,29 +213,59 @@ impl Sweep {
     }
 
     // Takes out the end of the innermost member, where it comes up to this position.
-    fn next_end(&mut self, position: Position) -> Option<Stretch> {
+    fn next_end(&mut self, position: Position) -> Option<Stretch>
+        ensures stretches { self.new.stretches.items ≡ self.old.stretches.items }
+        ensures fewer { IsSome result → vec_len self.new.ends < vec_len self.old.ends }
+        ensures ends { MatchOption result
+            ((self.new.ends.items ≡ self.old.ends.items) × IsLastBehind position self.new.ends.items)
+            (λ end. (self.old.ends.items ≡ self.new.ends.items ++ end ∷ []) × (comes_by end.start position ≡ true)) }
+    {
         let end = last(self.ends.as_slice())?;
         if !is_up_to(end.start, position) {
             return None;
         }
-        self.ends.pop()
+        self.ends.pop();
+        Some(end)
     }
 
-    // Begins a member inside those that go on.
-    fn open(&mut self, start: Position, member: &OwnMember) -> Result<(), OutOfMemory> {
+    // Begins a member inside those that go on, with which it ends at the latest.
+    fn open(
+        &mut self,
+        start: Position,
+        end: Position,
+        place: MemberPlace,
+    ) -> Result<(), OutOfMemory>
+        ensures { OnOk result
+            (IsOpened start end place self.old.stretches.items self.old.ends.items self.new.stretches.items self.new.ends.items) }
+    {
+        let outer = member_of(last(self.stretches.as_slice()));
+        let end = self.end_within(end);
         self.ends.push(Stretch {
-            start: (member.names, member.span.end),
-            member: member_of(last(self.stretches.as_slice())),
+            start: end,
+            member: outer,
         })?;
         self.stretches.push(Stretch {
             start,
-            member: Some(member.place),
+            member: Some(place),
         })?;
         Ok(())
     }
 
+    // The end, or that of the innermost member, where this comes earlier.
+    fn end_within(&self, end: Position) -> Position
+        ensures { result ≡ earlier_end end (last_or None self.now.ends.items) }
+    {
+        match last(self.ends.as_slice()) {
+            Some(outer) if !is_up_to(end, outer.start) => outer.start,
+            _ => end,
+        }
+    }
+
     // Ends all members.
-    fn inherited(mut self) -> Result<Inherited, OutOfMemory> {
+    fn inherited(mut self) -> Result<Inherited, OutOfMemory>
+        requires { Ascends (self.stretches.items ++ reverse self.ends.items) }
+        ensures { IfOk result (λ inherited. inherited ≡ self.stretches.items ++ reverse self.ends.items) }
+    {
         self.ends.reverse();
         self.stretches.append(&mut self.ends)?;
         Ok(Inherited {

@@ -1,4 +1,4 @@
-use Rattle.std.proofs.Common.{◌∙◌, sym}
+use Rattle.std.proofs.Common.{◌∙◌}
 use Rattle.pex_set.proofs.Stretches.{last_or-last}
 use Rattle.pex_set.proofs.inherited.last.Goals as goal
 
