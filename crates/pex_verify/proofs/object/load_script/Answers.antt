@@ -7,7 +7,7 @@ pub returns : goal.returns
 returns c =
     let count = vec_len c.args.home.now.set.now.heads in
     let script : LoadedScript = record { properties = c.in_ok-properties.properties; states = c.in_ok-states.states } in
-    let sound : IsSoundScript (bounds_with count (vec_len c.args.home.now.variables.now.list)) script = record { properties = c.in_ok-properties.ensures; states = c.in_ok-states.ensures } in
+    let sound : IsSoundScript (bounds_with count (vec_len c.args.home.now.variables.now.list)) script = record { properties = c.in_ok-properties.ensures; states = c.in_ok-states.ensures.sound } in
     record {
       script = subst (λ (n : ℕ). IsSoundScript (bounds_with count n) script) (sym c.in_ok-outline.ensures.count) sound;
       outline = c.in_ok-outline.ensures.sound;
