@@ -13,3 +13,5 @@ pub mod Signatures
 pub mod Heads
 pub mod Matching
 pub mod States
+pub mod Outlining
+pub mod Parents

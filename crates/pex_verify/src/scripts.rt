@@ -5,6 +5,7 @@ ghost use Rattle.pex_verify.specs.Meanings.{result_meaning, value_meaning};
 ghost use Rattle.pex_verify.specs.Sources.{object_count};
 ghost use Rattle.pex_verify.specs.Signatures.{declared_of, declared_by};
 ghost use Rattle.pex_verify.specs.Heads.{Placed, placed_in, placed_objects, Members, members_of, member_at, parent_at, property_by, empty_state_of, functions_of_state, lacking_in, IsHeadOf, AreHeads};
+ghost use Rattle.pex_verify.specs.Parents.{parent_in, parent_among};
 ghost use Rattle.pex_values.specs.declared.values.PexObject.{PexObject};
 
 use crate::loaded::MethodPlace;
@@ -319,7 +320,8 @@ impl ScriptSet {
 
     /// The number of the script's parent, where it is one of the set.
     pub(crate) fn parent_number(&self, script: usize) -> Option<u16>
-        ensures { IfSome result (λ n. n < vec_len self.now.heads) }
+        ensures among { IfSome result (λ n. n < vec_len self.now.heads) }
+        ensures parent { result ≡ parent_among (length self.now.heads.items) (parent_in self.now.heads.items script) }
     {
         let parent = self.parent(script)?;
         if parent < self.heads.len() {
@@ -329,7 +331,9 @@ impl ScriptSet {
         }
     }
 
-    pub(crate) fn parent(&self, script: usize) -> Option<usize> {
+    pub(crate) fn parent(&self, script: usize) -> Option<usize>
+        ensures { result ≡ parent_in self.now.heads.items script }
+    {
         self.heads.get(script)?.parent
     }
 
