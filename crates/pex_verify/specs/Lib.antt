@@ -15,3 +15,4 @@ pub mod Matching
 pub mod States
 pub mod Outlining
 pub mod Parents
+pub mod Properties
