@@ -14,14 +14,13 @@ use Rattle.pex_verify.specs.Pairs.{Paired}
 use Rattle.pex_verify.specs.Signatures.{number_at, Declared, declared_of, declared_by}
 
 -- ---- objects
--- an object, with the strings of its file and their numbers
+-- an object, with its file
 pub record Placed : Type 0 where
-  pub numbers : List ℕ
-  pub titles : List (List ℕ)
+  pub source : SetFile
   pub object : PexObject
 
 abbrev pub placed : SetFile → PexObject → Placed
-placed source object = record { numbers = source.names.now; titles = source.titles.now; object = object }
+placed source object = record { source = source; object = object }
 
 abbrev pub placed_in : SetFile → List Placed
 placed_in source = map (placed source) source.pex.now.objects.items
@@ -84,4 +83,4 @@ parent_at parents number = option_and_then (λ parent. parent) (slice_get parent
 -- the heads of the scripts of these objects, in order
 abbrev pub AreHeads : Members → List (Option ℕ) → List Placed → List ScriptHead → Type 0
 AreHeads members parents objects heads =
-    Paired Placed ScriptHead (λ n o h. IsHeadOf members (parent_at parents n) o.numbers o.object h) objects heads
+    Paired Placed ScriptHead (λ n o h. IsHeadOf members (parent_at parents n) o.source.names.now o.object h) objects heads

@@ -16,3 +16,5 @@ pub mod States
 pub mod Outlining
 pub mod Parents
 pub mod Properties
+pub mod Variables
+pub mod Loading

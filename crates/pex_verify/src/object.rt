@@ -3,6 +3,8 @@ ghost use Rattle.std.specs.Prelude.{◌++◌, List, map, vec_len, All, IfOk, OnO
 ghost use Rattle.pex_verify.specs.Soundness.{IsSoundFunction, AreSoundFunctions, IsSoundState, IsSoundProperty, AreTyped};
 ghost use Rattle.pex_verify.specs.Objects.{IsSoundObject};
 ghost use Rattle.pex_verify.specs.Places.{bounds_of};
+ghost use Rattle.pex_verify.specs.Heads.{placed};
+ghost use Rattle.pex_verify.specs.Loading.{AreProperties, IsScriptOf, IsObjectOf};
 ghost use Rattle.pex_verify.specs.Matching.{Written, IsWritten, AreWritten};
 ghost use Rattle.std.specs.List.{list_any};
 ghost use Rattle.pex_verify.specs.States.{is_empty_state, own_written, written_member, member_in, lacking_written, WrittenState, state_written, state_functions, added_state, states_written, IsState, AreStates};
@@ -74,7 +76,8 @@ pub(crate) fn load_object(
     lines: &FileLines<'_>,
     object: &PexObject,
 ) -> Result<LoadedObject, VerifyFault>
-    ensures { IfOk result (IsSoundObject (vec_len loader.now.set.now.heads)) }
+    ensures sound { IfOk result (IsSoundObject (vec_len loader.now.set.now.heads)) }
+    ensures object { IfOk result (λ loaded. IsObjectOf (record { set = loader.now.set.now; members = loader.now.members.now }) here (placed source.now object.now) loaded.script loaded.outline) }
 {
     judge_names(loader.alloc, source, object)?;
     load_variables(
@@ -101,7 +104,8 @@ pub(crate) fn load_object(
 // The object's script and outline, once its variables were judged.
 fn load_script(home: &Home<'_>, lists: &mut FunctionLists) -> Result<LoadedObject, VerifyFault>
     requires { AreTyped (vec_len home.now.set.now.heads) home.now.variables.now.list.items }
-    ensures { IfOk result (IsSoundObject (vec_len home.now.set.now.heads)) }
+    ensures sound { IfOk result (IsSoundObject (vec_len home.now.set.now.heads)) }
+    ensures script { IfOk result (λ loaded. IsScriptOf home.now loaded.script loaded.outline) }
 {
     let properties = load_properties(home, lists)?;
     let states = load_states(home, lists)?;
@@ -124,7 +128,8 @@ fn load_properties(
     home: &Home<'_>,
     lists: &mut FunctionLists,
 ) -> Result<Vec<LoadedProperty>, VerifyFault>
-    ensures { IfOk result (λ properties. All (IsSoundProperty (bounds_of home.now)) properties.items) }
+    ensures sound { IfOk result (λ properties. All (IsSoundProperty (bounds_of home.now)) properties.items) }
+    ensures written { IfOk result (λ properties. AreProperties home.now properties.items) }
 {
     let mut properties = Vec::with_capacity(home.alloc, home.object.properties.len())?;
     for (place, property) in home.object.properties.iter().enumerate() {
