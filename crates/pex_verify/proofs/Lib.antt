@@ -4,5 +4,5 @@ pub mod Sets
 pub mod LoadedRows
 pub mod Pairs
 pub mod Heads
-pub mod Sources
+pub mod Strings
 pub mod States

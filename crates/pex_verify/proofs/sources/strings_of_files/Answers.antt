@@ -4,7 +4,7 @@ use Rattle.pex_set.proofs.NameLemmas.{IsGrown-refl, IsGrown-trans}
 use Rattle.pex_verify.specs.declared.sources.FileStrings.{FileStrings}
 use Rattle.pex_verify.specs.Sources.{AreStrings}
 use Rattle.pex_verify.proofs.Pairs.{Paired-none, Paired-next}
-use Rattle.pex_verify.proofs.Sources.{AreNamed-grown}
+use Rattle.pex_verify.proofs.Strings.{AreNamed-grown}
 use Rattle.pex_verify.proofs.sources.strings_of_files.Goals as goal
 
 pub loop-pex-preserved : goal.loop-pex-preserved
