@@ -6,3 +6,4 @@ pub mod Pairs
 pub mod Heads
 pub mod Strings
 pub mod States
+pub mod Loading

@@ -4,6 +4,7 @@ use Rattle.core_tree.specs.declared.outline.OutlineScript.{OutlineScript}
 use Rattle.pex_values.specs.declared.values.PexProperty.{PexProperty}
 use Rattle.pex_verify.specs.declared.loaded.LoadedProperty.{LoadedProperty}
 use Rattle.pex_verify.specs.declared.loaded.LoadedScript.{LoadedScript}
+use Rattle.pex_verify.specs.declared.object.Loader.{Loader}
 use Rattle.pex_verify.specs.declared.scope.Home.{Home}
 use Rattle.pex_verify.specs.declared.scripts.ScriptSet.{ScriptSet}
 use Rattle.pex_verify.specs.declared.sources.DefaultMembers.{DefaultMembers}
@@ -29,6 +30,9 @@ pub record IsScriptOf (home : Home) (script : LoadedScript) (outline : OutlineSc
 pub record Judged : Type 0 where
   pub set : ScriptSet
   pub members : DefaultMembers
+
+abbrev pub judged_by : Loader → Judged
+judged_by loader = record { set = loader.set.now; members = loader.members.now }
 
 -- what is loaded for an object as the script of this number
 pub record IsObjectOf (judged : Judged) (here : ℕ) (placed : Placed) (script : LoadedScript) (outline : OutlineScript) : Type 0 where

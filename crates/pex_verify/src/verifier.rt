@@ -1,8 +1,10 @@
 // Sets of files, in the order in which their rules are judged.
-ghost use Rattle.std.specs.Prelude.{◌≡◌, ◌+◌, ◌<◌, length, vec_len, All, IfOk, OnOk};
+ghost use Rattle.std.specs.Prelude.{◌≡◌, ◌+◌, ◌<◌, List, [], ◌∷◌, ◌++◌, length, vec_len, All, IfOk, OnOk};
 ghost use Rattle.pex_verify.specs.Files.{IsFile};
 ghost use Rattle.pex_verify.specs.Sources.{object_count, script_count};
 ghost use Rattle.pex_verify.specs.Sets.{AreSoundOutlines, AreSoundScripts};
+ghost use Rattle.pex_verify.specs.Heads.{Placed, placed, placed_in, placed_objects};
+ghost use Rattle.pex_verify.specs.Loading.{judged_by, AreObjects};
 
 use crate::fault::{VerifyFault, VerifyRule};
 use crate::lines::FileLines;
@@ -172,6 +174,7 @@ fn load_files(
 ) -> Result<Parts, VerifyFault>
     ensures count { IfOk result (λ parts. vec_len parts.scripts ≡ object_count sources.now) }
     ensures sound { IfOk result (λ parts. AreSoundScripts (vec_len loader.now.set.now.heads) parts.outlines.items parts.scripts.items) }
+    ensures objects { IfOk result (λ parts. AreObjects (judged_by loader.now) (placed_objects sources.now) parts.scripts.items parts.outlines.items) }
 {
     let mut parts = Parts {
         outlines: Vec::new(loader.alloc),
@@ -191,6 +194,8 @@ fn load_file(
     parts: &mut Parts,
 ) -> Result<(), VerifyFault>
     ensures count { OnOk result (vec_len parts.new.scripts ≡ vec_len parts.old.scripts + vec_len source.now.pex.now.objects) }
+    ensures objects { (before : List Placed) → AreObjects (judged_by loader.now) before parts.old.scripts.items parts.old.outlines.items
+        → OnOk result (AreObjects (judged_by loader.now) (before ++ placed_in source.now) parts.new.scripts.items parts.new.outlines.items) }
     ensures sound { AreSoundScripts (vec_len loader.now.set.now.heads) parts.old.outlines.items parts.old.scripts.items
         → OnOk result (AreSoundScripts (vec_len loader.now.set.now.heads) parts.new.outlines.items parts.new.scripts.items) }
 {
@@ -211,6 +216,8 @@ fn load_next(
     parts: &mut Parts,
 ) -> Result<(), VerifyFault>
     ensures count { OnOk result (vec_len parts.new.scripts ≡ vec_len parts.old.scripts + 1) }
+    ensures objects { (before : List Placed) → AreObjects (judged_by loader.now) before parts.old.scripts.items parts.old.outlines.items
+        → OnOk result (AreObjects (judged_by loader.now) (before ++ placed source.now object.now ∷ []) parts.new.scripts.items parts.new.outlines.items) }
     ensures sound { AreSoundScripts (vec_len loader.now.set.now.heads) parts.old.outlines.items parts.old.scripts.items
         → OnOk result (AreSoundScripts (vec_len loader.now.set.now.heads) parts.new.outlines.items parts.new.scripts.items) }
 {
