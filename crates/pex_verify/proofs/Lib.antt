@@ -7,3 +7,4 @@ pub mod Heads
 pub mod Strings
 pub mod States
 pub mod Loading
+pub mod Objects

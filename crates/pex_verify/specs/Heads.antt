@@ -2,6 +2,7 @@
 use Rattle.std.specs.Prelude.{◌≡◌, ℕ, ◌==◌, List, [], ◌++◌, map, Option, Some, None, slice_get}
 use Rattle.std.specs.List.{flat_map, position_or_len}
 use Rattle.std.specs.Option.{option_and_then, option_map}
+use Rattle.pex_set.specs.declared.objects.Head.{Head}
 use Rattle.pex_values.specs.declared.values.PexFunction.{PexFunction}
 use Rattle.pex_values.specs.declared.values.PexObject.{PexObject}
 use Rattle.pex_values.specs.declared.values.PexProperty.{PexProperty}
@@ -84,3 +85,11 @@ parent_at parents number = option_and_then (λ parent. parent) (slice_get parent
 abbrev pub AreHeads : Members → List (Option ℕ) → List Placed → List ScriptHead → Type 0
 AreHeads members parents objects heads =
     Paired Placed ScriptHead (λ n o h. IsHeadOf members (parent_at parents n) o.source.names.now o.object h) objects heads
+
+-- what the list of a set's objects says of an object
+pub record IsNumbered (o : Placed) (head : Head) : Type 0 where
+  pub name : head.name ≡ number_at o.source.names.now o.object.name
+  pub parent : head.parent ≡ number_at o.source.names.now o.object.parent
+
+abbrev pub AreNumbered : List Placed → List Head → Type 0
+AreNumbered objects heads = Paired Placed Head (λ n o h. IsNumbered o h) objects heads

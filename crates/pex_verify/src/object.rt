@@ -1,5 +1,5 @@
 // One object.
-ghost use Rattle.std.specs.Prelude.{◌++◌, List, map, vec_len, All, IfOk, OnOk};
+ghost use Rattle.std.specs.Prelude.{◌≡◌, ◌++◌, List, map, vec_len, All, IfOk, OnOk};
 ghost use Rattle.pex_verify.specs.Soundness.{IsSoundFunction, AreSoundFunctions, IsSoundState, IsSoundProperty, AreTyped};
 ghost use Rattle.pex_verify.specs.Objects.{IsSoundObject};
 ghost use Rattle.pex_verify.specs.Places.{bounds_of};

@@ -262,6 +262,7 @@ impl ScriptSet {
     ) -> Result<ScriptSet, OutOfMemory>
         requires { length objects ≡ object_count sources.now }
         ensures count { IfOk result (λ scripts. vec_len scripts.heads ≡ object_count sources.now) }
+        ensures objects { IfOk result (λ scripts. scripts.objects ≡ objects) }
         ensures heads { IfOk result (λ scripts. AreHeads (members_of members.now) parents.now (placed_objects sources.now) scripts.heads.items) }
     {
         let types = TypeNames::of(alloc, table, &objects)?;

@@ -2,6 +2,7 @@
 ghost use Rattle.std.specs.Prelude.{◌≡◌, ◌+◌, ◌<◌, ℕ, List, length, sum_by, All, IfOk, OnOk};
 ghost use Rattle.pex_set.specs.Names.{IsGrown};
 ghost use Rattle.pex_verify.specs.Signatures.{title_at};
+ghost use Rattle.pex_verify.specs.Heads.{placed_objects, AreNumbered};
 ghost use Rattle.pex_verify.specs.Sources.{object_count, objects_in, objects_of, AreStrings, AreNamed, IsNamed};
 
 use crate::fault::Site;
@@ -140,7 +141,8 @@ pub(crate) fn all_sources<'a>(
 
 /// The objects of these files.
 pub(crate) fn objects_of(alloc: Global, sources: &[SetFile<'_>]) -> Result<Objects, OutOfMemory>
-    ensures { IfOk result (λ objects. length objects ≡ object_count sources.now) }
+    ensures count { IfOk result (λ objects. length objects ≡ object_count sources.now) }
+    ensures numbered { IfOk result (AreNumbered (placed_objects sources.now)) }
 {
     let mut objects = Objects::new(alloc);
     for source in sources {

@@ -3,7 +3,8 @@ ghost use Rattle.std.specs.Prelude.{◌≡◌, ◌+◌, ◌<◌, List, [], ◌�
 ghost use Rattle.pex_verify.specs.Files.{IsFile};
 ghost use Rattle.pex_verify.specs.Sources.{object_count, script_count};
 ghost use Rattle.pex_verify.specs.Sets.{AreSoundOutlines, AreSoundScripts};
-ghost use Rattle.pex_verify.specs.Heads.{Placed, placed, placed_in, placed_objects};
+ghost use Rattle.pex_verify.specs.Heads.{Placed, placed, placed_in, placed_objects, members_of, AreNumbered, AreHeads};
+ghost use Rattle.pex_set.specs.Objects.{parents_in};
 ghost use Rattle.pex_verify.specs.Loading.{judged_by, AreObjects};
 
 use crate::fault::{VerifyFault, VerifyRule};
@@ -158,7 +159,9 @@ fn judged_scripts(
     members: &DefaultMembers<'_>,
     sources: &[SetFile<'_>],
 ) -> Result<ScriptSet, VerifyFault>
-    ensures { IfOk result (λ scripts. vec_len scripts.heads ≡ object_count sources.now) }
+    ensures count { IfOk result (λ scripts. vec_len scripts.heads ≡ object_count sources.now) }
+    ensures numbered { IfOk result (λ scripts. AreNumbered (placed_objects sources.now) scripts.objects) }
+    ensures heads { IfOk result (λ scripts. AreHeads (members_of members.now) (parents_in scripts.objects) (placed_objects sources.now) scripts.heads.items) }
 {
     let objects = objects_of(alloc, sources)?;
     let parents = objects.parents(alloc)?;
