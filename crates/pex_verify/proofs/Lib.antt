@@ -8,3 +8,4 @@ pub mod Strings
 pub mod States
 pub mod Loading
 pub mod Objects
+pub mod MemberLists

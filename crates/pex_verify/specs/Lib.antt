@@ -18,3 +18,4 @@ pub mod Parents
 pub mod Properties
 pub mod Variables
 pub mod Loading
+pub mod Members
