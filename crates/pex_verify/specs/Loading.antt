@@ -1,14 +1,17 @@
 -- The scripts of a set, as its objects say.
 use Rattle.std.specs.Prelude.{◌≡◌, ℕ, ◌<◌, List, length, map, slice_index_or}
 use Rattle.core_tree.specs.declared.outline.OutlineScript.{OutlineScript}
+use Rattle.pex_set.specs.Objects.{parents_in}
 use Rattle.pex_values.specs.declared.values.PexProperty.{PexProperty}
 use Rattle.pex_verify.specs.declared.loaded.LoadedProperty.{LoadedProperty}
 use Rattle.pex_verify.specs.declared.loaded.LoadedScript.{LoadedScript}
+use Rattle.pex_verify.specs.declared.members.MemberTable.{MemberTable}
 use Rattle.pex_verify.specs.declared.object.Loader.{Loader}
 use Rattle.pex_verify.specs.declared.scope.Home.{Home}
 use Rattle.pex_verify.specs.declared.scripts.ScriptSet.{ScriptSet}
 use Rattle.pex_verify.specs.declared.sources.DefaultMembers.{DefaultMembers}
-use Rattle.pex_verify.specs.Heads.{Placed}
+use Rattle.pex_verify.specs.declared.sources.SetFile.{SetFile}
+use Rattle.pex_verify.specs.Heads.{Placed, placed_objects, members_of, AreNumbered, AreHeads}
 use Rattle.pex_verify.specs.Outlining.{IsOutlineOf}
 use Rattle.pex_verify.specs.Pairs.{Paired}
 use Rattle.pex_verify.specs.Properties.{IsProperty}
@@ -51,3 +54,11 @@ pub record AreObjects (judged : Judged) (objects : List Placed) (scripts : List 
   pub outline_count : length objects ≡ length outlines
   pub each : (n : ℕ) (o : Placed) (s : LoadedScript) (l : OutlineScript) → n < length objects
       → IsObjectOf judged n (slice_index_or objects n o) (slice_index_or scripts n s) (slice_index_or outlines n l)
+
+-- what is loaded for the objects of these files, and how others found their members
+pub record IsLoadedSet (members : DefaultMembers) (sources : List SetFile) (scripts : List LoadedScript) (outlines : List OutlineScript) (table : MemberTable) : Type 0 where
+  pub set : ScriptSet
+  pub numbered : AreNumbered (placed_objects sources) set.objects
+  pub heads : AreHeads (members_of members) (parents_in set.objects) (placed_objects sources) set.heads.items
+  pub objects : AreObjects (record { set = set; members = members }) (placed_objects sources) scripts outlines
+  pub same_table : set.table ≡ table

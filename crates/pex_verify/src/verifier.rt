@@ -5,7 +5,7 @@ ghost use Rattle.pex_verify.specs.Sources.{object_count, script_count};
 ghost use Rattle.pex_verify.specs.Sets.{AreSoundOutlines, AreSoundScripts};
 ghost use Rattle.pex_verify.specs.Heads.{Placed, placed, placed_in, placed_objects, members_of, AreNumbered, AreHeads};
 ghost use Rattle.pex_set.specs.Objects.{parents_in};
-ghost use Rattle.pex_verify.specs.Loading.{judged_by, AreObjects};
+ghost use Rattle.pex_verify.specs.Loading.{judged_by, AreObjects, IsLoadedSet};
 
 use crate::fault::{VerifyFault, VerifyRule};
 use crate::lines::FileLines;
@@ -135,6 +135,7 @@ fn load_set(
 ) -> Result<Tables, VerifyFault>
     ensures count { IfOk result (λ tables. vec_len tables.parts.scripts ≡ object_count sources.now) }
     ensures sound { IfOk result (λ tables. AreSoundScripts (vec_len tables.parts.scripts) tables.parts.outlines.items tables.parts.scripts.items) }
+    ensures loaded { IfOk result (λ tables. IsLoadedSet members.now sources.now tables.parts.scripts.items tables.parts.outlines.items tables.members) }
 {
     let set = judged_scripts(alloc, table, files, members, sources)?;
     let loader = Loader {
