@@ -19,7 +19,7 @@ loop-state-preserved c =
     let old = c.loop-state.states.items in
     let i = c.loop-state.state-index in
     let item = c.state-item.result in
-    let is : item ≡ get_or all i item = subst (λ (l : List PexState). item ≡ get_or l i item) c.deref-home-object-states.ensures.value c.state-item.is in
+    let is : item ≡ get_or all i item = subst (λ (l : List PexState). item ≡ get_or l i item) c.deref-state-items.ensures.value c.state-item.is in
     let within : i < length all = omega arith in
     let loaded = c.in_ok-load_state.field-0 in
     (all_grown IsSound old c.push.new.self.items loaded c.in_ok-push.ensures.items c.loop-state.invariant.0 c.in_ok-load_state.ensures.sound,

@@ -17,7 +17,7 @@ loop-object-preserved c =
     let i = c.loop-object.object-index in
     let object = c.object-item.result in
     let within : i < length objects = omega arith in
-    let is : object ≡ get_or objects i object = subst (λ (l : List PexObject). object ≡ get_or l i object) c.deref-source-pex-objects.ensures.value c.object-item.is in
+    let is : object ≡ get_or objects i object = subst (λ (l : List PexObject). object ≡ get_or l i object) c.deref-object-items.ensures.value c.object-item.is in
     let parts = c.load_next.new.parts in
     let ensured = c.in_ok-load_next.ensures in
     (omega (arith, ensured.count), λ sound. ensured.sound (c.loop-object.invariant.1 sound), λ before given.
