@@ -18,6 +18,7 @@ loop-name-preserved c =
     let i = c.loop-name.name-index in
     let item = c.loop-name-item.result in
     let is : item ≡ get_or all i item = subst (λ (l : List (ℕ × PexFunction)). item ≡ get_or l i item) c.deref-name-items.ensures.value c.loop-name-item.is in
-    let within : i < length all = omega arith in
-    (all_grown (IsSoundFunction (bounds_of home)) old c.push.new.self.items c.in-Ok.loaded c.in_ok-push-in-Ok.ensures.items c.loop-name.invariant.0 c.in-Ok.ensures.sound,
-     Paired-mapped (ℕ × PexFunction) Written LoadedFunction IsLoaded (own_written home) all old c.push.new.self.items i item item c.in-Ok.loaded c.in_ok-push-in-Ok.ensures.items within is c.loop-name.invariant.1 c.in-Ok.ensures.written)
+    let within : i < length all = omega arith in (
+      all_grown (IsSoundFunction (bounds_of home)) old c.push.new.self.items c.in-Ok.loaded c.in_ok-push-in-Ok.ensures.items c.loop-name.invariant.0 c.in-Ok.ensures.sound,
+      Paired-mapped (ℕ × PexFunction) Written LoadedFunction IsLoaded (own_written home) all old c.push.new.self.items i item item c.in-Ok.loaded c.in_ok-push-in-Ok.ensures.items within is c.loop-name.invariant.1 c.in-Ok.ensures.written,
+    )

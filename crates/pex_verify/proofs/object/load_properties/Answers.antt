@@ -19,9 +19,10 @@ loop-place-preserved c =
     let i = c.loop-place.place in
     let item = c.property-item.result in
     let is : item ≡ get_or all i item = subst (λ (l : List PexProperty). item ≡ get_or l i item) c.deref-property-items.ensures.value c.property-item.is in
-    let within : i < length all = omega arith in
-    (all_grown (IsSoundProperty (bounds_of home)) old c.push.new.self.items c.in-Ok.loaded c.in_ok-push-in-Ok.ensures.items c.loop-place.invariant.0 c.in-Ok.ensures.sound,
-     Paired-next PexProperty LoadedProperty IsLoaded all old c.push.new.self.items i item item c.in-Ok.loaded c.in_ok-push-in-Ok.ensures.items within is c.loop-place.invariant.1 c.in-Ok.ensures.property)
+    let within : i < length all = omega arith in (
+      all_grown (IsSoundProperty (bounds_of home)) old c.push.new.self.items c.in-Ok.loaded c.in_ok-push-in-Ok.ensures.items c.loop-place.invariant.0 c.in-Ok.ensures.sound,
+      Paired-next PexProperty LoadedProperty IsLoaded all old c.push.new.self.items i item item c.in-Ok.loaded c.in_ok-push-in-Ok.ensures.items within is c.loop-place.invariant.1 c.in-Ok.ensures.property,
+    )
 
 pub returns-clause-written : goal.returns-clause-written
 returns-clause-written c =

@@ -21,6 +21,7 @@ loop-state-preserved c =
     let item = c.state-item.result in
     let is : item ≡ get_or all i item = subst (λ (l : List PexState). item ≡ get_or l i item) c.deref-state-items.ensures.value c.state-item.is in
     let within : i < length all = omega arith in
-    let loaded = c.in_ok-load_state.field-0 in
-    (all_grown IsSound old c.push.new.self.items loaded c.in_ok-push.ensures.items c.loop-state.invariant.0 c.in_ok-load_state.ensures.sound,
-     Paired-mapped PexState WrittenState (Name × Vec LoadedFunction Global) IsLoaded (state_written home) all old c.push.new.self.items i item item loaded c.in_ok-push.ensures.items within is c.loop-state.invariant.1 c.in_ok-load_state.ensures.written)
+    let loaded = c.in_ok-load_state.field-0 in (
+      all_grown IsSound old c.push.new.self.items loaded c.in_ok-push.ensures.items c.loop-state.invariant.0 c.in_ok-load_state.ensures.sound,
+      Paired-mapped PexState WrittenState (Name × Vec LoadedFunction Global) IsLoaded (state_written home) all old c.push.new.self.items i item item loaded c.in_ok-push.ensures.items within is c.loop-state.invariant.1 c.in_ok-load_state.ensures.written,
+    )

@@ -22,9 +22,9 @@ returns-clause-kinds c =
     let before = c.args.variables.now.list.items in
     let variable : OutlineVariable = record { name = c.in_ok-title.title; kind = c.in-Some.kind; value = c.in_ok-value.value } in
     let here : variable_type variable ≡ type_of_variable c.args.set.now.types c.args.source.now.names.now c.args.variable.now =
-        subst (λ (found : Option CoreType). of_result found ≡ c.value_type-declared.result) c.in-Some.is c.in_ok-kind.ensures.known
-        ∙ c.value_type-declared.ensures.meaning
-        ∙ ap (value_meaning c.args.set.now.types) c.number.ensures in
+    subst (λ (found : Option CoreType). of_result found ≡ c.value_type-declared.result) c.in-Some.is c.in_ok-kind.ensures.known
+    ∙ c.value_type-declared.ensures.meaning
+    ∙ ap (value_meaning c.args.set.now.types) c.number.ensures in
     ap (map variable_type) c.in_ok-add.ensures
     ∙ map-append variable_type before (variable ∷ [])
     ∙ ap (λ (kind : ValueType). map variable_type before ++ kind ∷ []) here

@@ -25,5 +25,5 @@ loop-place-preserved c =
     let span : c.span-span.result ≡ owner.span = c.span-span.ensures ∙ ap (λ (o : Owner). o.span) same in
     let one : Span → OwnMember = λ s. record { names = (empty_name, property.name); span = s; place = record { object = object; state = 0; place = i } } in
     let adds : later ≡ with_properties lists (member i property ∷ []) =
-        ap (λ (l : List OwnMember). let whole : MemberLists = record lists { properties = l } in whole) (c.in_ok-add.ensures ∙ ap (λ (s : Span). lists.properties ++ one s ∷ []) span) in
+    ap (λ (l : List OwnMember). let whole : MemberLists = record lists { properties = l } in whole) (c.in_ok-add.ensures ∙ ap (λ (s : Span). lists.properties ++ one s ∷ []) span) in
     properties_more start lists later (with_places member 0 (take i properties)) (member i property ∷ []) (with_places member 0 (take (i + 1) properties)) c.loop-place.invariant adds (with_places-next member properties i property none within refl)

@@ -24,7 +24,7 @@ loop-place-preserved c =
     let later = c.add_method.new.self in
     let same : owner_in lists object ≡ owner = ap (λ (l : MemberLists). owner_in l object) c.loop-place.invariant in
     let adds : later ≡ with_methods lists (member i function ∷ []) =
-        c.in_ok-add_method.ensures
-        ∙ ap (λ (o : Owner). with_methods lists (member_of o state.0 (state.1, name) i ∷ [])) same
-        ∙ ap (λ (n : ℕ). with_methods lists (member_of owner state.0 (state.1, n) i ∷ [])) c.number-name.ensures in
+    c.in_ok-add_method.ensures
+    ∙ ap (λ (o : Owner). with_methods lists (member_of o state.0 (state.1, name) i ∷ [])) same
+    ∙ ap (λ (n : ℕ). with_methods lists (member_of owner state.0 (state.1, n) i ∷ [])) c.number-name.ensures in
     methods_more start lists later (with_places member 0 (take i functions)) (member i function ∷ []) (with_places member 0 (take (i + 1) functions)) c.loop-place.invariant adds (with_places-next member functions i function function within c.index-functions-place.is)
