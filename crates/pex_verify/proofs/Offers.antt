@@ -56,9 +56,9 @@ pub below_from_child : (outline : List ScriptShape) (script above : ℕ) → is_
 below_from_child outline script above h = below_from_upward (length outline) outline script above h
 
 -- ---- what is found upward stands in a script above
-record IsFoundAbove (outline : List ScriptShape) (views : List (List StateView)) (script state name : ℕ) (found : ViewFound) : Type 0 where
-  below : StandsBelow outline script found.script
-  own : own_found (view_of views found.script) state name ≡ Some found.own
+pub record IsFoundAbove (outline : List ScriptShape) (views : List (List StateView)) (script state name : ℕ) (found : ViewFound) : Type 0 where
+  pub below : StandsBelow outline script found.script
+  pub own : own_found (view_of views found.script) state name ≡ Some found.own
 
 above_by : (outline : List ScriptShape) (views : List (List StateView)) (script state name : ℕ) (rest : Option ViewFound) (found : ViewFound) (o : Option OwnFound) → own_found (view_of views script) state name ≡ o → option_or (found_of_script script o) rest ≡ Some found → (rest ≡ Some found → IsFoundAbove outline views script state name found) → IsFoundAbove outline views script state name found
 above_by outline views script state name rest found None e h rec = rec h
@@ -81,7 +81,7 @@ parent_above n outline views script state name found (Some parent) e h rec =
     let r = rec parent h in
     record { below = below_parent e r.below; own = r.own }
 
-found_above : (n : ℕ) (outline : List ScriptShape) (views : List (List StateView)) (script state name : ℕ) (found : ViewFound) → first_found views (upward n outline (Some script)) state name ≡ Some found → IsFoundAbove outline views script state name found
+pub found_above : (n : ℕ) (outline : List ScriptShape) (views : List (List StateView)) (script state name : ℕ) (found : ViewFound) → first_found views (upward n outline (Some script)) state name ≡ Some found → IsFoundAbove outline views script state name found
 found_above zero outline views script state name found h = absurd (none-some found h)
 found_above (suc n) outline views script state name found h =
     above_by outline views script state name (first_found views (upward n outline (parent_in (slice_get outline script))) state name) found (own_found (view_of views script) state name) refl h (λ rest. parent_above n outline views script state name found (parent_in (slice_get outline script)) refl rest (λ parent. found_above n outline views parent state name found))
@@ -89,7 +89,7 @@ found_above (suc n) outline views script state name found h =
 -- ---- what a script offers is alike what those above it offer
 module _ (outline : List ScriptShape) (views : List (List StateView)) (rooted : (script parent : ℕ) → parent_in (slice_get outline script) ≡ Some parent → lineage outline (Some script) ≡ script ∷ lineage outline (Some parent)) (replaces : Replaces outline views) where
   -- something is offered, and alike this
-  pub OffersAlike : ℕ → ℕ → Declared → Type 0
+  unfoldable pub OffersAlike : ℕ → ℕ → Declared → Type 0
   OffersAlike script name above =
       (here : Declared) × (offered outline views (Some script) name ≡ Some here) × AreAlike here above
 
