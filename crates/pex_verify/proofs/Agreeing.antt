@@ -1,5 +1,5 @@
 -- The tables of a set agree with its scripts.
-use Rattle.std.proofs.Common.{◌≡◌, ◌≢◌, ℕ, zero, suc, ◌<◌, ◌==◌, Bool, true, List, [], ◌∷◌, length, Option, None, Some, map, refl, sym, ap, subst, ◌∙◌, arith}
+use Rattle.std.proofs.Common.{◌≡◌, ℕ, zero, suc, ◌<◌, ◌==◌, List, [], ◌∷◌, length, Option, None, Some, map, refl, sym, ap, subst, ◌∙◌, arith}
 use Rattle.std.specs.Prelude.{slice_get, slice_index_or}
 use Rattle.std.specs.List.{AllZip}
 use Rattle.std.specs.Option.{option_and_then, option_map}
@@ -19,8 +19,7 @@ use Rattle.pex_verify.specs.declared.signature.Signature.{Signature}
 use Rattle.pex_verify.specs.Agreement.{IsOffered, IsPropertyOffered}
 use Rattle.pex_verify.specs.Meanings.{Meanings}
 use Rattle.pex_verify.specs.Pairs.{Paired}
-use Rattle.pex_verify.specs.Signatures.{Declared, declared_of, AreAlike}
-use Rattle.pex_verify.specs.Views.{StateView, view_of, AreViewed, IsOutlined, AreMembersOf, HaveSignatures, sought, KeepsAbove, PropertyFound, heads_of, first_head, HaveProperties, AreNew, ArePropertyMembers, head_at, head_sought}
+use Rattle.pex_verify.specs.Views.{StateView, view_of, AreViewed, IsOutlined, AreMembersOf, HaveSignatures, sought, KeepsAbove, PropertyFound, heads_of, first_head, HaveProperties, AreNew, ArePropertyMembers, head_at}
 use Rattle.pex_verify.proofs.Offered.{IsOffered-from_views}
 use Rattle.pex_verify.proofs.Properties.{IsPropertyOffered-from_heads, head_sought_is}
 use Rattle.pex_verify.proofs.Tables.{Replaces-from_tables, offered_from_sought, numbered_is}
@@ -57,11 +56,11 @@ module _ (types : Meanings) (names : List (List ℕ)) (outline : List ScriptShap
     module _ (above_within : (script parent : ℕ) → parent_in (slice_get outline script) ≡ Some parent → parent < length parents) (views_within : (script i : ℕ) (view : StateView) → slice_get (view_of views script) i ≡ Some view → script < length parents) (keeps : KeepsAbove outline views (λ script name. option_and_then signature_at (found script name))) where
       keeps_sought : KeepsAbove outline views (sought outline members signature_at)
       keeps_sought = record {
-          empty_states = λ script parent i j view declared above v zero f p a. keeps.empty_states script parent i j view declared above v zero f p (sought_upward parent declared.name (above_within script parent p) ∙ a);
-          other_states = λ script i j view declared v other f.
-              let k = keeps.other_states script i j view declared v other f in
-              let here = k.1 in
-              (k.0, (here.0, sym (sought_upward script declared.name (views_within script i view v)) ∙ here.1, here.2));
+        empty_states = λ script parent i j view declared above v zero f p a. keeps.empty_states script parent i j view declared above v zero f p (sought_upward parent declared.name (above_within script parent p) ∙ a);
+        other_states = λ script i j view declared v other f.
+            let k = keeps.other_states script i j view declared v other f in
+            let here = k.1 in
+            (k.0, (here.0, sym (sought_upward script declared.name (views_within script i view v)) ∙ here.1, here.2));
       }
 
       -- a function that the table finds is offered

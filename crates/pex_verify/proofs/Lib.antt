@@ -2,3 +2,11 @@ pub mod ActionTable
 pub mod Lists
 pub mod Sets
 pub mod LoadedRows
+pub mod LookUps
+pub mod Offers
+pub mod Offered
+pub mod Tables
+pub mod Upward
+pub mod Properties
+pub mod Agreeing
+pub mod Naming

@@ -1,10 +1,10 @@
 -- Look-ups by texts and by numbers agree.
-use Rattle.std.proofs.Common.{◌≡◌, ◌≢◌, ℕ, zero, suc, ◌<◌, ◌==◌, Bool, true, false, cond, List, [], ◌∷◌, length, Option, None, Some, refl, sym, ap, subst, ◌∙◌, ◌⊎◌, ⊎_elim, inl, inr, arith}
+use Rattle.std.proofs.Common.{◌≡◌, ℕ, suc, ◌==◌, Bool, true, false, List, [], ◌∷◌, Option, None, Some, refl, sym, ap, subst, ◌∙◌}
 use Rattle.std.specs.Prelude.{slice_get, if◌then◌else◌}
 use Rattle.std.specs.List.{AllZip}
 use Rattle.std.specs.Option.{option_or}
 use Rattle.std.specs.Str.{str_eq_ignore_ascii_case}
-use Rattle.std.proofs.lemmas.Bool.{both_ways, eqb-true, eqb-false, eq-eqb, true≢false}
+use Rattle.std.proofs.lemmas.Bool.{eqb-true, eqb-false}
 use Rattle.std.proofs.lemmas.Option.{none-some, same_Some}
 use Rattle.code_meaning.specs.Code.{Function, State, Script}
 use Rattle.code_meaning.specs.LookUp.{numbered, one_on, states_in, FoundMethod, method_at, method_of_state, method_of_script, first_method}
@@ -12,7 +12,7 @@ use Rattle.pex_set.specs.Names.{number_in}
 use Rattle.pex_set.proofs.NameLemmas.{alike-number}
 use Rattle.pex_verify.specs.Meanings.{Meanings}
 use Rattle.pex_verify.specs.Signatures.{Declared}
-use Rattle.pex_verify.specs.Views.{StateView, Declares, IsViewed, view_of, OwnFound, own_at, own_of_state, own_found, ViewFound, found_of_script, first_found}
+use Rattle.pex_verify.specs.Views.{StateView, Declares, IsViewed, view_of, own_at, own_of_state, own_found, ViewFound, found_of_script, first_found}
 
 -- ---- texts and numbers
 falsely : (t : Bool) → (t ≡ true → ⊥) → t ≡ false

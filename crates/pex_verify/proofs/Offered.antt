@@ -1,25 +1,23 @@
 -- What the empty states of scripts offer by numbers is what the scripts offer by texts.
-use Rattle.std.proofs.Common.{◌≡◌, ◌≢◌, ℕ, zero, suc, ◌<◌, ◌==◌, Bool, true, false, List, [], ◌∷◌, length, Option, None, Some, refl, sym, ap, subst, ◌∙◌, ◌⊎◌, ⊎_elim, inl, inr, map}
-use Rattle.std.specs.Prelude.{slice_get}
+use Rattle.std.proofs.Common.{◌≡◌, ℕ, true, false, List, [], ◌∷◌, length, Option, None, Some, refl, sym, ap, subst, ◌∙◌, ◌⊎◌, ⊎_elim, inl, inr, map}
 use Rattle.std.specs.Option.{option_or, option_map}
-use Rattle.std.proofs.lemmas.Bool.{both_ways, false≢true, cases_eq}
+use Rattle.std.proofs.lemmas.Bool.{both_ways, cases_eq}
 use Rattle.std.proofs.lemmas.Option.{none-some, same_Some}
 use Rattle.core_tree.specs.Outlines.{ScriptShape}
 use Rattle.core_tree.specs.declared.core_type.CoreType.{CoreType}
-use Rattle.core_tree.specs.declared.expression.FunctionPlace.{FunctionPlace}
 use Rattle.script_meaning.specs.Fits.{is_native_at}
 use Rattle.script_meaning.specs.Requests.{result_of}
-use Rattle.script_meaning.specs.Values.{lineage, is_child}
-use Rattle.code_meaning.specs.Code.{Function, Script}
+use Rattle.script_meaning.specs.Values.{lineage}
+use Rattle.code_meaning.specs.Code.{Script}
 use Rattle.code_meaning.specs.LookUp.{FoundMethod, first_method, method_in, native_at}
 use Rattle.code_meaning.specs.Typed.{MethodMeets}
 use Rattle.pex_set.specs.Names.{number_in}
 use Rattle.pex_verify.specs.declared.signature.Signature.{Signature}
-use Rattle.pex_verify.specs.declared.value_type.ValueType.TheVariants.{Of, Nothing}
+use Rattle.pex_verify.specs.declared.value_type.ValueType.TheVariants.{Of}
 use Rattle.pex_verify.specs.Agreement.{IsOffered}
 use Rattle.pex_verify.specs.Meanings.{Meanings, of_result, result_meaning, value_meaning}
 use Rattle.pex_verify.specs.Signatures.{Declared, declared_of, AreAlike, has_bit}
-use Rattle.pex_verify.specs.Views.{StateView, Declares, view_of, OwnFound, own_found, ViewFound, first_found, offered, AreViewed, Replaces, IsOutlined, StandsBelow, itself}
+use Rattle.pex_verify.specs.Views.{StateView, view_of, own_found, ViewFound, first_found, offered, AreViewed, Replaces, IsOutlined, StandsBelow, itself}
 use Rattle.pex_verify.proofs.LookUps.{IsMethodOf, AreMethods, first_by_numbers, first_of_no_state}
 use Rattle.pex_verify.proofs.Offers.{IsFoundAbove, found_above, below_from_child, OffersAlike, offers_upward, found_alike}
 
@@ -49,12 +47,12 @@ module _ (types : Meanings) (names : List (List ℕ)) (outline : List ScriptShap
     native_meets script state name found method above of_method alike native =
         let bit : has_bit found.own.declared.bits 2 ≡ true = sym of_method.declares.is_native ∙ native in
         ⊎_elim
-            (λ (empty : state ≡ 0).
-                let told = outlined found.script name found.own (subst (λ s. own_found (view_of views found.script) s name ≡ Some found.own) empty above.own) in
-                let place : record { script = found.script; place = found.own.number } ≡ native_at method = λ i. record { script = sym of_method.script i; place = sym of_method.number i } in
-                (subst (λ p. is_native_at outline p ≡ true) place (told.0 ∙ bit), same_result _ result (subst (λ p. of_result (result_of outline p) ≡ result_meaning types found.own.declared.answer) place told.1 ∙ ap (result_meaning types) alike.answer ∙ sym result_is)))
-            (λ other. absurd (both_ways _ (no_bits found.own.declared.bits (replaces.other_states found.script state name found.own other above.own).0) bit))
-            (cases_eq state 0)
+        (λ (empty : state ≡ 0).
+        let told = outlined found.script name found.own (subst (λ s. own_found (view_of views found.script) s name ≡ Some found.own) empty above.own) in
+        let place : record { script = found.script; place = found.own.number } ≡ native_at method = λ i. record { script = sym of_method.script i; place = sym of_method.number i } in
+        (subst (λ p. is_native_at outline p ≡ true) place (told.0 ∙ bit), same_result _ result (subst (λ p. of_result (result_of outline p) ≡ result_meaning types found.own.declared.answer) place told.1 ∙ ap (result_meaning types) alike.answer ∙ sym result_is)))
+        (λ other. absurd (both_ways _ (no_bits found.own.declared.bits (replaces.other_states found.script state name found.own other above.own).0) bit))
+        (cases_eq state 0)
 
     method_meets : (script state name : ℕ) (found : ViewFound) (method : FoundMethod) → first_found views (lineage outline (Some script)) state name ≡ Some found → IsMethodOf types names found method → AreAlike found.own.declared declared → MethodMeets outline (has_bit declared.bits 1) parameters result (Some method)
     method_meets script state name found method h of_method alike =
@@ -115,10 +113,10 @@ module _ (types : Meanings) (names : List (List ℕ)) (outline : List ScriptShap
   types_by declared (Some found) (Some method) e h =
       let same = same_Some found.own.declared declared e in
       record {
-          parameters = method.function.parameters;
-          result = method.function.result;
-          parameters_are = h.declares.parameters ∙ ap (λ (d : Declared). map (value_meaning types) d.parameters) same;
-          result_is = h.declares.result ∙ ap (λ (d : Declared). result_meaning types d.answer) same;
+        parameters = method.function.parameters;
+        result = method.function.result;
+        parameters_are = h.declares.parameters ∙ ap (λ (d : Declared). map (value_meaning types) d.parameters) same;
+        result_is = h.declares.result ∙ ap (λ (d : Declared). result_meaning types d.answer) same;
       }
 
   pub IsOffered-from_views : (script name : ℕ) (text : List ℕ) (signature : Signature) → number_in names text ≡ Some name → offered outline views (Some script) name ≡ Some (declared_of signature) → IsOffered types outline scripts script text signature
@@ -127,10 +125,10 @@ module _ (types : Meanings) (names : List (List ℕ)) (outline : List ScriptShap
       let declared = declared_of signature in
       let t = types_by declared (first_found views (lineage outline (Some script)) 0 name) (first_method scripts (lineage outline (Some script)) [] text) is_offered (first_by_numbers types names scripts views viewed.states (lineage outline (Some script)) 0 name [] text viewed.empty named) in
       record {
-          parameters = t.parameters;
-          result = t.result;
-          parameters_are = t.parameters_are;
-          result_is = t.result_is;
-          on_instances = λ own state child. instance_meets declared t.parameters t.result t.parameters_are t.result_is script name is_offered text named own (below_from_child outline own script child) state;
-          on_scripts = empty_meets declared t.parameters t.result t.parameters_are t.result_is script name is_offered text named script itself;
+        parameters = t.parameters;
+        result = t.result;
+        parameters_are = t.parameters_are;
+        result_is = t.result_is;
+        on_instances = λ own state child. instance_meets declared t.parameters t.result t.parameters_are t.result_is script name is_offered text named own (below_from_child outline own script child) state;
+        on_scripts = empty_meets declared t.parameters t.result t.parameters_are t.result_is script name is_offered text named script itself;
       }

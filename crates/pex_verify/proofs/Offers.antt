@@ -1,26 +1,14 @@
 -- What scripts offer upward, where what replaces is alike.
-use Rattle.std.proofs.Common.{◌≡◌, ◌≢◌, ℕ, zero, suc, ◌<◌, ◌==◌, ◌||◌, Bool, true, false, List, [], ◌∷◌, length, Option, None, Some, refl, sym, ap, subst, ◌∙◌, ◌⊎◌, ⊎_elim, inl, inr, arith, map}
-use Rattle.std.specs.Prelude.{slice_get, not, bit_and}
-use Rattle.std.specs.List.{AllZip, list_any}
+use Rattle.std.proofs.Common.{◌≡◌, ℕ, zero, suc, ◌==◌, true, List, ◌∷◌, length, Option, None, Some, refl, sym, ap, subst, ◌∙◌, ⊎_elim}
+use Rattle.std.specs.Prelude.{slice_get}
+use Rattle.std.specs.List.{list_any}
 use Rattle.std.specs.Option.{option_or, option_map}
-use Rattle.std.proofs.lemmas.Bool.{both_ways, eqb-true, or_cases, cases_Bool, true≢false, false≢true, cases_eq}
+use Rattle.std.proofs.lemmas.Bool.{eqb-true, or_cases, false≢true, cases_eq}
 use Rattle.std.proofs.lemmas.Option.{none-some, same_Some}
 use Rattle.core_tree.specs.Outlines.{ScriptShape}
-use Rattle.core_tree.specs.declared.core_type.CoreType.{CoreType}
-use Rattle.core_tree.specs.declared.expression.FunctionPlace.{FunctionPlace}
-use Rattle.script_meaning.specs.Fits.{is_native_at}
-use Rattle.script_meaning.specs.Requests.{result_of}
 use Rattle.script_meaning.specs.Values.{upward, lineage, parent_in, is_child}
-use Rattle.code_meaning.specs.Code.{Function, State, Script}
-use Rattle.code_meaning.specs.LookUp.{FoundMethod, first_method, method_in, native_at, states_in}
-use Rattle.code_meaning.specs.Typed.{MethodMeets}
-use Rattle.pex_set.specs.Names.{number_in}
-use Rattle.pex_verify.specs.declared.value_type.ValueType.{ValueType}
-use Rattle.pex_verify.specs.declared.value_type.ValueType.TheVariants.{Of, Nothing}
-use Rattle.pex_verify.specs.Meanings.{Meanings, of_result, result_meaning, value_meaning}
-use Rattle.pex_verify.specs.Signatures.{Declared, AreAlike, has_bit}
-use Rattle.pex_verify.specs.Views.{StateView, Declares, IsViewed, view_of, OwnFound, own_found, ViewFound, found_of_script, first_found, offered, AreViewed, Replaces, IsOutlined, StandsBelow, itself, below_parent}
-use Rattle.pex_verify.proofs.LookUps.{IsMethodOf, AreMethods, first_by_numbers, first_of_no_state}
+use Rattle.pex_verify.specs.Signatures.{Declared, AreAlike}
+use Rattle.pex_verify.specs.Views.{StateView, view_of, OwnFound, own_found, ViewFound, found_of_script, first_found, offered, Replaces, StandsBelow, itself, below_parent}
 
 -- ---- alike
 AreAlike-refl : (a : Declared) → AreAlike a a
@@ -48,9 +36,9 @@ below_from_upward : (n : ℕ) (outline : List ScriptShape) (script above : ℕ) 
 below_from_upward zero outline script above h = absurd (false≢true h)
 below_from_upward (suc n) outline script above h =
     ⊎_elim
-        (λ here. subst (StandsBelow outline script) (eqb-true script above here) itself)
-        (λ later. below_by n outline script above (parent_in (slice_get outline script)) refl later (λ parent. below_from_upward n outline parent above))
-        (or_cases (script == above) (list_any (λ s. s == above) (upward n outline (parent_in (slice_get outline script)))) h)
+    (λ here. subst (StandsBelow outline script) (eqb-true script above here) itself)
+    (λ later. below_by n outline script above (parent_in (slice_get outline script)) refl later (λ parent. below_from_upward n outline parent above))
+    (or_cases (script == above) (list_any (λ s. s == above) (upward n outline (parent_in (slice_get outline script)))) h)
 
 pub below_from_child : (outline : List ScriptShape) (script above : ℕ) → is_child outline script above ≡ true → StandsBelow outline script above
 below_from_child outline script above h = below_from_upward (length outline) outline script above h
@@ -67,8 +55,8 @@ above_by outline views script state name rest found (Some own) e h rec =
     let place : script ≡ found.script = ap (λ f. f.script) same in
     let own_same : own ≡ found.own = ap (λ f. f.own) same in
     record {
-        below = subst (StandsBelow outline script) place itself;
-        own = subst (λ s. own_found (view_of views s) state name ≡ Some found.own) place (e ∙ ap (λ x. Some x) own_same);
+      below = subst (StandsBelow outline script) place itself;
+      own = subst (λ s. own_found (view_of views s) state name ≡ Some found.own) place (e ∙ ap (λ x. Some x) own_same);
     }
 
 no_scripts : (n : ℕ) (outline : List ScriptShape) (views : List (List StateView)) (state name : ℕ) (found : ViewFound) → first_found views (upward n outline None) state name ≡ Some found → ⊥
@@ -114,14 +102,14 @@ module _ (outline : List ScriptShape) (views : List (List StateView)) (rooted : 
   found_alike script state name found h above declared below is_offered =
       let at_script = offers_upward below name declared is_offered in
       ⊎_elim
-          (λ (empty : state ≡ 0).
-              let e = ap (option_map (λ (f : ViewFound). f.own.declared)) (subst (λ s. first_found views (lineage outline (Some script)) s name ≡ Some found) empty h) in
-              subst (λ d. AreAlike d declared) (same_Some _ _ (sym at_script.1 ∙ e)) at_script.2)
-          (λ other.
-              let place = found_above (length outline) outline views script state name found h in
-              let own = replaces.other_states found.script state name found.own other place.own in
-              let here = own.1 in
-              let low = offers_upward place.below name here.0 here.1 in
-              let same = same_Some _ _ (sym low.1 ∙ at_script.1) in
-              AreAlike-trans found.own.declared here.0 declared here.2 (AreAlike-trans here.0 low.0 declared (AreAlike-sym low.0 here.0 low.2) (subst (λ d. AreAlike d declared) (sym same) at_script.2)))
-          (cases_eq state 0)
+      (λ (empty : state ≡ 0).
+      let e = ap (option_map (λ (f : ViewFound). f.own.declared)) (subst (λ s. first_found views (lineage outline (Some script)) s name ≡ Some found) empty h) in
+      subst (λ d. AreAlike d declared) (same_Some _ _ (sym at_script.1 ∙ e)) at_script.2)
+      (λ other.
+      let place = found_above (length outline) outline views script state name found h in
+      let own = replaces.other_states found.script state name found.own other place.own in
+      let here = own.1 in
+      let low = offers_upward place.below name here.0 here.1 in
+      let same = same_Some _ _ (sym low.1 ∙ at_script.1) in
+      AreAlike-trans found.own.declared here.0 declared here.2 (AreAlike-trans here.0 low.0 declared (AreAlike-sym low.0 here.0 low.2) (subst (λ d. AreAlike d declared) (sym same) at_script.2)))
+      (cases_eq state 0)

@@ -1,7 +1,6 @@
 -- What the heads of properties say is what scripts offer by texts.
-use Rattle.std.proofs.Common.{◌≡◌, ℕ, zero, suc, ◌==◌, Bool, true, false, List, [], ◌∷◌, length, Option, None, Some, refl, sym, ap, subst, ◌∙◌}
+use Rattle.std.proofs.Common.{◌≡◌, ℕ, ◌==◌, List, [], ◌∷◌, Option, None, Some, refl, sym, ap, subst, ◌∙◌}
 use Rattle.std.specs.Prelude.{slice_get}
-use Rattle.std.specs.List.{AllZip}
 use Rattle.std.specs.Option.{option_and_then, option_or, option_map}
 use Rattle.std.specs.Str.{str_eq_ignore_ascii_case}
 use Rattle.std.proofs.lemmas.Option.{none-some, same_Some}
@@ -13,15 +12,15 @@ use Rattle.code_meaning.specs.Typed.{GetMeets, SetMeets}
 use Rattle.pex_set.specs.Names.{number_in}
 use Rattle.pex_set.specs.declared.inherited.MemberPlace.{MemberPlace}
 use Rattle.pex_set.specs.declared.inherited.OwnMember.{OwnMember}
-use Rattle.pex_set.specs.Nearest.{nearest, own_member}
+use Rattle.pex_set.specs.Nearest.{nearest}
 use Rattle.pex_verify.specs.declared.scripts.PropertyHead.{PropertyHead}
 use Rattle.pex_verify.specs.declared.value_type.ValueType.TheVariants.{Of}
-use Rattle.pex_verify.specs.Meanings.{Meanings, value_meaning}
+use Rattle.pex_verify.specs.Meanings.{Meanings}
 use Rattle.pex_verify.specs.Agreement.{IsPropertyOffered}
 use Rattle.pex_verify.specs.Views.{StandsBelow, itself, below_parent, IsPropertyViewed, heads_of, PropertyFound, property_of_script, own_property, first_head, HaveProperties, AreNew, ArePropertyMembers, head_at, head_sought}
 use Rattle.pex_verify.proofs.LookUps.{same_test, AreFound, numbered-zip}
 use Rattle.pex_verify.proofs.Offers.{below_from_child}
-use Rattle.pex_verify.proofs.Tables.{IsNumbered, numbered_is, map-or}
+use Rattle.pex_verify.proofs.Tables.{numbered_is, map-or}
 
 module _ (types : Meanings) (names : List (List ℕ)) (outline : List ScriptShape) where
   -- a property that is found, and what is found by numbers
@@ -97,10 +96,10 @@ module _ (types : Meanings) (names : List (List ℕ)) (outline : List ScriptShap
           let of_found : IsPropertyOf found property = subst (λ f. IsPropertyOf f property) (same_Some x found s) h in
           let v = of_found.viewed in
           record {
-              kind = v.kind;
-              kind_is = v.kind_is;
-              gets = λ readable own child. gets_by found (Some v.kind) (first_head heads (lineage outline (Some own)) name) (first_property scripts (lineage outline (Some own)) text) (same_below (below_from_child outline own script child) name found e) (properties_by_numbers (lineage outline (Some own)) name text n) (λ p w. subst (λ k. GetMeets outline (Some k) (Some (found.script, found.number, p.access))) (same_kind found.head found.script found.script p of_found.whole w v) (w.gets readable found.number));
-              sets = λ writable own child. sets_by found (v.kind ∷ []) (first_head heads (lineage outline (Some own)) name) (first_property scripts (lineage outline (Some own)) text) (same_below (below_from_child outline own script child) name found e) (properties_by_numbers (lineage outline (Some own)) name text n) (λ p w. subst (λ k. SetMeets outline (k ∷ []) None (Some (found.script, found.number, p.access))) (same_kind found.head found.script found.script p of_found.whole w v) (w.sets writable found.number));
+            kind = v.kind;
+            kind_is = v.kind_is;
+            gets = λ readable own child. gets_by found (Some v.kind) (first_head heads (lineage outline (Some own)) name) (first_property scripts (lineage outline (Some own)) text) (same_below (below_from_child outline own script child) name found e) (properties_by_numbers (lineage outline (Some own)) name text n) (λ p w. subst (λ k. GetMeets outline (Some k) (Some (found.script, found.number, p.access))) (same_kind found.head found.script found.script p of_found.whole w v) (w.gets readable found.number));
+            sets = λ writable own child. sets_by found (v.kind ∷ []) (first_head heads (lineage outline (Some own)) name) (first_property scripts (lineage outline (Some own)) text) (same_below (below_from_child outline own script child) name found e) (properties_by_numbers (lineage outline (Some own)) name text n) (λ p w. subst (λ k. SetMeets outline (k ∷ []) None (Some (found.script, found.number, p.access))) (same_kind found.head found.script found.script p of_found.whole w v) (w.sets writable found.number));
           }
 
       pub IsPropertyOffered-from_heads : (script name : ℕ) (text : List ℕ) (found : PropertyFound) → number_in names text ≡ Some name → first_head heads (lineage outline (Some script)) name ≡ Some found → IsPropertyOffered types outline scripts script text found.head

@@ -1,19 +1,19 @@
 -- What the tables of a set find is what the scripts offer.
-use Rattle.std.proofs.Common.{◌≡◌, ◌≢◌, ℕ, zero, suc, ◌==◌, Bool, true, false, cond, List, [], ◌∷◌, Option, None, Some, refl, sym, ap, subst, ◌∙◌, length}
+use Rattle.std.proofs.Common.{◌≡◌, ℕ, suc, ◌==◌, Bool, true, false, List, [], ◌∷◌, Option, None, Some, refl, sym, ap, subst, ◌∙◌, length}
 use Rattle.std.specs.Prelude.{slice_get, if◌then◌else◌}
 use Rattle.std.specs.Option.{option_and_then, option_or, option_map}
-use Rattle.std.proofs.lemmas.Bool.{eqb-true, false≢true}
+use Rattle.std.proofs.lemmas.Bool.{eqb-true}
 use Rattle.std.proofs.lemmas.Option.{none-some, same_Some}
 use Rattle.core_tree.specs.Outlines.{ScriptShape}
-use Rattle.script_meaning.specs.Values.{lineage, parent_in}
+use Rattle.script_meaning.specs.Values.{lineage}
 use Rattle.code_meaning.specs.LookUp.{numbered, one_on}
 use Rattle.pex_set.specs.declared.inherited.MemberPlace.{MemberPlace}
 use Rattle.pex_set.specs.declared.inherited.OwnMember.{OwnMember}
-use Rattle.pex_set.specs.Nearest.{nearest, own_member}
+use Rattle.pex_set.specs.Nearest.{nearest}
 use Rattle.pex_verify.specs.declared.signature.Signature.{Signature}
 use Rattle.pex_verify.specs.Signatures.{Declared, declared_of, AreAlike}
 use Rattle.pex_verify.specs.Views.{StateView, view_of, OwnFound, own_at, own_of_state, own_found, ViewFound, found_of_script, first_found, offered, Replaces, place_of, AreMembersOf, HaveSignatures, sought, KeepsAbove}
-use Rattle.pex_verify.proofs.Offers.{IsFoundAbove, found_above}
+use Rattle.pex_verify.proofs.Offers.{found_above}
 
 abbrev pub found_place : ViewFound → MemberPlace
 found_place found = place_of found.script found.own
@@ -102,14 +102,14 @@ module _ (outline : List ScriptShape) (views : List (List StateView)) (members :
   -- V11 as the tables judge it is V11 of the scripts
   pub Replaces-from_tables : KeepsAbove outline views (sought outline members signature_at) → Replaces outline views
   Replaces-from_tables keeps = record {
-      empty_states = λ script parent name own above f p o.
-          let i = own_is (view_of views script) 0 name own f in
-          let s = sought_from_offered parent name above o in
-          let at : sought outline members signature_at parent own.declared.name ≡ Some s.0 = subst (λ n. sought outline members signature_at parent n ≡ Some s.0) (sym i.name_is) s.1 in
-          subst (AreAlike own.declared) s.2 (keeps.empty_states script parent own.state own.number i.view own.declared s.0 i.stands i.state_name i.function p at);
-      other_states = λ script state name own other f.
-          let i = own_is (view_of views script) state name own f in
-          let k = keeps.other_states script own.state own.number i.view own.declared i.stands (λ zero. other (sym i.state_name ∙ zero)) i.function in
-          let here = k.1 in
-          (k.0, (declared_of here.0, subst (λ n. offered outline views (Some script) n ≡ Some (declared_of here.0)) i.name_is (offered_from_sought script own.declared.name here.0 here.1), here.2));
+    empty_states = λ script parent name own above f p o.
+        let i = own_is (view_of views script) 0 name own f in
+        let s = sought_from_offered parent name above o in
+        let at : sought outline members signature_at parent own.declared.name ≡ Some s.0 = subst (λ n. sought outline members signature_at parent n ≡ Some s.0) (sym i.name_is) s.1 in
+        subst (AreAlike own.declared) s.2 (keeps.empty_states script parent own.state own.number i.view own.declared s.0 i.stands i.state_name i.function p at);
+    other_states = λ script state name own other f.
+        let i = own_is (view_of views script) state name own f in
+        let k = keeps.other_states script own.state own.number i.view own.declared i.stands (λ zero. other (sym i.state_name ∙ zero)) i.function in
+        let here = k.1 in
+        (k.0, (declared_of here.0, subst (λ n. offered outline views (Some script) n ≡ Some (declared_of here.0)) i.name_is (offered_from_sought script own.declared.name here.0 here.1), here.2));
   }

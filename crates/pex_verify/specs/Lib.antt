@@ -8,3 +8,4 @@ pub mod Sources
 pub mod Sets
 pub mod Plain
 pub mod Meanings
+pub mod Views

@@ -1,10 +1,9 @@
 -- The methods of scripts by the numbers of names, as they are looked up by others.
-use Rattle.std.specs.Prelude.{◌≡◌, ◌≢◌, ℕ, ◌<◌, ◌==◌, true, List, [], ◌∷◌, length, map, Option, Some, None, slice_get, slice_index_or}
+use Rattle.std.specs.Prelude.{◌≡◌, ◌≢◌, ℕ, ◌==◌, true, List, [], ◌∷◌, map, Option, Some, None, slice_get, slice_index_or}
 use Rattle.std.specs.List.{AllZip}
 use Rattle.std.specs.Option.{option_and_then, option_or, option_map}
 use Rattle.core_tree.specs.Outlines.{ScriptShape}
 use Rattle.core_tree.specs.declared.core_type.CoreType.{CoreType}
-use Rattle.core_tree.specs.declared.expression.FunctionPlace.{FunctionPlace}
 use Rattle.script_meaning.specs.Fits.{is_native_at}
 use Rattle.script_meaning.specs.Requests.{result_of}
 use Rattle.script_meaning.specs.Values.{lineage, parent_in}
