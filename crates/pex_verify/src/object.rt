@@ -1,8 +1,13 @@
 // One object.
-ghost use Rattle.std.specs.Prelude.{vec_len, All, IfOk, OnOk};
+ghost use Rattle.std.specs.Prelude.{◌≡◌, ◌++◌, List, map, vec_len, All, IfOk, OnOk};
 ghost use Rattle.pex_verify.specs.Soundness.{IsSoundFunction, AreSoundFunctions, IsSoundState, IsSoundProperty, AreTyped};
 ghost use Rattle.pex_verify.specs.Objects.{IsSoundObject};
 ghost use Rattle.pex_verify.specs.Places.{bounds_of};
+ghost use Rattle.pex_verify.specs.Heads.{placed};
+ghost use Rattle.pex_verify.specs.Loading.{judged_by, AreProperties, IsScriptOf, IsObjectOf};
+ghost use Rattle.pex_verify.specs.Matching.{Written, IsWritten, AreWritten};
+ghost use Rattle.std.specs.List.{list_any};
+ghost use Rattle.pex_verify.specs.States.{is_empty_state, own_written, written_member, member_in, lacking_written, WrittenState, state_written, state_functions, added_state, states_written, IsState, AreStates};
 
 use crate::accessors::load_property;
 use crate::fault::{Refusal, VerifyFault, VerifyRule};
@@ -71,7 +76,8 @@ pub(crate) fn load_object(
     lines: &FileLines<'_>,
     object: &PexObject,
 ) -> Result<LoadedObject, VerifyFault>
-    ensures { IfOk result (IsSoundObject (vec_len loader.now.set.now.heads)) }
+    ensures sound { IfOk result (IsSoundObject (vec_len loader.now.set.now.heads)) }
+    ensures object { IfOk result (λ loaded. IsObjectOf (judged_by loader.now) here (placed source.now object.now) loaded.script loaded.outline) }
 {
     judge_names(loader.alloc, source, object)?;
     load_variables(
@@ -98,7 +104,8 @@ pub(crate) fn load_object(
 // The object's script and outline, once its variables were judged.
 fn load_script(home: &Home<'_>, lists: &mut FunctionLists) -> Result<LoadedObject, VerifyFault>
     requires { AreTyped (vec_len home.now.set.now.heads) home.now.variables.now.list.items }
-    ensures { IfOk result (IsSoundObject (vec_len home.now.set.now.heads)) }
+    ensures sound { IfOk result (IsSoundObject (vec_len home.now.set.now.heads)) }
+    ensures script { IfOk result (λ loaded. IsScriptOf home.now loaded.script loaded.outline) }
 {
     let properties = load_properties(home, lists)?;
     let states = load_states(home, lists)?;
@@ -121,7 +128,8 @@ fn load_properties(
     home: &Home<'_>,
     lists: &mut FunctionLists,
 ) -> Result<Vec<LoadedProperty>, VerifyFault>
-    ensures { IfOk result (λ properties. All (IsSoundProperty (bounds_of home.now)) properties.items) }
+    ensures sound { IfOk result (λ properties. All (IsSoundProperty (bounds_of home.now)) properties.items) }
+    ensures written { IfOk result (λ properties. AreProperties home.now properties.items) }
 {
     let mut properties = Vec::with_capacity(home.alloc, home.object.properties.len())?;
     for (place, property) in home.object.properties.iter().enumerate() {
@@ -139,7 +147,8 @@ fn load_states(
     home: &Home<'_>,
     lists: &mut FunctionLists,
 ) -> Result<Vec<(Name, Vec<LoadedFunction>)>, VerifyFault>
-    ensures { IfOk result (λ states. All (λ state. IsSoundState (bounds_of home.now) state.1.items) states.items) }
+    ensures sound { IfOk result (λ states. All (λ state. IsSoundState (bounds_of home.now) state.1.items) states.items) }
+    ensures written { IfOk result (λ states. AreStates home.now.set.now.types (states_written home.now home.now.object.now.states.items) states.items) }
 {
     let mut seen = HashMap::new(home.alloc);
     let mut states = Vec::with_capacity(home.alloc, home.object.states.len())?;
@@ -148,13 +157,21 @@ fn load_states(
         if seen.insert(number, ())?.is_some() {
             return Err(home.fault_in(state.name, Refusal::of(VerifyRule::DuplicateName)));
         }
-        let name = home.source.title(home.alloc, state.name)?;
-        states.push((name, load_state(home, lists, state)?))?;
+        states.push(load_state(home, lists, state)?)?;
     }
-    if seen.get(&EMPTY_NAME).is_some() {
+    if has_empty_state(home) {
         return Ok(states);
     }
     with_members(home, lists, states)
+}
+
+fn has_empty_state(home: &Home<'_>) -> bool
+    ensures { result ≡ list_any (is_empty_state home.now) home.now.object.now.states.items }
+{
+    home.object
+        .states
+        .iter()
+        .any(|state| home.source.names.number(state.name) == EMPTY_NAME)
 }
 
 // These states, none of which is the empty one, and an empty state of the members that the script lacks.
@@ -164,7 +181,9 @@ fn with_members(
     mut states: Vec<(Name, Vec<LoadedFunction>)>,
 ) -> Result<Vec<(Name, Vec<LoadedFunction>)>, VerifyFault>
     requires { All (λ state. IsSoundState (bounds_of home.now) state.1.items) states.items }
-    ensures { IfOk result (λ states. All (λ state. IsSoundState (bounds_of home.now) state.1.items) states.items) }
+    ensures sound { IfOk result (λ states. All (λ state. IsSoundState (bounds_of home.now) state.1.items) states.items) }
+    ensures written { (before : List WrittenState) → AreStates home.now.set.now.types before states.items
+        → IfOk result (λ states. AreStates home.now.set.now.types (before ++ added_state (lacking_written home.now)) states.items) }
 {
     let added = lacking_members(home, lists)?;
     if added.is_empty() {
@@ -178,7 +197,8 @@ fn lacking_members(
     home: &Home<'_>,
     lists: &mut FunctionLists,
 ) -> Result<Vec<LoadedFunction>, VerifyFault>
-    ensures { IfOk result (λ added. IsSoundState (bounds_of home.now) added.items) }
+    ensures sound { IfOk result (λ added. IsSoundState (bounds_of home.now) added.items) }
+    ensures written { IfOk result (λ added. AreWritten home.now.set.now.types (lacking_written home.now) added.items) }
 {
     let mut added = Vec::new(home.alloc);
     add_members(home, lists, &mut added)?;
@@ -189,13 +209,28 @@ fn load_state(
     home: &Home<'_>,
     lists: &mut FunctionLists,
     state: &PexState,
+) -> Result<(Name, Vec<LoadedFunction>), VerifyFault>
+    ensures sound { IfOk result (λ loaded. IsSoundState (bounds_of home.now) loaded.1.items) }
+    ensures written { IfOk result (IsState home.now.set.now.types (state_written home.now state.now)) }
+{
+    let name = home.source.title(home.alloc, state.name)?;
+    Ok((name, all_functions(home, lists, state)?))
+}
+
+// The functions of a state, and behind those of the empty state the members that the script lacks.
+fn all_functions(
+    home: &Home<'_>,
+    lists: &mut FunctionLists,
+    state: &PexState,
 ) -> Result<Vec<LoadedFunction>, VerifyFault>
-    ensures { IfOk result (λ functions. IsSoundState (bounds_of home.now) functions.items) }
+    ensures sound { IfOk result (λ functions. IsSoundState (bounds_of home.now) functions.items) }
+    ensures written { IfOk result (λ functions. AreWritten home.now.set.now.types (state_functions home.now state.now) functions.items) }
 {
     let mut functions = load_functions(home, lists, state)?;
-    if home.source.names.number(state.name) == EMPTY_NAME {
-        add_members(home, lists, &mut functions)?;
+    if home.source.names.number(state.name) != EMPTY_NAME {
+        return Ok(functions);
     }
+    add_members(home, lists, &mut functions)?;
     Ok(functions)
 }
 
@@ -204,7 +239,8 @@ fn load_functions(
     lists: &mut FunctionLists,
     state: &PexState,
 ) -> Result<Vec<LoadedFunction>, VerifyFault>
-    ensures { IfOk result (λ functions. AreSoundFunctions (bounds_of home.now) functions.items) }
+    ensures sound { IfOk result (λ functions. AreSoundFunctions (bounds_of home.now) functions.items) }
+    ensures written { IfOk result (λ functions. AreWritten home.now.set.now.types (map (own_written home.now) state.now.functions.items) functions.items) }
 {
     let mut seen = HashMap::new(home.alloc);
     let mut functions = Vec::with_capacity(home.alloc, state.functions.len())?;
@@ -227,7 +263,8 @@ fn load_state_function(
     function: &PexFunction,
     is_new: bool,
 ) -> Result<LoadedFunction, Refusal>
-    ensures { IfOk result (IsSoundFunction (bounds_of home.now)) }
+    ensures sound { IfOk result (IsSoundFunction (bounds_of home.now)) }
+    ensures written { IfOk result (IsWritten home.now.set.now.types (own_written home.now (name, function.now))) }
 {
     if !is_new {
         return Err(Refusal::of(VerifyRule::DuplicateName));
@@ -288,8 +325,10 @@ fn add_members(
     lists: &mut FunctionLists,
     functions: &mut Vec<LoadedFunction>,
 ) -> Result<(), VerifyFault>
-    ensures { AreSoundFunctions (bounds_of home.now) functions.old.items
+    ensures sound { AreSoundFunctions (bounds_of home.now) functions.old.items
         → OnOk result (AreSoundFunctions (bounds_of home.now) functions.new.items) }
+    ensures written { (before : List Written) → AreWritten home.now.set.now.types before functions.old.items
+        → OnOk result (AreWritten home.now.set.now.types (before ++ lacking_written home.now) functions.new.items) }
 {
     for place in home.set.lacking(usize::from(home.here)) {
         add_member(home, lists, *place, functions)?;
@@ -304,8 +343,10 @@ fn add_member(
     place: usize,
     functions: &mut Vec<LoadedFunction>,
 ) -> Result<(), VerifyFault>
-    ensures { AreSoundFunctions (bounds_of home.now) functions.old.items
+    ensures sound { AreSoundFunctions (bounds_of home.now) functions.old.items
         → OnOk result (AreSoundFunctions (bounds_of home.now) functions.new.items) }
+    ensures written { (before : List Written) → AreWritten home.now.set.now.types before functions.old.items
+        → OnOk result (AreWritten home.now.set.now.types (before ++ member_in home.now place) functions.new.items) }
 {
     let Some(member) = home.members.list.get(place) else {
         return Ok(());
@@ -319,7 +360,8 @@ fn load_member(
     lists: &mut FunctionLists,
     member: &(u16, PexFunction),
 ) -> Result<LoadedFunction, VerifyFault>
-    ensures { IfOk result (IsSoundFunction (bounds_of home.now)) }
+    ensures sound { IfOk result (IsSoundFunction (bounds_of home.now)) }
+    ensures written { IfOk result (IsWritten home.now.set.now.types (written_member home.now member.now)) }
 {
     let source = home.members.source;
     match load_function(home, source, lists, member.0, &member.1, &[]) {

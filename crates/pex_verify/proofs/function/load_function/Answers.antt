@@ -1,11 +1,21 @@
 use Rattle.std.proofs.Common.{vec_len, rules}
 use Rattle.pex_verify.proofs.function.load_function.Goals as goal
 
-pub returns : goal.returns
-returns c = record {
-  answer = c.in_ok-result.ensures (vec_len c.args.home.now.set.now.heads) c.result_type-answer.ensures.among;
+pub returns-clause-sound : goal.returns-clause-sound
+returns-clause-sound c = record {
+  answer = c.in_ok-result.ensures.among (vec_len c.args.home.now.set.now.heads) c.result_type-answer.ensures.among;
   parameters = c.in_ok-parameters.ensures.typed;
   locals = c.in_ok-locals.ensures.typed;
   lines = search rules;
   code = search rules;
+}
+
+pub returns-clause-written : goal.returns-clause-written
+returns-clause-written c = record {
+  name = search rules;
+  parameters = c.in_ok-parameters.ensures.kinds;
+  locals = c.in_ok-locals.ensures.kinds;
+  result = search rules;
+  is_global = search rules;
+  is_native = search rules;
 }

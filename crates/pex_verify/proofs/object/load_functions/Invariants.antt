@@ -1,6 +1,10 @@
+use Rattle.std.proofs.Common.{map, take}
+use Rattle.pex_verify.specs.Matching.{AreWritten}
 use Rattle.pex_verify.specs.Places.{bounds_of}
 use Rattle.pex_verify.specs.Soundness.{AreSoundFunctions}
+use Rattle.pex_verify.specs.States.{own_written}
 use Rattle.pex_verify.proofs.object.load_functions.Given as goal
 
 abbrev pub invariant-loop-name : goal.invariant-loop-name
-invariant-loop-name l = AreSoundFunctions (bounds_of l.home) l.functions.items
+invariant-loop-name l =
+    AreSoundFunctions (bounds_of l.home) l.functions.items × AreWritten l.home.set.now.types (map (own_written l.home) (take l.name-index l.state.functions.items)) l.functions.items

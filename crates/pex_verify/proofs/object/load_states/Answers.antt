@@ -1,13 +1,26 @@
-use Rattle.std.proofs.Common.{Global, Vec}
+use Rattle.std.proofs.Common.{◌≡◌, ℕ, ◌<◌, List, Global, Vec, length, get_or, subst, arith}
 use Rattle.papy_base.specs.declared.name.Name.{Name}
+use Rattle.pex_values.specs.declared.values.PexState.{PexState}
 use Rattle.pex_verify.specs.declared.loaded.LoadedFunction.{LoadedFunction}
 use Rattle.pex_verify.specs.Places.{bounds_of}
 use Rattle.pex_verify.specs.Soundness.{IsSoundState}
+use Rattle.pex_verify.specs.States.{WrittenState, IsState, state_written}
 use Rattle.pex_verify.proofs.Lists.{all_grown}
+use Rattle.pex_verify.proofs.Pairs.{Paired-mapped}
 use Rattle.pex_verify.proofs.object.load_states.Goals as goal
 
 pub loop-state-preserved : goal.loop-state-preserved
 loop-state-preserved c =
-    let bounds = bounds_of c.args.home.now in
+    let home = c.args.home.now in
+    let bounds = bounds_of home in
     let IsSound : Name × Vec LoadedFunction Global → Type 0 = λ state. IsSoundState bounds state.1.items in
-    all_grown IsSound c.loop-state.states.items c.push.new.self.items (c.in_ok-name.name, c.in_ok-load_state.field-0) c.in_ok-push.ensures.items c.loop-state.invariant c.in_ok-load_state.ensures
+    let IsLoaded : ℕ → WrittenState → Name × Vec LoadedFunction Global → Type 0 = λ n w s. IsState home.set.now.types w s in
+    let all = home.object.now.states.items in
+    let old = c.loop-state.states.items in
+    let i = c.loop-state.state-index in
+    let item = c.state-item.result in
+    let is : item ≡ get_or all i item = subst (λ (l : List PexState). item ≡ get_or l i item) c.deref-home-object-states.ensures.value c.state-item.is in
+    let within : i < length all = omega arith in
+    let loaded = c.in_ok-load_state.field-0 in
+    (all_grown IsSound old c.push.new.self.items loaded c.in_ok-push.ensures.items c.loop-state.invariant.0 c.in_ok-load_state.ensures.sound,
+     Paired-mapped PexState WrittenState (Name × Vec LoadedFunction Global) IsLoaded (state_written home) all old c.push.new.self.items i item item loaded c.in_ok-push.ensures.items within is c.loop-state.invariant.1 c.in_ok-load_state.ensures.written)

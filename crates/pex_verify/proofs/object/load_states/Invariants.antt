@@ -1,7 +1,9 @@
-use Rattle.std.proofs.Common.{All}
+use Rattle.std.proofs.Common.{All, map, take}
 use Rattle.pex_verify.specs.Places.{bounds_of}
 use Rattle.pex_verify.specs.Soundness.{IsSoundState}
+use Rattle.pex_verify.specs.States.{AreStates, state_written}
 use Rattle.pex_verify.proofs.object.load_states.Given as goal
 
 abbrev pub invariant-loop-state : goal.invariant-loop-state
-invariant-loop-state l = All (λ state. IsSoundState (bounds_of l.home) state.1.items) l.states.items
+invariant-loop-state l =
+    All (λ state. IsSoundState (bounds_of l.home) state.1.items) l.states.items × AreStates l.home.set.now.types (map (state_written l.home) (take l.state-index l.home.object.now.states.items)) l.states.items

@@ -5,8 +5,8 @@ use Rattle.pex_verify.specs.Places.{bounds_of}
 use Rattle.pex_verify.specs.Soundness.{AreSoundFunctions, IsSoundState}
 use Rattle.pex_verify.proofs.outlining.empty_state.Goals as goal
 
-pub returns-then-is_empty : goal.returns-then-is_empty
-returns-then-is_empty c =
+pub returns-then-is_empty-clause-sound : goal.returns-then-is_empty-clause-sound
+returns-then-is_empty-clause-sound c =
     let bounds = bounds_of c.args.home.now in
     let state = c.state-item.result in
     let items = c.deref-state-items.result.now in
@@ -15,3 +15,12 @@ returns-then-is_empty c =
     let within : c.loop-state.state-index < length items = omega arith in
     let here : IsSound state = subst IsSound (sym c.state-item.is) (all c.loop-state.state-index state within) in
     subst (λ (functions : List LoadedFunction). AreSoundFunctions bounds functions) (sym c.as_slice.ensures.value) here.each
+
+pub returns-then-is_empty-clause-first : goal.returns-then-is_empty-clause-first
+returns-then-is_empty-clause-first c = ?
+
+pub loop-state-preserved : goal.loop-state-preserved
+loop-state-preserved c = ?
+
+pub returns-clause-first : goal.returns-clause-first
+returns-clause-first c = ?
