@@ -1,5 +1,5 @@
 -- Instructions are typed where they are accepted, by cases on opcodes.
-use Rattle.std.proofs.Common.{◌≡◌, ℕ, zero, suc, ◌<◌, List, [], ◌∷◌, Option, Some, None, length, refl, sym, ap, subst, ◌∙◌, arith, vec_len}
+use Rattle.std.proofs.Common.{◌≡◌, ℕ, zero, suc, ◌<◌, List, [], ◌∷◌, Option, Some, None, length, refl, ap, subst, ◌∙◌, arith, vec_len}
 use Rattle.std.specs.Prelude.{map, slice_get, slice_index_or, unsigned_abs}
 use Rattle.std.proofs.lemmas.Option.{get_or_from_slice_get, slice_get_within}
 use Rattle.core_tree.specs.declared.core_type.CoreType.TheVariants as kinds

@@ -15,7 +15,7 @@ use Rattle.pex_verify.specs.declared.loaded.Operand.TheVariants as loaded
 use Rattle.pex_verify.specs.declared.scope.FunctionScope.{FunctionScope}
 use Rattle.pex_verify.specs.declared.value_type.ValueType.{ValueType}
 use Rattle.pex_verify.specs.declared.value_type.ValueType.TheVariants.{Nothing, Float, Unknown, Of}
-use Rattle.pex_verify.specs.Accepted.{Computes, Compare, IsArrayWith, IsArray, IsSize, Creates, Measures, GetsElement, SetsElement, Finds}
+use Rattle.pex_verify.specs.Accepted.{Computes, Compare, IsArrayWith, IsSize, Creates, Measures, GetsElement, SetsElement, Finds}
 use Rattle.pex_verify.specs.Agreement.{HaveTypesOf, Stands}
 use Rattle.pex_verify.specs.Fitting.{FitsIn}
 use Rattle.pex_verify.specs.Judgement.{IsFor, IsSeenIn, Takes, spans_of, type_by}

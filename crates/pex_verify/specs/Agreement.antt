@@ -1,5 +1,5 @@
 -- What the final scripts have to do with the tables by which code is judged.
-use Rattle.std.specs.Prelude.{◌≡◌, ℕ, ◌<◌, Bool, true, List, [], ◌∷◌, Option, Some, None, map, vec_len, slice_get, slice_index_or, All}
+use Rattle.std.specs.Prelude.{◌≡◌, ℕ, ◌<◌, true, List, [], ◌∷◌, Option, Some, None, map, vec_len, slice_get, slice_index_or, All}
 use Rattle.core_tree.specs.declared.core_type.CoreType.{CoreType}
 use Rattle.core_tree.specs.Outlines.{ScriptShape}
 use Rattle.script_meaning.specs.Fits.{variable_kinds}

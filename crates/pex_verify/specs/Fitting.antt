@@ -1,5 +1,5 @@
 -- Which values fit which types.
-use Rattle.std.specs.Prelude.{◌≡◌, ◌⊎◌, ℕ, true, List, Option, Some, None}
+use Rattle.std.specs.Prelude.{◌≡◌, ◌⊎◌, true, List, Option, Some, None}
 use Rattle.core_tree.specs.declared.core_type.CoreType.TheVariants as kinds
 use Rattle.pex_set.specs.Ranks.{is_below}
 use Rattle.pex_set.specs.declared.descent.Span.{Span}
