@@ -14,3 +14,4 @@ pub mod States
 pub mod Loading
 pub mod Objects
 pub mod MemberLists
+pub mod Standing

@@ -14,6 +14,7 @@ pub mod Accepted
 pub mod Found
 pub mod Agreement
 pub mod Judged
+pub mod Sites
 pub mod Pairs
 pub mod Signatures
 pub mod Heads

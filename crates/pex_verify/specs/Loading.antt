@@ -15,6 +15,7 @@ use Rattle.pex_verify.specs.Heads.{Placed, placed_objects, members_of, AreNumber
 use Rattle.pex_verify.specs.Outlining.{IsOutlineOf}
 use Rattle.pex_verify.specs.Pairs.{Paired}
 use Rattle.pex_verify.specs.Properties.{IsProperty}
+use Rattle.pex_verify.specs.Sites.{site_of}
 use Rattle.pex_verify.specs.States.{AreStates, states_written}
 use Rattle.pex_verify.specs.Variables.{variable_type, type_of_variable}
 
@@ -26,7 +27,7 @@ AreProperties home loaded =
 -- what is loaded for the object where this code stands
 pub record IsScriptOf (home : Home) (script : LoadedScript) (outline : OutlineScript) : Type 0 where
   pub properties : AreProperties home script.properties.items
-  pub states : AreStates home.set.now.types (states_written home home.object.now.states.items) script.states.items
+  pub states : AreStates (site_of home) (states_written home home.object.now.states.items) script.states.items
   pub shape : IsOutlineOf home script outline
 
 -- what all objects of a set are judged by

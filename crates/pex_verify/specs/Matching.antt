@@ -8,6 +8,7 @@ use Rattle.pex_verify.specs.declared.value_type.ValueType.{ValueType}
 use Rattle.pex_verify.specs.declared.value_type.ValueType.TheVariants.{Of}
 use Rattle.pex_verify.specs.Meanings.{Meanings, result_meaning, value_meaning, of_result}
 use Rattle.pex_verify.specs.Pairs.{Paired}
+use Rattle.pex_verify.specs.Sites.{Site, HasTypedCode}
 use Rattle.pex_verify.specs.Signatures.{number_at, title_at, kind_at, has_bit}
 
 -- ---- parameters and locals
@@ -32,15 +33,16 @@ pub record Written : Type 0 where
   pub name : ℕ
   pub function : PexFunction
 
--- what is loaded for it
-pub record IsWritten (types : Meanings) (written : Written) (loaded : LoadedFunction) : Type 0 where
+-- what is loaded for it where it stands
+pub record IsWritten (site : Site) (written : Written) (loaded : LoadedFunction) : Type 0 where
   pub name : loaded.name ≡ title_at written.titles written.name
-  pub parameters : map parameter_type loaded.parameters.items ≡ parameter_types types written.numbers written.function.parameters.items
-  pub locals : map local_type loaded.locals.items ≡ local_types types written.numbers written.function.locals.items
-  pub result : of_result loaded.result ≡ result_meaning types (number_at written.numbers written.function.result)
+  pub parameters : map parameter_type loaded.parameters.items ≡ parameter_types site.set.types written.numbers written.function.parameters.items
+  pub locals : map local_type loaded.locals.items ≡ local_types site.set.types written.numbers written.function.locals.items
+  pub result : of_result loaded.result ≡ result_meaning site.set.types (number_at written.numbers written.function.result)
   pub is_global : loaded.is_global ≡ has_bit written.function.bits 1
   pub is_native : loaded.is_native ≡ has_bit written.function.bits 2
+  pub typed : HasTypedCode site written.numbers written.titles loaded
 
-abbrev pub AreWritten : Meanings → List Written → List LoadedFunction → Type 0
-AreWritten types written loaded =
-    Paired Written LoadedFunction (λ n w f. IsWritten types w f) written loaded
+abbrev pub AreWritten : Site → List Written → List LoadedFunction → Type 0
+AreWritten site written loaded =
+    Paired Written LoadedFunction (λ n w f. IsWritten site w f) written loaded

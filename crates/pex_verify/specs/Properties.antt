@@ -10,6 +10,7 @@ use Rattle.pex_verify.specs.declared.value_type.ValueType.TheVariants.{Nothing, 
 use Rattle.pex_verify.specs.Matching.{IsWritten}
 use Rattle.pex_verify.specs.Meanings.{Meanings, result_meaning, value_meaning}
 use Rattle.pex_verify.specs.Signatures.{number_at, title_at, kind_at}
+use Rattle.pex_verify.specs.Sites.{site_of}
 use Rattle.pex_verify.specs.States.{own_written}
 
 -- it reads a property of this type: no parameters, and a result of the type
@@ -24,7 +25,7 @@ pub record Writes (types : Meanings) (numbers : List ℕ) (kind : ℕ) (function
 
 -- what is loaded for a function of a property, which is neither global nor native, where the file has one
 pub record IsAccessor (home : Home) (name : ℕ) (function : PexFunction) (loaded : LoadedFunction) : Type 0 where
-  pub written : IsWritten home.set.now.types (own_written home (name, function)) loaded
+  pub written : IsWritten (site_of home) (own_written home (name, function)) loaded
   pub plain : bit_and function.bits 3 ≡ 0
 
 abbrev pub AreAccessors : Home → ℕ → (PexFunction → Type 0) → Option PexFunction → Option LoadedFunction → Type 0

@@ -10,9 +10,9 @@ use Rattle.pex_verify.specs.declared.loaded.LoadedFunction.{LoadedFunction}
 use Rattle.pex_verify.specs.declared.scope.Home.{Home}
 use Rattle.pex_verify.specs.Heads.{lacking_in}
 use Rattle.pex_verify.specs.Matching.{Written, AreWritten}
-use Rattle.pex_verify.specs.Meanings.{Meanings}
 use Rattle.pex_verify.specs.Pairs.{Paired}
 use Rattle.pex_verify.specs.Signatures.{number_at, title_at}
+use Rattle.pex_verify.specs.Sites.{Site}
 
 -- a function of the object, beside its name
 abbrev pub own_written : Home → ℕ × PexFunction → Written
@@ -66,10 +66,10 @@ states_written home states =
     map (state_written home) states ++ (if list_any (is_empty_state home) states then [] else added_state (lacking_written home))
 
 -- what is loaded for a state
-pub record IsState (types : Meanings) (written : WrittenState) (loaded : Name × Vec LoadedFunction Global) : Type 0 where
+pub record IsState (site : Site) (written : WrittenState) (loaded : Name × Vec LoadedFunction Global) : Type 0 where
   pub name : loaded.0 ≡ written.name
-  pub functions : AreWritten types written.functions loaded.1.items
+  pub functions : AreWritten site written.functions loaded.1.items
 
-abbrev pub AreStates : Meanings → List WrittenState → List (Name × Vec LoadedFunction Global) → Type 0
-AreStates types written loaded =
-    Paired WrittenState (Name × Vec LoadedFunction Global) (λ n w s. IsState types w s) written loaded
+abbrev pub AreStates : Site → List WrittenState → List (Name × Vec LoadedFunction Global) → Type 0
+AreStates site written loaded =
+    Paired WrittenState (Name × Vec LoadedFunction Global) (λ n w s. IsState site w s) written loaded

@@ -4,6 +4,7 @@ ghost use Rattle.pex_verify.specs.Signatures.{kind_at};
 ghost use Rattle.pex_verify.specs.Meanings.{of_result, result_meaning, value_meaning};
 ghost use Rattle.pex_verify.specs.Matching.{parameter_type, parameter_types, local_type, local_types, IsWritten};
 ghost use Rattle.pex_verify.specs.Judged.{AreTypedIn};
+ghost use Rattle.pex_verify.specs.Sites.{site_of};
 ghost use Rattle.pex_verify.specs.Places.{bounds_of};
 ghost use Rattle.pex_verify.specs.Types.{IsTypeAmong, IsValueTypeAmong};
 ghost use Rattle.pex_verify.specs.Soundness.{IsSoundFunction, AreSoundInstructions};
@@ -60,7 +61,7 @@ pub(crate) fn load_function(
     lines: &[u16],
 ) -> Result<LoadedFunction, Refusal>
     ensures sound { IfOk result (IsSoundFunction (bounds_of home.now)) }
-    ensures written { IfOk result (IsWritten home.now.set.now.types (record { numbers = source.now.names.now; titles = source.now.titles.now; name = name; function = function.now })) }
+    ensures written { IfOk result (IsWritten (site_of home.now) (record { numbers = source.now.names.now; titles = source.now.titles.now; name = name; function = function.now })) }
 {
     let alloc = home.alloc;
     let answer = home.set.result_type(source.names.number(function.result));

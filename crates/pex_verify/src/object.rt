@@ -2,6 +2,7 @@
 ghost use Rattle.std.specs.Prelude.{◌≡◌, ◌++◌, List, map, vec_len, All, IfOk, OnOk};
 ghost use Rattle.pex_verify.specs.Soundness.{IsSoundFunction, AreSoundFunctions, IsSoundState, IsSoundProperty, AreTyped};
 ghost use Rattle.pex_verify.specs.Objects.{IsSoundObject};
+ghost use Rattle.pex_verify.specs.Sites.{site_of};
 ghost use Rattle.pex_verify.specs.Places.{bounds_of};
 ghost use Rattle.pex_verify.specs.Heads.{placed};
 ghost use Rattle.pex_verify.specs.Loading.{judged_by, AreProperties, IsScriptOf, IsObjectOf};
@@ -148,7 +149,7 @@ fn load_states(
     lists: &mut FunctionLists,
 ) -> Result<Vec<(Name, Vec<LoadedFunction>)>, VerifyFault>
     ensures sound { IfOk result (λ states. All (λ state. IsSoundState (bounds_of home.now) state.1.items) states.items) }
-    ensures written { IfOk result (λ states. AreStates home.now.set.now.types (states_written home.now home.now.object.now.states.items) states.items) }
+    ensures written { IfOk result (λ states. AreStates (site_of home.now) (states_written home.now home.now.object.now.states.items) states.items) }
 {
     let mut seen = HashMap::new(home.alloc);
     let mut states = Vec::with_capacity(home.alloc, home.object.states.len())?;
@@ -182,8 +183,8 @@ fn with_members(
 ) -> Result<Vec<(Name, Vec<LoadedFunction>)>, VerifyFault>
     requires { All (λ state. IsSoundState (bounds_of home.now) state.1.items) states.items }
     ensures sound { IfOk result (λ states. All (λ state. IsSoundState (bounds_of home.now) state.1.items) states.items) }
-    ensures written { (before : List WrittenState) → AreStates home.now.set.now.types before states.items
-        → IfOk result (λ states. AreStates home.now.set.now.types (before ++ added_state (lacking_written home.now)) states.items) }
+    ensures written { (before : List WrittenState) → AreStates (site_of home.now) before states.items
+        → IfOk result (λ states. AreStates (site_of home.now) (before ++ added_state (lacking_written home.now)) states.items) }
 {
     let added = lacking_members(home, lists)?;
     if added.is_empty() {
@@ -198,7 +199,7 @@ fn lacking_members(
     lists: &mut FunctionLists,
 ) -> Result<Vec<LoadedFunction>, VerifyFault>
     ensures sound { IfOk result (λ added. IsSoundState (bounds_of home.now) added.items) }
-    ensures written { IfOk result (λ added. AreWritten home.now.set.now.types (lacking_written home.now) added.items) }
+    ensures written { IfOk result (λ added. AreWritten (site_of home.now) (lacking_written home.now) added.items) }
 {
     let mut added = Vec::new(home.alloc);
     add_members(home, lists, &mut added)?;
@@ -211,7 +212,7 @@ fn load_state(
     state: &PexState,
 ) -> Result<(Name, Vec<LoadedFunction>), VerifyFault>
     ensures sound { IfOk result (λ loaded. IsSoundState (bounds_of home.now) loaded.1.items) }
-    ensures written { IfOk result (IsState home.now.set.now.types (state_written home.now state.now)) }
+    ensures written { IfOk result (IsState (site_of home.now) (state_written home.now state.now)) }
 {
     let name = home.source.title(home.alloc, state.name)?;
     Ok((name, all_functions(home, lists, state)?))
@@ -224,7 +225,7 @@ fn all_functions(
     state: &PexState,
 ) -> Result<Vec<LoadedFunction>, VerifyFault>
     ensures sound { IfOk result (λ functions. IsSoundState (bounds_of home.now) functions.items) }
-    ensures written { IfOk result (λ functions. AreWritten home.now.set.now.types (state_functions home.now state.now) functions.items) }
+    ensures written { IfOk result (λ functions. AreWritten (site_of home.now) (state_functions home.now state.now) functions.items) }
 {
     let mut functions = load_functions(home, lists, state)?;
     if home.source.names.number(state.name) != EMPTY_NAME {
@@ -240,7 +241,7 @@ fn load_functions(
     state: &PexState,
 ) -> Result<Vec<LoadedFunction>, VerifyFault>
     ensures sound { IfOk result (λ functions. AreSoundFunctions (bounds_of home.now) functions.items) }
-    ensures written { IfOk result (λ functions. AreWritten home.now.set.now.types (map (own_written home.now) state.now.functions.items) functions.items) }
+    ensures written { IfOk result (λ functions. AreWritten (site_of home.now) (map (own_written home.now) state.now.functions.items) functions.items) }
 {
     let mut seen = HashMap::new(home.alloc);
     let mut functions = Vec::with_capacity(home.alloc, state.functions.len())?;
@@ -264,7 +265,7 @@ fn load_state_function(
     is_new: bool,
 ) -> Result<LoadedFunction, Refusal>
     ensures sound { IfOk result (IsSoundFunction (bounds_of home.now)) }
-    ensures written { IfOk result (IsWritten home.now.set.now.types (own_written home.now (name, function.now))) }
+    ensures written { IfOk result (IsWritten (site_of home.now) (own_written home.now (name, function.now))) }
 {
     if !is_new {
         return Err(Refusal::of(VerifyRule::DuplicateName));
@@ -327,8 +328,8 @@ fn add_members(
 ) -> Result<(), VerifyFault>
     ensures sound { AreSoundFunctions (bounds_of home.now) functions.old.items
         → OnOk result (AreSoundFunctions (bounds_of home.now) functions.new.items) }
-    ensures written { (before : List Written) → AreWritten home.now.set.now.types before functions.old.items
-        → OnOk result (AreWritten home.now.set.now.types (before ++ lacking_written home.now) functions.new.items) }
+    ensures written { (before : List Written) → AreWritten (site_of home.now) before functions.old.items
+        → OnOk result (AreWritten (site_of home.now) (before ++ lacking_written home.now) functions.new.items) }
 {
     for place in home.set.lacking(usize::from(home.here)) {
         add_member(home, lists, *place, functions)?;
@@ -345,8 +346,8 @@ fn add_member(
 ) -> Result<(), VerifyFault>
     ensures sound { AreSoundFunctions (bounds_of home.now) functions.old.items
         → OnOk result (AreSoundFunctions (bounds_of home.now) functions.new.items) }
-    ensures written { (before : List Written) → AreWritten home.now.set.now.types before functions.old.items
-        → OnOk result (AreWritten home.now.set.now.types (before ++ member_in home.now place) functions.new.items) }
+    ensures written { (before : List Written) → AreWritten (site_of home.now) before functions.old.items
+        → OnOk result (AreWritten (site_of home.now) (before ++ member_in home.now place) functions.new.items) }
 {
     let Some(member) = home.members.list.get(place) else {
         return Ok(());
@@ -361,7 +362,7 @@ fn load_member(
     member: &(u16, PexFunction),
 ) -> Result<LoadedFunction, VerifyFault>
     ensures sound { IfOk result (IsSoundFunction (bounds_of home.now)) }
-    ensures written { IfOk result (IsWritten home.now.set.now.types (written_member home.now member.now)) }
+    ensures written { IfOk result (IsWritten (site_of home.now) (written_member home.now member.now)) }
 {
     let source = home.members.source;
     match load_function(home, source, lists, member.0, &member.1, &[]) {

@@ -1,4 +1,5 @@
 use Rattle.std.proofs.Common.{vec_len, rules}
+use Rattle.pex_verify.proofs.Standing.{code_is_typed}
 use Rattle.pex_verify.proofs.function.load_function.Goals as goal
 
 pub returns-clause-sound : goal.returns-clause-sound
@@ -18,4 +19,5 @@ returns-clause-written c = record {
   result = search rules;
   is_global = search rules;
   is_native = search rules;
+  typed = ?;
 }

@@ -1,5 +1,6 @@
 use Rattle.std.proofs.Common.{◌≡◌, ℕ, ◌<◌, List, length, get_or, subst, arith}
 use Rattle.pex_values.specs.declared.values.PexFunction.{PexFunction}
+use Rattle.pex_verify.specs.Sites.{site_of}
 use Rattle.pex_verify.specs.declared.loaded.LoadedFunction.{LoadedFunction}
 use Rattle.pex_verify.specs.Matching.{Written, IsWritten}
 use Rattle.pex_verify.specs.Places.{bounds_of}
@@ -12,7 +13,7 @@ use Rattle.pex_verify.proofs.object.load_functions.Goals as goal
 pub loop-name-preserved : goal.loop-name-preserved
 loop-name-preserved c =
     let home = c.args.home.now in
-    let IsLoaded : ℕ → Written → LoadedFunction → Type 0 = λ n w f. IsWritten home.set.now.types w f in
+    let IsLoaded : ℕ → Written → LoadedFunction → Type 0 = λ n w f. IsWritten (site_of home) w f in
     let all = c.args.state.now.functions.items in
     let old = c.loop-name.functions.items in
     let i = c.loop-name.name-index in

@@ -1,4 +1,5 @@
 use Rattle.std.proofs.Common.{map, take}
+use Rattle.pex_verify.specs.Sites.{site_of}
 use Rattle.pex_verify.specs.Matching.{AreWritten}
 use Rattle.pex_verify.specs.Places.{bounds_of}
 use Rattle.pex_verify.specs.Soundness.{AreSoundFunctions}
@@ -7,4 +8,4 @@ use Rattle.pex_verify.proofs.object.load_functions.Given as goal
 
 abbrev pub invariant-loop-name : goal.invariant-loop-name
 invariant-loop-name l =
-    AreSoundFunctions (bounds_of l.home) l.functions.items × AreWritten l.home.set.now.types (map (own_written l.home) (take l.name-index l.state.functions.items)) l.functions.items
+    AreSoundFunctions (bounds_of l.home) l.functions.items × AreWritten (site_of l.home) (map (own_written l.home) (take l.name-index l.state.functions.items)) l.functions.items

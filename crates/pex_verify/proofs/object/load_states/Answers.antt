@@ -1,6 +1,7 @@
 use Rattle.std.proofs.Common.{◌≡◌, ℕ, ◌<◌, List, Global, Vec, length, get_or, subst, arith}
 use Rattle.papy_base.specs.declared.name.Name.{Name}
 use Rattle.pex_values.specs.declared.values.PexState.{PexState}
+use Rattle.pex_verify.specs.Sites.{site_of}
 use Rattle.pex_verify.specs.declared.loaded.LoadedFunction.{LoadedFunction}
 use Rattle.pex_verify.specs.Places.{bounds_of}
 use Rattle.pex_verify.specs.Soundness.{IsSoundState}
@@ -14,7 +15,7 @@ loop-state-preserved c =
     let home = c.args.home.now in
     let bounds = bounds_of home in
     let IsSound : Name × Vec LoadedFunction Global → Type 0 = λ state. IsSoundState bounds state.1.items in
-    let IsLoaded : ℕ → WrittenState → Name × Vec LoadedFunction Global → Type 0 = λ n w s. IsState home.set.now.types w s in
+    let IsLoaded : ℕ → WrittenState → Name × Vec LoadedFunction Global → Type 0 = λ n w s. IsState (site_of home) w s in
     let all = home.object.now.states.items in
     let old = c.loop-state.states.items in
     let i = c.loop-state.state-index in
