@@ -15,6 +15,7 @@ pub mod Found
 pub mod Agreement
 pub mod Judged
 pub mod Sites
+pub mod Rules
 pub mod Pairs
 pub mod Signatures
 pub mod Heads

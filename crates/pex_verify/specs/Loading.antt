@@ -1,5 +1,5 @@
 -- The scripts of a set, as its objects say.
-use Rattle.std.specs.Prelude.{◌≡◌, ℕ, ◌<◌, List, length, map, slice_index_or}
+use Rattle.std.specs.Prelude.{◌≡◌, ℕ, ◌<◌, List, length, map, slice_index_or, All}
 use Rattle.core_tree.specs.declared.outline.OutlineScript.{OutlineScript}
 use Rattle.pex_set.specs.Objects.{parents_in}
 use Rattle.pex_values.specs.declared.values.PexProperty.{PexProperty}
@@ -15,6 +15,7 @@ use Rattle.pex_verify.specs.Heads.{Placed, placed_objects, members_of, AreNumber
 use Rattle.pex_verify.specs.Outlining.{IsOutlineOf}
 use Rattle.pex_verify.specs.Pairs.{Paired}
 use Rattle.pex_verify.specs.Properties.{IsProperty}
+use Rattle.pex_verify.specs.Rules.{EachReplaces}
 use Rattle.pex_verify.specs.Sites.{site_of}
 use Rattle.pex_verify.specs.States.{AreStates, states_written}
 use Rattle.pex_verify.specs.Variables.{variable_type, type_of_variable}
@@ -22,12 +23,13 @@ use Rattle.pex_verify.specs.Variables.{variable_type, type_of_variable}
 -- what is loaded for the properties of an object
 abbrev pub AreProperties : Home → List LoadedProperty → Type 0
 AreProperties home loaded =
-    Paired PexProperty LoadedProperty (λ n p l. IsProperty home p l) home.object.now.properties.items loaded
+    Paired PexProperty LoadedProperty (λ n p l. IsProperty home n p l) home.object.now.properties.items loaded
 
 -- what is loaded for the object where this code stands
 pub record IsScriptOf (home : Home) (script : LoadedScript) (outline : OutlineScript) : Type 0 where
   pub properties : AreProperties home script.properties.items
   pub states : AreStates (site_of home) (states_written home home.object.now.states.items) script.states.items
+  pub replaces : All (EachReplaces home) home.object.now.states.items
   pub shape : IsOutlineOf home script outline
 
 -- what all objects of a set are judged by

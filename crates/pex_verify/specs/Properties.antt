@@ -9,6 +9,7 @@ use Rattle.pex_verify.specs.declared.scope.Home.{Home}
 use Rattle.pex_verify.specs.declared.value_type.ValueType.TheVariants.{Nothing, Of}
 use Rattle.pex_verify.specs.Matching.{IsWritten}
 use Rattle.pex_verify.specs.Meanings.{Meanings, result_meaning, value_meaning}
+use Rattle.pex_verify.specs.Rules.{IsNewProperty}
 use Rattle.pex_verify.specs.Signatures.{number_at, title_at, kind_at}
 use Rattle.pex_verify.specs.Sites.{site_of}
 use Rattle.pex_verify.specs.States.{own_written}
@@ -41,10 +42,11 @@ IsOfKind home property (Some reference) (Some place) =
 IsOfKind home property _ _ = ⊥
 
 -- what is loaded for a property
-pub record IsProperty (home : Home) (property : PexProperty) (loaded : LoadedProperty) : Type 0 where
+pub record IsProperty (home : Home) (place : ℕ) (property : PexProperty) (loaded : LoadedProperty) : Type 0 where
   pub name : loaded.name ≡ title_at home.source.now.titles.now property.name
   pub kind : Of loaded.kind ≡ value_meaning home.set.now.types (number_at home.source.now.names.now property.kind)
   pub bits : loaded.bits ≡ property.bits
+  pub new : IsNewProperty home place (number_at home.source.now.names.now property.name)
   pub variable : IsOfKind home property property.variable loaded.variable
   pub read : AreAccessors home property.name (Reads home.source.now.names.now (number_at home.source.now.names.now property.kind)) property.read loaded.read
   pub write : AreAccessors home property.name (Writes home.set.now.types home.source.now.names.now (number_at home.source.now.names.now property.kind)) property.write loaded.write

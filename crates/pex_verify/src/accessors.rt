@@ -1,10 +1,11 @@
 // One property, with the functions that read and write it.
-ghost use Rattle.std.specs.Prelude.{◌≡◌, ◌<◌, vec_len, Some, IfOk, IfSome, OnOk, IsTrue};
+ghost use Rattle.std.specs.Prelude.{◌≡◌, ◌<◌, vec_len, Some, false, IfOk, IfSome, OnOk, IsTrue};
 ghost use Rattle.pex_verify.specs.Places.{bounds_of};
 ghost use Rattle.pex_verify.specs.Soundness.{IsSoundFunction, IsSoundProperty};
 ghost use Rattle.pex_verify.specs.Types.{IsTypeAmong};
 ghost use Rattle.pex_verify.specs.declared.value_type.ValueType.TheVariants.{Of};
 ghost use Rattle.pex_verify.specs.Meanings.{value_meaning};
+ghost use Rattle.pex_verify.specs.Rules.{IsNewProperty};
 ghost use Rattle.pex_verify.specs.Signatures.{number_at};
 ghost use Rattle.pex_verify.specs.Properties.{Reads, Writes, IsAccessor, AreAccessors, IsOfKind, IsProperty};
 
@@ -27,7 +28,7 @@ pub(crate) fn load_property(
     property: &PexProperty,
 ) -> Result<LoadedProperty, Refusal>
     ensures sound { IfOk result (IsSoundProperty (bounds_of home.now)) }
-    ensures property { IfOk result (IsProperty home.now property.now) }
+    ensures property { IfOk result (IsProperty home.now place property.now) }
 {
     let kind = judged_type(home, place, property)?;
     let variable = judged_variable(home, property)?;
@@ -48,6 +49,7 @@ pub(crate) fn load_property(
 fn judged_type(home: &Home<'_>, place: usize, property: &PexProperty) -> Result<CoreType, Refusal>
     ensures among { IfOk result (IsTypeAmong (vec_len home.now.set.now.heads)) }
     ensures meaning { IfOk result (λ kind. Of kind ≡ value_meaning home.now.set.now.types (number_at home.now.source.now.names.now property.now.kind)) }
+    ensures new { OnOk result (IsNewProperty home.now place (number_at home.now.source.now.names.now property.now.name)) }
 {
     let declared = home.set.value_type(home.source.names.number(property.kind));
     if declared != ValueType::Float && repeats_property(home, place, property) {
@@ -60,7 +62,9 @@ fn judged_type(home: &Home<'_>, place: usize, property: &PexProperty) -> Result<
 }
 
 // Whether an earlier property of the object or a property of a parent has the name.
-fn repeats_property(home: &Home<'_>, place: usize, property: &PexProperty) -> bool {
+fn repeats_property(home: &Home<'_>, place: usize, property: &PexProperty) -> bool
+    ensures { result ≡ false → IsNewProperty home.now place (number_at home.now.source.now.names.now property.now.name) }
+{
     let here = usize::from(home.here);
     let name = home.source.names.number(property.name);
     if home.set.first_property(here, name) != Some(place) {

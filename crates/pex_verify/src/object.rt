@@ -1,5 +1,8 @@
 // One object.
-ghost use Rattle.std.specs.Prelude.{◌≡◌, ◌++◌, List, map, vec_len, All, IfOk, OnOk};
+ghost use Rattle.std.specs.Prelude.{◌≡◌, ◌++◌, ℕ, List, Some, map, vec_len, All, IfOk, IsTrue, OnOk, option_copied};
+ghost use Rattle.pex_verify.specs.Found.{function_found, parent_of};
+ghost use Rattle.pex_verify.specs.Rules.{EachReplaces, Overrides, Replaces, Varies};
+ghost use Rattle.pex_verify.specs.declared.signature.Signature.{Signature};
 ghost use Rattle.pex_verify.specs.Soundness.{IsSoundFunction, AreSoundFunctions, IsSoundState, IsSoundProperty, AreTyped};
 ghost use Rattle.pex_verify.specs.Objects.{IsSoundObject};
 ghost use Rattle.pex_verify.specs.Sites.{site_of};
@@ -150,6 +153,7 @@ fn load_states(
 ) -> Result<Vec<(Name, Vec<LoadedFunction>)>, VerifyFault>
     ensures sound { IfOk result (λ states. All (λ state. IsSoundState (bounds_of home.now) state.1.items) states.items) }
     ensures written { IfOk result (λ states. AreStates (site_of home.now) (states_written home.now home.now.object.now.states.items) states.items) }
+    ensures replaces { OnOk result (All (EachReplaces home.now) home.now.object.now.states.items) }
 {
     let mut seen = HashMap::new(home.alloc);
     let mut states = Vec::with_capacity(home.alloc, home.object.states.len())?;
@@ -213,6 +217,7 @@ fn load_state(
 ) -> Result<(Name, Vec<LoadedFunction>), VerifyFault>
     ensures sound { IfOk result (λ loaded. IsSoundState (bounds_of home.now) loaded.1.items) }
     ensures written { IfOk result (IsState (site_of home.now) (state_written home.now state.now)) }
+    ensures replaces { OnOk result (EachReplaces home.now state.now) }
 {
     let name = home.source.title(home.alloc, state.name)?;
     Ok((name, all_functions(home, lists, state)?))
@@ -226,6 +231,7 @@ fn all_functions(
 ) -> Result<Vec<LoadedFunction>, VerifyFault>
     ensures sound { IfOk result (λ functions. IsSoundState (bounds_of home.now) functions.items) }
     ensures written { IfOk result (λ functions. AreWritten (site_of home.now) (state_functions home.now state.now) functions.items) }
+    ensures replaces { OnOk result (EachReplaces home.now state.now) }
 {
     let mut functions = load_functions(home, lists, state)?;
     if home.source.names.number(state.name) != EMPTY_NAME {
@@ -242,6 +248,7 @@ fn load_functions(
 ) -> Result<Vec<LoadedFunction>, VerifyFault>
     ensures sound { IfOk result (λ functions. AreSoundFunctions (bounds_of home.now) functions.items) }
     ensures written { IfOk result (λ functions. AreWritten (site_of home.now) (map (own_written home.now) state.now.functions.items) functions.items) }
+    ensures replaces { OnOk result (EachReplaces home.now state.now) }
 {
     let mut seen = HashMap::new(home.alloc);
     let mut functions = Vec::with_capacity(home.alloc, state.functions.len())?;
@@ -266,6 +273,7 @@ fn load_state_function(
 ) -> Result<LoadedFunction, Refusal>
     ensures sound { IfOk result (IsSoundFunction (bounds_of home.now)) }
     ensures written { IfOk result (IsWritten (site_of home.now) (own_written home.now (name, function.now))) }
+    ensures replaces { OnOk result (Replaces home.now state (name, function.now)) }
 {
     if !is_new {
         return Err(Refusal::of(VerifyRule::DuplicateName));
@@ -285,22 +293,32 @@ fn load_state_function(
 }
 
 // Whether a function of a state gives and takes what the function that it replaces does.
-fn replaces_alike(home: &Home<'_>, state: u16, name: u16, function: &PexFunction) -> bool {
+fn replaces_alike(home: &Home<'_>, state: u16, name: u16, function: &PexFunction) -> bool
+    ensures { IsTrue result → Replaces home.now state (name, function.now) }
+{
     let names = home.source.names;
     let name = names.number(name);
     if names.number(state) == EMPTY_NAME {
-        match overridden(home, name) {
-            Some(replaced) => replaced.is_of(names, function),
-            None => true,
-        }
+        overrides_alike(home, name, function)
     } else {
         varies_alike(home, name, function)
     }
 }
 
+fn overrides_alike(home: &Home<'_>, name: usize, function: &PexFunction) -> bool
+    ensures { IsTrue result → Overrides home.now name function.now }
+{
+    match overridden(home, name) {
+        Some(replaced) => replaced.is_of(home.source.names, function),
+        None => true,
+    }
+}
+
 // A function of a named state replaces the nearest one of the empty states, which has to be there. Neither
 // is global or native.
-fn varies_alike(home: &Home<'_>, name: usize, function: &PexFunction) -> bool {
+fn varies_alike(home: &Home<'_>, name: usize, function: &PexFunction) -> bool
+    ensures { IsTrue result → Varies home.now name function.now }
+{
     let here = usize::from(home.here);
     match home.set.find_function(here, name) {
         Some(replaced) => {
@@ -312,11 +330,23 @@ fn varies_alike(home: &Home<'_>, name: usize, function: &PexFunction) -> bool {
 
 // What a function of the empty state replaces: the nearest one of the parents, if there is one. Without a parent
 // it is a member that every such script has.
-fn overridden<'a>(home: &Home<'a>, name: usize) -> Option<&'a Signature> {
+fn overridden<'a>(home: &Home<'a>, name: usize) -> Option<&'a Signature>
+    ensures { (parent : ℕ) (signature : Signature) → parent_of home.now.set.now home.now.here ≡ Some parent
+        → function_found home.now.set.now parent name ≡ Some signature → option_copied result ≡ Some signature }
+{
     let set: &'a ScriptSet = home.set;
     match set.parent(usize::from(home.here)) {
-        Some(parent) => Some(set.find_function(parent, name)?.signature),
+        Some(parent) => inherited_function(set, parent, name),
         None => set.member(name),
+    }
+}
+
+fn inherited_function(set: &ScriptSet, script: usize, name: usize) -> Option<&Signature>
+    ensures { option_copied result ≡ function_found set.now script name }
+{
+    match set.find_function(script, name) {
+        Some(found) => Some(found.signature),
+        None => None,
     }
 }
 

@@ -9,15 +9,14 @@ ghost use Rattle.pex_verify.specs.Heads.{Placed, placed_in, placed_objects, Memb
 ghost use Rattle.pex_verify.specs.Parents.{parent_in, parent_among};
 ghost use Rattle.pex_values.specs.declared.values.PexObject.{PexObject};
 
-use crate::loaded::MethodPlace;
-use crate::members::{MemberLists, MemberTable, method_place};
+use crate::members::{MemberLists, MemberTable};
 use crate::signature::Signature;
 use crate::sources::{DefaultMembers, SetFile};
 use crate::type_names::TypeNames;
 use crate::value_type::ValueType;
 use core_tree::CoreType;
 use papy_base::OutOfMemory;
-use pex_set::{EMPTY_NAME, FileNames, LIBRARY_COUNT, NameTable, Objects};
+use pex_set::{EMPTY_NAME, FileNames, LIBRARY_COUNT, MemberPlace, NameTable, Objects};
 use pex_values::{PexFunction, PexObject, PexProperty, PexState};
 use std::alloc::Global;
 
@@ -32,7 +31,7 @@ pub(crate) struct PropertyHead {
 /// A function of an empty state, where it stands and what it gives and takes.
 #[derive(Clone, Copy)]
 pub(crate) struct Callee<'a> {
-    pub(crate) place: MethodPlace,
+    pub(crate) place: MemberPlace,
     pub(crate) signature: &'a Signature,
 }
 
@@ -254,6 +253,7 @@ fn has_members(number: usize, names: &FileNames, object: &PexObject) -> bool {
 impl ScriptSet {
     ghost use Rattle.std.specs.Prelude.{Some};
     ghost use Rattle.pex_verify.specs.Found as found;
+    ghost use Rattle.pex_verify.specs.Rules as rules;
 
     /// The scripts of these files, the first of which is the prelude, whose objects are these.
     pub(crate) fn of(
@@ -284,13 +284,13 @@ impl ScriptSet {
 
     /// The nearest function of this name in the empty states, from the script upward.
     pub(crate) fn find_function(&self, script: usize, name: usize) -> Option<Callee<'_>>
-        ensures among { IfSome result (λ callee. callee.place.script < vec_len self.now.heads) }
+        ensures among { IfSome result (λ callee. callee.place.object < vec_len self.now.heads) }
         ensures nearest { IfSome result (λ callee. found.function_found self.now script name ≡ Some callee.signature.now) }
+        ensures missing { result ≡ None → found.function_found self.now script name ≡ None }
     {
-        let found = self.table.in_state(script, EMPTY_NAME, name)?;
-        let head = self.heads.get(found.object)?;
-        let signature = head.functions.get(found.place)?;
-        let place = method_place(found)?;
+        let place = self.table.in_state(script, EMPTY_NAME, name)?;
+        let head = self.heads.get(place.object)?;
+        let signature = head.functions.get(place.place)?;
         Some(Callee { place, signature })
     }
 
@@ -307,7 +307,9 @@ impl ScriptSet {
     }
 
     /// The place of the script's own first property of this name.
-    pub(crate) fn first_property(&self, script: usize, name: usize) -> Option<usize> {
+    pub(crate) fn first_property(&self, script: usize, name: usize) -> Option<usize>
+        ensures { result ≡ rules.first_property_of self.now script name }
+    {
         let found = self.table.property(script, name)?;
         if found.object == script {
             Some(found.place)

@@ -1,5 +1,8 @@
 use Rattle.std.proofs.Common.{◌≡◌, ℕ, ◌<◌, List, length, get_or, subst, arith}
+use Rattle.std.proofs.lemmas.List.{get_or_read}
+use borrow.Author.Count.{below_more}
 use Rattle.pex_values.specs.declared.values.PexFunction.{PexFunction}
+use Rattle.pex_verify.specs.Rules.{Replaces}
 use Rattle.pex_verify.specs.Sites.{site_of}
 use Rattle.pex_verify.specs.declared.loaded.LoadedFunction.{LoadedFunction}
 use Rattle.pex_verify.specs.Matching.{Written, IsWritten}
@@ -20,5 +23,8 @@ loop-name-preserved c =
     let item = c.loop-name-item.result in
     let is : item ≡ get_or all i item = subst (λ (l : List (ℕ × PexFunction)). item ≡ get_or l i item) c.deref-state-functions.ensures.value c.loop-name-item.is in
     let within : i < length all = omega arith in
+    let Replaced : ℕ → Type 0 = λ k. (d : ℕ × PexFunction) → Replaces home c.args.state.now.name (get_or all k d) in
+    let here : Replaced i = λ d. subst (λ (f : ℕ × PexFunction). Replaces home c.args.state.now.name f) (get_or_read all i item within is d) c.in-Ok.ensures.replaces in
     (all_grown (IsSoundFunction (bounds_of home)) old c.push.new.self.items c.in-Ok.loaded c.in_ok-push-in-Ok.ensures.items c.loop-name.invariant.0 c.in-Ok.ensures.sound,
-     Paired-mapped (ℕ × PexFunction) Written LoadedFunction IsLoaded (own_written home) all old c.push.new.self.items i item item c.in-Ok.loaded c.in_ok-push-in-Ok.ensures.items within is c.loop-name.invariant.1 c.in-Ok.ensures.written)
+     Paired-mapped (ℕ × PexFunction) Written LoadedFunction IsLoaded (own_written home) all old c.push.new.self.items i item item c.in-Ok.loaded c.in_ok-push-in-Ok.ensures.items within is c.loop-name.invariant.1 c.in-Ok.ensures.written,
+     λ k d h. below_more Replaced i (λ j below other. c.loop-name.invariant.2 j other below) here k h d)

@@ -1,4 +1,6 @@
-use Rattle.std.proofs.Common.{map, take}
+use Rattle.std.proofs.Common.{ℕ, ◌<◌, get_or, map, take}
+use Rattle.pex_values.specs.declared.values.PexFunction.{PexFunction}
+use Rattle.pex_verify.specs.Rules.{Replaces}
 use Rattle.pex_verify.specs.Sites.{site_of}
 use Rattle.pex_verify.specs.Matching.{AreWritten}
 use Rattle.pex_verify.specs.Places.{bounds_of}
@@ -9,3 +11,4 @@ use Rattle.pex_verify.proofs.object.load_functions.Given as goal
 abbrev pub invariant-loop-name : goal.invariant-loop-name
 invariant-loop-name l =
     AreSoundFunctions (bounds_of l.home) l.functions.items × AreWritten (site_of l.home) (map (own_written l.home) (take l.name-index l.state.functions.items)) l.functions.items
+    × ((k : ℕ) (d : ℕ × PexFunction) → k < l.name-index → Replaces l.home l.state.name (get_or l.state.functions.items k d))

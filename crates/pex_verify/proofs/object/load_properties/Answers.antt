@@ -11,7 +11,7 @@ use Rattle.pex_verify.proofs.object.load_properties.Goals as goal
 pub loop-place-preserved : goal.loop-place-preserved
 loop-place-preserved c =
     let home = c.args.home.now in
-    let IsLoaded : ℕ → PexProperty → LoadedProperty → Type 0 = λ n p f. IsProperty home p f in
+    let IsLoaded : ℕ → PexProperty → LoadedProperty → Type 0 = λ n p f. IsProperty home n p f in
     let all = home.object.now.properties.items in
     let old = c.loop-place.properties.items in
     let i = c.loop-place.place in

@@ -9,4 +9,4 @@ use Rattle.pex_verify.proofs.object.load_properties.Given as goal
 
 abbrev pub invariant-loop-place : goal.invariant-loop-place
 invariant-loop-place l =
-    All (IsSoundProperty (bounds_of l.home)) l.properties.items × Paired PexProperty LoadedProperty (λ n p f. IsProperty l.home p f) (take l.place l.home.object.now.properties.items) l.properties.items
+    All (IsSoundProperty (bounds_of l.home)) l.properties.items × Paired PexProperty LoadedProperty (λ n p f. IsProperty l.home n p f) (take l.place l.home.object.now.properties.items) l.properties.items

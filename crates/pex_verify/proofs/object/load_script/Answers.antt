@@ -17,5 +17,6 @@ pub returns-clause-script : goal.returns-clause-script
 returns-clause-script c = record {
   properties = c.in_ok-properties.ensures.written;
   states = c.in_ok-states.ensures.written;
+  replaces = c.in_ok-states.ensures.replaces;
   shape = c.in_ok-outline.ensures.outline;
 }
