@@ -40,6 +40,12 @@ pub record Judged : Type 0 where
 abbrev pub judged_by : Loader → Judged
 judged_by loader = record { set = loader.set.now; members = loader.members.now }
 
+abbrev pub judged_in : Home → Judged
+judged_in home = record { set = home.set.now; members = home.members.now }
+
+abbrev pub placed_at : Home → Placed
+placed_at home = record { source = home.source.now; object = home.object.now }
+
 -- what is loaded for an object as the script of this number
 pub record IsObjectOf (judged : Judged) (here : ℕ) (placed : Placed) (script : LoadedScript) (outline : OutlineScript) : Type 0 where
   pub home : Home
@@ -49,6 +55,10 @@ pub record IsObjectOf (judged : Judged) (here : ℕ) (placed : Placed) (script :
   pub source : home.source.now ≡ placed.source
   pub object : home.object.now ≡ placed.object
   pub loaded : IsScriptOf home script outline
+
+-- the same, with the types of the script's variables
+pub record IsWholeObject (judged : Judged) (here : ℕ) (placed : Placed) (script : LoadedScript) (outline : OutlineScript) : Type 0 where
+  pub object : IsObjectOf judged here placed script outline
   pub variables : map variable_type outline.variables.items ≡ map (type_of_variable judged.set.types placed.source.names.now) placed.object.variables.items
 
 -- the scripts and outlines that are loaded for these objects, in order
@@ -56,7 +66,7 @@ pub record AreObjects (judged : Judged) (objects : List Placed) (scripts : List 
   pub script_count : length objects ≡ length scripts
   pub outline_count : length objects ≡ length outlines
   pub each : (n : ℕ) (o : Placed) (s : LoadedScript) (l : OutlineScript) → n < length objects
-      → IsObjectOf judged n (slice_index_or objects n o) (slice_index_or scripts n s) (slice_index_or outlines n l)
+      → IsWholeObject judged n (slice_index_or objects n o) (slice_index_or scripts n s) (slice_index_or outlines n l)
 
 -- what is loaded for the objects of these files, and how others found their members
 pub record IsLoadedSet (members : DefaultMembers) (sources : List SetFile) (scripts : List LoadedScript) (outlines : List OutlineScript) (table : MemberTable) : Type 0 where

@@ -168,8 +168,7 @@ fn reads(home: &Home<'_>, property: &PexProperty, function: &PexFunction) -> boo
     ensures { IsTrue result → Reads home.now.source.now.names.now (number_at home.now.source.now.names.now property.now.kind) function.now }
 {
     let names = home.source.names;
-    function.parameters.is_empty()
-        && names.number(function.result) == names.number(property.kind)
+    function.parameters.is_empty() && names.number(function.result) == names.number(property.kind)
 }
 
 // To write it one parameter of the property's type, and no result.

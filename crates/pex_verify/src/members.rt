@@ -23,10 +23,7 @@ pub(crate) struct MemberLists {
 
 impl MemberLists {
     /// No members of scripts with these parents.
-    pub(crate) fn new(
-        alloc: Global,
-        parents: &[Option<usize>],
-    ) -> Result<MemberLists, OutOfMemory>
+    pub(crate) fn new(alloc: Global, parents: &[Option<usize>]) -> Result<MemberLists, OutOfMemory>
         ensures methods { IfOk result (λ lists. lists.methods ≡ []) }
         ensures properties { IfOk result (λ lists. lists.properties ≡ []) }
     {

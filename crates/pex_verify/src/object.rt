@@ -8,7 +8,7 @@ ghost use Rattle.pex_verify.specs.Objects.{IsSoundObject};
 ghost use Rattle.pex_verify.specs.Sites.{site_of};
 ghost use Rattle.pex_verify.specs.Places.{bounds_of};
 ghost use Rattle.pex_verify.specs.Heads.{placed};
-ghost use Rattle.pex_verify.specs.Loading.{judged_by, AreProperties, IsScriptOf, IsObjectOf};
+ghost use Rattle.pex_verify.specs.Loading.{judged_by, judged_in, placed_at, AreProperties, IsObjectOf, IsWholeObject};
 ghost use Rattle.pex_verify.specs.Matching.{Written, IsWritten, AreWritten};
 ghost use Rattle.std.specs.List.{list_any};
 ghost use Rattle.pex_verify.specs.States.{is_empty_state, own_written, written_member, member_in, lacking_written, WrittenState, state_written, state_functions, added_state, states_written, IsState, AreStates};
@@ -81,7 +81,7 @@ pub(crate) fn load_object(
     object: &PexObject,
 ) -> Result<LoadedObject, VerifyFault>
     ensures sound { IfOk result (IsSoundObject (vec_len loader.now.set.now.heads)) }
-    ensures object { IfOk result (λ loaded. IsObjectOf (judged_by loader.now) here (placed source.now object.now) loaded.script loaded.outline) }
+    ensures object { IfOk result (λ loaded. IsWholeObject (judged_by loader.now) here (placed source.now object.now) loaded.script loaded.outline) }
 {
     judge_names(loader.alloc, source, object)?;
     load_variables(
@@ -102,14 +102,16 @@ pub(crate) fn load_object(
         object,
         variables: &lists.variables,
     };
-    load_script(&home, &mut lists.functions)
+    let loaded = load_script(&home, &mut lists.functions)?;
+    Ok(loaded)
 }
 
 // The object's script and outline, once its variables were judged.
 fn load_script(home: &Home<'_>, lists: &mut FunctionLists) -> Result<LoadedObject, VerifyFault>
     requires { AreTyped (vec_len home.now.set.now.heads) home.now.variables.now.list.items }
     ensures sound { IfOk result (IsSoundObject (vec_len home.now.set.now.heads)) }
-    ensures script { IfOk result (λ loaded. IsScriptOf home.now loaded.script loaded.outline) }
+    ensures object { IfOk result (λ loaded. IsObjectOf (judged_in home.now) home.now.here (placed_at home.now) loaded.script loaded.outline) }
+    ensures variables { IfOk result (λ loaded. loaded.outline.variables.items ≡ home.now.variables.now.list.items) }
 {
     let properties = load_properties(home, lists)?;
     let states = load_states(home, lists)?;

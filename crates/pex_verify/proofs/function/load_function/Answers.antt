@@ -1,4 +1,5 @@
-use Rattle.std.proofs.Common.{vec_len, rules}
+use Rattle.std.proofs.Common.{ap, ◌∙◌, vec_len, rules}
+use Rattle.pex_verify.specs.Matching.{parameter_types, local_types}
 use Rattle.pex_verify.proofs.Standing.{code_is_typed}
 use Rattle.pex_verify.proofs.function.load_function.Goals as goal
 
@@ -14,8 +15,8 @@ returns-clause-sound c = record {
 pub returns-clause-written : goal.returns-clause-written
 returns-clause-written c = record {
   name = search rules;
-  parameters = c.in_ok-parameters.ensures.kinds;
-  locals = c.in_ok-locals.ensures.kinds;
+  parameters = c.in_ok-parameters.ensures.kinds ∙ ap (parameter_types c.args.home.now.set.now.types c.args.source.now.names.now) c.as_slice.ensures.value;
+  locals = c.in_ok-locals.ensures.kinds ∙ ap (local_types c.args.home.now.set.now.types c.args.source.now.names.now) c.as_slice-2.ensures.value;
   result = search rules;
   is_global = search rules;
   is_native = search rules;

@@ -1,4 +1,4 @@
-use Rattle.std.proofs.Common.{◌≡◌, ℕ, ◌<◌, Option, IfSome, length, length-append, vec_len, arith}
+use Rattle.std.proofs.Common.{◌≡◌, ℕ, ◌<◌, Option, IfSome, length, get_or, refl, length-append, vec_len, arith}
 use Rattle.core_tree.specs.declared.core_type.CoreType.{CoreType}
 use Rattle.papy_base.specs.declared.name.Name.{Name}
 use Rattle.pex_verify.specs.declared.value_type.ValueType.{ValueType}
@@ -24,4 +24,4 @@ loop-pair-preserved c =
     let i = c.loop-pair.pair-index in
     let within : i < length pairs = omega arith in
     let slots = behind_next parameter_type c.args.slots.now.list.items c.loop-pair.slots.list.items c.load_parameter.new.slots.list.items old new found ensured.slots c.in_ok-push.ensures.items before.2 in
-    (omega (arith, before.0, ensured.count, c.in_ok-push.ensures.len), all_grown IsTyped old new found c.in_ok-push.ensures.items before.1 ensured.typed, slots, map_next parameter_type means old new pairs i found ? ? c.in_ok-push.ensures.items within ? before.3 ensured.kind)
+    (omega (arith, before.0, ensured.count, c.in_ok-push.ensures.len), all_grown IsTyped old new found c.in_ok-push.ensures.items before.1 ensured.typed, slots, map_next parameter_type means old new pairs i found (get_or pairs i (0, 0)) (0, 0) c.in_ok-push.ensures.items within refl before.3 ensured.kind)

@@ -21,10 +21,11 @@ loop-name-preserved c =
     let old = c.loop-name.functions.items in
     let i = c.loop-name.name-index in
     let item = c.loop-name-item.result in
-    let is : item ≡ get_or all i item = subst (λ (l : List (ℕ × PexFunction)). item ≡ get_or l i item) c.deref-state-functions.ensures.value c.loop-name-item.is in
+    let is : item ≡ get_or all i item = subst (λ (l : List (ℕ × PexFunction)). item ≡ get_or l i item) c.deref-name-items.ensures.value c.loop-name-item.is in
     let within : i < length all = omega arith in
     let Replaced : ℕ → Type 0 = λ k. (d : ℕ × PexFunction) → Replaces home c.args.state.now.name (get_or all k d) in
-    let here : Replaced i = λ d. subst (λ (f : ℕ × PexFunction). Replaces home c.args.state.now.name f) (get_or_read all i item within is d) c.in-Ok.ensures.replaces in
-    (all_grown (IsSoundFunction (bounds_of home)) old c.push.new.self.items c.in-Ok.loaded c.in_ok-push-in-Ok.ensures.items c.loop-name.invariant.0 c.in-Ok.ensures.sound,
-     Paired-mapped (ℕ × PexFunction) Written LoadedFunction IsLoaded (own_written home) all old c.push.new.self.items i item item c.in-Ok.loaded c.in_ok-push-in-Ok.ensures.items within is c.loop-name.invariant.1 c.in-Ok.ensures.written,
-     λ k d h. below_more Replaced i (λ j below other. c.loop-name.invariant.2 j other below) here k h d)
+    let here : Replaced i = λ d. subst (λ (f : ℕ × PexFunction). Replaces home c.args.state.now.name f) (get_or_read all i item within is d) c.in-Ok.ensures.replaces in (
+      all_grown (IsSoundFunction (bounds_of home)) old c.push.new.self.items c.in-Ok.loaded c.in_ok-push-in-Ok.ensures.items c.loop-name.invariant.0 c.in-Ok.ensures.sound,
+      Paired-mapped (ℕ × PexFunction) Written LoadedFunction IsLoaded (own_written home) all old c.push.new.self.items i item item c.in-Ok.loaded c.in_ok-push-in-Ok.ensures.items within is c.loop-name.invariant.1 c.in-Ok.ensures.written,
+      λ k d h. below_more Replaced i (λ j below other. c.loop-name.invariant.2 j other below) here k h d,
+    )

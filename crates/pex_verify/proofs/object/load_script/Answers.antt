@@ -1,4 +1,4 @@
-use Rattle.std.proofs.Common.{ℕ, vec_len, sym, subst}
+use Rattle.std.proofs.Common.{ℕ, vec_len, refl, sym, subst}
 use Rattle.pex_verify.specs.declared.loaded.LoadedScript.{LoadedScript}
 use Rattle.pex_verify.specs.Soundness.{bounds_with, IsSoundScript}
 use Rattle.pex_verify.proofs.object.load_script.Goals as goal
@@ -13,10 +13,21 @@ returns-clause-sound c =
       outline = c.in_ok-outline.ensures.sound;
     }
 
-pub returns-clause-script : goal.returns-clause-script
-returns-clause-script c = record {
-  properties = c.in_ok-properties.ensures.written;
-  states = c.in_ok-states.ensures.written;
-  replaces = c.in_ok-states.ensures.replaces;
-  shape = c.in_ok-outline.ensures.outline;
+pub returns-clause-object : goal.returns-clause-object
+returns-clause-object c = record {
+  home = c.args.home.now;
+  set = refl;
+  members = refl;
+  number = refl;
+  source = refl;
+  object = refl;
+  loaded = record {
+    properties = c.in_ok-properties.ensures.written;
+    states = c.in_ok-states.ensures.written;
+    replaces = c.in_ok-states.ensures.replaces;
+    shape = c.in_ok-outline.ensures.outline;
+  };
 }
+
+pub returns-clause-variables : goal.returns-clause-variables
+returns-clause-variables c = c.in_ok-outline.ensures.outline.variables

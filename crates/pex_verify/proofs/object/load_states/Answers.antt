@@ -23,11 +23,12 @@ loop-state-preserved c =
     let old = c.loop-state.states.items in
     let i = c.loop-state.state-index in
     let item = c.state-item.result in
-    let is : item ≡ get_or all i item = subst (λ (l : List PexState). item ≡ get_or l i item) c.deref-home-object-states.ensures.value c.state-item.is in
+    let is : item ≡ get_or all i item = subst (λ (l : List PexState). item ≡ get_or l i item) c.deref-state-items.ensures.value c.state-item.is in
     let within : i < length all = omega arith in
     let Replaced : ℕ → Type 0 = λ k. (d : PexState) → EachReplaces home (get_or all k d) in
     let here : Replaced i = λ d. subst (λ (state : PexState). EachReplaces home state) (get_or_read all i item within is d) c.in_ok-load_state.ensures.replaces in
-    let loaded = c.in_ok-load_state.field-0 in
-    (all_grown IsSound old c.push.new.self.items loaded c.in_ok-push.ensures.items c.loop-state.invariant.0 c.in_ok-load_state.ensures.sound,
-     Paired-mapped PexState WrittenState (Name × Vec LoadedFunction Global) IsLoaded (state_written home) all old c.push.new.self.items i item item loaded c.in_ok-push.ensures.items within is c.loop-state.invariant.1 c.in_ok-load_state.ensures.written,
-     λ k d h. below_more Replaced i (λ j below other. c.loop-state.invariant.2 j other below) here k h d)
+    let loaded = c.in_ok-load_state.field-0 in (
+      all_grown IsSound old c.push.new.self.items loaded c.in_ok-push.ensures.items c.loop-state.invariant.0 c.in_ok-load_state.ensures.sound,
+      Paired-mapped PexState WrittenState (Name × Vec LoadedFunction Global) IsLoaded (state_written home) all old c.push.new.self.items i item item loaded c.in_ok-push.ensures.items within is c.loop-state.invariant.1 c.in_ok-load_state.ensures.written,
+      λ k d h. below_more Replaced i (λ j below other. c.loop-state.invariant.2 j other below) here k h d,
+    )

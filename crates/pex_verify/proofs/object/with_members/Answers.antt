@@ -1,4 +1,5 @@
-use Rattle.std.proofs.Common.{◌≡◌, ℕ, ◌<◌, List, [], ◌∷◌, ◌++◌, Global, Vec, length, sym, subst, ap, arith}
+use Rattle.std.proofs.Common.{◌≡◌, ℕ, ◌<◌, List, [], ◌∷◌, ◌++◌, Global, Vec, length, sym, subst, ap, ◌∙◌, rules, arith}
+use Rattle.std.proofs.lemmas.Bool.Decides.{nat_tests}
 use Rattle.std.proofs.lemmas.List.{append-nil}
 use Rattle.papy_base.specs.declared.name.Name.{Name}
 use Rattle.pex_verify.specs.Sites.{site_of}
@@ -14,7 +15,7 @@ use Rattle.pex_verify.proofs.object.with_members.Goals as goal
 pub returns-then-is_empty-clause-written : goal.returns-then-is_empty-clause-written
 returns-then-is_empty-clause-written c = λ before given.
     let site = site_of c.args.home.now in
-    let none = added_none site (lacking_written c.args.home.now) c.in_ok-added.added.items c.in_ok-added.ensures.written ? in
+    let none = added_none site (lacking_written c.args.home.now) c.in_ok-added.added.items c.in_ok-added.ensures.written (grind (arith, nat_tests)) in
     subst (λ (l : List WrittenState). AreStates site l c.args.states.items) (sym (ap (λ (l : List WrittenState). before ++ l) none ∙ append-nil before)) given
 
 pub returns-clause-sound : goal.returns-clause-sound
@@ -30,8 +31,8 @@ returns-clause-written c = λ before given.
     let IsLoaded : ℕ → WrittenState → Name × Vec LoadedFunction Global → Type 0 = λ n w s. IsState site w s in
     let state : WrittenState = record { name = []; functions = written } in
     let loaded : Name × Vec LoadedFunction Global = (c.in_ok-from_bytes.field-0, c.in_ok-added.added) in
-    let some = added_some site written c.in_ok-added.added.items c.in_ok-added.ensures.written ? in
-    let here : IsState site state loaded = record { name = ?; functions = c.in_ok-added.ensures.written } in
+    let some = added_some site written c.in_ok-added.added.items c.in_ok-added.ensures.written (grind (arith, nat_tests)) in
+    let here : IsState site state loaded = record { name = search rules; functions = c.in_ok-added.ensures.written } in
     subst (λ (l : List WrittenState). AreStates site l c.push.new.self.items) (ap (λ (l : List WrittenState). before ++ l) (sym some))
     (subst (λ (l : List (Name × Vec LoadedFunction Global)). AreStates site (before ++ state ∷ []) l) (sym c.in_ok-push.ensures.items)
     (Paired-push WrittenState (Name × Vec LoadedFunction Global) IsLoaded before c.args.states.items state loaded given here))

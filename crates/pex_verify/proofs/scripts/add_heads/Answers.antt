@@ -23,11 +23,13 @@ loop-object-preserved c =
     let head = c.in_ok-head.head in
     let within : i < length objects = omega arith in
     let is : object ≡ get_or objects i object = subst (λ (l : List PexObject). object ≡ get_or l i object) c.deref-object-items.ensures.value c.object-item.is in
-    let here : IsHead (length heads.items) (placed source object) head = subst (λ (n : ℕ). IsHead n (placed source object) head) (omega arith) c.in_ok-head.ensures in
-    (omega (arith, c.in_ok-push.ensures.len), λ before given.
-        let done : List Placed = before ++ map (placed source) (take i objects) in
-        let wider : done ++ placed source object ∷ [] ≡ before ++ map (placed source) (take (i + 1) objects) =
-            behind_next (placed source) before done (done ++ placed source object ∷ []) (take i objects) (take (i + 1) objects) object refl (take_next objects i object object within is) refl in
-        let pushed = Paired-push Placed ScriptHead IsHead done heads.items (placed source object) head (c.loop-object.invariant.1 before given) here in
-        subst (λ (l : List Placed). AreHeads members parents l c.push.new.self.items) wider
-        (subst (λ (hs : List ScriptHead). AreHeads members parents (done ++ placed source object ∷ []) hs) (sym c.in_ok-push.ensures.items) pushed))
+    let here : IsHead (length heads.items) (placed source object) head = subst (λ (n : ℕ). IsHead n (placed source object) head) (omega arith) c.in_ok-head.ensures in (
+      omega (arith, c.in_ok-push.ensures.len),
+      λ before given.
+          let done : List Placed = before ++ map (placed source) (take i objects) in
+          let wider : done ++ placed source object ∷ [] ≡ before ++ map (placed source) (take (i + 1) objects) =
+          behind_next (placed source) before done (done ++ placed source object ∷ []) (take i objects) (take (i + 1) objects) object refl (take_next objects i object object within is) refl in
+          let pushed = Paired-push Placed ScriptHead IsHead done heads.items (placed source object) head (c.loop-object.invariant.1 before given) here in
+          subst (λ (l : List Placed). AreHeads members parents l c.push.new.self.items) wider
+          (subst (λ (hs : List ScriptHead). AreHeads members parents (done ++ placed source object ∷ []) hs) (sym c.in_ok-push.ensures.items) pushed),
+    )

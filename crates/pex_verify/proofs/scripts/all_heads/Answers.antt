@@ -17,5 +17,5 @@ loop-source-preserved c =
     let source = c.source-item.result in
     let within : i < length sources = omega arith in
     let wider : placed_objects done ++ placed_in source ≡ placed_objects (take (i + 1) sources) =
-        flat_map_more placed_in [] done source ∙ ap placed_objects (sym (take_next sources i source source within c.source-item.is)) in
+    flat_map_more placed_in [] done source ∙ ap placed_objects (sym (take_next sources i source source within c.source-item.is)) in
     (grind (arith, common_steps), subst (λ (l : List Placed). AreHeads members c.args.parents.now l c.add_heads.new.heads.items) wider (c.in_ok-add_heads.ensures.heads (placed_objects done) c.loop-source.invariant.1))

@@ -16,6 +16,8 @@ loop-source-preserved c =
     let within : i < length sources = omega arith in
     let heads = c.in_ok-add_file.ensures.heads in
     let wider : placed_objects done ++ placed_in source ≡ placed_objects (take (i + 1) sources) =
-        flat_map_more placed_in [] done source ∙ ap placed_objects (sym (take_next sources i source source within c.source-item.is)) in
-    (grind (arith, common_steps), subst (λ (l : List Placed). AreNumbered l c.add_file.new.self) wider
-        (subst (λ (l : List Head). AreNumbered (placed_objects done ++ placed_in source) l) (sym heads.1) (AreNumbered-file source heads.0 source.pex.now.objects.items (placed_objects done) c.loop-source.objects c.loop-source.invariant.1)))
+    flat_map_more placed_in [] done source ∙ ap placed_objects (sym (take_next sources i source source within c.source-item.is)) in (
+      grind (arith, common_steps),
+      subst (λ (l : List Placed). AreNumbered l c.add_file.new.self) wider
+          (subst (λ (l : List Head). AreNumbered (placed_objects done ++ placed_in source) l) (sym heads.1) (AreNumbered-file source heads.0 source.pex.now.objects.items (placed_objects done) c.loop-source.objects c.loop-source.invariant.1)),
+    )

@@ -3,7 +3,7 @@ use Rattle.std.proofs.lemmas.List.{map-append}
 use Rattle.core_tree.specs.declared.core_type.CoreType.{CoreType}
 use Rattle.core_tree.specs.declared.outline.OutlineVariable.{OutlineVariable}
 use Rattle.pex_verify.specs.declared.value_type.ValueType.{ValueType}
-use Rattle.pex_verify.specs.Meanings.{of_result}
+use Rattle.pex_verify.specs.Meanings.{of_result, value_meaning}
 use Rattle.pex_verify.specs.Types.{IsTypeAmong}
 use Rattle.pex_verify.specs.Variables.{variable_type, type_of_variable}
 use Rattle.pex_verify.proofs.Lists.{all_grown}
@@ -21,7 +21,10 @@ pub returns-clause-kinds : goal.returns-clause-kinds
 returns-clause-kinds c =
     let before = c.args.variables.now.list.items in
     let variable : OutlineVariable = record { name = c.in_ok-title.title; kind = c.in-Some.kind; value = c.in_ok-value.value } in
-    let here : variable_type variable ≡ type_of_variable c.args.set.now.types c.args.source.now.names.now c.args.variable.now = ? in
+    let here : variable_type variable ≡ type_of_variable c.args.set.now.types c.args.source.now.names.now c.args.variable.now =
+    subst (λ (found : Option CoreType). of_result found ≡ c.value_type-declared.result) c.in-Some.is c.in_ok-kind.ensures.known
+    ∙ c.value_type-declared.ensures.meaning
+    ∙ ap (value_meaning c.args.set.now.types) c.number.ensures in
     ap (map variable_type) c.in_ok-add.ensures
     ∙ map-append variable_type before (variable ∷ [])
     ∙ ap (λ (kind : ValueType). map variable_type before ++ kind ∷ []) here

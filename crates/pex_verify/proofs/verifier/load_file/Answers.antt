@@ -17,11 +17,14 @@ loop-object-preserved c =
     let i = c.loop-object.object-index in
     let object = c.object-item.result in
     let within : i < length objects = omega arith in
-    let is : object ≡ get_or objects i object = subst (λ (l : List PexObject). object ≡ get_or l i object) c.deref-source-pex-objects.ensures.value c.object-item.is in
+    let is : object ≡ get_or objects i object = subst (λ (l : List PexObject). object ≡ get_or l i object) c.deref-object-items.ensures.value c.object-item.is in
     let parts = c.load_next.new.parts in
-    let ensured = c.in_ok-load_next.ensures in
-    (omega (arith, ensured.count), λ sound. ensured.sound (c.loop-object.invariant.1 sound), λ before given.
-        let done : List Placed = before ++ map (placed source) (take i objects) in
-        let wider : done ++ placed source object ∷ [] ≡ before ++ map (placed source) (take (i + 1) objects) =
-            behind_next (placed source) before done (done ++ placed source object ∷ []) (take i objects) (take (i + 1) objects) object refl (take_next objects i object object within is) refl in
-        subst (λ (l : List Placed). AreObjects (judged_by c.args.loader.now) l parts.scripts.items parts.outlines.items) wider (ensured.objects done (c.loop-object.invariant.2 before given)))
+    let ensured = c.in_ok-load_next.ensures in (
+      omega (arith, ensured.count),
+      λ sound. ensured.sound (c.loop-object.invariant.1 sound),
+      λ before given.
+          let done : List Placed = before ++ map (placed source) (take i objects) in
+          let wider : done ++ placed source object ∷ [] ≡ before ++ map (placed source) (take (i + 1) objects) =
+          behind_next (placed source) before done (done ++ placed source object ∷ []) (take i objects) (take (i + 1) objects) object refl (take_next objects i object object within is) refl in
+          subst (λ (l : List Placed). AreObjects (judged_by c.args.loader.now) l parts.scripts.items parts.outlines.items) wider (ensured.objects done (c.loop-object.invariant.2 before given)),
+    )

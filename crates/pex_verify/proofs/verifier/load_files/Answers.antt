@@ -15,5 +15,5 @@ loop-source-preserved c =
     let within : i < length sources = omega arith in
     let parts = c.load_file.new.parts in
     let wider : placed_objects done ++ placed_in source ≡ placed_objects (take (i + 1) sources) =
-        flat_map_more placed_in [] done source ∙ ap placed_objects (sym (take_next sources i source source within c.source-item.is)) in
+    flat_map_more placed_in [] done source ∙ ap placed_objects (sym (take_next sources i source source within c.source-item.is)) in
     (grind (arith, common_steps), c.in_ok-load_file.ensures.sound c.loop-source.invariant.1, subst (λ (l : List Placed). AreObjects (judged_by c.args.loader.now) l parts.scripts.items parts.outlines.items) wider (c.in_ok-load_file.ensures.objects (placed_objects done) c.loop-source.invariant.2))

@@ -1,8 +1,8 @@
-use Rattle.std.proofs.Common.{◌<◌, List, [], ◌∷◌, ◌++◌, length, vec_len, sym, subst, arith}
+use Rattle.std.proofs.Common.{◌<◌, ℕ, List, [], ◌∷◌, ◌++◌, length, vec_len, sym, subst, arith}
 use Rattle.core_tree.specs.declared.outline.OutlineScript.{OutlineScript}
 use Rattle.pex_verify.specs.declared.loaded.LoadedScript.{LoadedScript}
 use Rattle.pex_verify.specs.Heads.{Placed, placed}
-use Rattle.pex_verify.specs.Loading.{judged_by, AreObjects, IsObjectOf}
+use Rattle.pex_verify.specs.Loading.{judged_by, AreObjects, IsWholeObject}
 use Rattle.pex_verify.specs.Sets.{AreSoundScripts, IsSoundPair}
 use Rattle.pex_verify.proofs.Loading.{AreObjects-push}
 use Rattle.pex_verify.proofs.Sets.{AreSoundScripts-push}
@@ -29,7 +29,7 @@ returns-clause-objects c = λ before given.
     let outline = c.in_ok-loaded.loaded.outline in
     let script = c.in_ok-loaded.loaded.script in
     let here : Placed = placed c.args.source.now c.args.object.now in
-    let loaded : IsObjectOf judged (length scripts) here script outline = ? in
+    let loaded : IsWholeObject judged (length scripts) here script outline = subst (λ (n : ℕ). IsWholeObject judged n here script outline) (omega arith) c.in_ok-loaded.ensures.object in
     let grown = AreObjects-push judged before scripts outlines here script outline given loaded in
     subst (λ (os : List OutlineScript). AreObjects judged (before ++ here ∷ []) c.push-2.new.self.items os) (sym c.in_ok-push.ensures.items)
     (subst (λ (ss : List LoadedScript). AreObjects judged (before ++ here ∷ []) ss (outlines ++ outline ∷ [])) (sym c.in_ok-push-2.ensures.items) grown)

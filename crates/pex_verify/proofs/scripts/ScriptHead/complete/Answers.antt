@@ -12,5 +12,5 @@ loop-place-preserved c = λ above numbers object given.
     let member = c.member-item.result in
     let within : place < length members.list = omega arith in
     let at : member_at members place ≡ Some (declared_of c.in_ok-signature.signature) =
-        ap (option_map (declared_by members.numbers)) (slice_get-get_or members.list place member within ∙ ap Some (sym c.member-item.is)) ∙ ap Some (sym c.in_ok-signature.ensures) in
+    ap (option_map (declared_by members.numbers)) (slice_get-get_or members.list place member within ∙ ap Some (sym c.member-item.is)) ∙ ap Some (sym c.in_ok-signature.ensures) in
     c.in_ok-add_lacking.ensures members above numbers object at (c.loop-place.invariant above numbers object given)
