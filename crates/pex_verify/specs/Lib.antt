@@ -26,4 +26,5 @@ pub mod Parents
 pub mod Properties
 pub mod Variables
 pub mod Loading
+pub mod Whole
 pub mod Members

@@ -6,6 +6,7 @@ ghost use Rattle.pex_verify.specs.Sets.{AreSoundOutlines, AreSoundScripts};
 ghost use Rattle.pex_verify.specs.Heads.{Placed, placed, placed_in, placed_objects, members_of, AreNumbered, AreHeads};
 ghost use Rattle.pex_set.specs.Objects.{parents_in};
 ghost use Rattle.pex_verify.specs.Loading.{judged_by, AreObjects, IsLoadedSet};
+ghost use Rattle.pex_verify.specs.Whole.{IsJudged};
 
 use crate::fault::{VerifyFault, VerifyRule};
 use crate::lines::FileLines;
@@ -87,6 +88,7 @@ fn load_tables(
     requires few { length files.now < 65536 }
     ensures count { IfOk result (λ tables. vec_len tables.parts.scripts ≡ script_count files.now) }
     ensures sound { IfOk result (λ tables. AreSoundScripts (vec_len tables.parts.scripts) tables.parts.outlines.items tables.parts.scripts.items) }
+    ensures judged { IfOk result (λ tables. IsJudged tables.parts.scripts.items tables.parts.outlines.items) }
 {
     let prelude = Prelude::new(alloc)?;
     load_behind(alloc, table, &prelude, files, keeps_code)
@@ -104,6 +106,7 @@ fn load_behind(
     requires prelude { vec_len prelude.now.file.objects ≡ 6 }
     ensures count { IfOk result (λ tables. vec_len tables.parts.scripts ≡ script_count files.now) }
     ensures sound { IfOk result (λ tables. AreSoundScripts (vec_len tables.parts.scripts) tables.parts.outlines.items tables.parts.scripts.items) }
+    ensures judged { IfOk result (λ tables. IsJudged tables.parts.scripts.items tables.parts.outlines.items) }
 {
     let prelude_strings = FileStrings::of(alloc, table, prelude.file.strings.as_slice())?;
     let strings = strings_of_files(alloc, table, files)?;

@@ -1,5 +1,6 @@
-use Rattle.std.proofs.Common.{ap, ◌∙◌, vec_len, rules}
-use Rattle.pex_verify.specs.Matching.{parameter_types, local_types}
+use Rattle.std.proofs.Common.{List, ◌++◌, map, refl, sym, ap, ◌∙◌, vec_len, rules}
+use Rattle.pex_verify.specs.declared.value_type.ValueType.{ValueType}
+use Rattle.pex_verify.specs.Matching.{parameter_type, parameter_types, local_type, local_types}
 use Rattle.pex_verify.proofs.Standing.{code_is_typed}
 use Rattle.pex_verify.proofs.function.load_function.Goals as goal
 
@@ -20,5 +21,5 @@ returns-clause-written c = record {
   result = search rules;
   is_global = search rules;
   is_native = search rules;
-  typed = ?;
+  typed = code_is_typed _ _ (c.in_ok-locals.ensures.slots ∙ ap (λ (types : List ValueType). types ++ map local_type c.in_ok-locals.locals.items) (c.in_ok-parameters.ensures.slots ∙ ap (λ (types : List ValueType). types ++ map parameter_type c.in_ok-parameters.parameters.items) c.clear.ensures)) c.in_ok-parameters.ensures.typed c.in_ok-locals.ensures.typed refl (sym c.in_ok-result.ensures.known) c.in_ok-code.ensures.typed;
 }

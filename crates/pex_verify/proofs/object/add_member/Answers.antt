@@ -28,14 +28,14 @@ returns-clause-sound c = λ old.
 pub returns-clause-written : goal.returns-clause-written
 returns-clause-written c = λ before given.
     let home = c.args.home.now in
-    let types = home.set.now.types in
+    let site = site_of home in
     let list = home.members.now.list.now in
     let place = c.args.place in
     let member = c.in-Some.member.now in
     let within : place < length list = omega (arith, c.in-Some.ensures.lookup.3.0) in
     let at : member ≡ get_or list place member = c.in-Some.ensures.lookup.1 in
     let found : slice_get list place ≡ Some member = slice_get-get_or list place member within ∙ ap Some (sym at) in
-    let IsLoaded : ℕ → Written → LoadedFunction → Type 0 = λ n w f. IsWritten types w f in
+    let IsLoaded : ℕ → Written → LoadedFunction → Type 0 = λ n w f. IsWritten site w f in
     let pushed = Paired-push Written LoadedFunction IsLoaded before c.args.functions.now.items (written_member home member) c.in_ok-load_member.field-0 given c.in_ok-load_member.ensures.written in
-    subst (λ (l : List Written). AreWritten types l c.push.new.self.items) (ap (λ (o : Option (ℕ × PexFunction)). before ++ member_written home o) (sym found))
-    (subst (λ (l : List LoadedFunction). AreWritten types (before ++ written_member home member ∷ []) l) (sym c.in_ok-push.ensures.items) pushed)
+    subst (λ (l : List Written). AreWritten site l c.push.new.self.items) (ap (λ (o : Option (ℕ × PexFunction)). before ++ member_written home o) (sym found))
+    (subst (λ (l : List LoadedFunction). AreWritten site (before ++ written_member home member ∷ []) l) (sym c.in_ok-push.ensures.items) pushed)
