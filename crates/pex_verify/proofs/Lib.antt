@@ -15,3 +15,5 @@ pub mod Loading
 pub mod Objects
 pub mod MemberLists
 pub mod Standing
+pub mod Distinct
+pub mod Whole

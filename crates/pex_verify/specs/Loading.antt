@@ -15,7 +15,7 @@ use Rattle.pex_verify.specs.Heads.{Placed, placed_objects, members_of, AreNumber
 use Rattle.pex_verify.specs.Outlining.{IsOutlineOf}
 use Rattle.pex_verify.specs.Pairs.{Paired}
 use Rattle.pex_verify.specs.Properties.{IsProperty}
-use Rattle.pex_verify.specs.Rules.{EachReplaces}
+use Rattle.pex_verify.specs.Rules.{AreDistinct, EachReplaces, state_numbers}
 use Rattle.pex_verify.specs.Sites.{site_of}
 use Rattle.pex_verify.specs.States.{AreStates, states_written}
 use Rattle.pex_verify.specs.Variables.{variable_type, type_of_variable}
@@ -29,6 +29,7 @@ AreProperties home loaded =
 pub record IsScriptOf (home : Home) (script : LoadedScript) (outline : OutlineScript) : Type 0 where
   pub properties : AreProperties home script.properties.items
   pub states : AreStates (site_of home) (states_written home home.object.now.states.items) script.states.items
+  pub distinct : AreDistinct (state_numbers home)
   pub replaces : All (EachReplaces home) home.object.now.states.items
   pub shape : IsOutlineOf home script outline
 

@@ -1,5 +1,5 @@
 -- What V5 and V11 say of the members of a script.
-use Rattle.std.specs.Prelude.{◌≡◌, ℕ, ◌==◌, Bool, true, false, bit_and, List, Option, Some, None, if◌then◌else◌, All}
+use Rattle.std.specs.Prelude.{◌≡◌, ◌≢◌, ℕ, ◌<◌, ◌==◌, Bool, true, false, bit_and, List, length, map, slice_index, Option, Some, None, if◌then◌else◌, All}
 use Rattle.pex_set.specs.Inherited.{found_in}
 use Rattle.pex_set.specs.Names.{empty_name}
 use Rattle.pex_set.specs.declared.inherited.MemberPlace.{MemberPlace}
@@ -10,6 +10,20 @@ use Rattle.pex_verify.specs.declared.scripts.ScriptSet.{ScriptSet}
 use Rattle.pex_verify.specs.declared.signature.Signature.{Signature}
 use Rattle.pex_verify.specs.Found.{function_found, parent_of, property_found, rank_of}
 use Rattle.pex_verify.specs.Signatures.{AreAlike, declared_by, declared_of, number_at}
+
+-- ---- names
+-- no two of these numbers are the same
+abbrev pub AreDistinct : List ℕ → Type 0
+AreDistinct numbers = (a b : ℕ) → a < b → b < length numbers → slice_index numbers a ≢ slice_index numbers b
+
+-- the numbers of the names of an object's states, and of a state's functions
+abbrev pub state_numbers : Home → List ℕ
+state_numbers home =
+    map (λ (state : PexState). number_at home.source.now.names.now state.name) home.object.now.states.items
+
+abbrev pub function_numbers : Home → PexState → List ℕ
+function_numbers home state =
+    map (λ (function : ℕ × PexFunction). number_at home.source.now.names.now function.0) state.functions.items
 
 -- ---- properties
 abbrev pub own_place : ℕ → Option MemberPlace → Option ℕ
@@ -53,6 +67,7 @@ abbrev pub Replaces : Home → ℕ → ℕ × PexFunction → Type 0
 Replaces home state function =
     ReplacesIn (number_at home.source.now.names.now state == 0) home (number_at home.source.now.names.now function.0) function.1
 
--- each function of a state
-abbrev pub EachReplaces : Home → PexState → Type 0
-EachReplaces home state = All (Replaces home state.name) state.functions.items
+-- each function of a state, and no two have one name
+pub record EachReplaces (home : Home) (state : PexState) : Type 0 where
+  pub replaces : All (Replaces home state.name) state.functions.items
+  pub distinct : AreDistinct (function_numbers home state)

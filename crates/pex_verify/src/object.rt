@@ -1,7 +1,7 @@
 // One object.
-ghost use Rattle.std.specs.Prelude.{◌≡◌, ◌++◌, ℕ, List, Some, map, vec_len, All, IfOk, IsTrue, OnOk, option_copied};
+ghost use Rattle.std.specs.Prelude.{◌≡◌, ◌==◌, ◌++◌, ℕ, List, Some, None, true, nat_eq, if◌then◌else◌, map, vec_len, All, IfOk, IsTrue, OnOk, option_copied};
 ghost use Rattle.pex_verify.specs.Found.{function_found, parent_of};
-ghost use Rattle.pex_verify.specs.Rules.{EachReplaces, Overrides, Replaces, Varies};
+ghost use Rattle.pex_verify.specs.Rules.{AreDistinct, EachReplaces, Overrides, Replaces, Varies, state_numbers};
 ghost use Rattle.pex_verify.specs.declared.signature.Signature.{Signature};
 ghost use Rattle.pex_verify.specs.Soundness.{IsSoundFunction, AreSoundFunctions, IsSoundState, IsSoundProperty, AreTyped};
 ghost use Rattle.pex_verify.specs.Objects.{IsSoundObject};
@@ -10,6 +10,7 @@ ghost use Rattle.pex_verify.specs.Places.{bounds_of};
 ghost use Rattle.pex_verify.specs.Heads.{placed};
 ghost use Rattle.pex_verify.specs.Loading.{judged_by, judged_in, placed_at, AreProperties, IsObjectOf, IsWholeObject};
 ghost use Rattle.pex_verify.specs.Matching.{Written, IsWritten, AreWritten};
+ghost use Rattle.std.specs.HashMap.{get};
 ghost use Rattle.std.specs.List.{list_any};
 ghost use Rattle.pex_verify.specs.States.{is_empty_state, own_written, written_member, member_in, lacking_written, WrittenState, state_written, state_functions, added_state, states_written, IsState, AreStates};
 
@@ -155,13 +156,13 @@ fn load_states(
 ) -> Result<Vec<(Name, Vec<LoadedFunction>)>, VerifyFault>
     ensures sound { IfOk result (λ states. All (λ state. IsSoundState (bounds_of home.now) state.1.items) states.items) }
     ensures written { IfOk result (λ states. AreStates (site_of home.now) (states_written home.now home.now.object.now.states.items) states.items) }
+    ensures distinct { OnOk result (AreDistinct (state_numbers home.now)) }
     ensures replaces { OnOk result (All (EachReplaces home.now) home.now.object.now.states.items) }
 {
     let mut seen = HashMap::new(home.alloc);
     let mut states = Vec::with_capacity(home.alloc, home.object.states.len())?;
     for state in &home.object.states {
-        let number = home.source.names.number(state.name);
-        if seen.insert(number, ())?.is_some() {
+        if !note(&mut seen, home.source.names.number(state.name))? {
             return Err(home.fault_in(state.name, Refusal::of(VerifyRule::DuplicateName)));
         }
         states.push(load_state(home, lists, state)?)?;
@@ -170,6 +171,14 @@ fn load_states(
         return Ok(states);
     }
     with_members(home, lists, states)
+}
+
+// Notes a number, and tells whether it is new.
+fn note(seen: &mut HashMap<usize, ()>, number: usize) -> Result<bool, OutOfMemory>
+    ensures new { IfOk result (λ is_new. is_new ≡ true → get nat_eq seen.old number ≡ None) }
+    ensures noted { OnOk result ((other : ℕ) → get nat_eq seen.new other ≡ (if number == other then Some tt else get nat_eq seen.old other)) }
+{
+    Ok(seen.insert(number, ())?.is_none())
 }
 
 fn has_empty_state(home: &Home<'_>) -> bool
@@ -255,7 +264,7 @@ fn load_functions(
     let mut seen = HashMap::new(home.alloc);
     let mut functions = Vec::with_capacity(home.alloc, state.functions.len())?;
     for (name, function) in &state.functions {
-        let is_new = seen.insert(home.source.names.number(*name), ())?.is_none();
+        let is_new = note(&mut seen, home.source.names.number(*name))?;
         match load_state_function(home, lists, state.name, *name, function, is_new) {
             Ok(loaded) => functions.push(loaded)?,
             Err(refusal) => return Err(home.fault_in(*name, refusal)),
@@ -276,6 +285,7 @@ fn load_state_function(
     ensures sound { IfOk result (IsSoundFunction (bounds_of home.now)) }
     ensures written { IfOk result (IsWritten (site_of home.now) (own_written home.now (name, function.now))) }
     ensures replaces { OnOk result (Replaces home.now state (name, function.now)) }
+    ensures new { OnOk result (IsTrue is_new) }
 {
     if !is_new {
         return Err(Refusal::of(VerifyRule::DuplicateName));

@@ -28,4 +28,6 @@ loop-name-preserved c =
       all_grown (IsSoundFunction (bounds_of home)) old c.push.new.self.items c.in-Ok.loaded c.in_ok-push-in-Ok.ensures.items c.loop-name.invariant.0 c.in-Ok.ensures.sound,
       Paired-mapped (ℕ × PexFunction) Written LoadedFunction IsLoaded (own_written home) all old c.push.new.self.items i item item c.in-Ok.loaded c.in_ok-push-in-Ok.ensures.items within is c.loop-name.invariant.1 c.in-Ok.ensures.written,
       λ k d h. below_more Replaced i (λ j below other. c.loop-name.invariant.2 j other below) here k h d,
+      ?,
+      ?,
     )

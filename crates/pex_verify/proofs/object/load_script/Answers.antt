@@ -24,6 +24,7 @@ returns-clause-object c = record {
   loaded = record {
     properties = c.in_ok-properties.ensures.written;
     states = c.in_ok-states.ensures.written;
+    distinct = c.in_ok-states.ensures.distinct;
     replaces = c.in_ok-states.ensures.replaces;
     shape = c.in_ok-outline.ensures.outline;
   };

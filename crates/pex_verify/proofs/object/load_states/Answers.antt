@@ -31,4 +31,6 @@ loop-state-preserved c =
       all_grown IsSound old c.push.new.self.items loaded c.in_ok-push.ensures.items c.loop-state.invariant.0 c.in_ok-load_state.ensures.sound,
       Paired-mapped PexState WrittenState (Name × Vec LoadedFunction Global) IsLoaded (state_written home) all old c.push.new.self.items i item item loaded c.in_ok-push.ensures.items within is c.loop-state.invariant.1 c.in_ok-load_state.ensures.written,
       λ k d h. below_more Replaced i (λ j below other. c.loop-state.invariant.2 j other below) here k h d,
+      ?,
+      ?,
     )
