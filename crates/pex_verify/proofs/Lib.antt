@@ -7,3 +7,13 @@ pub mod Typing
 pub mod TypedValues
 pub mod TypedCalls
 pub mod TypedInstructions
+pub mod Pairs
+pub mod Heads
+pub mod Strings
+pub mod States
+pub mod Loading
+pub mod Objects
+pub mod MemberLists
+pub mod Standing
+pub mod Distinct
+pub mod Whole

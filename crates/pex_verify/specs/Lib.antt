@@ -14,3 +14,17 @@ pub mod Accepted
 pub mod Found
 pub mod Agreement
 pub mod Judged
+pub mod Sites
+pub mod Rules
+pub mod Pairs
+pub mod Signatures
+pub mod Heads
+pub mod Matching
+pub mod States
+pub mod Outlining
+pub mod Parents
+pub mod Properties
+pub mod Variables
+pub mod Loading
+pub mod Whole
+pub mod Members

@@ -11,5 +11,5 @@ bounds_of home = bounds_with (vec_len home.set.now.heads) (vec_len home.variable
 
 -- the script of a function that was found is one of so many
 abbrev pub IsFoundAmong : ℕ → Lookup → Type 0
-IsFoundAmong count (Function callee) = callee.place.script < count
+IsFoundAmong count (Function callee) = callee.place.object < count
 IsFoundAmong count _ = Unit {0}

@@ -1,6 +1,10 @@
 // One function.
-ghost use Rattle.std.specs.Prelude.{◌≡◌, ◌+◌, ℕ, length, vec_len, All, IfOk, OnOk, IfSome};
+ghost use Rattle.std.specs.Prelude.{◌≡◌, ◌+◌, ℕ, [], ◌∷◌, ◌++◌, length, map, vec_len, All, IfOk, OnOk, IfSome};
+ghost use Rattle.pex_verify.specs.Signatures.{kind_at};
+ghost use Rattle.pex_verify.specs.Meanings.{of_result, result_meaning, value_meaning};
+ghost use Rattle.pex_verify.specs.Matching.{parameter_type, parameter_types, local_type, local_types, IsWritten};
 ghost use Rattle.pex_verify.specs.Judged.{AreTypedIn};
+ghost use Rattle.pex_verify.specs.Sites.{site_of};
 ghost use Rattle.pex_verify.specs.Places.{bounds_of};
 ghost use Rattle.pex_verify.specs.Types.{IsTypeAmong, IsValueTypeAmong};
 ghost use Rattle.pex_verify.specs.Soundness.{IsSoundFunction, AreSoundInstructions};
@@ -56,7 +60,8 @@ pub(crate) fn load_function(
     function: &PexFunction,
     lines: &[u16],
 ) -> Result<LoadedFunction, Refusal>
-    ensures { IfOk result (IsSoundFunction (bounds_of home.now)) }
+    ensures sound { IfOk result (IsSoundFunction (bounds_of home.now)) }
+    ensures written { IfOk result (IsWritten (site_of home.now) (record { numbers = source.now.names.now; titles = source.now.titles.now; name = name; function = function.now })) }
 {
     let alloc = home.alloc;
     let answer = home.set.result_type(source.names.number(function.result));
@@ -89,7 +94,8 @@ pub(crate) fn load_function(
 
 /// The type of a type name that must mean one, none for `None`.
 pub(crate) fn known_type(declared: ValueType) -> Result<Option<CoreType>, Refusal>
-    ensures { (count : ℕ) → IsValueTypeAmong count declared → IfOk result (λ found. IfSome found (IsTypeAmong count)) }
+    ensures known { IfOk result (λ found. of_result found ≡ declared) }
+    ensures among { (count : ℕ) → IsValueTypeAmong count declared → IfOk result (λ found. IfSome found (IsTypeAmong count)) }
 {
     match declared {
         ValueType::Nothing => Ok(None),
@@ -107,16 +113,32 @@ fn load_parameters(
 ) -> Result<Vec<(Name, CoreType)>, Refusal>
     ensures count { IfOk result (λ parameters. vec_len slots.new.list ≡ vec_len slots.old.list + vec_len parameters) }
     ensures typed { IfOk result (λ parameters. All (λ p. IsTypeAmong (vec_len home.now.set.now.heads) p.1) parameters.items) }
+    ensures slots { IfOk result (λ parameters. slots.new.list.items ≡ slots.old.list.items ++ map parameter_type parameters.items) }
+    ensures kinds { IfOk result (λ parameters. map parameter_type parameters.items ≡ parameter_types home.now.set.now.types source.now.names.now pairs.now) }
 {
     let mut parameters = Vec::with_capacity(home.alloc, pairs.len())?;
     for pair in pairs {
-        let declared = home.set.value_type(source.names.number(pair.1));
-        match judged_slot(source, slots, *pair, declared)? {
-            Some(found) => parameters.push((source.title(home.alloc, pair.0)?, found))?,
-            None => return Err(Refusal::of(VerifyRule::OperandType)),
-        }
+        parameters.push(load_parameter(home, source, slots, *pair)?)?;
     }
     Ok(parameters)
+}
+
+fn load_parameter(
+    home: &Home<'_>,
+    source: &SetFile<'_>,
+    slots: &mut NamedList<ValueType>,
+    pair: (u16, u16),
+) -> Result<(Name, CoreType), Refusal>
+    ensures count { OnOk result (vec_len slots.new.list ≡ vec_len slots.old.list + 1) }
+    ensures slots { IfOk result (λ p. slots.new.list.items ≡ slots.old.list.items ++ parameter_type p ∷ []) }
+    ensures kind { IfOk result (λ p. parameter_type p ≡ value_meaning home.now.set.now.types (kind_at source.now.names.now pair)) }
+    ensures typed { IfOk result (λ p. IsTypeAmong (vec_len home.now.set.now.heads) p.1) }
+{
+    let declared = home.set.value_type(source.names.number(pair.1));
+    match judged_slot(source, slots, pair, declared)? {
+        Some(found) => Ok((source.title(home.alloc, pair.0)?, found)),
+        None => Err(Refusal::of(VerifyRule::OperandType)),
+    }
 }
 
 fn load_locals(
@@ -127,14 +149,30 @@ fn load_locals(
 ) -> Result<Vec<(Name, Option<CoreType>)>, Refusal>
     ensures count { IfOk result (λ locals. vec_len slots.new.list ≡ vec_len slots.old.list + vec_len locals) }
     ensures typed { IfOk result (λ locals. All (λ l. IfSome l.1 (IsTypeAmong (vec_len home.now.set.now.heads))) locals.items) }
+    ensures slots { IfOk result (λ locals. slots.new.list.items ≡ slots.old.list.items ++ map local_type locals.items) }
+    ensures kinds { IfOk result (λ locals. map local_type locals.items ≡ local_types home.now.set.now.types source.now.names.now pairs.now) }
 {
     let mut locals = Vec::with_capacity(home.alloc, pairs.len())?;
     for pair in pairs {
-        let declared = home.set.result_type(source.names.number(pair.1));
-        let found = judged_slot(source, slots, *pair, declared)?;
-        locals.push((source.title(home.alloc, pair.0)?, found))?;
+        locals.push(load_local(home, source, slots, *pair)?)?;
     }
     Ok(locals)
+}
+
+fn load_local(
+    home: &Home<'_>,
+    source: &SetFile<'_>,
+    slots: &mut NamedList<ValueType>,
+    pair: (u16, u16),
+) -> Result<(Name, Option<CoreType>), Refusal>
+    ensures count { OnOk result (vec_len slots.new.list ≡ vec_len slots.old.list + 1) }
+    ensures slots { IfOk result (λ l. slots.new.list.items ≡ slots.old.list.items ++ local_type l ∷ []) }
+    ensures kind { IfOk result (λ l. local_type l ≡ result_meaning home.now.set.now.types (kind_at source.now.names.now pair)) }
+    ensures typed { IfOk result (λ l. IfSome l.1 (IsTypeAmong (vec_len home.now.set.now.heads))) }
+{
+    let declared = home.set.result_type(source.names.number(pair.1));
+    let found = judged_slot(source, slots, pair, declared)?;
+    Ok((source.title(home.alloc, pair.0)?, found))
 }
 
 // Adds a parameter or local of this type, unless it breaks a rule: V2, V5, then V7.
@@ -145,6 +183,8 @@ fn judged_slot(
     declared: ValueType,
 ) -> Result<Option<CoreType>, Refusal>
     ensures count { OnOk result (vec_len slots.new.list ≡ vec_len slots.old.list + 1) }
+    ensures slots { OnOk result (slots.new.list.items ≡ slots.old.list.items ++ declared ∷ []) }
+    ensures known { IfOk result (λ found. of_result found ≡ declared) }
     ensures typed { (count : ℕ) → IsValueTypeAmong count declared → IfOk result (λ found. IfSome found (IsTypeAmong count)) }
 {
     let name = source.names.number(pair.0);

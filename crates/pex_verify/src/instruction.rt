@@ -12,6 +12,7 @@ use crate::action::{Action, action_of, uses_of};
 use crate::fault::{Refusal, VerifyRule};
 use crate::loaded::{LoadedInstruction, MethodPlace, Operand};
 use crate::lookup::{Lookup, look_up, name_at};
+use crate::members::method_place;
 use crate::operand_types::operands_fit;
 use crate::operands::{Operands, has_float, has_long_text, resolve_all};
 use crate::scope::FunctionScope;
@@ -177,7 +178,7 @@ fn static_function(action: Action, found: Lookup<'_>) -> Option<MethodPlace>
     ensures { (count : ℕ) → IsFoundAmong count found.entry → IfSome result (λ f. f.script < count) }
 {
     match found {
-        Lookup::Function(callee) if action == Action::CallStatic => Some(callee.place),
+        Lookup::Function(callee) if action == Action::CallStatic => method_place(callee.place),
         _ => None,
     }
 }

@@ -109,24 +109,27 @@ pub struct Loaded {
 }
 
 impl Model for Loaded {
-    ghost use Rattle.pex_verify.specs.Sets.{LoadedSet, IsSoundSet};
+    ghost use Rattle.pex_verify.specs.Sets.{LoadedSet};
+    ghost use Rattle.pex_verify.specs.Whole.{IsWholeSet};
 
     ghost Value = { LoadedSet };
 
     ghost view = { λ l. record { outline = l.outline.scripts.items; files = l.files.items; scripts = l.scripts.items } };
 
-    ghost invariant = { λ l. IsSoundSet (record { outline = l.outline.scripts.items; files = l.files.items; scripts = l.scripts.items }) };
+    ghost invariant = { λ l. IsWholeSet (record { outline = l.outline.scripts.items; files = l.files.items; scripts = l.scripts.items }) };
 }
 
 impl Loaded {
     ghost use Rattle.core_tree.specs.declared.outline.OutlineScript.{OutlineScript};
     ghost use Rattle.pex_verify.specs.Sets.{IsSoundSet};
     ghost use Rattle.pex_verify.specs.Soundness.{bounds_with, IsSoundScript};
+    ghost use Rattle.pex_verify.specs.Whole.{IsWholeSet};
 
     /// The members of the scripts without their code.
     pub fn outline(&self) -> &Outline
         ensures outline { result.now.scripts.items ≡ self.now.outline }
         ensures sound { IsSoundSet self.now }
+        ensures whole { IsWholeSet self.now }
     {
         &self.outline
     }

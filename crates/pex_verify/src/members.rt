@@ -1,14 +1,16 @@
 // Where the machine and the rules find the methods and properties of scripts.
-ghost use Rattle.std.specs.Prelude.{◌≡◌, IfSome};
+ghost use Rattle.std.specs.Prelude.{◌≡◌, [], ◌∷◌, IfOk, IfSome, OnOk};
+ghost use Rattle.pex_verify.specs.Members.{owner_in, member_of, properties_of, functions_of, methods_in, methods_of_state, methods_of_states, with_methods, with_properties, with_script};
 ghost use Rattle.pex_set.specs.Inherited.{found_in};
 ghost use Rattle.pex_set.specs.Names.{empty_name};
 ghost use Rattle.pex_set.specs.Ranks.{is_below, span_at};
 
 use crate::loaded::{MethodPlace, PropertyPlace};
-use crate::scripts::ScriptHead;
+use crate::scripts::{PropertyHead, ScriptHead};
+use crate::signature::Signature;
 use papy_base::OutOfMemory;
 use pex_set::{Descent, EMPTY_NAME, FileNames, Inherited, MemberPlace, OwnMembers};
-use pex_values::PexObject;
+use pex_values::{PexFunction, PexObject, PexState};
 use std::alloc::Global;
 
 /// The methods and properties of scripts, as they are collected.
@@ -21,10 +23,10 @@ pub(crate) struct MemberLists {
 
 impl MemberLists {
     /// No members of scripts with these parents.
-    pub(crate) fn new(
-        alloc: Global,
-        parents: &[Option<usize>],
-    ) -> Result<MemberLists, OutOfMemory> {
+    pub(crate) fn new(alloc: Global, parents: &[Option<usize>]) -> Result<MemberLists, OutOfMemory>
+        ensures methods { IfOk result (λ lists. lists.methods ≡ []) }
+        ensures properties { IfOk result (λ lists. lists.properties ≡ []) }
+    {
         Ok(MemberLists {
             descent: Descent::of(alloc, parents)?,
             methods: OwnMembers::new(alloc),
@@ -39,43 +41,93 @@ impl MemberLists {
         names: &FileNames,
         object: &PexObject,
         head: &ScriptHead,
-    ) -> Result<(), OutOfMemory> {
-        for (place, property) in head.properties.iter().enumerate() {
+    ) -> Result<(), OutOfMemory>
+        ensures { OnOk result (self.new ≡ with_script self.old number names.now object.now head.now) }
+    {
+        self.add_properties(number, head.properties.as_slice())?;
+        self.add_functions(number, head.empty_state, head.functions.as_slice())?;
+        self.add_named_states(number, names, object.states.as_slice())
+    }
+
+    fn add_properties(
+        &mut self,
+        object: usize,
+        properties: &[PropertyHead],
+    ) -> Result<(), OutOfMemory>
+        ensures { OnOk result (self.new ≡ with_properties self.old (properties_of (owner_in self.old object) properties.now)) }
+    {
+        for (place, property) in properties.iter().enumerate() {
             let member = MemberPlace {
-                object: number,
+                object,
                 state: 0,
                 place,
             };
-            let span = self.descent.span(number);
+            let span = self.descent.span(object);
             self.properties
                 .add((EMPTY_NAME, property.name), member, span)?;
         }
-        for (place, function) in head.functions.iter().enumerate() {
-            self.add_method(number, head.empty_state, place, (EMPTY_NAME, function.name))?;
+        Ok(())
+    }
+
+    // The functions of the empty state.
+    fn add_functions(
+        &mut self,
+        object: usize,
+        state: usize,
+        functions: &[Signature],
+    ) -> Result<(), OutOfMemory>
+        ensures { OnOk result (self.new ≡ with_methods self.old (functions_of (owner_in self.old object) state functions.now)) }
+    {
+        for (place, function) in functions.iter().enumerate() {
+            self.add_method(object, state, place, (EMPTY_NAME, function.name))?;
         }
-        self.add_named_states(number, names, object)
+        Ok(())
     }
 
     // The functions of the states that have a name.
     fn add_named_states(
         &mut self,
-        number: usize,
+        object: usize,
         names: &FileNames,
-        object: &PexObject,
-    ) -> Result<(), OutOfMemory> {
-        for (state_place, state) in object.states.iter().enumerate() {
-            let state_name = names.number(state.name);
-            if state_name == EMPTY_NAME {
-                continue;
-            }
-            for (place, (name, _)) in state.functions.iter().enumerate() {
-                self.add_method(
-                    number,
-                    state_place,
-                    place,
-                    (state_name, names.number(*name)),
-                )?;
-            }
+        states: &[PexState],
+    ) -> Result<(), OutOfMemory>
+        ensures { OnOk result (self.new ≡ with_methods self.old (methods_of_states (owner_in self.old object) names.now 0 states.now)) }
+    {
+        for (place, state) in states.iter().enumerate() {
+            self.add_state(object, names, place, state)?;
+        }
+        Ok(())
+    }
+
+    fn add_state(
+        &mut self,
+        object: usize,
+        names: &FileNames,
+        place: usize,
+        state: &PexState,
+    ) -> Result<(), OutOfMemory>
+        ensures { OnOk result (self.new ≡ with_methods self.old (methods_of_state (owner_in self.old object) names.now place state.now)) }
+    {
+        let name = names.number(state.name);
+        if name == EMPTY_NAME {
+            return Ok(());
+        }
+        self.add_state_functions(object, names, (place, name), state.functions.as_slice())
+    }
+
+    // The functions of the state at this place, which has a name of this number.
+    fn add_state_functions(
+        &mut self,
+        object: usize,
+        names: &FileNames,
+        state: (usize, usize),
+        functions: &[(u16, PexFunction)],
+    ) -> Result<(), OutOfMemory>
+        ensures { OnOk result (self.new ≡ with_methods self.old (methods_in (owner_in self.old object) names.now state.0 state.1 functions.now)) }
+    {
+        for (place, function) in functions.iter().enumerate() {
+            let name = names.number(function.0);
+            self.add_method(object, state.0, place, (state.1, name))?;
         }
         Ok(())
     }
@@ -86,7 +138,9 @@ impl MemberLists {
         state: usize,
         place: usize,
         names: (usize, usize),
-    ) -> Result<(), OutOfMemory> {
+    ) -> Result<(), OutOfMemory>
+        ensures { OnOk result (self.new ≡ with_methods self.old (member_of (owner_in self.old object) state names place ∷ [])) }
+    {
         let member = MemberPlace {
             object,
             state,

@@ -1,8 +1,18 @@
 // One object.
-ghost use Rattle.std.specs.Prelude.{vec_len, All, IfOk, OnOk};
+ghost use Rattle.std.specs.Prelude.{◌≡◌, ◌==◌, ◌++◌, ℕ, List, Some, None, true, nat_eq, if◌then◌else◌, map, vec_len, All, IfOk, IsTrue, OnOk, option_copied};
+ghost use Rattle.pex_verify.specs.Found.{function_found, parent_of};
+ghost use Rattle.pex_verify.specs.Rules.{AreDistinct, EachReplaces, Overrides, Replaces, Varies, state_numbers};
+ghost use Rattle.pex_verify.specs.declared.signature.Signature.{Signature};
 ghost use Rattle.pex_verify.specs.Soundness.{IsSoundFunction, AreSoundFunctions, IsSoundState, IsSoundProperty, AreTyped};
 ghost use Rattle.pex_verify.specs.Objects.{IsSoundObject};
+ghost use Rattle.pex_verify.specs.Sites.{site_of};
 ghost use Rattle.pex_verify.specs.Places.{bounds_of};
+ghost use Rattle.pex_verify.specs.Heads.{placed};
+ghost use Rattle.pex_verify.specs.Loading.{judged_by, judged_in, placed_at, AreProperties, IsObjectOf, IsWholeObject};
+ghost use Rattle.pex_verify.specs.Matching.{Written, IsWritten, AreWritten};
+ghost use Rattle.std.specs.HashMap.{get};
+ghost use Rattle.std.specs.List.{list_any};
+ghost use Rattle.pex_verify.specs.States.{is_empty_state, own_written, written_member, member_in, lacking_written, WrittenState, state_written, state_functions, added_state, states_written, IsState, AreStates};
 
 use crate::accessors::load_property;
 use crate::fault::{Refusal, VerifyFault, VerifyRule};
@@ -71,7 +81,8 @@ pub(crate) fn load_object(
     lines: &FileLines<'_>,
     object: &PexObject,
 ) -> Result<LoadedObject, VerifyFault>
-    ensures { IfOk result (IsSoundObject (vec_len loader.now.set.now.heads)) }
+    ensures sound { IfOk result (IsSoundObject (vec_len loader.now.set.now.heads)) }
+    ensures object { IfOk result (λ loaded. IsWholeObject (judged_by loader.now) here (placed source.now object.now) loaded.script loaded.outline) }
 {
     judge_names(loader.alloc, source, object)?;
     load_variables(
@@ -92,13 +103,16 @@ pub(crate) fn load_object(
         object,
         variables: &lists.variables,
     };
-    load_script(&home, &mut lists.functions)
+    let loaded = load_script(&home, &mut lists.functions)?;
+    Ok(loaded)
 }
 
 // The object's script and outline, once its variables were judged.
 fn load_script(home: &Home<'_>, lists: &mut FunctionLists) -> Result<LoadedObject, VerifyFault>
     requires { AreTyped (vec_len home.now.set.now.heads) home.now.variables.now.list.items }
-    ensures { IfOk result (IsSoundObject (vec_len home.now.set.now.heads)) }
+    ensures sound { IfOk result (IsSoundObject (vec_len home.now.set.now.heads)) }
+    ensures object { IfOk result (λ loaded. IsObjectOf (judged_in home.now) home.now.here (placed_at home.now) loaded.script loaded.outline) }
+    ensures variables { IfOk result (λ loaded. loaded.outline.variables.items ≡ home.now.variables.now.list.items) }
 {
     let properties = load_properties(home, lists)?;
     let states = load_states(home, lists)?;
@@ -121,7 +135,8 @@ fn load_properties(
     home: &Home<'_>,
     lists: &mut FunctionLists,
 ) -> Result<Vec<LoadedProperty>, VerifyFault>
-    ensures { IfOk result (λ properties. All (IsSoundProperty (bounds_of home.now)) properties.items) }
+    ensures sound { IfOk result (λ properties. All (IsSoundProperty (bounds_of home.now)) properties.items) }
+    ensures written { IfOk result (λ properties. AreProperties home.now properties.items) }
 {
     let mut properties = Vec::with_capacity(home.alloc, home.object.properties.len())?;
     for (place, property) in home.object.properties.iter().enumerate() {
@@ -139,22 +154,40 @@ fn load_states(
     home: &Home<'_>,
     lists: &mut FunctionLists,
 ) -> Result<Vec<(Name, Vec<LoadedFunction>)>, VerifyFault>
-    ensures { IfOk result (λ states. All (λ state. IsSoundState (bounds_of home.now) state.1.items) states.items) }
+    ensures sound { IfOk result (λ states. All (λ state. IsSoundState (bounds_of home.now) state.1.items) states.items) }
+    ensures written { IfOk result (λ states. AreStates (site_of home.now) (states_written home.now home.now.object.now.states.items) states.items) }
+    ensures distinct { OnOk result (AreDistinct (state_numbers home.now)) }
+    ensures replaces { OnOk result (All (EachReplaces home.now) home.now.object.now.states.items) }
 {
     let mut seen = HashMap::new(home.alloc);
     let mut states = Vec::with_capacity(home.alloc, home.object.states.len())?;
     for state in &home.object.states {
-        let number = home.source.names.number(state.name);
-        if seen.insert(number, ())?.is_some() {
+        if !note(&mut seen, home.source.names.number(state.name))? {
             return Err(home.fault_in(state.name, Refusal::of(VerifyRule::DuplicateName)));
         }
-        let name = home.source.title(home.alloc, state.name)?;
-        states.push((name, load_state(home, lists, state)?))?;
+        states.push(load_state(home, lists, state)?)?;
     }
-    if seen.get(&EMPTY_NAME).is_some() {
+    if has_empty_state(home) {
         return Ok(states);
     }
     with_members(home, lists, states)
+}
+
+// Notes a number, and tells whether it is new.
+fn note(seen: &mut HashMap<usize, ()>, number: usize) -> Result<bool, OutOfMemory>
+    ensures new { IfOk result (λ is_new. is_new ≡ true → get nat_eq seen.old number ≡ None) }
+    ensures noted { OnOk result ((other : ℕ) → get nat_eq seen.new other ≡ (if number == other then Some tt else get nat_eq seen.old other)) }
+{
+    Ok(seen.insert(number, ())?.is_none())
+}
+
+fn has_empty_state(home: &Home<'_>) -> bool
+    ensures { result ≡ list_any (is_empty_state home.now) home.now.object.now.states.items }
+{
+    home.object
+        .states
+        .iter()
+        .any(|state| home.source.names.number(state.name) == EMPTY_NAME)
 }
 
 // These states, none of which is the empty one, and an empty state of the members that the script lacks.
@@ -164,7 +197,9 @@ fn with_members(
     mut states: Vec<(Name, Vec<LoadedFunction>)>,
 ) -> Result<Vec<(Name, Vec<LoadedFunction>)>, VerifyFault>
     requires { All (λ state. IsSoundState (bounds_of home.now) state.1.items) states.items }
-    ensures { IfOk result (λ states. All (λ state. IsSoundState (bounds_of home.now) state.1.items) states.items) }
+    ensures sound { IfOk result (λ states. All (λ state. IsSoundState (bounds_of home.now) state.1.items) states.items) }
+    ensures written { (before : List WrittenState) → AreStates (site_of home.now) before states.items
+        → IfOk result (λ states. AreStates (site_of home.now) (before ++ added_state (lacking_written home.now)) states.items) }
 {
     let added = lacking_members(home, lists)?;
     if added.is_empty() {
@@ -178,7 +213,8 @@ fn lacking_members(
     home: &Home<'_>,
     lists: &mut FunctionLists,
 ) -> Result<Vec<LoadedFunction>, VerifyFault>
-    ensures { IfOk result (λ added. IsSoundState (bounds_of home.now) added.items) }
+    ensures sound { IfOk result (λ added. IsSoundState (bounds_of home.now) added.items) }
+    ensures written { IfOk result (λ added. AreWritten (site_of home.now) (lacking_written home.now) added.items) }
 {
     let mut added = Vec::new(home.alloc);
     add_members(home, lists, &mut added)?;
@@ -189,13 +225,30 @@ fn load_state(
     home: &Home<'_>,
     lists: &mut FunctionLists,
     state: &PexState,
+) -> Result<(Name, Vec<LoadedFunction>), VerifyFault>
+    ensures sound { IfOk result (λ loaded. IsSoundState (bounds_of home.now) loaded.1.items) }
+    ensures written { IfOk result (IsState (site_of home.now) (state_written home.now state.now)) }
+    ensures replaces { OnOk result (EachReplaces home.now state.now) }
+{
+    let name = home.source.title(home.alloc, state.name)?;
+    Ok((name, all_functions(home, lists, state)?))
+}
+
+// The functions of a state, and behind those of the empty state the members that the script lacks.
+fn all_functions(
+    home: &Home<'_>,
+    lists: &mut FunctionLists,
+    state: &PexState,
 ) -> Result<Vec<LoadedFunction>, VerifyFault>
-    ensures { IfOk result (λ functions. IsSoundState (bounds_of home.now) functions.items) }
+    ensures sound { IfOk result (λ functions. IsSoundState (bounds_of home.now) functions.items) }
+    ensures written { IfOk result (λ functions. AreWritten (site_of home.now) (state_functions home.now state.now) functions.items) }
+    ensures replaces { OnOk result (EachReplaces home.now state.now) }
 {
     let mut functions = load_functions(home, lists, state)?;
-    if home.source.names.number(state.name) == EMPTY_NAME {
-        add_members(home, lists, &mut functions)?;
+    if home.source.names.number(state.name) != EMPTY_NAME {
+        return Ok(functions);
     }
+    add_members(home, lists, &mut functions)?;
     Ok(functions)
 }
 
@@ -204,12 +257,14 @@ fn load_functions(
     lists: &mut FunctionLists,
     state: &PexState,
 ) -> Result<Vec<LoadedFunction>, VerifyFault>
-    ensures { IfOk result (λ functions. AreSoundFunctions (bounds_of home.now) functions.items) }
+    ensures sound { IfOk result (λ functions. AreSoundFunctions (bounds_of home.now) functions.items) }
+    ensures written { IfOk result (λ functions. AreWritten (site_of home.now) (map (own_written home.now) state.now.functions.items) functions.items) }
+    ensures replaces { OnOk result (EachReplaces home.now state.now) }
 {
     let mut seen = HashMap::new(home.alloc);
     let mut functions = Vec::with_capacity(home.alloc, state.functions.len())?;
     for (name, function) in &state.functions {
-        let is_new = seen.insert(home.source.names.number(*name), ())?.is_none();
+        let is_new = note(&mut seen, home.source.names.number(*name))?;
         match load_state_function(home, lists, state.name, *name, function, is_new) {
             Ok(loaded) => functions.push(loaded)?,
             Err(refusal) => return Err(home.fault_in(*name, refusal)),
@@ -227,7 +282,10 @@ fn load_state_function(
     function: &PexFunction,
     is_new: bool,
 ) -> Result<LoadedFunction, Refusal>
-    ensures { IfOk result (IsSoundFunction (bounds_of home.now)) }
+    ensures sound { IfOk result (IsSoundFunction (bounds_of home.now)) }
+    ensures written { IfOk result (IsWritten (site_of home.now) (own_written home.now (name, function.now))) }
+    ensures replaces { OnOk result (Replaces home.now state (name, function.now)) }
+    ensures new { OnOk result (IsTrue is_new) }
 {
     if !is_new {
         return Err(Refusal::of(VerifyRule::DuplicateName));
@@ -247,22 +305,32 @@ fn load_state_function(
 }
 
 // Whether a function of a state gives and takes what the function that it replaces does.
-fn replaces_alike(home: &Home<'_>, state: u16, name: u16, function: &PexFunction) -> bool {
+fn replaces_alike(home: &Home<'_>, state: u16, name: u16, function: &PexFunction) -> bool
+    ensures { IsTrue result → Replaces home.now state (name, function.now) }
+{
     let names = home.source.names;
     let name = names.number(name);
     if names.number(state) == EMPTY_NAME {
-        match overridden(home, name) {
-            Some(replaced) => replaced.is_of(names, function),
-            None => true,
-        }
+        overrides_alike(home, name, function)
     } else {
         varies_alike(home, name, function)
     }
 }
 
+fn overrides_alike(home: &Home<'_>, name: usize, function: &PexFunction) -> bool
+    ensures { IsTrue result → Overrides home.now name function.now }
+{
+    match overridden(home, name) {
+        Some(replaced) => replaced.is_of(home.source.names, function),
+        None => true,
+    }
+}
+
 // A function of a named state replaces the nearest one of the empty states, which has to be there. Neither
 // is global or native.
-fn varies_alike(home: &Home<'_>, name: usize, function: &PexFunction) -> bool {
+fn varies_alike(home: &Home<'_>, name: usize, function: &PexFunction) -> bool
+    ensures { IsTrue result → Varies home.now name function.now }
+{
     let here = usize::from(home.here);
     match home.set.find_function(here, name) {
         Some(replaced) => {
@@ -274,11 +342,23 @@ fn varies_alike(home: &Home<'_>, name: usize, function: &PexFunction) -> bool {
 
 // What a function of the empty state replaces: the nearest one of the parents, if there is one. Without a parent
 // it is a member that every such script has.
-fn overridden<'a>(home: &Home<'a>, name: usize) -> Option<&'a Signature> {
+fn overridden<'a>(home: &Home<'a>, name: usize) -> Option<&'a Signature>
+    ensures { (parent : ℕ) (signature : Signature) → parent_of home.now.set.now home.now.here ≡ Some parent
+        → function_found home.now.set.now parent name ≡ Some signature → option_copied result ≡ Some signature }
+{
     let set: &'a ScriptSet = home.set;
     match set.parent(usize::from(home.here)) {
-        Some(parent) => Some(set.find_function(parent, name)?.signature),
+        Some(parent) => inherited_function(set, parent, name),
         None => set.member(name),
+    }
+}
+
+fn inherited_function(set: &ScriptSet, script: usize, name: usize) -> Option<&Signature>
+    ensures { option_copied result ≡ function_found set.now script name }
+{
+    match set.find_function(script, name) {
+        Some(found) => Some(found.signature),
+        None => None,
     }
 }
 
@@ -288,8 +368,10 @@ fn add_members(
     lists: &mut FunctionLists,
     functions: &mut Vec<LoadedFunction>,
 ) -> Result<(), VerifyFault>
-    ensures { AreSoundFunctions (bounds_of home.now) functions.old.items
+    ensures sound { AreSoundFunctions (bounds_of home.now) functions.old.items
         → OnOk result (AreSoundFunctions (bounds_of home.now) functions.new.items) }
+    ensures written { (before : List Written) → AreWritten (site_of home.now) before functions.old.items
+        → OnOk result (AreWritten (site_of home.now) (before ++ lacking_written home.now) functions.new.items) }
 {
     for place in home.set.lacking(usize::from(home.here)) {
         add_member(home, lists, *place, functions)?;
@@ -304,8 +386,10 @@ fn add_member(
     place: usize,
     functions: &mut Vec<LoadedFunction>,
 ) -> Result<(), VerifyFault>
-    ensures { AreSoundFunctions (bounds_of home.now) functions.old.items
+    ensures sound { AreSoundFunctions (bounds_of home.now) functions.old.items
         → OnOk result (AreSoundFunctions (bounds_of home.now) functions.new.items) }
+    ensures written { (before : List Written) → AreWritten (site_of home.now) before functions.old.items
+        → OnOk result (AreWritten (site_of home.now) (before ++ member_in home.now place) functions.new.items) }
 {
     let Some(member) = home.members.list.get(place) else {
         return Ok(());
@@ -319,7 +403,8 @@ fn load_member(
     lists: &mut FunctionLists,
     member: &(u16, PexFunction),
 ) -> Result<LoadedFunction, VerifyFault>
-    ensures { IfOk result (IsSoundFunction (bounds_of home.now)) }
+    ensures sound { IfOk result (IsSoundFunction (bounds_of home.now)) }
+    ensures written { IfOk result (IsWritten (site_of home.now) (written_member home.now member.now)) }
 {
     let source = home.members.source;
     match load_function(home, source, lists, member.0, &member.1, &[]) {

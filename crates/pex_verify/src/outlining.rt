@@ -1,5 +1,7 @@
 // The outline of a script.
-ghost use Rattle.std.specs.Prelude.{◌≡◌, vec_len, All, IfOk};
+ghost use Rattle.std.specs.Prelude.{◌≡◌, map, vec_len, All, IfOk};
+ghost use Rattle.core_tree.specs.Outlines.{function_shape};
+ghost use Rattle.pex_verify.specs.Outlining.{loaded_shape, functions_without_state, IsOutlineOf};
 ghost use Rattle.pex_verify.specs.Places.{bounds_of};
 ghost use Rattle.pex_verify.specs.Types.{IsTypeAmong};
 ghost use Rattle.pex_verify.specs.Soundness.{IsSoundFunction, AreSoundFunctions, IsSoundProperty, IsSoundScript, AreTyped, IsOutlineProperty, IsOutlineFunction, IsSoundOutline};
@@ -20,6 +22,7 @@ pub(crate) fn outline_script(
     requires typed { AreTyped (vec_len home.now.set.now.heads) home.now.variables.now.list.items }
     ensures count { IfOk result (λ outline. vec_len outline.variables ≡ vec_len home.now.variables.now.list) }
     ensures sound { IfOk result (IsSoundOutline (vec_len home.now.set.now.heads)) }
+    ensures outline { IfOk result (IsOutlineOf home.now script.now) }
 {
     let source = home.source;
     Ok(OutlineScript {
@@ -47,6 +50,7 @@ fn outline_variables(home: &Home<'_>) -> Result<Vec<OutlineVariable>, OutOfMemor
     requires { AreTyped (vec_len home.now.set.now.heads) home.now.variables.now.list.items }
     ensures count { IfOk result (λ found. vec_len found ≡ vec_len home.now.variables.now.list) }
     ensures typed { IfOk result (λ found. AreTyped (vec_len home.now.set.now.heads) found.items) }
+    ensures same { IfOk result (λ found. found.items ≡ home.now.variables.now.list.items) }
 {
     let alloc = home.alloc;
     let variables = &home.variables.list;
@@ -85,7 +89,8 @@ fn outline_properties(
 // The functions of the state without name.
 fn empty_state<'a>(home: &Home<'_>, script: &'a LoadedScript) -> &'a [LoadedFunction]
     requires { IsSoundScript (bounds_of home.now) script.now }
-    ensures { AreSoundFunctions (bounds_of home.now) result.now }
+    ensures sound { AreSoundFunctions (bounds_of home.now) result.now }
+    ensures first { result.now ≡ functions_without_state script.now.states.items }
 {
     for state in &script.states {
         if state.0.as_bytes().is_empty() {
@@ -100,7 +105,8 @@ fn outline_functions(
     functions: &[LoadedFunction],
 ) -> Result<Vec<OutlineFunction>, OutOfMemory>
     requires { AreSoundFunctions (bounds_of home.now) functions.now }
-    ensures { IfOk result (λ found. All (IsOutlineFunction (vec_len home.now.set.now.heads)) found.items) }
+    ensures sound { IfOk result (λ found. All (IsOutlineFunction (vec_len home.now.set.now.heads)) found.items) }
+    ensures shapes { IfOk result (λ found. map function_shape found.items ≡ map loaded_shape functions.now) }
 {
     let mut found = Vec::with_capacity(home.alloc, functions.len())?;
     for function in functions {
@@ -114,7 +120,8 @@ fn outline_function(
     function: &LoadedFunction,
 ) -> Result<OutlineFunction, OutOfMemory>
     requires { IsSoundFunction (bounds_of home.now) function.now }
-    ensures { IfOk result (IsOutlineFunction (vec_len home.now.set.now.heads)) }
+    ensures sound { IfOk result (IsOutlineFunction (vec_len home.now.set.now.heads)) }
+    ensures shape { IfOk result (λ outline. function_shape outline ≡ loaded_shape function.now) }
 {
     Ok(OutlineFunction {
         name: function.name.try_clone(home.alloc)?,
@@ -130,7 +137,8 @@ fn outline_parameters(
     function: &LoadedFunction,
 ) -> Result<Vec<CoreType>, OutOfMemory>
     requires { IsSoundFunction (bounds_of home.now) function.now }
-    ensures { IfOk result (λ parameters. All (IsTypeAmong (vec_len home.now.set.now.heads)) parameters.items) }
+    ensures sound { IfOk result (λ parameters. All (IsTypeAmong (vec_len home.now.set.now.heads)) parameters.items) }
+    ensures kinds { IfOk result (λ parameters. parameters.items ≡ map (λ p. p.1) function.now.parameters.items) }
 {
     let mut parameters = Vec::with_capacity(home.alloc, function.parameters.len())?;
     for parameter in &function.parameters {

@@ -1,20 +1,23 @@
 // The scripts of a set, as other scripts see them.
-ghost use Rattle.std.specs.Prelude.{◌≡◌, ◌+◌, ◌<◌, length, vec_len, IfOk, IfSome, IsTrue, OnOk};
+ghost use Rattle.std.specs.Prelude.{◌≡◌, ◌+◌, ◌<◌, ℕ, List, ◌++◌, Option, Some, length, map, slice_get, vec_len, IfOk, IfSome, IsTrue, OnOk};
 ghost use Rattle.pex_verify.specs.Fitting.{CastsIn, FitsIn};
 ghost use Rattle.pex_verify.specs.Types.{IsValueTypeAmong};
 ghost use Rattle.pex_verify.specs.Meanings.{result_meaning, value_meaning};
 ghost use Rattle.pex_verify.specs.Sources.{object_count};
+ghost use Rattle.pex_verify.specs.Signatures.{declared_of, declared_by};
+ghost use Rattle.pex_verify.specs.Heads.{Placed, placed_in, placed_objects, Members, members_of, member_at, parent_at, property_by, empty_state_of, functions_of_state, lacking_in, IsHeadOf, AreHeads};
+ghost use Rattle.pex_verify.specs.Parents.{parent_in, parent_among};
+ghost use Rattle.pex_values.specs.declared.values.PexObject.{PexObject};
 
-use crate::loaded::MethodPlace;
-use crate::members::{MemberLists, MemberTable, method_place};
+use crate::members::{MemberLists, MemberTable};
 use crate::signature::Signature;
 use crate::sources::{DefaultMembers, SetFile};
 use crate::type_names::TypeNames;
 use crate::value_type::ValueType;
 use core_tree::CoreType;
 use papy_base::OutOfMemory;
-use pex_set::{EMPTY_NAME, FileNames, LIBRARY_COUNT, NameTable, Objects};
-use pex_values::{PexFunction, PexObject, PexProperty};
+use pex_set::{EMPTY_NAME, FileNames, LIBRARY_COUNT, MemberPlace, NameTable, Objects};
+use pex_values::{PexFunction, PexObject, PexProperty, PexState};
 use std::alloc::Global;
 
 /// A property as other scripts see it. Bits 1 and 2 say whether it can be read and written.
@@ -28,7 +31,7 @@ pub(crate) struct PropertyHead {
 /// A function of an empty state, where it stands and what it gives and takes.
 #[derive(Clone, Copy)]
 pub(crate) struct Callee<'a> {
-    pub(crate) place: MethodPlace,
+    pub(crate) place: MemberPlace,
     pub(crate) signature: &'a Signature,
 }
 
@@ -69,12 +72,11 @@ impl ScriptHead {
         names: &FileNames,
         object: &PexObject,
         parent: Option<usize>,
-    ) -> Result<ScriptHead, OutOfMemory> {
+    ) -> Result<ScriptHead, OutOfMemory>
+        ensures { (members : Members) → IfOk result (IsHeadOf members parent names.now object.now) }
+    {
         let empty_state = empty_state_place(names, object);
-        let functions = match object.states.get(empty_state) {
-            Some(state) => signatures(alloc, names, state.functions.as_slice())?,
-            None => Vec::new(alloc),
-        };
+        let functions = signatures_at(alloc, names, object.states.as_slice(), empty_state)?;
         Ok(ScriptHead {
             parent,
             properties: property_heads(alloc, names, object.properties.as_slice())?,
@@ -85,14 +87,27 @@ impl ScriptHead {
     }
 
     /// Adds those of the four members that the script doesn't have.
-    fn complete(&mut self, alloc: Global, members: &DefaultMembers<'_>) -> Result<(), OutOfMemory> {
+    fn complete(&mut self, alloc: Global, members: &DefaultMembers<'_>) -> Result<(), OutOfMemory>
+        ensures { (above : Option ℕ) (numbers : List ℕ) (object : PexObject) → IsHeadOf (members_of members.now) above numbers object self.old
+            → OnOk result (IsHeadOf (members_of members.now) above numbers object self.new) }
+    {
         for (place, member) in members.list.iter().enumerate() {
             let signature = Signature::of(alloc, members.source.names, member.0, &member.1)?;
-            if !self.has_function(signature.name) {
-                self.functions.push(signature)?;
-                self.lacking.push(place)?;
-            }
+            self.add_lacking(place, signature)?;
         }
+        Ok(())
+    }
+
+    // Adds the member at this place, if the script doesn't have it.
+    fn add_lacking(&mut self, place: usize, signature: Signature) -> Result<(), OutOfMemory>
+        ensures { (members : Members) (above : Option ℕ) (numbers : List ℕ) (object : PexObject) → member_at members place ≡ Some (declared_of signature)
+            → IsHeadOf members above numbers object self.old → OnOk result (IsHeadOf members above numbers object self.new) }
+    {
+        if self.has_function(signature.name) {
+            return Ok(());
+        }
+        self.functions.push(signature)?;
+        self.lacking.push(place)?;
         Ok(())
     }
 
@@ -102,7 +117,9 @@ impl ScriptHead {
 }
 
 // The place of the first state without name.
-fn empty_state_place(names: &FileNames, object: &PexObject) -> usize {
+fn empty_state_place(names: &FileNames, object: &PexObject) -> usize
+    ensures { result ≡ empty_state_of names.now object.now.states.items }
+{
     for (place, state) in object.states.iter().enumerate() {
         if names.number(state.name) == EMPTY_NAME {
             return place;
@@ -115,7 +132,9 @@ fn property_heads(
     alloc: Global,
     names: &FileNames,
     properties: &[PexProperty],
-) -> Result<Vec<PropertyHead>, OutOfMemory> {
+) -> Result<Vec<PropertyHead>, OutOfMemory>
+    ensures { IfOk result (λ heads. heads.items ≡ map (property_by names.now) properties.now) }
+{
     let mut heads = Vec::with_capacity(alloc, properties.len())?;
     for property in properties {
         heads.push(PropertyHead {
@@ -132,12 +151,58 @@ pub(crate) fn signatures(
     alloc: Global,
     names: &FileNames,
     functions: &[(u16, PexFunction)],
-) -> Result<Vec<Signature>, OutOfMemory> {
+) -> Result<Vec<Signature>, OutOfMemory>
+    ensures { IfOk result (λ found. map declared_of found.items ≡ map (declared_by names.now) functions.now) }
+{
     let mut found = Vec::with_capacity(alloc, functions.len())?;
     for function in functions {
         found.push(Signature::of(alloc, names, function.0, &function.1)?)?;
     }
     Ok(found)
+}
+
+// The parent of the script of this number.
+fn parent_of(parents: &[Option<usize>], number: usize) -> Option<usize>
+    ensures { result ≡ parent_at parents.now number }
+{
+    match parents.get(number) {
+        Some(parent) => *parent,
+        None => None,
+    }
+}
+
+// What the object of this number offers.
+fn whole_head(
+    alloc: Global,
+    number: usize,
+    names: &FileNames,
+    object: &PexObject,
+    parents: &[Option<usize>],
+    members: &DefaultMembers<'_>,
+) -> Result<ScriptHead, OutOfMemory>
+    ensures { IfOk result (IsHeadOf (members_of members.now) (parent_at parents.now number) names.now object.now) }
+{
+    let mut head = ScriptHead::of(alloc, names, object, parent_of(parents, number))?;
+    if !has_members(number, names, object) {
+        return Ok(head);
+    }
+    head.complete(alloc, members)?;
+    Ok(head)
+}
+
+// The signatures of the functions of the state at this place, none where there is no such state.
+fn signatures_at(
+    alloc: Global,
+    names: &FileNames,
+    states: &[PexState],
+    place: usize,
+) -> Result<Vec<Signature>, OutOfMemory>
+    ensures { IfOk result (λ found. map declared_of found.items ≡ map (declared_by names.now) (functions_of_state (slice_get states.now place))) }
+{
+    match states.get(place) {
+        Some(state) => signatures(alloc, names, state.functions.as_slice()),
+        None => Ok(Vec::new(alloc)),
+    }
 }
 
 // Adds what the objects of the next file offer.
@@ -149,22 +214,35 @@ fn add_heads(
     members: &DefaultMembers<'_>,
     source: &SetFile<'_>,
 ) -> Result<(), OutOfMemory>
-    ensures { OnOk result (vec_len heads.new ≡ vec_len heads.old + vec_len source.now.pex.now.objects) }
+    ensures count { OnOk result (vec_len heads.new ≡ vec_len heads.old + vec_len source.now.pex.now.objects) }
+    ensures heads { (before : List Placed) → AreHeads (members_of members.now) parents.now before heads.old.items
+        → OnOk result (AreHeads (members_of members.now) parents.now (before ++ placed_in source.now) heads.new.items) }
 {
     for object in &source.pex.objects {
         let number = heads.len();
-        let parent = match parents.get(number) {
-            Some(parent) => *parent,
-            None => None,
-        };
-        let mut head = ScriptHead::of(alloc, source.names, object, parent)?;
-        if has_members(number, source.names, object) {
-            head.complete(alloc, members)?;
-        }
+        let head = whole_head(alloc, number, source.names, object, parents, members)?;
         lists.add(number, source.names, object, &head)?;
         heads.push(head)?;
     }
     Ok(())
+}
+
+// What the objects of these files offer.
+fn all_heads(
+    alloc: Global,
+    lists: &mut MemberLists,
+    parents: &[Option<usize>],
+    members: &DefaultMembers<'_>,
+    sources: &[SetFile<'_>],
+) -> Result<Vec<ScriptHead>, OutOfMemory>
+    ensures count { IfOk result (λ heads. vec_len heads ≡ object_count sources.now) }
+    ensures heads { IfOk result (λ heads. AreHeads (members_of members.now) parents.now (placed_objects sources.now) heads.items) }
+{
+    let mut heads = Vec::with_capacity(alloc, parents.len())?;
+    for source in sources {
+        add_heads(alloc, &mut heads, lists, parents, members, source)?;
+    }
+    Ok(heads)
 }
 
 // Whether the object of this number is read as if it had the four members.
@@ -175,6 +253,7 @@ fn has_members(number: usize, names: &FileNames, object: &PexObject) -> bool {
 impl ScriptSet {
     ghost use Rattle.std.specs.Prelude.{Some};
     ghost use Rattle.pex_verify.specs.Found as found;
+    ghost use Rattle.pex_verify.specs.Rules as rules;
 
     /// The scripts of these files, the first of which is the prelude, whose objects are these.
     pub(crate) fn of(
@@ -186,16 +265,14 @@ impl ScriptSet {
         parents: &[Option<usize>],
     ) -> Result<ScriptSet, OutOfMemory>
         requires { length objects ≡ object_count sources.now }
-        ensures { IfOk result (λ scripts. vec_len scripts.heads ≡ object_count sources.now) }
+        ensures count { IfOk result (λ scripts. vec_len scripts.heads ≡ object_count sources.now) }
+        ensures objects { IfOk result (λ scripts. scripts.objects ≡ objects) }
+        ensures heads { IfOk result (λ scripts. AreHeads (members_of members.now) parents.now (placed_objects sources.now) scripts.heads.items) }
     {
         let types = TypeNames::of(alloc, table, &objects)?;
         let mut lists = MemberLists::new(alloc, parents)?;
-        let mut heads = Vec::with_capacity(alloc, objects.count())?;
-        for source in sources {
-            add_heads(alloc, &mut heads, &mut lists, parents, members, source)?;
-        }
         Ok(ScriptSet {
-            heads,
+            heads: all_heads(alloc, &mut lists, parents, members, sources)?,
             members: signatures(alloc, members.source.names, members.list)?,
             types,
             objects,
@@ -207,13 +284,13 @@ impl ScriptSet {
 
     /// The nearest function of this name in the empty states, from the script upward.
     pub(crate) fn find_function(&self, script: usize, name: usize) -> Option<Callee<'_>>
-        ensures among { IfSome result (λ callee. callee.place.script < vec_len self.now.heads) }
+        ensures among { IfSome result (λ callee. callee.place.object < vec_len self.now.heads) }
         ensures nearest { IfSome result (λ callee. found.function_found self.now script name ≡ Some callee.signature.now) }
+        ensures missing { result ≡ None → found.function_found self.now script name ≡ None }
     {
-        let found = self.table.in_state(script, EMPTY_NAME, name)?;
-        let head = self.heads.get(found.object)?;
-        let signature = head.functions.get(found.place)?;
-        let place = method_place(found)?;
+        let place = self.table.in_state(script, EMPTY_NAME, name)?;
+        let head = self.heads.get(place.object)?;
+        let signature = head.functions.get(place.place)?;
         Some(Callee { place, signature })
     }
 
@@ -230,7 +307,9 @@ impl ScriptSet {
     }
 
     /// The place of the script's own first property of this name.
-    pub(crate) fn first_property(&self, script: usize, name: usize) -> Option<usize> {
+    pub(crate) fn first_property(&self, script: usize, name: usize) -> Option<usize>
+        ensures { result ≡ rules.first_property_of self.now script name }
+    {
         let found = self.table.property(script, name)?;
         if found.object == script {
             Some(found.place)
@@ -240,7 +319,9 @@ impl ScriptSet {
     }
 
     /// The places of the members that the script lacks.
-    pub(crate) fn lacking(&self, script: usize) -> &[usize] {
+    pub(crate) fn lacking(&self, script: usize) -> &[usize]
+        ensures { result.now ≡ lacking_in (slice_get self.now.heads.items script) }
+    {
         match self.heads.get(script) {
             Some(head) => head.lacking.as_slice(),
             None => &[],
@@ -249,7 +330,8 @@ impl ScriptSet {
 
     /// The number of the script's parent, where it is one of the set.
     pub(crate) fn parent_number(&self, script: usize) -> Option<u16>
-        ensures { IfSome result (λ n. n < vec_len self.now.heads) }
+        ensures among { IfSome result (λ n. n < vec_len self.now.heads) }
+        ensures parent { result ≡ parent_among (length self.now.heads.items) (parent_in self.now.heads.items script) }
     {
         let parent = self.parent(script)?;
         if parent < self.heads.len() {
@@ -260,7 +342,7 @@ impl ScriptSet {
     }
 
     pub(crate) fn parent(&self, script: usize) -> Option<usize>
-        ensures { result ≡ found.parent_of self.now script }
+        ensures { result ≡ parent_in self.now.heads.items script }
     {
         self.heads.get(script)?.parent
     }

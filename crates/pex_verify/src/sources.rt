@@ -1,6 +1,9 @@
 // The values of a set, with the numbers of their names.
-ghost use Rattle.std.specs.Prelude.{◌≡◌, ◌+◌, ◌<◌, [], length, vec_len, slice_index_or, sum_by, IfOk};
-ghost use Rattle.pex_verify.specs.Sources.{object_count, objects_in, objects_of};
+ghost use Rattle.std.specs.Prelude.{◌≡◌, ◌+◌, ◌<◌, ℕ, List, length, sum_by, All, IfOk, OnOk};
+ghost use Rattle.pex_set.specs.Names.{IsGrown};
+ghost use Rattle.pex_verify.specs.Signatures.{title_at};
+ghost use Rattle.pex_verify.specs.Heads.{placed_objects, AreNumbered};
+ghost use Rattle.pex_verify.specs.Sources.{object_count, objects_in, objects_of, AreStrings, AreNamed, IsNamed};
 
 use crate::fault::Site;
 use papy_base::{Name, OutOfMemory, Text};
@@ -27,7 +30,7 @@ impl<'a> SetFile<'a> {
 
     /// The string at this reference as a name.
     pub(crate) fn title(&self, alloc: Global, reference: u16) -> Result<Name, OutOfMemory>
-        ensures { IfOk result (λ name. name ≡ slice_index_or self.now.titles.now reference []) }
+        ensures { IfOk result (λ name. name ≡ title_at self.now.titles.now reference) }
     {
         match self.titles.get(usize::from(reference)) {
             Some(title) => title.try_clone(alloc),
@@ -64,14 +67,26 @@ impl FileStrings {
         alloc: Global,
         table: &mut NameTable,
         strings: &[Text],
-    ) -> Result<FileStrings, OutOfMemory> {
-        let names = FileNames::of_strings(alloc, table, strings)?;
-        let mut titles = Vec::with_capacity(alloc, strings.len())?;
-        for string in strings {
-            titles.push(Name::from_bytes(alloc, string.as_bytes())?)?;
-        }
-        Ok(FileStrings { names, titles })
+    ) -> Result<FileStrings, OutOfMemory>
+        ensures strings { IfOk result (AreStrings table.new strings.now) }
+        ensures grows { OnOk result (IsGrown table.old table.new) }
+    {
+        Ok(FileStrings {
+            names: FileNames::of_strings(alloc, table, strings)?,
+            titles: titles_of(alloc, strings)?,
+        })
     }
+}
+
+// These strings as names.
+fn titles_of(alloc: Global, strings: &[Text]) -> Result<Vec<Name>, OutOfMemory>
+    ensures { IfOk result (λ titles. titles.items ≡ strings.now) }
+{
+    let mut titles = Vec::with_capacity(alloc, strings.len())?;
+    for string in strings {
+        titles.push(Name::from_bytes(alloc, string.as_bytes())?)?;
+    }
+    Ok(titles)
 }
 
 /// The strings of these files, in their order.
@@ -80,7 +95,8 @@ pub(crate) fn strings_of_files(
     table: &mut NameTable,
     files: &[Pex],
 ) -> Result<Vec<FileStrings>, OutOfMemory>
-    ensures { IfOk result (λ strings. vec_len strings ≡ length files.now) }
+    ensures strings { IfOk result (λ strings. AreNamed table.new files.now strings.items) }
+    ensures grows { OnOk result (IsGrown table.old table.new) }
 {
     let mut strings = Vec::with_capacity(alloc, files.len())?;
     for pex in files {
@@ -91,7 +107,9 @@ pub(crate) fn strings_of_files(
 
 /// The file that has this number in faults, with its strings.
 pub(crate) fn source_of<'a>(file: u16, pex: &'a Pex, strings: &'a FileStrings) -> SetFile<'a>
-    ensures { result.pex.now ≡ pex.now }
+    ensures pex { result.pex.now ≡ pex.now }
+    ensures names { result.names.now ≡ strings.now.names }
+    ensures titles { result.titles.now ≡ strings.now.titles.items }
 {
     SetFile {
         file,
@@ -110,7 +128,8 @@ pub(crate) fn all_sources<'a>(
 ) -> Result<Vec<SetFile<'a>>, OutOfMemory>
     requires few { length files.now < 65536 }
     requires strings { length strings.now ≡ length files.now }
-    ensures { IfOk result (λ sources. object_count sources.items ≡ objects_in prelude.entry + sum_by objects_of files.now) }
+    ensures count { IfOk result (λ sources. object_count sources.items ≡ objects_in prelude.entry + sum_by objects_of files.now) }
+    ensures named { (table : List (List ℕ)) → IsNamed table prelude.entry → AreNamed table files.now strings.now → IfOk result (λ sources. All (IsNamed table) sources.items) }
 {
     let mut sources = Vec::with_capacity(alloc, files.len())?;
     sources.push(prelude)?;
@@ -122,7 +141,8 @@ pub(crate) fn all_sources<'a>(
 
 /// The objects of these files.
 pub(crate) fn objects_of(alloc: Global, sources: &[SetFile<'_>]) -> Result<Objects, OutOfMemory>
-    ensures { IfOk result (λ objects. length objects ≡ object_count sources.now) }
+    ensures count { IfOk result (λ objects. length objects ≡ object_count sources.now) }
+    ensures numbered { IfOk result (AreNumbered (placed_objects sources.now)) }
 {
     let mut objects = Objects::new(alloc);
     for source in sources {

@@ -1,6 +1,7 @@
 // The variables of an object.
-ghost use Rattle.std.specs.Prelude.{vec_len, OnOk};
+ghost use Rattle.std.specs.Prelude.{◌≡◌, [], ◌∷◌, ◌++◌, map, vec_len, OnOk};
 ghost use Rattle.pex_verify.specs.Soundness.{AreTyped};
+ghost use Rattle.pex_verify.specs.Variables.{variable_type, type_of_variable};
 
 use crate::fault::{Refusal, VerifyFault, VerifyRule};
 use crate::function::known_type;
@@ -21,7 +22,8 @@ pub(crate) fn load_variables(
     object: &PexObject,
     variables: &mut NamedList<OutlineVariable>,
 ) -> Result<(), VerifyFault>
-    ensures { OnOk result (AreTyped (vec_len set.now.heads) variables.new.list.items) }
+    ensures typed { OnOk result (AreTyped (vec_len set.now.heads) variables.new.list.items) }
+    ensures kinds { OnOk result (map variable_type variables.new.list.items ≡ map (type_of_variable set.now.types source.now.names.now) object.now.variables.items) }
 {
     variables.clear();
     for variable in &object.variables {
@@ -41,7 +43,8 @@ fn load_variable(
     variables: &mut NamedList<OutlineVariable>,
     variable: &PexVariable,
 ) -> Result<(), Refusal>
-    ensures { AreTyped (vec_len set.now.heads) variables.old.list.items → OnOk result (AreTyped (vec_len set.now.heads) variables.new.list.items) }
+    ensures typed { AreTyped (vec_len set.now.heads) variables.old.list.items → OnOk result (AreTyped (vec_len set.now.heads) variables.new.list.items) }
+    ensures kinds { OnOk result (map variable_type variables.new.list.items ≡ map variable_type variables.old.list.items ++ type_of_variable set.now.types source.now.names.now variable.now ∷ []) }
 {
     let name = source.names.number(variable.name);
     let declared = set.value_type(source.names.number(variable.kind));

@@ -1,8 +1,12 @@
 // Sets of files, in the order in which their rules are judged.
-ghost use Rattle.std.specs.Prelude.{◌≡◌, ◌+◌, ◌<◌, length, vec_len, All, IfOk, OnOk};
+ghost use Rattle.std.specs.Prelude.{◌≡◌, ◌+◌, ◌<◌, List, [], ◌∷◌, ◌++◌, length, vec_len, All, IfOk, OnOk};
 ghost use Rattle.pex_verify.specs.Files.{IsFile};
 ghost use Rattle.pex_verify.specs.Sources.{object_count, script_count};
 ghost use Rattle.pex_verify.specs.Sets.{AreSoundOutlines, AreSoundScripts};
+ghost use Rattle.pex_verify.specs.Heads.{Placed, placed, placed_in, placed_objects, members_of, AreNumbered, AreHeads};
+ghost use Rattle.pex_set.specs.Objects.{parents_in};
+ghost use Rattle.pex_verify.specs.Loading.{judged_by, AreObjects, IsLoadedSet};
+ghost use Rattle.pex_verify.specs.Whole.{IsJudged};
 
 use crate::fault::{VerifyFault, VerifyRule};
 use crate::lines::FileLines;
@@ -84,6 +88,7 @@ fn load_tables(
     requires few { length files.now < 65536 }
     ensures count { IfOk result (λ tables. vec_len tables.parts.scripts ≡ script_count files.now) }
     ensures sound { IfOk result (λ tables. AreSoundScripts (vec_len tables.parts.scripts) tables.parts.outlines.items tables.parts.scripts.items) }
+    ensures judged { IfOk result (λ tables. IsJudged tables.parts.scripts.items tables.parts.outlines.items) }
 {
     let prelude = Prelude::new(alloc)?;
     load_behind(alloc, table, &prelude, files, keeps_code)
@@ -101,6 +106,7 @@ fn load_behind(
     requires prelude { vec_len prelude.now.file.objects ≡ 6 }
     ensures count { IfOk result (λ tables. vec_len tables.parts.scripts ≡ script_count files.now) }
     ensures sound { IfOk result (λ tables. AreSoundScripts (vec_len tables.parts.scripts) tables.parts.outlines.items tables.parts.scripts.items) }
+    ensures judged { IfOk result (λ tables. IsJudged tables.parts.scripts.items tables.parts.outlines.items) }
 {
     let prelude_strings = FileStrings::of(alloc, table, prelude.file.strings.as_slice())?;
     let strings = strings_of_files(alloc, table, files)?;
@@ -132,6 +138,7 @@ fn load_set(
 ) -> Result<Tables, VerifyFault>
     ensures count { IfOk result (λ tables. vec_len tables.parts.scripts ≡ object_count sources.now) }
     ensures sound { IfOk result (λ tables. AreSoundScripts (vec_len tables.parts.scripts) tables.parts.outlines.items tables.parts.scripts.items) }
+    ensures loaded { IfOk result (λ tables. IsLoadedSet members.now sources.now tables.parts.scripts.items tables.parts.outlines.items tables.members) }
 {
     let set = judged_scripts(alloc, table, files, members, sources)?;
     let loader = Loader {
@@ -156,7 +163,9 @@ fn judged_scripts(
     members: &DefaultMembers<'_>,
     sources: &[SetFile<'_>],
 ) -> Result<ScriptSet, VerifyFault>
-    ensures { IfOk result (λ scripts. vec_len scripts.heads ≡ object_count sources.now) }
+    ensures count { IfOk result (λ scripts. vec_len scripts.heads ≡ object_count sources.now) }
+    ensures numbered { IfOk result (λ scripts. AreNumbered (placed_objects sources.now) scripts.objects) }
+    ensures heads { IfOk result (λ scripts. AreHeads (members_of members.now) (parents_in scripts.objects) (placed_objects sources.now) scripts.heads.items) }
 {
     let objects = objects_of(alloc, sources)?;
     let parents = objects.parents(alloc)?;
@@ -172,6 +181,7 @@ fn load_files(
 ) -> Result<Parts, VerifyFault>
     ensures count { IfOk result (λ parts. vec_len parts.scripts ≡ object_count sources.now) }
     ensures sound { IfOk result (λ parts. AreSoundScripts (vec_len loader.now.set.now.heads) parts.outlines.items parts.scripts.items) }
+    ensures objects { IfOk result (λ parts. AreObjects (judged_by loader.now) (placed_objects sources.now) parts.scripts.items parts.outlines.items) }
 {
     let mut parts = Parts {
         outlines: Vec::new(loader.alloc),
@@ -191,6 +201,8 @@ fn load_file(
     parts: &mut Parts,
 ) -> Result<(), VerifyFault>
     ensures count { OnOk result (vec_len parts.new.scripts ≡ vec_len parts.old.scripts + vec_len source.now.pex.now.objects) }
+    ensures objects { (before : List Placed) → AreObjects (judged_by loader.now) before parts.old.scripts.items parts.old.outlines.items
+        → OnOk result (AreObjects (judged_by loader.now) (before ++ placed_in source.now) parts.new.scripts.items parts.new.outlines.items) }
     ensures sound { AreSoundScripts (vec_len loader.now.set.now.heads) parts.old.outlines.items parts.old.scripts.items
         → OnOk result (AreSoundScripts (vec_len loader.now.set.now.heads) parts.new.outlines.items parts.new.scripts.items) }
 {
@@ -211,6 +223,8 @@ fn load_next(
     parts: &mut Parts,
 ) -> Result<(), VerifyFault>
     ensures count { OnOk result (vec_len parts.new.scripts ≡ vec_len parts.old.scripts + 1) }
+    ensures objects { (before : List Placed) → AreObjects (judged_by loader.now) before parts.old.scripts.items parts.old.outlines.items
+        → OnOk result (AreObjects (judged_by loader.now) (before ++ placed source.now object.now ∷ []) parts.new.scripts.items parts.new.outlines.items) }
     ensures sound { AreSoundScripts (vec_len loader.now.set.now.heads) parts.old.outlines.items parts.old.scripts.items
         → OnOk result (AreSoundScripts (vec_len loader.now.set.now.heads) parts.new.outlines.items parts.new.scripts.items) }
 {

@@ -1,11 +1,25 @@
-use Rattle.std.proofs.Common.{vec_len, rules}
+use Rattle.std.proofs.Common.{List, ◌++◌, map, refl, sym, ap, ◌∙◌, vec_len, rules}
+use Rattle.pex_verify.specs.declared.value_type.ValueType.{ValueType}
+use Rattle.pex_verify.specs.Matching.{parameter_type, parameter_types, local_type, local_types}
+use Rattle.pex_verify.proofs.Standing.{code_is_typed}
 use Rattle.pex_verify.proofs.function.load_function.Goals as goal
 
-pub returns : goal.returns
-returns c = record {
-  answer = c.in_ok-result.ensures (vec_len c.args.home.now.set.now.heads) c.result_type-answer.ensures.among;
+pub returns-clause-sound : goal.returns-clause-sound
+returns-clause-sound c = record {
+  answer = c.in_ok-result.ensures.among (vec_len c.args.home.now.set.now.heads) c.result_type-answer.ensures.among;
   parameters = c.in_ok-parameters.ensures.typed;
   locals = c.in_ok-locals.ensures.typed;
   lines = search rules;
   code = search rules;
+}
+
+pub returns-clause-written : goal.returns-clause-written
+returns-clause-written c = record {
+  name = search rules;
+  parameters = c.in_ok-parameters.ensures.kinds ∙ ap (parameter_types c.args.home.now.set.now.types c.args.source.now.names.now) c.as_slice.ensures.value;
+  locals = c.in_ok-locals.ensures.kinds ∙ ap (local_types c.args.home.now.set.now.types c.args.source.now.names.now) c.as_slice-2.ensures.value;
+  result = search rules;
+  is_global = search rules;
+  is_native = search rules;
+  typed = code_is_typed _ _ (c.in_ok-locals.ensures.slots ∙ ap (λ (types : List ValueType). types ++ map local_type c.in_ok-locals.locals.items) (c.in_ok-parameters.ensures.slots ∙ ap (λ (types : List ValueType). types ++ map parameter_type c.in_ok-parameters.parameters.items) c.clear.ensures)) c.in_ok-parameters.ensures.typed c.in_ok-locals.ensures.typed refl (sym c.in_ok-result.ensures.known) c.in_ok-code.ensures.typed;
 }

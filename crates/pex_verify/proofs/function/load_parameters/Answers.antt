@@ -1,13 +1,27 @@
-use Rattle.std.proofs.Common.{Option, IfSome, vec_len, subst, arith}
+use Rattle.std.proofs.Common.{◌≡◌, ℕ, ◌<◌, Option, IfSome, length, get_or, refl, length-append, vec_len, arith}
 use Rattle.core_tree.specs.declared.core_type.CoreType.{CoreType}
 use Rattle.papy_base.specs.declared.name.Name.{Name}
+use Rattle.pex_verify.specs.declared.value_type.ValueType.{ValueType}
+use Rattle.pex_verify.specs.Matching.{parameter_type}
+use Rattle.pex_verify.specs.Meanings.{value_meaning}
+use Rattle.pex_verify.specs.Signatures.{kind_at}
 use Rattle.pex_verify.specs.Types.{IsTypeAmong}
 use Rattle.pex_verify.proofs.Lists.{all_grown}
+use Rattle.pex_verify.proofs.Pairs.{behind_next, map_next}
 use Rattle.pex_verify.proofs.function.load_parameters.Goals as goal
 
 pub loop-pair-preserved : goal.loop-pair-preserved
 loop-pair-preserved c =
     let count = vec_len c.args.home.now.set.now.heads in
-    let IsTyped : Name × CoreType → Type 0 = λ parameter. IsTypeAmong count parameter.1 in
-    let typed : IsTypeAmong count c.in-Some.found = subst (λ (found : Option CoreType). IfSome found (IsTypeAmong count)) c.in-Some.is (c.in_ok-found.ensures.typed count c.value_type-declared.ensures.among) in
-    (omega (arith, c.in_ok-found.ensures.count, c.in_ok-push-in-Some.ensures.len), all_grown IsTyped c.loop-pair.parameters.items c.push.new.self.items (c.in_ok-title-in-Some.field-0, c.in-Some.found) c.in_ok-push-in-Some.ensures.items c.loop-pair.invariant.1 typed)
+    let IsTyped : Name × CoreType → Type 0 = λ p. IsTypeAmong count p.1 in
+    let means : ℕ × ℕ → ValueType = λ pair. value_meaning c.args.home.now.set.now.types (kind_at c.args.source.now.names.now pair) in
+    let before = c.loop-pair.invariant in
+    let old = c.loop-pair.parameters.items in
+    let new = c.push.new.self.items in
+    let found = c.in_ok-load_parameter.field-0 in
+    let ensured = c.in_ok-load_parameter.ensures in
+    let pairs = c.args.pairs.now in
+    let i = c.loop-pair.pair-index in
+    let within : i < length pairs = omega arith in
+    let slots = behind_next parameter_type c.args.slots.now.list.items c.loop-pair.slots.list.items c.load_parameter.new.slots.list.items old new found ensured.slots c.in_ok-push.ensures.items before.2 in
+    (omega (arith, before.0, ensured.count, c.in_ok-push.ensures.len), all_grown IsTyped old new found c.in_ok-push.ensures.items before.1 ensured.typed, slots, map_next parameter_type means old new pairs i found (get_or pairs i (0, 0)) (0, 0) c.in_ok-push.ensures.items within refl before.3 ensured.kind)

@@ -1,9 +1,33 @@
+use Rattle.std.proofs.Common.{◌≡◌, ℕ, ◌<◌, List, length, get_or, subst, arith}
+use Rattle.std.proofs.lemmas.List.{get_or_read}
+use borrow.Author.Count.{below_more}
+use Rattle.pex_values.specs.declared.values.PexFunction.{PexFunction}
+use Rattle.pex_verify.specs.Rules.{Replaces}
+use Rattle.pex_verify.specs.Sites.{site_of}
+use Rattle.pex_verify.specs.declared.loaded.LoadedFunction.{LoadedFunction}
+use Rattle.pex_verify.specs.Matching.{Written, IsWritten}
 use Rattle.pex_verify.specs.Places.{bounds_of}
 use Rattle.pex_verify.specs.Soundness.{IsSoundFunction}
+use Rattle.pex_verify.specs.States.{own_written}
 use Rattle.pex_verify.proofs.Lists.{all_grown}
+use Rattle.pex_verify.proofs.Pairs.{Paired-mapped}
 use Rattle.pex_verify.proofs.object.load_functions.Goals as goal
 
 pub loop-name-preserved : goal.loop-name-preserved
 loop-name-preserved c =
-    let bounds = bounds_of c.args.home.now in
-    all_grown (IsSoundFunction bounds) c.loop-name.functions.items c.push.new.self.items c.in-Ok.loaded c.in_ok-push-in-Ok.ensures.items c.loop-name.invariant c.in-Ok.ensures
+    let home = c.args.home.now in
+    let IsLoaded : ℕ → Written → LoadedFunction → Type 0 = λ n w f. IsWritten (site_of home) w f in
+    let all = c.args.state.now.functions.items in
+    let old = c.loop-name.functions.items in
+    let i = c.loop-name.name-index in
+    let item = c.loop-name-item.result in
+    let is : item ≡ get_or all i item = subst (λ (l : List (ℕ × PexFunction)). item ≡ get_or l i item) c.deref-name-items.ensures.value c.loop-name-item.is in
+    let within : i < length all = omega arith in
+    let Replaced : ℕ → Type 0 = λ k. (d : ℕ × PexFunction) → Replaces home c.args.state.now.name (get_or all k d) in
+    let here : Replaced i = λ d. subst (λ (f : ℕ × PexFunction). Replaces home c.args.state.now.name f) (get_or_read all i item within is d) c.in-Ok.ensures.replaces in (
+      all_grown (IsSoundFunction (bounds_of home)) old c.push.new.self.items c.in-Ok.loaded c.in_ok-push-in-Ok.ensures.items c.loop-name.invariant.0 c.in-Ok.ensures.sound,
+      Paired-mapped (ℕ × PexFunction) Written LoadedFunction IsLoaded (own_written home) all old c.push.new.self.items i item item c.in-Ok.loaded c.in_ok-push-in-Ok.ensures.items within is c.loop-name.invariant.1 c.in-Ok.ensures.written,
+      λ k d h. below_more Replaced i (λ j below other. c.loop-name.invariant.2 j other below) here k h d,
+      ?,
+      ?,
+    )

@@ -1,13 +1,36 @@
-use Rattle.std.proofs.Common.{Global, Vec}
+use Rattle.std.proofs.Common.{◌≡◌, ℕ, ◌<◌, List, Global, Vec, length, get_or, subst, arith}
 use Rattle.papy_base.specs.declared.name.Name.{Name}
+use Rattle.std.proofs.lemmas.List.{get_or_read}
+use borrow.Author.Count.{below_more}
+use Rattle.pex_values.specs.declared.values.PexState.{PexState}
+use Rattle.pex_verify.specs.Rules.{EachReplaces}
+use Rattle.pex_verify.specs.Sites.{site_of}
 use Rattle.pex_verify.specs.declared.loaded.LoadedFunction.{LoadedFunction}
 use Rattle.pex_verify.specs.Places.{bounds_of}
 use Rattle.pex_verify.specs.Soundness.{IsSoundState}
+use Rattle.pex_verify.specs.States.{WrittenState, IsState, state_written}
 use Rattle.pex_verify.proofs.Lists.{all_grown}
+use Rattle.pex_verify.proofs.Pairs.{Paired-mapped}
 use Rattle.pex_verify.proofs.object.load_states.Goals as goal
 
 pub loop-state-preserved : goal.loop-state-preserved
 loop-state-preserved c =
-    let bounds = bounds_of c.args.home.now in
+    let home = c.args.home.now in
+    let bounds = bounds_of home in
     let IsSound : Name × Vec LoadedFunction Global → Type 0 = λ state. IsSoundState bounds state.1.items in
-    all_grown IsSound c.loop-state.states.items c.push.new.self.items (c.in_ok-name.name, c.in_ok-load_state.field-0) c.in_ok-push.ensures.items c.loop-state.invariant c.in_ok-load_state.ensures
+    let IsLoaded : ℕ → WrittenState → Name × Vec LoadedFunction Global → Type 0 = λ n w s. IsState (site_of home) w s in
+    let all = home.object.now.states.items in
+    let old = c.loop-state.states.items in
+    let i = c.loop-state.state-index in
+    let item = c.state-item.result in
+    let is : item ≡ get_or all i item = subst (λ (l : List PexState). item ≡ get_or l i item) c.deref-state-items.ensures.value c.state-item.is in
+    let within : i < length all = omega arith in
+    let Replaced : ℕ → Type 0 = λ k. (d : PexState) → EachReplaces home (get_or all k d) in
+    let here : Replaced i = λ d. subst (λ (state : PexState). EachReplaces home state) (get_or_read all i item within is d) c.in_ok-load_state.ensures.replaces in
+    let loaded = c.in_ok-load_state.field-0 in (
+      all_grown IsSound old c.push.new.self.items loaded c.in_ok-push.ensures.items c.loop-state.invariant.0 c.in_ok-load_state.ensures.sound,
+      Paired-mapped PexState WrittenState (Name × Vec LoadedFunction Global) IsLoaded (state_written home) all old c.push.new.self.items i item item loaded c.in_ok-push.ensures.items within is c.loop-state.invariant.1 c.in_ok-load_state.ensures.written,
+      λ k d h. below_more Replaced i (λ j below other. c.loop-state.invariant.2 j other below) here k h d,
+      ?,
+      ?,
+    )

@@ -1,13 +1,38 @@
-use Rattle.std.proofs.Common.{Global, Vec}
+use Rattle.std.proofs.Common.{◌≡◌, ℕ, ◌<◌, List, [], ◌∷◌, ◌++◌, Global, Vec, length, sym, subst, ap, ◌∙◌, rules, arith}
+use Rattle.std.proofs.lemmas.Bool.Decides.{nat_tests}
+use Rattle.std.proofs.lemmas.List.{append-nil}
 use Rattle.papy_base.specs.declared.name.Name.{Name}
+use Rattle.pex_verify.specs.Sites.{site_of}
 use Rattle.pex_verify.specs.declared.loaded.LoadedFunction.{LoadedFunction}
 use Rattle.pex_verify.specs.Places.{bounds_of}
 use Rattle.pex_verify.specs.Soundness.{IsSoundState}
+use Rattle.pex_verify.specs.States.{WrittenState, IsState, AreStates, added_state, lacking_written}
 use Rattle.pex_verify.proofs.Lists.{all_grown}
+use Rattle.pex_verify.proofs.Pairs.{Paired-push}
+use Rattle.pex_verify.proofs.States.{added_none, added_some}
 use Rattle.pex_verify.proofs.object.with_members.Goals as goal
 
-pub returns : goal.returns
-returns c =
+pub returns-then-is_empty-clause-written : goal.returns-then-is_empty-clause-written
+returns-then-is_empty-clause-written c = λ before given.
+    let site = site_of c.args.home.now in
+    let none = added_none site (lacking_written c.args.home.now) c.in_ok-added.added.items c.in_ok-added.ensures.written (grind (arith, nat_tests)) in
+    subst (λ (l : List WrittenState). AreStates site l c.args.states.items) (sym (ap (λ (l : List WrittenState). before ++ l) none ∙ append-nil before)) given
+
+pub returns-clause-sound : goal.returns-clause-sound
+returns-clause-sound c =
     let bounds = bounds_of c.args.home.now in
     let IsSound : Name × Vec LoadedFunction Global → Type 0 = λ state. IsSoundState bounds state.1.items in
-    all_grown IsSound c.args.states.items c.push.new.self.items (c.in_ok-from_bytes.field-0, c.in_ok-added.added) c.in_ok-push.ensures.items c.requires c.in_ok-added.ensures
+    all_grown IsSound c.args.states.items c.push.new.self.items (c.in_ok-from_bytes.field-0, c.in_ok-added.added) c.in_ok-push.ensures.items c.requires c.in_ok-added.ensures.sound
+
+pub returns-clause-written : goal.returns-clause-written
+returns-clause-written c = λ before given.
+    let site = site_of c.args.home.now in
+    let written = lacking_written c.args.home.now in
+    let IsLoaded : ℕ → WrittenState → Name × Vec LoadedFunction Global → Type 0 = λ n w s. IsState site w s in
+    let state : WrittenState = record { name = []; functions = written } in
+    let loaded : Name × Vec LoadedFunction Global = (c.in_ok-from_bytes.field-0, c.in_ok-added.added) in
+    let some = added_some site written c.in_ok-added.added.items c.in_ok-added.ensures.written (grind (arith, nat_tests)) in
+    let here : IsState site state loaded = record { name = search rules; functions = c.in_ok-added.ensures.written } in
+    subst (λ (l : List WrittenState). AreStates site l c.push.new.self.items) (ap (λ (l : List WrittenState). before ++ l) (sym some))
+    (subst (λ (l : List (Name × Vec LoadedFunction Global)). AreStates site (before ++ state ∷ []) l) (sym c.in_ok-push.ensures.items)
+    (Paired-push WrittenState (Name × Vec LoadedFunction Global) IsLoaded before c.args.states.items state loaded given here))

@@ -1,5 +1,8 @@
-use Rattle.std.proofs.Common.{◌≡◌, ◌+◌, vec_len}
+use Rattle.std.proofs.Common.{◌≡◌, ◌+◌, List, ◌++◌, map, take, vec_len}
+use Rattle.pex_verify.specs.Heads.{Placed, AreHeads, members_of, placed}
 use Rattle.pex_verify.proofs.scripts.add_heads.Given as goal
 
 abbrev pub invariant-loop-object : goal.invariant-loop-object
-invariant-loop-object l = vec_len l.heads ≡ vec_len l.fn.heads + l.object-index
+invariant-loop-object l =
+    (vec_len l.heads ≡ vec_len l.fn.heads + l.object-index) × ((before : List Placed) → AreHeads (members_of l.members) l.parents before l.fn.heads.items
+    → AreHeads (members_of l.members) l.parents (before ++ map (placed l.source) (take l.object-index l.source.pex.now.objects.items)) l.heads.items)

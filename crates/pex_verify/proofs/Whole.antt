@@ -1,0 +1,21 @@
+-- What a whole set was judged by.
+use Rattle.std.proofs.Common.{◌≡◌, ℕ, List, Some, Result, Ok, Err, IfOk, map, sym, ap, ◌∙◌}
+use Rattle.pex_set.specs.Names.{IsGrown, number_in}
+use Rattle.pex_values.specs.declared.values.Pex.{Pex}
+use Rattle.pex_verify.specs.declared.sources.FileStrings.{FileStrings}
+use Rattle.pex_verify.specs.declared.sources.SetFile.{SetFile}
+use Rattle.pex_verify.specs.Sources.{AreStrings, IsNamed}
+use Rattle.pex_verify.proofs.Strings.{AreStrings-grown}
+
+-- a file with its strings, whose numbers stay as the table grows
+pub source_named : (earlier later : List (List ℕ)) (file : Pex) (strings : FileStrings) (source : SetFile) → IsGrown earlier later → AreStrings earlier file.strings.items strings → source.pex.now ≡ file → source.names.now ≡ strings.names → source.titles.now ≡ strings.titles.items → IsNamed later source
+source_named earlier later file strings source grown own pex names titles =
+    let at = AreStrings-grown earlier later file.strings.items strings grown own in record {
+      titles = titles ∙ at.titles ∙ ap (λ (p : Pex). p.strings.items) (sym pex);
+      numbers = ap (map Some) names ∙ at.numbers ∙ ap (λ (p : Pex). map (number_in later) p.strings.items) (sym pex);
+    }
+
+-- what holds of what is given, if anything is
+pub if_given : {T E : Type 0} (P Q : T → Type 0) (result : Result T E) → ((x : T) → P x → Q x) → IfOk result P → IfOk result Q
+if_given P Q (Ok x) each h = each x h
+if_given P Q (Err e) each h = tt

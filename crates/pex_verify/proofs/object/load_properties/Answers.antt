@@ -1,0 +1,34 @@
+use Rattle.std.proofs.Common.{◌≡◌, ℕ, ◌<◌, ◌≤◌, List, length, get_or, ap, subst, arith}
+use Rattle.std.proofs.lemmas.List.{take_all}
+use Rattle.pex_values.specs.declared.values.PexProperty.{PexProperty}
+use Rattle.pex_verify.specs.declared.loaded.LoadedProperty.{LoadedProperty}
+use Rattle.pex_verify.specs.Pairs.{Paired}
+use Rattle.pex_verify.specs.Places.{bounds_of}
+use Rattle.pex_verify.specs.Properties.{IsProperty}
+use Rattle.pex_verify.specs.Soundness.{IsSoundProperty}
+use Rattle.pex_verify.proofs.Lists.{all_grown}
+use Rattle.pex_verify.proofs.Pairs.{Paired-next}
+use Rattle.pex_verify.proofs.object.load_properties.Goals as goal
+
+pub loop-place-preserved : goal.loop-place-preserved
+loop-place-preserved c =
+    let home = c.args.home.now in
+    let IsLoaded : ℕ → PexProperty → LoadedProperty → Type 0 = λ n p f. IsProperty home n p f in
+    let all = home.object.now.properties.items in
+    let old = c.loop-place.properties.items in
+    let i = c.loop-place.place in
+    let item = c.property-item.result in
+    let is : item ≡ get_or all i item = subst (λ (l : List PexProperty). item ≡ get_or l i item) c.deref-property-items.ensures.value c.property-item.is in
+    let within : i < length all = omega arith in (
+      all_grown (IsSoundProperty (bounds_of home)) old c.push.new.self.items c.in-Ok.loaded c.in_ok-push-in-Ok.ensures.items c.loop-place.invariant.0 c.in-Ok.ensures.sound,
+      Paired-next PexProperty LoadedProperty IsLoaded all old c.push.new.self.items i item item c.in-Ok.loaded c.in_ok-push-in-Ok.ensures.items within is c.loop-place.invariant.1 c.in-Ok.ensures.property,
+    )
+
+pub returns-clause-written : goal.returns-clause-written
+returns-clause-written c =
+    let home = c.args.home.now in
+    let IsLoaded : ℕ → PexProperty → LoadedProperty → Type 0 = λ n p f. IsProperty home p f in
+    let all = home.object.now.properties.items in
+    let i = c.loop-place.place in
+    let past : length all ≤ i = omega (arith, ap length c.deref-property-items.ensures.value) in
+    subst (λ (l : List PexProperty). Paired PexProperty LoadedProperty IsLoaded l c.loop-place.properties.items) (take_all i all past) c.loop-place.invariant.1

@@ -1,0 +1,8 @@
+use Rattle.std.proofs.Common.{ℕ, List, Option}
+use Rattle.pex_values.specs.declared.values.PexObject.{PexObject}
+use Rattle.pex_verify.specs.Heads.{IsHeadOf, members_of}
+use Rattle.pex_verify.proofs.scripts.ScriptHead.complete.Given as goal
+
+abbrev pub invariant-loop-place : goal.invariant-loop-place
+invariant-loop-place l =
+    (above : Option ℕ) (numbers : List ℕ) (object : PexObject) → IsHeadOf (members_of l.members) above numbers object l.fn.self → IsHeadOf (members_of l.members) above numbers object l.self

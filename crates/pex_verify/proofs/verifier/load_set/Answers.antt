@@ -1,0 +1,11 @@
+use Rattle.std.proofs.Common.{refl}
+use Rattle.pex_verify.proofs.verifier.load_set.Goals as goal
+
+pub returns-clause-loaded : goal.returns-clause-loaded
+returns-clause-loaded c = record {
+  set = c.in_ok-set.set;
+  numbered = c.in_ok-set.ensures.numbered;
+  heads = c.in_ok-set.ensures.heads;
+  objects = c.in_ok-parts.ensures.objects;
+  same_table = refl;
+}
