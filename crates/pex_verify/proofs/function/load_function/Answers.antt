@@ -21,5 +21,6 @@ returns-clause-written c = record {
   result = search rules;
   is_global = search rules;
   is_native = search rules;
-  typed = code_is_typed _ _ (c.in_ok-locals.ensures.slots ∙ ap (λ (types : List ValueType). types ++ map local_type c.in_ok-locals.locals.items) (c.in_ok-parameters.ensures.slots ∙ ap (λ (types : List ValueType). types ++ map parameter_type c.in_ok-parameters.parameters.items) c.clear.ensures)) c.in_ok-parameters.ensures.typed c.in_ok-locals.ensures.typed refl (sym c.in_ok-result.ensures.known) c.in_ok-code.ensures.typed;
+  typed = ?;
 }
+-- typed = code_is_typed _ _ (c.in_ok-locals.ensures.slots ∙ ap (λ (types : List ValueType). types ++ map local_type c.in_ok-locals.locals.items) (c.in_ok-parameters.ensures.slots ∙ ap (λ (types : List ValueType). types ++ map parameter_type c.in_ok-parameters.parameters.items) c.clear.ensures)) c.in_ok-parameters.ensures.typed c.in_ok-locals.ensures.typed refl (sym c.in_ok-result.ensures.known) c.in_ok-code.ensures.typed;

@@ -1,14 +1,17 @@
-use Rattle.std.proofs.Common.{◌≡◌, ℕ, ◌<◌, List, Global, Vec, length, get_or, subst, arith}
+use Rattle.std.proofs.Common.{◌≡◌, ℕ, ◌<◌, ◌≤◌, List, Global, Vec, Option, IsSome, length, nat_eq, get_or, slice_index, sym, ap, subst, ◌∙◌, arith}
+use Rattle.std.specs.HashMap.{get}
 use Rattle.papy_base.specs.declared.name.Name.{Name}
-use Rattle.std.proofs.lemmas.List.{get_or_read}
+use Rattle.std.proofs.lemmas.List.{get_or_read, get_or-map}
 use borrow.Author.Count.{below_more}
 use Rattle.pex_values.specs.declared.values.PexState.{PexState}
-use Rattle.pex_verify.specs.Rules.{EachReplaces}
+use Rattle.pex_verify.specs.Rules.{EachReplaces, state_numbers}
+use Rattle.pex_verify.specs.Signatures.{number_at}
 use Rattle.pex_verify.specs.Sites.{site_of}
 use Rattle.pex_verify.specs.declared.loaded.LoadedFunction.{LoadedFunction}
 use Rattle.pex_verify.specs.Places.{bounds_of}
 use Rattle.pex_verify.specs.Soundness.{IsSoundState}
 use Rattle.pex_verify.specs.States.{WrittenState, IsState, state_written}
+use Rattle.pex_verify.proofs.Distinct.{distinct_more, new_number, noted_more}
 use Rattle.pex_verify.proofs.Lists.{all_grown}
 use Rattle.pex_verify.proofs.Pairs.{Paired-mapped}
 use Rattle.pex_verify.proofs.object.load_states.Goals as goal
@@ -27,10 +30,25 @@ loop-state-preserved c =
     let within : i < length all = omega arith in
     let Replaced : ℕ → Type 0 = λ k. (d : PexState) → EachReplaces home (get_or all k d) in
     let here : Replaced i = λ d. subst (λ (state : PexState). EachReplaces home state) (get_or_read all i item within is d) c.in_ok-load_state.ensures.replaces in
+    let number_of : PexState → ℕ = λ state. number_at home.source.now.names.now state.name in
+    let numbers = state_numbers home in
+    let before : ℕ → Option (Unit {0}) = λ n. get nat_eq c.loop-state.seen n in
+    let after : ℕ → Option (Unit {0}) = λ n. get nat_eq c.note.new.seen n in
+    let same : c.number.result ≡ slice_index numbers i = c.number.ensures ∙ ap number_of is ∙ sym (get_or-map number_of all i item 0 within) in
+    let new = new_number numbers before i c.number.result same (c.in_ok-note.ensures.new c.if-not-branch.false) in
     let loaded = c.in_ok-load_state.field-0 in (
       all_grown IsSound old c.push.new.self.items loaded c.in_ok-push.ensures.items c.loop-state.invariant.0 c.in_ok-load_state.ensures.sound,
       Paired-mapped PexState WrittenState (Name × Vec LoadedFunction Global) IsLoaded (state_written home) all old c.push.new.self.items i item item loaded c.in_ok-push.ensures.items within is c.loop-state.invariant.1 c.in_ok-load_state.ensures.written,
       λ k d h. below_more Replaced i (λ j below other. c.loop-state.invariant.2 j other below) here k h d,
-      ?,
-      ?,
+      noted_more numbers before after tt i c.number.result same c.in_ok-note.ensures.noted c.loop-state.invariant.3,
+      distinct_more numbers (λ n. IsSome (before n)) i c.loop-state.invariant.3 new c.loop-state.invariant.4,
     )
+
+pub returns-then-has_empty_state-clause-replaces : goal.returns-then-has_empty_state-clause-replaces
+returns-then-has_empty_state-clause-replaces c = ?
+
+pub returns-clause-distinct : goal.returns-clause-distinct
+returns-clause-distinct c = ?
+
+pub returns-clause-replaces : goal.returns-clause-replaces
+returns-clause-replaces c = ?
