@@ -1,10 +1,11 @@
-use Rattle.std.proofs.Common.{◌≡◌, ℕ, ◌<◌, ◌≤◌, List, Global, Vec, Option, IsSome, length, nat_eq, get_or, slice_index, sym, ap, subst, ◌∙◌, arith}
+use Rattle.std.proofs.Common.{◌≡◌, ℕ, ◌<◌, ◌≤◌, List, Global, Vec, Option, IsSome, All, length, nat_eq, get_or, slice_index, sym, ap, subst, ◌∙◌, arith}
 use Rattle.std.specs.HashMap.{get}
 use Rattle.papy_base.specs.declared.name.Name.{Name}
-use Rattle.std.proofs.lemmas.List.{get_or_read, get_or-map}
+use Rattle.std.proofs.lemmas.List.{get_or_read, get_or-map, length-map}
+use Rattle.std.proofs.lemmas.Result.{IfOk-weaker}
 use borrow.Author.Count.{below_more}
 use Rattle.pex_values.specs.declared.values.PexState.{PexState}
-use Rattle.pex_verify.specs.Rules.{EachReplaces, state_numbers}
+use Rattle.pex_verify.specs.Rules.{AreDistinct, EachReplaces, state_numbers}
 use Rattle.pex_verify.specs.Signatures.{number_at}
 use Rattle.pex_verify.specs.Sites.{site_of}
 use Rattle.pex_verify.specs.declared.loaded.LoadedFunction.{LoadedFunction}
@@ -45,10 +46,32 @@ loop-state-preserved c =
     )
 
 pub returns-then-has_empty_state-clause-replaces : goal.returns-then-has_empty_state-clause-replaces
-returns-then-has_empty_state-clause-replaces c = ?
+returns-then-has_empty_state-clause-replaces c = λ k d within.
+    let all = c.args.home.now.object.now.states.items in
+    let i = c.loop-state.state-index in
+    let past : length all ≤ i = omega (arith, ap length c.deref-state-items.ensures.value) in
+    let below : k < i = omega arith in
+    c.loop-state.invariant.2 k d below
 
 pub returns-clause-distinct : goal.returns-clause-distinct
-returns-clause-distinct c = ?
+returns-clause-distinct c =
+    let home = c.args.home.now in
+    let all = home.object.now.states.items in
+    let i = c.loop-state.state-index in
+    let past : length all ≤ i = omega (arith, ap length c.deref-state-items.ensures.value) in
+    let long : length (state_numbers home) ≡ length all = length-map all (λ (state : PexState). number_at home.source.now.names.now state.name) in
+    let distinct : AreDistinct (state_numbers home) = λ a b less within.
+    let below : b < i = omega arith in
+    c.loop-state.invariant.4 a b less below in
+    IfOk-weaker c.with_members.result _ (λ states. AreDistinct (state_numbers home)) (λ states sound. distinct) c.with_members.ensures.sound
 
 pub returns-clause-replaces : goal.returns-clause-replaces
-returns-clause-replaces c = ?
+returns-clause-replaces c =
+    let home = c.args.home.now in
+    let all = home.object.now.states.items in
+    let i = c.loop-state.state-index in
+    let past : length all ≤ i = omega (arith, ap length c.deref-state-items.ensures.value) in
+    let replaces : All (EachReplaces home) all = λ k d within.
+    let below : k < i = omega arith in
+    c.loop-state.invariant.2 k d below in
+    IfOk-weaker c.with_members.result _ (λ states. All (EachReplaces home) all) (λ states sound. replaces) c.with_members.ensures.sound
