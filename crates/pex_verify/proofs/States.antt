@@ -1,9 +1,9 @@
 -- The states of a script as they are loaded.
-use Rattle.std.proofs.Common.{◌≡◌, ◌<◌, ℕ, List, [], ◌∷◌, length, refl, sym, ap, arith}
+use Rattle.std.proofs.Common.{◌≡◌, ◌<◌, List, [], ◌∷◌, length, refl, arith}
 use Rattle.pex_verify.specs.declared.loaded.LoadedFunction.{LoadedFunction}
 use Rattle.pex_verify.specs.Matching.{Written, AreWritten}
 use Rattle.pex_verify.specs.Sites.{Site}
-use Rattle.pex_verify.specs.States.{WrittenState, added_state}
+use Rattle.pex_verify.specs.States.{added_state}
 
 -- no state is added for no members, and one for some
 pub added_none : (site : Site) (written : List Written) (loaded : List LoadedFunction) → AreWritten site written loaded → length loaded ≡ 0 → added_state written ≡ []

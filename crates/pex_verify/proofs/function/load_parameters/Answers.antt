@@ -1,4 +1,4 @@
-use Rattle.std.proofs.Common.{◌≡◌, ℕ, ◌<◌, Option, IfSome, length, get_or, refl, length-append, vec_len, arith}
+use Rattle.std.proofs.Common.{ℕ, ◌<◌, length, get_or, refl, vec_len, arith}
 use Rattle.core_tree.specs.declared.core_type.CoreType.{CoreType}
 use Rattle.papy_base.specs.declared.name.Name.{Name}
 use Rattle.pex_verify.specs.declared.value_type.ValueType.{ValueType}

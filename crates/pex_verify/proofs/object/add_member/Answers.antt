@@ -38,4 +38,4 @@ returns-clause-written c = λ before given.
     let IsLoaded : ℕ → Written → LoadedFunction → Type 0 = λ n w f. IsWritten site w f in
     let pushed = Paired-push Written LoadedFunction IsLoaded before c.args.functions.now.items (written_member home member) c.in_ok-load_member.field-0 given c.in_ok-load_member.ensures.written in
     subst (λ (l : List Written). AreWritten site l c.push.new.self.items) (ap (λ (o : Option (ℕ × PexFunction)). before ++ member_written home o) (sym found))
-    (subst (λ (l : List LoadedFunction). AreWritten site (before ++ written_member home member ∷ []) l) (sym c.in_ok-push.ensures.items) pushed)
+    (subst (λ (l : List LoadedFunction). AreWritten site (before ++ written_member home member ∷ []) l) (sym {A = List LoadedFunction} c.in_ok-push.ensures.items) pushed)

@@ -1,4 +1,4 @@
-use Rattle.std.proofs.Common.{◌≡◌, ℕ, ◌<◌, List, [], ◌∷◌, ◌++◌, Global, Vec, length, sym, subst, ap, ◌∙◌, rules, arith}
+use Rattle.std.proofs.Common.{ℕ, List, [], ◌∷◌, ◌++◌, Global, Vec, sym, subst, ap, ◌∙◌, rules, arith}
 use Rattle.std.proofs.lemmas.Bool.Decides.{nat_tests}
 use Rattle.std.proofs.lemmas.List.{append-nil}
 use Rattle.papy_base.specs.declared.name.Name.{Name}
@@ -6,7 +6,7 @@ use Rattle.pex_verify.specs.Sites.{site_of}
 use Rattle.pex_verify.specs.declared.loaded.LoadedFunction.{LoadedFunction}
 use Rattle.pex_verify.specs.Places.{bounds_of}
 use Rattle.pex_verify.specs.Soundness.{IsSoundState}
-use Rattle.pex_verify.specs.States.{WrittenState, IsState, AreStates, added_state, lacking_written}
+use Rattle.pex_verify.specs.States.{WrittenState, IsState, AreStates, lacking_written}
 use Rattle.pex_verify.proofs.Lists.{all_grown}
 use Rattle.pex_verify.proofs.Pairs.{Paired-push}
 use Rattle.pex_verify.proofs.States.{added_none, added_some}
@@ -34,5 +34,5 @@ returns-clause-written c = λ before given.
     let some = added_some site written c.in_ok-added.added.items c.in_ok-added.ensures.written (grind (arith, nat_tests)) in
     let here : IsState site state loaded = record { name = search rules; functions = c.in_ok-added.ensures.written } in
     subst (λ (l : List WrittenState). AreStates site l c.push.new.self.items) (ap (λ (l : List WrittenState). before ++ l) (sym some))
-    (subst (λ (l : List (Name × Vec LoadedFunction Global)). AreStates site (before ++ state ∷ []) l) (sym c.in_ok-push.ensures.items)
+    (subst (λ (l : List (Name × Vec LoadedFunction Global)). AreStates site (before ++ state ∷ []) l) (sym {A = List (Name × Vec LoadedFunction Global)} c.in_ok-push.ensures.items)
     (Paired-push WrittenState (Name × Vec LoadedFunction Global) IsLoaded before c.args.states.items state loaded given here))
