@@ -24,6 +24,7 @@ mod scripts;
 mod signature;
 mod sources;
 mod type_names;
+mod typed_sets;
 mod value_type;
 mod variables;
 mod verifier;
@@ -34,4 +35,5 @@ pub use loaded::{
     Loaded, LoadedFunction, LoadedInstruction, LoadedProperty, LoadedScript, MethodPlace, Operand,
     PropertyPlace,
 };
+pub use typed_sets::verified_sets_are_typed;
 pub use verifier::{judge, verify};

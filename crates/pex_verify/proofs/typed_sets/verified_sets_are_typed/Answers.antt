@@ -1,0 +1,34 @@
+-- The tables of a set that was verified agree with its scripts, so that it is typed.
+use Rattle.script_meaning.proofs.Kept.{run_keeps}
+use Rattle.code_meaning.specs.Engine.{code_engine}
+use Rattle.code_meaning.specs.Typed.{IsTypedSet, code_types}
+use Rattle.code_meaning.proofs.Enters.{code_keeps}
+use Rattle.pex_verify.specs.Plain.{outline_of, scripts_of}
+use Rattle.pex_verify.specs.Agreement.{Agrees}
+use Rattle.pex_verify.specs.Sets.{LoadedSet}
+use Rattle.pex_verify.specs.Whole.{IsWholeSet}
+use Rattle.pex_verify.proofs.Context.{tables}
+use Rattle.pex_verify.proofs.Final.{set_is_typed}
+use Rattle.pex_verify.proofs.Methods.{functions_are_offered}
+use Rattle.pex_verify.proofs.PropertyHeads.{properties_are_offered}
+use Rattle.pex_verify.proofs.Relatives.{have_types, names_agree, parents_agree}
+use Rattle.pex_verify.proofs.typed_sets.verified_sets_are_typed.Goals as goal
+
+tables_agree : (set : LoadedSet) (whole : IsWholeSet set) → Agrees (tables whole) whole.judged.names (outline_of set) (scripts_of set)
+tables_agree set whole = record {
+  types = have_types whole;
+  parents = parents_agree whole;
+  named = names_agree whole;
+  functions = functions_are_offered whole;
+  properties = properties_are_offered whole;
+}
+
+typed : (set : LoadedSet) → IsWholeSet set → IsTypedSet (outline_of set) (scripts_of set)
+typed set whole = set_is_typed whole (tables_agree set whole)
+
+pub returns : goal.returns
+returns c = record {
+  typed = typed;
+  keeps = λ set whole. code_keeps (outline_of set) (scripts_of set) (typed set whole);
+  runs = λ set whole scene kinds turns s. run_keeps (code_types (outline_of set) (scripts_of set)) (code_engine (outline_of set) (scripts_of set)) (code_keeps (outline_of set) (scripts_of set) (typed set whole)) scene kinds turns s;
+}
