@@ -17,3 +17,5 @@ pub mod MemberLists
 pub mod Standing
 pub mod Distinct
 pub mod Whole
+pub mod Tables
+pub mod Parts
