@@ -51,12 +51,13 @@ no_members-at lists methods properties =
     ap (λ (l : List OwnMember). record lists { methods = l }) methods ∙ ap (λ (l : List OwnMember). record lists { methods = []; properties = l }) properties
 
 -- the table that is made of the members of all scripts
-pub IsTable-of : (parents : List (Option ℕ)) (objects : List Placed) (heads : List ScriptHead) (descent : List Span) (lists : MemberLists) (table : MemberTable) → IsDescentOf parents descent → lists ≡ all_members descent objects heads
+pub IsTable-of : (parents : List (Option ℕ)) (objects : List Placed) (heads : List ScriptHead) (descent : List Span) (lists : MemberLists) (table : MemberTable) → length descent ≡ length parents → IsDescentOf parents descent → lists ≡ all_members descent objects heads
     → table.descent ≡ lists.descent → Inherits lists.methods table.methods → Inherits lists.properties table.properties → IsTable parents objects heads table
-IsTable-of parents objects heads descent lists table ranks all kept methods properties =
+IsTable-of parents objects heads descent lists table as_many ranks all kept methods properties =
     let same : table.descent ≡ descent = kept ∙ ap (λ (l : MemberLists). l.descent) all ∙ collected-descent (no_members descent) 0 objects heads in
     let whole : lists ≡ all_members table.descent objects heads = all ∙ ap (λ (d : List Span). all_members d objects heads) (sym same) in
     record {
+      count = ap (λ (d : List Span). length d) same ∙ as_many;
       descent = subst (λ (d : List Span). IsDescentOf parents d) (sym same) ranks;
       methods = subst (λ (l : MemberLists). Inherits l.methods table.methods) whole methods;
       properties = subst (λ (l : MemberLists). Inherits l.properties table.properties) whole properties;

@@ -1,5 +1,5 @@
 -- The table of a set's members, by what its scripts have.
-use Rattle.std.specs.Prelude.{◌≡◌, ℕ, suc, List, [], ◌∷◌, Option}
+use Rattle.std.specs.Prelude.{◌≡◌, ℕ, suc, List, [], ◌∷◌, length, Option}
 use Rattle.pex_set.specs.Inherited.{Names, AreLaminar, IsNearest, found_in}
 use Rattle.pex_set.specs.Ranks.{IsDescentOf}
 use Rattle.pex_set.specs.declared.descent.Span.{Span}
@@ -31,6 +31,7 @@ Inherits members table =
     AreLaminar members → (names : Names) (rank : ℕ) → IsNearest members names rank (found_in table names rank)
 
 pub record IsTable (parents : List (Option ℕ)) (objects : List Placed) (heads : List ScriptHead) (table : MemberTable) : Type 0 where
+  pub count : length table.descent ≡ length parents
   pub descent : IsDescentOf parents table.descent
   pub methods : Inherits (all_members table.descent objects heads).methods table.methods
   pub properties : Inherits (all_members table.descent objects heads).properties table.properties

@@ -1,5 +1,5 @@
 // Where the machine and the rules find the methods and properties of scripts.
-ghost use Rattle.std.specs.Prelude.{◌≡◌, [], ◌∷◌, IfOk, IfSome, OnOk};
+ghost use Rattle.std.specs.Prelude.{◌≡◌, [], ◌∷◌, length, IfOk, IfSome, OnOk};
 ghost use Rattle.pex_verify.specs.Members.{owner_in, member_of, properties_of, functions_of, methods_in, methods_of_state, methods_of_states, with_methods, with_properties, with_script};
 ghost use Rattle.pex_set.specs.Inherited.{found_in};
 ghost use Rattle.pex_set.specs.Names.{empty_name};
@@ -28,6 +28,7 @@ impl MemberLists {
     pub(crate) fn new(alloc: Global, parents: &[Option<usize>]) -> Result<MemberLists, OutOfMemory>
         ensures methods { IfOk result (λ lists. lists.methods ≡ []) }
         ensures properties { IfOk result (λ lists. lists.properties ≡ []) }
+        ensures count { IfOk result (λ lists. length lists.descent ≡ length parents.now) }
         ensures descent { IfOk result (λ lists. AreAmong parents.now → AreRooted parents.now → IsDescentOf parents.now lists.descent) }
     {
         Ok(MemberLists {

@@ -95,7 +95,7 @@ fn load_tables(
     requires valid { All IsFile files.now }
     ensures count { IfOk result (λ tables. vec_len tables.parts.scripts ≡ script_count files.now) }
     ensures sound { IfOk result (λ tables. AreSoundScripts (vec_len tables.parts.scripts) tables.parts.outlines.items tables.parts.scripts.items) }
-    ensures judged { IfOk result (λ tables. IsJudged tables.parts.scripts.items tables.parts.outlines.items) }
+    ensures judged { IfOk result (λ tables. IsJudged files.now tables.parts.scripts.items tables.parts.outlines.items) }
 {
     let prelude = Prelude::new(alloc)?;
     load_behind(alloc, table, &prelude, files, keeps_code)
@@ -115,7 +115,7 @@ fn load_behind(
     requires plain { All HasNoProperties prelude.now.file.objects.items }
     ensures count { IfOk result (λ tables. vec_len tables.parts.scripts ≡ script_count files.now) }
     ensures sound { IfOk result (λ tables. AreSoundScripts (vec_len tables.parts.scripts) tables.parts.outlines.items tables.parts.scripts.items) }
-    ensures judged { IfOk result (λ tables. IsJudged tables.parts.scripts.items tables.parts.outlines.items) }
+    ensures judged { IfOk result (λ tables. IsJudged files.now tables.parts.scripts.items tables.parts.outlines.items) }
 {
     let prelude_strings = FileStrings::of(alloc, table, prelude.file.strings.as_slice())?;
     let strings = strings_of_files(alloc, table, files)?;

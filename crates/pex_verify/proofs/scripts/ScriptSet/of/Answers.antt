@@ -20,4 +20,4 @@ returns-clause-table c = λ among rooted.
     let heads = c.in_ok-all_heads.field-0.items in
     let made = c.in_ok-inherited.ensures in
     let all = c.in_ok-all_heads.ensures.lists start.descent (no_members-at start given.methods given.properties) in
-    IsTable-of c.args.parents.now (placed_objects c.args.sources.now) heads start.descent c.all_heads.new.lists c.in_ok-inherited.field-0 (given.descent among rooted) all made.descent made.methods made.properties
+    IsTable-of c.args.parents.now (placed_objects c.args.sources.now) heads start.descent c.all_heads.new.lists c.in_ok-inherited.field-0 given.count (given.descent among rooted) all made.descent made.methods made.properties
