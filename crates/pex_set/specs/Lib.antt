@@ -7,3 +7,4 @@ pub mod Names
 pub mod Objects
 pub mod Circles
 pub mod Nearest
+pub mod Plain

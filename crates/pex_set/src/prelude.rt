@@ -1,5 +1,6 @@
 // The scripts that every set has, and the members of every script without parent.
-ghost use Rattle.std.specs.Prelude.{◌≡◌, vec_len, IfOk};
+ghost use Rattle.std.specs.Prelude.{◌≡◌, vec_len, All, IfOk};
+ghost use Rattle.pex_set.specs.Plain.{HasNoProperties};
 
 use papy_base::{OutOfMemory, Text};
 use pex_values::{Datum, Instruction, Pex, PexFunction, PexObject, PexState, SizeForm};
@@ -45,6 +46,7 @@ impl Prelude {
     pub fn new(alloc: Global) -> Result<Prelude, OutOfMemory>
         ensures objects { IfOk result (λ prelude. vec_len prelude.file.objects ≡ 6) }
         ensures members { IfOk result (λ prelude. vec_len prelude.members ≡ 4) }
+        ensures plain { IfOk result (λ prelude. All HasNoProperties prelude.file.objects.items) }
     {
         let file = Pex {
             minor: 2,
@@ -83,7 +85,8 @@ fn reference(wanted: &str) -> u16 {
 }
 
 fn objects(alloc: Global) -> Result<Vec<PexObject>, OutOfMemory>
-    ensures { IfOk result (λ objects. vec_len objects ≡ 6) }
+    ensures count { IfOk result (λ objects. vec_len objects ≡ 6) }
+    ensures plain { IfOk result (λ objects. All HasNoProperties objects.items) }
 {
     let trace = native(
         alloc,
@@ -109,7 +112,9 @@ fn with_function(
     parent: &str,
     function_name: &str,
     function: PexFunction,
-) -> Result<PexObject, OutOfMemory> {
+) -> Result<PexObject, OutOfMemory>
+    ensures { IfOk result HasNoProperties }
+{
     let mut functions = Vec::with_capacity(alloc, 1)?;
     functions.push((reference(function_name), function))?;
     let mut states = Vec::with_capacity(alloc, 1)?;
@@ -120,7 +125,9 @@ fn with_function(
     Ok(object(name, parent, states, alloc))
 }
 
-fn object(name: &str, parent: &str, states: Vec<PexState>, alloc: Global) -> PexObject {
+fn object(name: &str, parent: &str, states: Vec<PexState>, alloc: Global) -> PexObject
+    ensures { HasNoProperties result }
+{
     PexObject {
         name: reference(name),
         size_form: SizeForm::Counted,

@@ -17,6 +17,8 @@ pub mod MemberLists
 pub mod Standing
 pub mod Distinct
 pub mod Whole
+pub mod Tables
+pub mod Parts
 pub mod Views
 pub mod LookUps
 pub mod Offers

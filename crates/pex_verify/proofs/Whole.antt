@@ -1,10 +1,14 @@
 -- What a whole set was judged by.
-use Rattle.std.proofs.Common.{◌≡◌, ℕ, List, Some, Result, Ok, Err, IfOk, map, sym, ap, ◌∙◌}
-use Rattle.pex_set.specs.Names.{IsGrown, number_in}
+use Rattle.std.proofs.Common.{◌≡◌, ℕ, List, Some, Result, Ok, Err, IfOk, OnOk, [], ◌∷◌, All, map, sym, ap, ◌∙◌}
+use Rattle.pex_set.specs.Names.{empty_name, IsGrown, number_in}
 use Rattle.pex_values.specs.declared.values.Pex.{Pex}
 use Rattle.pex_verify.specs.declared.sources.FileStrings.{FileStrings}
+use Rattle.pex_verify.specs.declared.sources.DefaultMembers.{DefaultMembers}
 use Rattle.pex_verify.specs.declared.sources.SetFile.{SetFile}
-use Rattle.pex_verify.specs.Sources.{AreStrings, IsNamed}
+use Rattle.pex_verify.specs.declared.verifier.Tables.{Tables}
+use Rattle.pex_verify.specs.Loading.{IsLoadedSet}
+use Rattle.pex_verify.specs.Whole.{IsJudged}
+use Rattle.pex_verify.specs.Sources.{AreStrings, HaveParts, IsNamed}
 use Rattle.pex_verify.proofs.Strings.{AreStrings-grown}
 
 -- a file with its strings, whose numbers stay as the table grows
@@ -19,3 +23,22 @@ source_named earlier later file strings source grown own pex names titles =
 pub if_given : {T E : Type 0} (P Q : T → Type 0) (result : Result T E) → ((x : T) → P x → Q x) → IfOk result P → IfOk result Q
 if_given P Q (Ok x) each h = each x h
 if_given P Q (Err e) each h = tt
+
+-- what is given was judged by the files behind the prelude, if anything is given
+pub judged_given : {E : Type 0} (result : Result Tables E) (names : List (List ℕ)) (members : DefaultMembers) (sources : List SetFile) (prelude : Pex) (files : List Pex) → map (λ source. source.pex.now) sources ≡ prelude ∷ files → OnOk result (number_in names [] ≡ Some empty_name) → All (IsNamed names) sources → IsNamed names members.source.now → All (λ source. HaveParts source.pex.now) sources
+    → IfOk result (λ t. IsLoadedSet members sources t.parts.scripts.items t.parts.outlines.items t.members) → IfOk result (λ t. IsJudged files t.parts.scripts.items t.parts.outlines.items)
+judged_given (Ok t) names members sources prelude files files_are empty named own parts loaded =
+    record {
+      names = names;
+      members = members;
+      sources = sources;
+      table = t.members;
+      empty = empty;
+      named = named;
+      prelude = prelude;
+      files_are = files_are;
+      members_named = own;
+      parts = parts;
+      loaded = loaded;
+    }
+judged_given (Err e) names members sources prelude files files_are empty named own parts loaded = tt

@@ -1,7 +1,8 @@
 -- What scripts offer to others, as their objects say.
-use Rattle.std.specs.Prelude.{◌≡◌, ℕ, ◌==◌, List, [], ◌++◌, map, Option, Some, None, slice_get}
+use Rattle.std.specs.Prelude.{◌≡◌, ◌⊎◌, ℕ, ◌==◌, List, [], ◌++◌, map, Option, Some, None, slice_get}
 use Rattle.std.specs.List.{flat_map, position_or_len}
 use Rattle.std.specs.Option.{option_and_then, option_map}
+use Rattle.pex_set.specs.Names.{empty_name}
 use Rattle.pex_set.specs.declared.objects.Head.{Head}
 use Rattle.pex_values.specs.declared.values.PexFunction.{PexFunction}
 use Rattle.pex_values.specs.declared.values.PexObject.{PexObject}
@@ -71,6 +72,8 @@ pub record IsHeadOf (members : Members) (above : Option ℕ) (numbers : List ℕ
   pub properties : head.properties.items ≡ map (property_by numbers) object.properties.items
   pub empty_state : head.empty_state ≡ empty_state_of numbers object.states.items
   pub functions : Offers members (map (declared_by numbers) (empty_functions numbers object)) head
+  -- a script that lacks members has no parent
+  pub lacks : (head.lacking.items ≡ []) ⊎ (number_at numbers object.parent ≡ empty_name)
 
 -- the places of the members that a script lacks
 abbrev pub lacking_in : Option ScriptHead → List ℕ

@@ -25,6 +25,7 @@ pub mod Outlining
 pub mod Parents
 pub mod Properties
 pub mod Variables
+pub mod Members
+pub mod Tables
 pub mod Loading
 pub mod Whole
-pub mod Members

@@ -1,6 +1,7 @@
 -- The scripts of a set, as its objects say.
-use Rattle.std.specs.Prelude.{◌≡◌, ℕ, ◌<◌, List, length, map, slice_index_or, All}
+use Rattle.std.specs.Prelude.{◌≡◌, ℕ, ◌<◌, List, length, map, vec_len, slice_index_or, All}
 use Rattle.core_tree.specs.declared.outline.OutlineScript.{OutlineScript}
+use Rattle.pex_set.specs.Lineage.{AreRooted}
 use Rattle.pex_set.specs.Objects.{parents_in}
 use Rattle.pex_values.specs.declared.values.PexProperty.{PexProperty}
 use Rattle.pex_verify.specs.declared.loaded.LoadedProperty.{LoadedProperty}
@@ -12,12 +13,15 @@ use Rattle.pex_verify.specs.declared.scripts.ScriptSet.{ScriptSet}
 use Rattle.pex_verify.specs.declared.sources.DefaultMembers.{DefaultMembers}
 use Rattle.pex_verify.specs.declared.sources.SetFile.{SetFile}
 use Rattle.pex_verify.specs.Heads.{Placed, placed_objects, members_of, AreNumbered, AreHeads}
+use Rattle.pex_verify.specs.Meanings.{result_meaning}
 use Rattle.pex_verify.specs.Outlining.{IsOutlineOf}
 use Rattle.pex_verify.specs.Pairs.{Paired}
 use Rattle.pex_verify.specs.Properties.{IsProperty}
 use Rattle.pex_verify.specs.Rules.{AreDistinct, EachReplaces, state_numbers}
 use Rattle.pex_verify.specs.Sites.{site_of}
 use Rattle.pex_verify.specs.States.{AreStates, states_written}
+use Rattle.pex_verify.specs.Tables.{IsTable}
+use Rattle.pex_verify.specs.Types.{IsValueTypeAmong}
 use Rattle.pex_verify.specs.Variables.{variable_type, type_of_variable}
 
 -- what is loaded for the properties of an object
@@ -75,4 +79,8 @@ pub record IsLoadedSet (members : DefaultMembers) (sources : List SetFile) (scri
   pub numbered : AreNumbered (placed_objects sources) set.objects
   pub heads : AreHeads (members_of members) (parents_in set.objects) (placed_objects sources) set.heads.items
   pub objects : AreObjects (record { set = set; members = members }) (placed_objects sources) scripts outlines
+  -- no script is above itself, and the scripts of types are among those of the set
+  pub rooted : AreRooted (parents_in set.objects)
+  pub meanings : (name : ℕ) → IsValueTypeAmong (vec_len set.heads) (result_meaning set.types name)
+  pub is_table : IsTable (parents_in set.objects) (placed_objects sources) set.heads.items set.table
   pub same_table : set.table ≡ table

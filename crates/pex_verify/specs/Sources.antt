@@ -1,7 +1,9 @@
 -- How many objects and scripts files have.
-use Rattle.std.specs.Prelude.{◌≡◌, ℕ, ◌+◌, List, Some, map, sum_by, vec_len}
+use Rattle.std.specs.Prelude.{◌≡◌, ℕ, ◌+◌, List, Some, map, is_some, sum_by, vec_len, All}
 use Rattle.pex_set.specs.Names.{number_in}
+use Rattle.pex_values.specs.Bits.{has_variable, has_read, has_write}
 use Rattle.pex_values.specs.declared.values.Pex.{Pex}
+use Rattle.pex_values.specs.declared.values.PexProperty.{PexProperty}
 use Rattle.pex_verify.specs.declared.sources.FileStrings.{FileStrings}
 use Rattle.pex_verify.specs.declared.sources.SetFile.{SetFile}
 use Rattle.pex_verify.specs.Pairs.{Paired}
@@ -32,3 +34,12 @@ AreNamed table files strings = Paired Pex FileStrings (λ n f s. AreStrings tabl
 pub record IsNamed (table : List (List ℕ)) (source : SetFile) : Type 0 where
   pub titles : source.titles.now ≡ source.pex.now.strings.items
   pub numbers : map Some source.names.now ≡ map (number_in table) source.pex.now.strings.items
+
+-- a property has the parts that its bits ask for
+pub record HasParts (p : PexProperty) : Type 0 where
+  pub variable : is_some p.variable ≡ has_variable p.bits
+  pub read : is_some p.read ≡ has_read p.bits
+  pub write : is_some p.write ≡ has_write p.bits
+
+abbrev pub HaveParts : Pex → Type 0
+HaveParts file = All (λ object. All HasParts object.properties.items) file.objects.items

@@ -1,24 +1,31 @@
 -- What a whole set is, and was judged by.
-use Rattle.std.specs.Prelude.{ℕ, List, All}
+use Rattle.std.specs.Prelude.{◌≡◌, ℕ, List, [], ◌∷◌, map, Some, All}
 use Rattle.core_tree.specs.declared.outline.OutlineScript.{OutlineScript}
+use Rattle.pex_set.specs.Names.{empty_name, number_in}
+use Rattle.pex_values.specs.declared.values.Pex.{Pex}
 use Rattle.pex_verify.specs.declared.loaded.LoadedScript.{LoadedScript}
 use Rattle.pex_verify.specs.declared.members.MemberTable.{MemberTable}
 use Rattle.pex_verify.specs.declared.sources.DefaultMembers.{DefaultMembers}
 use Rattle.pex_verify.specs.declared.sources.SetFile.{SetFile}
 use Rattle.pex_verify.specs.Loading.{IsLoadedSet}
 use Rattle.pex_verify.specs.Sets.{LoadedSet, IsSoundSet}
-use Rattle.pex_verify.specs.Sources.{IsNamed}
+use Rattle.pex_verify.specs.Sources.{HaveParts, IsNamed}
 
 -- the files, with the numbers of their strings in one table of names, and what is loaded for their objects
-pub record IsJudged (scripts : List LoadedScript) (outlines : List OutlineScript) : Type 0 where
+pub record IsJudged (files : List Pex) (scripts : List LoadedScript) (outlines : List OutlineScript) : Type 0 where
   pub names : List (List ℕ)
   pub members : DefaultMembers
   pub sources : List SetFile
   pub table : MemberTable
+  pub prelude : Pex
+  pub files_are : map (λ source. source.pex.now) sources ≡ prelude ∷ files
+  pub empty : number_in names [] ≡ Some empty_name
   pub named : All (IsNamed names) sources
+  pub members_named : IsNamed names members.source.now
+  pub parts : All (λ source. HaveParts source.pex.now) sources
   pub loaded : IsLoadedSet members sources scripts outlines table
 
 -- a set that `verify` gives
 pub record IsWholeSet (set : LoadedSet) : Type 0 where
   pub sound : IsSoundSet set
-  pub judged : IsJudged set.scripts set.outline
+  pub judged : IsJudged set.files set.scripts set.outline

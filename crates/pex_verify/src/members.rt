@@ -1,9 +1,11 @@
 // Where the machine and the rules find the methods and properties of scripts.
-ghost use Rattle.std.specs.Prelude.{◌≡◌, [], ◌∷◌, IfOk, IfSome, OnOk};
+ghost use Rattle.std.specs.Prelude.{◌≡◌, [], ◌∷◌, length, IfOk, IfSome, OnOk};
 ghost use Rattle.pex_verify.specs.Members.{owner_in, member_of, properties_of, functions_of, methods_in, methods_of_state, methods_of_states, with_methods, with_properties, with_script};
 ghost use Rattle.pex_set.specs.Inherited.{found_in};
 ghost use Rattle.pex_set.specs.Names.{empty_name};
-ghost use Rattle.pex_set.specs.Ranks.{is_below, span_at};
+ghost use Rattle.pex_set.specs.Lineage.{AreAmong, AreRooted};
+ghost use Rattle.pex_set.specs.Ranks.{is_below, span_at, IsDescentOf};
+ghost use Rattle.pex_verify.specs.Tables.{Inherits};
 
 use crate::loaded::{MethodPlace, PropertyPlace};
 use crate::scripts::{PropertyHead, ScriptHead};
@@ -26,6 +28,8 @@ impl MemberLists {
     pub(crate) fn new(alloc: Global, parents: &[Option<usize>]) -> Result<MemberLists, OutOfMemory>
         ensures methods { IfOk result (λ lists. lists.methods ≡ []) }
         ensures properties { IfOk result (λ lists. lists.properties ≡ []) }
+        ensures count { IfOk result (λ lists. length lists.descent ≡ length parents.now) }
+        ensures descent { IfOk result (λ lists. AreAmong parents.now → AreRooted parents.now → IsDescentOf parents.now lists.descent) }
     {
         Ok(MemberLists {
             descent: Descent::of(alloc, parents)?,
@@ -150,7 +154,11 @@ impl MemberLists {
     }
 
     /// What each script has from itself upward.
-    pub(crate) fn inherited(self, alloc: Global) -> Result<MemberTable, OutOfMemory> {
+    pub(crate) fn inherited(self, alloc: Global) -> Result<MemberTable, OutOfMemory>
+        ensures descent { IfOk result (λ table. table.descent ≡ self.descent) }
+        ensures methods { IfOk result (λ table. Inherits self.methods table.methods) }
+        ensures properties { IfOk result (λ table. Inherits self.properties table.properties) }
+    {
         Ok(MemberTable {
             descent: self.descent,
             methods: self.methods.inherited(alloc)?,

@@ -1,12 +1,16 @@
 // The scripts of a set, as other scripts see them.
-ghost use Rattle.std.specs.Prelude.{◌≡◌, ◌+◌, ◌<◌, ℕ, List, ◌++◌, Option, Some, length, map, slice_get, vec_len, IfOk, IfSome, IsTrue, OnOk};
+ghost use Rattle.std.specs.Prelude.{◌≡◌, ◌+◌, ◌<◌, ℕ, List, ◌++◌, Option, Some, length, map, slice_get, true, vec_len, IfOk, IfSome, IsTrue, OnOk};
 ghost use Rattle.pex_verify.specs.Fitting.{CastsIn, FitsIn};
 ghost use Rattle.pex_verify.specs.Types.{IsValueTypeAmong};
 ghost use Rattle.pex_verify.specs.Meanings.{result_meaning, value_meaning};
 ghost use Rattle.pex_verify.specs.Sources.{object_count};
-ghost use Rattle.pex_verify.specs.Signatures.{declared_of, declared_by};
+ghost use Rattle.pex_verify.specs.Signatures.{number_at, declared_of, declared_by};
 ghost use Rattle.pex_verify.specs.Heads.{Placed, placed_in, placed_objects, Members, members_of, member_at, parent_at, property_by, empty_state_of, functions_of_state, lacking_in, IsHeadOf, AreHeads};
 ghost use Rattle.pex_verify.specs.Parents.{parent_in, parent_among};
+ghost use Rattle.pex_verify.specs.Tables.{no_members, all_members, IsTable};
+ghost use Rattle.pex_set.specs.Lineage.{AreAmong, AreRooted};
+ghost use Rattle.pex_set.specs.Names.{empty_name};
+ghost use Rattle.pex_set.specs.declared.descent.Span.{Span};
 ghost use Rattle.pex_values.specs.declared.values.PexObject.{PexObject};
 
 use crate::members::{MemberLists, MemberTable};
@@ -88,7 +92,8 @@ impl ScriptHead {
 
     /// Adds those of the four members that the script doesn't have.
     fn complete(&mut self, alloc: Global, members: &DefaultMembers<'_>) -> Result<(), OutOfMemory>
-        ensures { (above : Option ℕ) (numbers : List ℕ) (object : PexObject) → IsHeadOf (members_of members.now) above numbers object self.old
+        ensures { (above : Option ℕ) (numbers : List ℕ) (object : PexObject) → number_at numbers object.parent ≡ empty_name
+            → IsHeadOf (members_of members.now) above numbers object self.old
             → OnOk result (IsHeadOf (members_of members.now) above numbers object self.new) }
     {
         for (place, member) in members.list.iter().enumerate() {
@@ -100,7 +105,9 @@ impl ScriptHead {
 
     // Adds the member at this place, if the script doesn't have it.
     fn add_lacking(&mut self, place: usize, signature: Signature) -> Result<(), OutOfMemory>
-        ensures { (members : Members) (above : Option ℕ) (numbers : List ℕ) (object : PexObject) → member_at members place ≡ Some (declared_of signature)
+        ensures { (members : Members) (above : Option ℕ) (numbers : List ℕ) (object : PexObject)
+            → number_at numbers object.parent ≡ empty_name
+            → member_at members place ≡ Some (declared_of signature)
             → IsHeadOf members above numbers object self.old → OnOk result (IsHeadOf members above numbers object self.new) }
     {
         if self.has_function(signature.name) {
@@ -217,6 +224,9 @@ fn add_heads(
     ensures count { OnOk result (vec_len heads.new ≡ vec_len heads.old + vec_len source.now.pex.now.objects) }
     ensures heads { (before : List Placed) → AreHeads (members_of members.now) parents.now before heads.old.items
         → OnOk result (AreHeads (members_of members.now) parents.now (before ++ placed_in source.now) heads.new.items) }
+    ensures lists { (descent : List Span) (before : List Placed) → length before ≡ vec_len heads.old
+        → lists.old ≡ all_members descent before heads.old.items
+        → OnOk result (lists.new ≡ all_members descent (before ++ placed_in source.now) heads.new.items) }
 {
     for object in &source.pex.objects {
         let number = heads.len();
@@ -237,6 +247,8 @@ fn all_heads(
 ) -> Result<Vec<ScriptHead>, OutOfMemory>
     ensures count { IfOk result (λ heads. vec_len heads ≡ object_count sources.now) }
     ensures heads { IfOk result (λ heads. AreHeads (members_of members.now) parents.now (placed_objects sources.now) heads.items) }
+    ensures lists { (descent : List Span) → lists.old ≡ no_members descent
+        → IfOk result (λ heads. lists.new ≡ all_members descent (placed_objects sources.now) heads.items) }
 {
     let mut heads = Vec::with_capacity(alloc, parents.len())?;
     for source in sources {
@@ -246,7 +258,9 @@ fn all_heads(
 }
 
 // Whether the object of this number is read as if it had the four members.
-fn has_members(number: usize, names: &FileNames, object: &PexObject) -> bool {
+fn has_members(number: usize, names: &FileNames, object: &PexObject) -> bool
+    ensures { result ≡ true → number_at names.now object.now.parent ≡ empty_name }
+{
     number >= LIBRARY_COUNT && names.number(object.parent) == EMPTY_NAME
 }
 
@@ -268,6 +282,9 @@ impl ScriptSet {
         ensures count { IfOk result (λ scripts. vec_len scripts.heads ≡ object_count sources.now) }
         ensures objects { IfOk result (λ scripts. scripts.objects ≡ objects) }
         ensures heads { IfOk result (λ scripts. AreHeads (members_of members.now) parents.now (placed_objects sources.now) scripts.heads.items) }
+        ensures meanings { IfOk result (λ scripts. (name : ℕ) → IsValueTypeAmong (vec_len scripts.heads) (result_meaning scripts.types name)) }
+        ensures table { IfOk result (λ scripts. AreAmong parents.now → AreRooted parents.now
+            → IsTable parents.now (placed_objects sources.now) scripts.heads.items scripts.table) }
     {
         let types = TypeNames::of(alloc, table, &objects)?;
         let mut lists = MemberLists::new(alloc, parents)?;

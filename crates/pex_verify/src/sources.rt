@@ -1,9 +1,9 @@
 // The values of a set, with the numbers of their names.
-ghost use Rattle.std.specs.Prelude.{◌≡◌, ◌+◌, ◌<◌, ℕ, List, length, sum_by, All, IfOk, OnOk};
+ghost use Rattle.std.specs.Prelude.{◌≡◌, ◌+◌, ◌<◌, ℕ, List, ◌∷◌, length, map, sum_by, All, IfOk, OnOk};
 ghost use Rattle.pex_set.specs.Names.{IsGrown};
 ghost use Rattle.pex_verify.specs.Signatures.{title_at};
 ghost use Rattle.pex_verify.specs.Heads.{placed_objects, AreNumbered};
-ghost use Rattle.pex_verify.specs.Sources.{object_count, objects_in, objects_of, AreStrings, AreNamed, IsNamed};
+ghost use Rattle.pex_verify.specs.Sources.{object_count, objects_in, objects_of, AreStrings, AreNamed, HaveParts, IsNamed};
 
 use crate::fault::Site;
 use papy_base::{Name, OutOfMemory, Text};
@@ -129,6 +129,8 @@ pub(crate) fn all_sources<'a>(
     requires few { length files.now < 65536 }
     requires strings { length strings.now ≡ length files.now }
     ensures count { IfOk result (λ sources. object_count sources.items ≡ objects_in prelude.entry + sum_by objects_of files.now) }
+    ensures files { IfOk result (λ sources. map (λ source. source.pex.now) sources.items ≡ prelude.entry.pex.now ∷ files.now) }
+    ensures parts { HaveParts prelude.entry.pex.now → All HaveParts files.now → IfOk result (λ sources. All (λ source. HaveParts source.pex.now) sources.items) }
     ensures named { (table : List (List ℕ)) → IsNamed table prelude.entry → AreNamed table files.now strings.now → IfOk result (λ sources. All (IsNamed table) sources.items) }
 {
     let mut sources = Vec::with_capacity(alloc, files.len())?;

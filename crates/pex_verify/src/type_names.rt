@@ -37,7 +37,8 @@ impl TypeNames {
         table: &NameTable,
         objects: &Objects,
     ) -> Result<TypeNames, OutOfMemory>
-        ensures { IfOk result (λ types. types.scripts ≡ length objects.now) }
+        ensures scripts { IfOk result (λ types. types.scripts ≡ length objects.now) }
+        ensures meanings { IfOk result (λ types. (name : ℕ) → IsValueTypeAmong types.scripts (result_meaning types name)) }
     {
         Ok(TypeNames {
             scripts: objects.count(),

@@ -1,10 +1,16 @@
 // Sets of files, in the order in which their rules are judged.
-ghost use Rattle.std.specs.Prelude.{◌≡◌, ◌+◌, ◌<◌, List, [], ◌∷◌, ◌++◌, length, vec_len, All, IfOk, OnOk};
+ghost use Rattle.std.specs.Prelude.{◌≡◌, ◌+◌, ◌<◌, ℕ, List, [], ◌∷◌, ◌++◌, Some, length, vec_len, All, IfOk, OnOk};
 ghost use Rattle.pex_verify.specs.Files.{IsFile};
 ghost use Rattle.pex_verify.specs.Sources.{object_count, script_count};
 ghost use Rattle.pex_verify.specs.Sets.{AreSoundOutlines, AreSoundScripts};
 ghost use Rattle.pex_verify.specs.Heads.{Placed, placed, placed_in, placed_objects, members_of, AreNumbered, AreHeads};
+ghost use Rattle.pex_set.specs.Lineage.{AreRooted};
+ghost use Rattle.pex_set.specs.Names.{empty_name, number_in};
 ghost use Rattle.pex_set.specs.Objects.{parents_in};
+ghost use Rattle.pex_set.specs.Plain.{HasNoProperties};
+ghost use Rattle.pex_verify.specs.Meanings.{result_meaning};
+ghost use Rattle.pex_verify.specs.Tables.{IsTable};
+ghost use Rattle.pex_verify.specs.Types.{IsValueTypeAmong};
 ghost use Rattle.pex_verify.specs.Loading.{judged_by, AreObjects, IsLoadedSet};
 ghost use Rattle.pex_verify.specs.Whole.{IsJudged};
 
@@ -86,9 +92,10 @@ fn load_tables(
     keeps_code: bool,
 ) -> Result<Tables, VerifyFault>
     requires few { length files.now < 65536 }
+    requires valid { All IsFile files.now }
     ensures count { IfOk result (λ tables. vec_len tables.parts.scripts ≡ script_count files.now) }
     ensures sound { IfOk result (λ tables. AreSoundScripts (vec_len tables.parts.scripts) tables.parts.outlines.items tables.parts.scripts.items) }
-    ensures judged { IfOk result (λ tables. IsJudged tables.parts.scripts.items tables.parts.outlines.items) }
+    ensures judged { IfOk result (λ tables. IsJudged files.now tables.parts.scripts.items tables.parts.outlines.items) }
 {
     let prelude = Prelude::new(alloc)?;
     load_behind(alloc, table, &prelude, files, keeps_code)
@@ -103,10 +110,12 @@ fn load_behind(
     keeps_code: bool,
 ) -> Result<Tables, VerifyFault>
     requires few { length files.now < 65536 }
+    requires valid { All IsFile files.now }
     requires prelude { vec_len prelude.now.file.objects ≡ 6 }
+    requires plain { All HasNoProperties prelude.now.file.objects.items }
     ensures count { IfOk result (λ tables. vec_len tables.parts.scripts ≡ script_count files.now) }
     ensures sound { IfOk result (λ tables. AreSoundScripts (vec_len tables.parts.scripts) tables.parts.outlines.items tables.parts.scripts.items) }
-    ensures judged { IfOk result (λ tables. IsJudged tables.parts.scripts.items tables.parts.outlines.items) }
+    ensures judged { IfOk result (λ tables. IsJudged files.now tables.parts.scripts.items tables.parts.outlines.items) }
 {
     let prelude_strings = FileStrings::of(alloc, table, prelude.file.strings.as_slice())?;
     let strings = strings_of_files(alloc, table, files)?;
@@ -139,6 +148,7 @@ fn load_set(
     ensures count { IfOk result (λ tables. vec_len tables.parts.scripts ≡ object_count sources.now) }
     ensures sound { IfOk result (λ tables. AreSoundScripts (vec_len tables.parts.scripts) tables.parts.outlines.items tables.parts.scripts.items) }
     ensures loaded { IfOk result (λ tables. IsLoadedSet members.now sources.now tables.parts.scripts.items tables.parts.outlines.items tables.members) }
+    ensures empty { OnOk result (number_in table.now [] ≡ Some empty_name) }
 {
     let set = judged_scripts(alloc, table, files, members, sources)?;
     let loader = Loader {
@@ -166,6 +176,9 @@ fn judged_scripts(
     ensures count { IfOk result (λ scripts. vec_len scripts.heads ≡ object_count sources.now) }
     ensures numbered { IfOk result (λ scripts. AreNumbered (placed_objects sources.now) scripts.objects) }
     ensures heads { IfOk result (λ scripts. AreHeads (members_of members.now) (parents_in scripts.objects) (placed_objects sources.now) scripts.heads.items) }
+    ensures rooted { IfOk result (λ scripts. AreRooted (parents_in scripts.objects)) }
+    ensures meanings { IfOk result (λ scripts. (name : ℕ) → IsValueTypeAmong (vec_len scripts.heads) (result_meaning scripts.types name)) }
+    ensures table { IfOk result (λ scripts. IsTable (parents_in scripts.objects) (placed_objects sources.now) scripts.heads.items scripts.table) }
 {
     let objects = objects_of(alloc, sources)?;
     let parents = objects.parents(alloc)?;

@@ -14,4 +14,4 @@ returns c =
     let names = c.args.names.now in
     let object = c.args.object.now in
     let own = subst (λ (above : Option ℕ). IsHeadOf members above names object c.in_ok-head.head) c.parent_of.ensures (c.in_ok-head.ensures members) in
-    c.in_ok-complete.ensures (parent_at c.args.parents.now c.args.number) names object own
+    c.in_ok-complete.ensures (parent_at c.args.parents.now c.args.number) names object (c.has_members.ensures c.if-not-has_members.false) own

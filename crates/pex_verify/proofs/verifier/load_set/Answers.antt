@@ -7,5 +7,8 @@ returns-clause-loaded c = record {
   numbered = c.in_ok-set.ensures.numbered;
   heads = c.in_ok-set.ensures.heads;
   objects = c.in_ok-parts.ensures.objects;
+  rooted = c.in_ok-set.ensures.rooted;
+  meanings = c.in_ok-set.ensures.meanings;
+  is_table = c.in_ok-set.ensures.table;
   same_table = refl;
 }
