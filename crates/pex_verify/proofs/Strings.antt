@@ -18,7 +18,8 @@ AreNamed-grown earlier later files strings grown old =
     record { count = old.count; each = λ k f s h. AreStrings-grown earlier later _ _ grown (old.each k f s h) }
 
 -- one file more behind the prelude
-pub files-next : (prelude : Pex) (sources later : List SetFile) (files : List Pex) (i : ℕ) (source : SetFile) (file : Pex) → later ≡ sources ++ source ∷ [] → i < length files → file ≡ get_or files i file → source.pex.now ≡ file
+pub files-next : (prelude : Pex) (sources later : List SetFile) (files : List Pex) (i : ℕ) (source : SetFile) (file : Pex)
+    → later ≡ sources ++ source ∷ [] → i < length files → file ≡ get_or files i file → source.pex.now ≡ file
     → map (λ (s : SetFile). s.pex.now) sources ≡ prelude ∷ take i files → map (λ (s : SetFile). s.pex.now) later ≡ prelude ∷ take (i + 1) files
 files-next prelude sources later files i source file grown within is same before =
     let pex_of : SetFile → Pex = λ s. s.pex.now in

@@ -26,7 +26,8 @@ collected-push lists number (p ∷ objects) (h ∷ heads) o head same =
     collected-push first (suc number) objects heads o head rest ∙ ap (λ (n : ℕ). with_placed (collected first (suc number) objects heads) n o head) e
 
 -- one script more
-pub all_members-next : (descent : List Span) (objects : List Placed) (heads later : List ScriptHead) (lists more : MemberLists) (number : ℕ) (o : Placed) (head : ScriptHead) → later ≡ heads ++ head ∷ [] → length objects ≡ length heads → number ≡ length heads
+pub all_members-next : (descent : List Span) (objects : List Placed) (heads later : List ScriptHead) (lists more : MemberLists) (number : ℕ) (o : Placed) (head : ScriptHead)
+    → later ≡ heads ++ head ∷ [] → length objects ≡ length heads → number ≡ length heads
     → lists ≡ all_members descent objects heads → more ≡ with_script lists number o.source.names.now o.object head → more ≡ all_members descent (objects ++ o ∷ []) later
 all_members-next descent objects heads later lists more number o head grown same at had adds =
     let e : number ≡ 0 + length heads = omega (arith, at) in
@@ -51,7 +52,8 @@ no_members-at lists methods properties =
     ap (λ (l : List OwnMember). record lists { methods = l }) methods ∙ ap (λ (l : List OwnMember). record lists { methods = []; properties = l }) properties
 
 -- the table that is made of the members of all scripts
-pub IsTable-of : (parents : List (Option ℕ)) (objects : List Placed) (heads : List ScriptHead) (descent : List Span) (lists : MemberLists) (table : MemberTable) → length descent ≡ length parents → IsDescentOf parents descent → lists ≡ all_members descent objects heads
+pub IsTable-of : (parents : List (Option ℕ)) (objects : List Placed) (heads : List ScriptHead) (descent : List Span) (lists : MemberLists) (table : MemberTable)
+    → length descent ≡ length parents → IsDescentOf parents descent → lists ≡ all_members descent objects heads
     → table.descent ≡ lists.descent → Inherits lists.methods table.methods → Inherits lists.properties table.properties → IsTable parents objects heads table
 IsTable-of parents objects heads descent lists table as_many ranks all kept methods properties =
     let same : table.descent ≡ descent = kept ∙ ap (λ (l : MemberLists). l.descent) all ∙ collected-descent (no_members descent) 0 objects heads in

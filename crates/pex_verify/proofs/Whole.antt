@@ -25,7 +25,9 @@ if_given P Q (Ok x) each h = each x h
 if_given P Q (Err e) each h = tt
 
 -- what is given was judged by the files behind the prelude, if anything is given
-pub judged_given : {E : Type 0} (result : Result Tables E) (names : List (List ℕ)) (members : DefaultMembers) (sources : List SetFile) (prelude : Pex) (files : List Pex) → map (λ source. source.pex.now) sources ≡ prelude ∷ files → OnOk result (number_in names [] ≡ Some empty_name) → All (IsNamed names) sources → IsNamed names members.source.now → All (λ source. HaveParts source.pex.now) sources
+pub judged_given : {E : Type 0} (result : Result Tables E) (names : List (List ℕ)) (members : DefaultMembers) (sources : List SetFile) (prelude : Pex) (files : List Pex)
+    → map (λ source. source.pex.now) sources ≡ prelude ∷ files
+    → OnOk result (number_in names [] ≡ Some empty_name) → All (IsNamed names) sources → IsNamed names members.source.now → All (λ source. HaveParts source.pex.now) sources
     → IfOk result (λ t. IsLoadedSet members sources t.parts.scripts.items t.parts.outlines.items t.members) → IfOk result (λ t. IsJudged files t.parts.scripts.items t.parts.outlines.items)
 judged_given (Ok t) names members sources prelude files files_are empty named own parts loaded =
     record {

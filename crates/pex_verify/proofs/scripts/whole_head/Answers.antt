@@ -1,5 +1,4 @@
 use Rattle.std.proofs.Common.{Option, ℕ, subst}
-use Rattle.pex_verify.specs.declared.scripts.ScriptHead.{ScriptHead}
 use Rattle.pex_verify.specs.Heads.{IsHeadOf, members_of, parent_at}
 use Rattle.pex_verify.proofs.scripts.whole_head.Goals as goal
 

@@ -1,4 +1,4 @@
-use Rattle.std.proofs.Common.{◌≡◌, ℕ, ◌+◌, ◌<◌, List, length, take, ap, ◌∙◌, arith}
+use Rattle.std.proofs.Common.{◌≡◌, ◌+◌, ◌<◌, length, take, ap, ◌∙◌, arith}
 use Rattle.pex_verify.specs.declared.members.MemberLists.{MemberLists}
 use Rattle.pex_verify.specs.Members.{Owner, owner_in, with_methods, methods_of_state, methods_of_states}
 use Rattle.pex_verify.proofs.MemberLists.{methods_more, methods_of_states-next}

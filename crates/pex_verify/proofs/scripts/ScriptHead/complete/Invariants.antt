@@ -7,4 +7,5 @@ use Rattle.pex_verify.proofs.scripts.ScriptHead.complete.Given as goal
 
 abbrev pub invariant-loop-place : goal.invariant-loop-place
 invariant-loop-place l =
-    (above : Option ℕ) (numbers : List ℕ) (object : PexObject) → number_at numbers object.parent ≡ empty_name → IsHeadOf (members_of l.members) above numbers object l.fn.self → IsHeadOf (members_of l.members) above numbers object l.self
+    (above : Option ℕ) (numbers : List ℕ) (object : PexObject) → number_at numbers object.parent ≡ empty_name
+    → IsHeadOf (members_of l.members) above numbers object l.fn.self → IsHeadOf (members_of l.members) above numbers object l.self
