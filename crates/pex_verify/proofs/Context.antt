@@ -1,11 +1,9 @@
 -- What a set that was verified was judged by.
-use Rattle.std.specs.Prelude.{◌≡◌, ℕ, ◌==◌, List, [], ◌∷◌, ◌++◌, if◌then◌else◌, map, Option, Some, None, option_to_list}
+use Rattle.std.specs.Prelude.{ℕ, ◌==◌, List, [], ◌∷◌, ◌++◌, if◌then◌else◌, map, Option, option_to_list}
 use Rattle.std.specs.List.{flat_map, list_any}
-use Rattle.core_tree.specs.Outlines.{ScriptShape}
 use Rattle.pex_set.specs.Names.{empty_name}
 use Rattle.pex_set.specs.Objects.{parents_in}
 use Rattle.pex_values.specs.declared.values.PexState.{PexState}
-use Rattle.code_meaning.specs.Code.{Script}
 use Rattle.pex_verify.specs.declared.members.MemberLists.{MemberLists}
 use Rattle.pex_verify.specs.declared.scripts.PropertyHead.{PropertyHead}
 use Rattle.pex_verify.specs.declared.scripts.ScriptHead.{ScriptHead}

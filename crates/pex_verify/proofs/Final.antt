@@ -38,7 +38,7 @@ use Rattle.pex_verify.specs.Sources.{IsNamed}
 use Rattle.pex_verify.specs.States.{WrittenState, IsState, AreStates, own_written, written_member, member_written, member_in, lacking_written, lacking_places, is_empty_state, state_functions, state_written, added_state, states_written}
 use Rattle.pex_verify.specs.Types.{IsTypeAmong}
 use Rattle.pex_verify.specs.Whole.{IsWholeSet}
-use Rattle.pex_verify.proofs.Context.{tables, parents, objects, heads}
+use Rattle.pex_verify.proofs.Context.{tables, parents, objects}
 use Rattle.pex_verify.proofs.Facts.{outline_count, parents_count, object_is, source_named, title_number, outline_parent, item_at}
 use Rattle.pex_verify.proofs.Relatives.{heads_length}
 use Rattle.pex_verify.proofs.Upward.{same_lineage}

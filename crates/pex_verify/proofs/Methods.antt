@@ -7,7 +7,6 @@ use Rattle.std.proofs.lemmas.Bool.{cases_lt, eq-eqb, eqb-true, ne_eqb}
 use Rattle.std.proofs.lemmas.Option.{none-some, same_Some, slice_get_within, get_or_from_slice_get}
 use Rattle.script_meaning.specs.Values.{parent_in}
 use Rattle.pex_set.specs.Inherited.{found_in}
-use Rattle.pex_set.specs.Lineage as objects_above
 use Rattle.pex_set.specs.Names.{empty_name, number_in}
 use Rattle.pex_values.specs.declared.values.PexFunction.{PexFunction}
 use Rattle.pex_values.specs.declared.values.PexObject.{PexObject}

@@ -1,5 +1,5 @@
 -- The list of a set's objects as it grows.
-use Rattle.std.proofs.Common.{◌≡◌, ℕ, List, [], ◌∷◌, ◌++◌, map, refl, sym, subst}
+use Rattle.std.proofs.Common.{ℕ, List, [], ◌∷◌, ◌++◌, map, refl, sym, subst}
 use Rattle.std.proofs.lemmas.List.{append_assoc, append-nil}
 use Rattle.pex_set.specs.Objects.{head_of}
 use Rattle.pex_set.specs.declared.objects.Head.{Head}

@@ -1,9 +1,9 @@
-use Rattle.std.proofs.Common.{◌≡◌, ℕ, ◌+◌, ◌<◌, List, length, get_or, take, subst, arith}
+use Rattle.std.proofs.Common.{ℕ, ◌<◌, List, length, take, subst, arith}
 use Rattle.pex_values.specs.declared.values.Pex.{Pex}
-use Rattle.pex_set.proofs.NameLemmas.{IsGrown-refl, IsGrown-trans}
+use Rattle.pex_set.proofs.NameLemmas.{IsGrown-trans}
 use Rattle.pex_verify.specs.declared.sources.FileStrings.{FileStrings}
 use Rattle.pex_verify.specs.Sources.{AreStrings}
-use Rattle.pex_verify.proofs.Pairs.{Paired-none, Paired-next}
+use Rattle.pex_verify.proofs.Pairs.{Paired-next}
 use Rattle.pex_verify.proofs.Strings.{AreNamed-grown}
 use Rattle.pex_verify.proofs.sources.strings_of_files.Goals as goal
 
