@@ -1,5 +1,5 @@
 // The parts of a scene that JSON values are read as.
-ghost use Rattle.std.specs.Prelude.{◌≡◌, ◌≤◌, ◌≤ℤ◌, List, length, IfOk, OnOk};
+ghost use Rattle.std.specs.Prelude.{◌≡◌, ◌≤◌, ◌≤ℤ◌, length, IfOk, OnOk};
 ghost use Rattle.std.specs.List.{All};
 ghost use Rattle.scene_reader.specs.Limits.{Keeps, IsShort, TapeKeeps, NamedKeeps};
 
