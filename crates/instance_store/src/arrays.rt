@@ -6,7 +6,7 @@ ghost use Rattle.instance_store.specs.Values.{is_array_type};
 ghost use Rattle.instance_store.specs.Arrays.{array_at, length_of, read, write_answer, arrays_with, found, IsRefusal, IsCreated};
 
 use crate::fault::StoreFault;
-use crate::value_array::ValueArray;
+use crate::value_array::{ValueArray, defaults};
 use core_tree::{CoreType, Value};
 use papy_base::{OutOfMemory, StackFault};
 use std::alloc::Global;
@@ -81,8 +81,8 @@ impl Arrays {
         if number >= ARRAY_LIMIT {
             return Err(StoreFault::Fault(StackFault::ArrayLimit));
         }
-        let array = ValueArray::filled(*self.arrays.allocator(), kind, count)?;
-        self.arrays.push(array)?;
+        let alloc = *self.arrays.allocator();
+        self.add(kind, defaults(alloc, kind, count)?)?;
         Ok(number as u16)
     }
 
@@ -114,9 +114,7 @@ impl Arrays {
         requires { ForSome array (λ number. number < length self.now) }
         ensures { result ≡ length_of self.now array }
     {
-        let Some(number) = array else {
-            return Err(StackFault::NoneArray);
-        };
+        let number = array.ok_or(StackFault::NoneArray)?;
         Ok(self.arrays[usize::from(number)].length())
     }
 
@@ -131,9 +129,7 @@ impl Arrays {
         ensures item { IfOk result (λ value. read self.now array at ≡ Ok value) }
         ensures fault { IfErr result (λ fault. IsRefusal (read self.now array at) fault) }
     {
-        let Some(number) = array else {
-            return Err(StoreFault::Fault(StackFault::NoneArray));
-        };
+        let number = array.ok_or(StoreFault::Fault(StackFault::NoneArray))?;
         self.arrays[usize::from(number)].get(*self.arrays.allocator(), at)
     }
 
@@ -147,9 +143,7 @@ impl Arrays {
         ensures answer { result ≡ write_answer self.old array at }
         ensures after { self.new ≡ arrays_with self.old array at value }
     {
-        let Some(number) = array else {
-            return Err(StackFault::NoneArray);
-        };
+        let number = array.ok_or(StackFault::NoneArray)?;
         self.arrays[usize::from(number)].set(at, value)
     }
 
@@ -171,9 +165,7 @@ impl Arrays {
         requires { ForSome array (λ number. number < length self.now) }
         ensures { result ≡ found self.now array value.now start back }
     {
-        let Some(number) = array else {
-            return Err(StackFault::NoneArray);
-        };
+        let number = array.ok_or(StackFault::NoneArray)?;
         Ok(self.arrays[usize::from(number)].find(value, start, back))
     }
 }

@@ -4,7 +4,6 @@ ghost use Rattle.std.specs.Prelude.{◌≡◌};
 ghost use Rattle.instance_store.specs.declared.fault.StoreFault.TheVariants.{OutOfMemory as StoreOutOfMemory};
 
 use papy_base::{OutOfMemory, StackFault};
-use std::alloc::{AllocError, AllocFailed};
 use thiserror::Error;
 
 /// Why a call that takes memory gives no answer.
@@ -22,22 +21,6 @@ impl From<OutOfMemory> for StoreFault {
     ghost from_gives = { λ _ fault. fault ≡ StoreOutOfMemory };
 
     fn from(_error: OutOfMemory) -> StoreFault {
-        StoreFault::OutOfMemory
-    }
-}
-
-impl From<AllocError> for StoreFault {
-    ghost from_gives = { λ _ fault. fault ≡ StoreOutOfMemory };
-
-    fn from(_error: AllocError) -> StoreFault {
-        StoreFault::OutOfMemory
-    }
-}
-
-impl<T: Drop> From<AllocFailed<T>> for StoreFault {
-    ghost from_gives = { λ _ fault. fault ≡ StoreOutOfMemory };
-
-    fn from(_error: AllocFailed<T>) -> StoreFault {
         StoreFault::OutOfMemory
     }
 }

@@ -2,9 +2,10 @@
 
 ghost use Rattle.std.specs.Prelude.{◌≡◌, ◌↔◌, ◌<◌, List, ℕ, IfOk, OnErr, IsTrue, length};
 ghost use Rattle.instance_store.specs.Values.{is_text};
-ghost use Rattle.instance_store.specs.Instances.{place_of, values_of, variable_of, instance_with, scripts_with};
+ghost use Rattle.instance_store.specs.Instances.{place_of, values_of, variable_of, scripts_with};
 
 use crate::script_variables::ScriptVariables;
+use crate::values::copy_of;
 use core_tree::Value;
 use papy_base::{OutOfMemory, Text};
 use std::alloc::Global;
@@ -14,8 +15,8 @@ use std::marker::Model;
 /// are found first.
 #[derive(Drop)]
 pub struct Instance {
-    state: Text,
-    scripts: Vec<ScriptVariables>,
+    pub(crate) state: Text,
+    pub(crate) scripts: Vec<ScriptVariables>,
 }
 
 impl Model for Instance {
@@ -34,35 +35,12 @@ impl Instance {
         Instance { state, scripts }
     }
 
-    /// The name of its state, empty in the empty state.
-    pub fn state(&self) -> &Text
-        ensures { result.now ≡ self.now.state }
-    {
-        &self.state
-    }
-
-    /// Takes it into the state of this name.
-    pub fn set_state(&mut self, state: Text)
-        ensures { self.new ≡ record self.old { state = state } }
-    {
-        self.state = state;
-    }
-
-    /// The variables of each of its scripts, from its own upward.
-    pub fn scripts(&self) -> &[ScriptVariables]
-        ensures { result.now ≡ self.now.scripts }
-    {
-        self.scripts.as_slice()
-    }
-
     /// Whether the script declares such a variable.
     pub fn has(&self, script: u16, variable: u16) -> bool
         ensures { IsTrue result ↔ (variable < length (values_of self.now.scripts script)) }
     {
-        match place_of(self.scripts.as_slice(), script) {
-            None => false,
-            Some(place) => usize::from(variable) < self.scripts[place].count(),
-        }
+        let place = place_of(self.scripts.as_slice(), script);
+        place.is_some_and(|place| usize::from(variable) < self.scripts[place].values.len())
     }
 
     /// A copy of a variable's value.
@@ -74,14 +52,7 @@ impl Instance {
         let Some(place) = place_of(self.scripts.as_slice(), script) else {
             unreachable!();
         };
-        self.scripts[place].get(alloc, variable)
-    }
-
-    /// Writes a variable.
-    pub fn set(&mut self, script: u16, variable: u16, value: Value)
-        ensures { self.new ≡ instance_with self.old script variable value }
-    {
-        write(&mut self.scripts, script, variable, value);
+        copy_of(alloc, &self.scripts[place].values[usize::from(variable)])
     }
 }
 
@@ -90,12 +61,15 @@ pub fn write(scripts: &mut Vec<ScriptVariables>, script: u16, variable: u16, val
     ensures { scripts.new.items ≡ scripts_with scripts.old.items script variable value }
 {
     if let Some(place) = place_of(scripts.as_slice(), script) {
-        scripts[place].set(variable, value);
+        let values = &mut scripts[place].values;
+        if let Some(held) = values.get_mut(usize::from(variable)) {
+            *held = value;
+        }
     }
 }
 
 fn place_of(scripts: &[ScriptVariables], script: u16) -> Option<usize>
     ensures { result ≡ place_of scripts.now script }
 {
-    scripts.iter().position(|part| part.script() == script)
+    scripts.iter().position(|part| part.script == script)
 }

@@ -4,9 +4,9 @@ ghost use Rattle.std.specs.Prelude.{◌≡◌, ◌↔◌, ◌<◌, IfOk, OnErr, 
 ghost use Rattle.instance_store.specs.Values.{is_text};
 ghost use Rattle.instance_store.specs.Instances.{instance_at, values_of, variable_of, instance_with, started};
 
-use crate::instance::Instance;
+use crate::instance::{Instance, write};
 use crate::script_variables::ScriptVariables;
-use crate::start::start_all;
+use crate::start::start_instance;
 use core_tree::{Outline, Scene, Value};
 use papy_base::{OutOfMemory, Text};
 use std::alloc::Global;
@@ -40,7 +40,10 @@ impl Instances {
     pub fn create(alloc: Global, outline: &Outline, scene: &Scene) -> Result<Instances, OutOfMemory>
         ensures { IfOk result (λ instances. instances ≡ map (started outline.now.scripts.items) scene.now.instances.items) }
     {
-        let instances = start_all(alloc, &outline.scripts, &scene.instances)?;
+        let mut instances = Vec::with_capacity(alloc, scene.instances.len())?;
+        for instance in &scene.instances {
+            instances.push(start_instance(alloc, &outline.scripts, instance)?)?;
+        }
         Ok(Instances { instances })
     }
 
@@ -56,7 +59,7 @@ impl Instances {
         requires { instance < length self.now }
         ensures { result.now ≡ (instance_at self.now instance).scripts }
     {
-        self.instances[usize::from(instance)].scripts()
+        self.instances[usize::from(instance)].scripts.as_slice()
     }
 
     /// Whether there is such an instance, and its script or one above it, of this number, declares
@@ -85,7 +88,8 @@ impl Instances {
         requires variable_in { variable < length (values_of (instance_at self.old instance).scripts script) }
         ensures { self.new ≡ slice_set self.old instance (instance_with (instance_at self.old instance) script variable value) }
     {
-        self.instances[usize::from(instance)].set(script, variable, value);
+        let place = usize::from(instance);
+        write(&mut self.instances[place].scripts, script, variable, value);
     }
 
     /// The text of an instance's state.
@@ -93,7 +97,7 @@ impl Instances {
         requires { instance < length self.now }
         ensures { result.now ≡ (instance_at self.now instance).state }
     {
-        self.instances[usize::from(instance)].state()
+        &self.instances[usize::from(instance)].state
     }
 
     /// Gives an instance another state, and no other instance.
@@ -101,6 +105,6 @@ impl Instances {
         requires { instance < length self.old }
         ensures { self.new ≡ slice_set self.old instance (record (instance_at self.old instance) { state = state }) }
     {
-        self.instances[usize::from(instance)].set_state(state);
+        self.instances[usize::from(instance)].state = state;
     }
 }

@@ -12,14 +12,8 @@ use core_tree::Value;
 pub fn place_in(count: usize, index: i32) -> Option<usize>
     ensures { result ≡ place_in count index }
 {
-    let place = index.unsigned_abs() as usize;
-    if index < 0 {
-        None
-    } else if place < count {
-        Some(place)
-    } else {
-        None
-    }
+    let place = usize::try_from(index).ok()?;
+    if place < count { Some(place) } else { None }
 }
 
 /// The place of a value: the first one not below the start, or with `back` the last one not above it.
@@ -39,10 +33,7 @@ fn first_equal(items: &[Value], value: &Value, start: usize) -> Option<usize>
     ensures place { result ≡ first_equal items.now value.now start }
     ensures within { IfSome result (λ place. place < length items.now) }
 {
-    if start >= items.len() {
-        return None;
-    }
-    let found = first_in(&items[start..], value)?;
+    let found = first_in(items.get(start..)?, value)?;
     Some(start + found)
 }
 
@@ -73,11 +64,7 @@ fn last_equal(items: &[Value], value: &Value, end: usize) -> Option<usize>
 fn first_place(start: i32) -> usize
     ensures { result ≡ first_place start }
 {
-    if start < 0 {
-        0
-    } else {
-        start.unsigned_abs() as usize
-    }
+    start.max(0) as usize
 }
 
 /// Where a search backward begins: behind the start, or behind the last item.
@@ -85,10 +72,7 @@ fn end_behind(count: usize, start: i32) -> usize
     ensures end { result ≡ end_behind count (place_in count start) }
     ensures within { result ≤ count }
 {
-    match place_in(count, start) {
-        None => count,
-        Some(place) => place + 1,
-    }
+    place_in(count, start).map_or(count, |place| place + 1)
 }
 
 /// A place as scripts see it.
@@ -96,8 +80,5 @@ pub fn place_number(place: Option<usize>) -> i32
     requires { ForSome place (λ place. place < 128) }
     ensures { result ≡ place_number place }
 {
-    match place {
-        None => -1,
-        Some(place) => place as i32,
-    }
+    place.map_or(-1, |place| place as i32)
 }

@@ -2,7 +2,7 @@
 
 ghost use Rattle.std.specs.Prelude.{◌≡◌, IfOk, map, slice_get};
 ghost use Rattle.std.specs.Option.{option_copied};
-ghost use Rattle.instance_store.specs.Instances.{lineage, parent_of, auto_state_of, initial_values, start_state, scripts_after, started};
+ghost use Rattle.instance_store.specs.Instances.{lineage, parent_of, auto_state_of, initial_values, initial_values_of, start_state, started};
 
 use crate::instance::{Instance, write};
 use crate::script_variables::ScriptVariables;
@@ -11,23 +11,8 @@ use core_tree::{BoundInstance, OutlineScript, OutlineVariable, Value};
 use papy_base::{Name, OutOfMemory, Text};
 use std::alloc::Global;
 
-/// The instances of a scene, in its order.
-pub fn start_all(
-    alloc: Global,
-    scripts: &[OutlineScript],
-    instances: &[BoundInstance],
-) -> Result<Vec<Instance>, OutOfMemory>
-    ensures { IfOk result (λ found. found.items ≡ map (started scripts.now) instances.now) }
-{
-    let mut found = Vec::with_capacity(alloc, instances.len())?;
-    for instance in instances {
-        found.push(start_instance(alloc, scripts, instance)?)?;
-    }
-    Ok(found)
-}
-
 /// An instance with the initial values of its scripts, then those of the scene.
-fn start_instance(
+pub fn start_instance(
     alloc: Global,
     scripts: &[OutlineScript],
     instance: &BoundInstance,
@@ -37,7 +22,9 @@ fn start_instance(
     let above = lineage(alloc, scripts, instance.script)?;
     let state = start_state(alloc, scripts, &above)?;
     let mut variables = all_initial_values(alloc, scripts, &above)?;
-    write_all(alloc, &mut variables, &instance.set)?;
+    for entry in &instance.set {
+        write(&mut variables, entry.0, entry.1, copy_of(alloc, &entry.2)?);
+    }
     Ok(Instance::new(state, variables))
 }
 
@@ -62,10 +49,7 @@ fn lineage(alloc: Global, scripts: &[OutlineScript], script: u16) -> Result<Vec<
 fn parent_of(scripts: &[OutlineScript], script: u16) -> Option<u16>
     ensures { result ≡ parent_of (slice_get scripts.now script) }
 {
-    match scripts.get(usize::from(script)) {
-        None => None,
-        Some(script) => script.parent,
-    }
+    scripts.get(usize::from(script))?.parent
 }
 
 fn start_state(alloc: Global, scripts: &[OutlineScript], above: &[u16]) -> Result<Text, OutOfMemory>
@@ -82,10 +66,7 @@ fn start_state(alloc: Global, scripts: &[OutlineScript], above: &[u16]) -> Resul
 fn auto_state_of(scripts: &[OutlineScript], script: u16) -> Option<&Name>
     ensures { option_copied result ≡ auto_state_of (slice_get scripts.now script) }
 {
-    match scripts.get(usize::from(script)) {
-        None => None,
-        Some(script) => script.auto_state.as_ref(),
-    }
+    scripts.get(usize::from(script))?.auto_state.as_ref()
 }
 
 fn all_initial_values(
@@ -97,7 +78,8 @@ fn all_initial_values(
 {
     let mut found = Vec::with_capacity(alloc, above.len())?;
     for script in above {
-        found.push(script_initial_values(alloc, scripts, *script)?)?;
+        let values = script_initial_values(alloc, scripts, *script)?;
+        found.push(ScriptVariables::new(*script, values))?;
     }
     Ok(found)
 }
@@ -106,14 +88,13 @@ fn script_initial_values(
     alloc: Global,
     scripts: &[OutlineScript],
     script: u16,
-) -> Result<ScriptVariables, OutOfMemory>
-    ensures { IfOk result (λ found. found ≡ initial_values scripts.now script) }
+) -> Result<Vec<Value>, OutOfMemory>
+    ensures { IfOk result (λ values. values.items ≡ initial_values_of (slice_get scripts.now script)) }
 {
-    let values = match scripts.get(usize::from(script)) {
-        None => Vec::new(alloc),
-        Some(outline) => values_of(alloc, &outline.variables)?,
-    };
-    Ok(ScriptVariables::new(script, values))
+    match scripts.get(usize::from(script)) {
+        None => Ok(Vec::new(alloc)),
+        Some(outline) => values_of(alloc, &outline.variables),
+    }
 }
 
 fn values_of(alloc: Global, variables: &[OutlineVariable]) -> Result<Vec<Value>, OutOfMemory>
@@ -124,18 +105,4 @@ fn values_of(alloc: Global, variables: &[OutlineVariable]) -> Result<Vec<Value>,
         values.push(copy_of(alloc, &variable.value)?)?;
     }
     Ok(values)
-}
-
-/// Writes the values that a scene sets, in their order.
-fn write_all(
-    alloc: Global,
-    variables: &mut Vec<ScriptVariables>,
-    entries: &[(u16, u16, Value)],
-) -> Result<(), OutOfMemory>
-    ensures { IfOk result (λ _. variables.new.items ≡ scripts_after variables.old.items entries.now) }
-{
-    for entry in entries {
-        write(variables, entry.0, entry.1, copy_of(alloc, &entry.2)?);
-    }
-    Ok(())
 }

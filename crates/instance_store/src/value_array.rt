@@ -2,7 +2,7 @@
 
 ghost use Rattle.std.specs.Prelude.{◌≡◌, ◌≤◌, IfOk, IfErr, pos, length, replicate, vec_len};
 ghost use Rattle.instance_store.specs.Values.{default_value};
-ghost use Rattle.instance_store.specs.Arrays.{filled, item_of, write_answer_of, array_with, found_place, place_number, IsRefusal};
+ghost use Rattle.instance_store.specs.Arrays.{item_of, write_answer_of, array_with, found_place, place_number, IsRefusal};
 
 use crate::fault::StoreFault;
 use crate::search::{found_place, place_in, place_number};
@@ -31,15 +31,6 @@ impl Model for ValueArray {
 }
 
 impl ValueArray {
-    /// An array of so many defaults of its type.
-    pub fn filled(alloc: Global, kind: CoreType, count: u8) -> Result<ValueArray, OutOfMemory>
-        requires { count ≤ 128 }
-        ensures { IfOk result (λ array. array ≡ filled kind count) }
-    {
-        let items = defaults(alloc, kind, usize::from(count))?;
-        Ok(ValueArray { kind, items })
-    }
-
     /// An array of these elements.
     pub fn of(kind: CoreType, items: Vec<Value>) -> ValueArray
         requires { vec_len items ≤ 128 }
@@ -74,9 +65,8 @@ impl ValueArray {
         ensures item { IfOk result (λ value. item_of self.now at ≡ Ok value) }
         ensures fault { IfErr result (λ fault. IsRefusal (item_of self.now at) fault) }
     {
-        let Some(place) = place_in(self.items.len(), at) else {
-            return Err(StoreFault::Fault(StackFault::IndexRange));
-        };
+        let fault = StoreFault::Fault(StackFault::IndexRange);
+        let place = place_in(self.items.len(), at).ok_or(fault)?;
         Ok(copy_of(alloc, &self.items[place])?)
     }
 
@@ -85,9 +75,7 @@ impl ValueArray {
         ensures answer { result ≡ write_answer_of self.old at }
         ensures after { self.new ≡ array_with self.old at value }
     {
-        let Some(place) = place_in(self.items.len(), at) else {
-            return Err(StackFault::IndexRange);
-        };
+        let place = place_in(self.items.len(), at).ok_or(StackFault::IndexRange)?;
         self.items[place] = value;
         Ok(())
     }
@@ -100,10 +88,11 @@ impl ValueArray {
     }
 }
 
-fn defaults(alloc: Global, kind: CoreType, count: usize) -> Result<Vec<Value>, OutOfMemory>
+/// So many defaults of a type.
+pub fn defaults(alloc: Global, kind: CoreType, count: u8) -> Result<Vec<Value>, OutOfMemory>
     ensures { IfOk result (λ items. items.items ≡ replicate count (default_value kind)) }
 {
-    let mut items = Vec::with_capacity(alloc, count)?;
+    let mut items = Vec::with_capacity(alloc, usize::from(count))?;
     for _made in 0..count {
         items.push(default_value(alloc, kind)?)?;
     }

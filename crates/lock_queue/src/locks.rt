@@ -193,8 +193,5 @@ fn is_open(owner: Option<u16>, first: Option<u16>) -> bool
 fn start_from(last: Option<u16>) -> usize
     ensures { result ≡ start_after last }
 {
-    match last {
-        None => 0,
-        Some(stack) => usize::from(stack) + 1,
-    }
+    last.map_or(0, |stack| usize::from(stack) + 1)
 }

@@ -84,8 +84,5 @@ impl Queues {
 fn last_with(last: Option<u16>, next: Option<u16>) -> Option<u16>
     ensures { result ≡ last_after last next }
 {
-    match next {
-        None => None,
-        Some(_) => last,
-    }
+    next.and(last)
 }

@@ -2,7 +2,7 @@ ghost use Rattle.std.specs.Prelude.{◌≡◌};
 ghost use Rattle.papy_io.specs.declared.fault.IoFault.TheVariants as io;
 
 use papy_base::OutOfMemory;
-use std::alloc::{AllocError, AllocFailed};
+use std::alloc::AllocError;
 use thiserror::Error;
 
 /// The system, or the desk or sink itself, refused a call.
@@ -41,14 +41,6 @@ impl From<AllocError> for IoFault {
     ghost from_gives = { λ _ e. e ≡ io.OutOfMemory };
 
     fn from(_: AllocError) -> IoFault {
-        IoFault::OutOfMemory
-    }
-}
-
-impl<T: Drop> From<AllocFailed<T>> for IoFault {
-    ghost from_gives = { λ _ e. e ≡ io.OutOfMemory };
-
-    fn from(_: AllocFailed<T>) -> IoFault {
         IoFault::OutOfMemory
     }
 }

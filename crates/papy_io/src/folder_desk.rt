@@ -66,17 +66,13 @@ impl<F: Read + Write> Work<F> {
 
 /// Opens a file to read it. A name that isn't UTF-8 is no file's.
 fn open<R: Files>(rt: &R, name: &[u8]) -> Result<R::File, Failed> {
-    let Ok(path) = str::from_utf8(name) else {
-        return Err(Failed);
-    };
+    let path = str::from_utf8(name).map_err(|_| Failed)?;
     fs::open(rt, path).map_err(|_| Failed)
 }
 
 /// Makes an empty file, or empties the one that is there.
 fn create<R: Files>(rt: &R, name: &[u8]) -> Result<R::File, Failed> {
-    let Ok(path) = str::from_utf8(name) else {
-        return Err(Failed);
-    };
+    let path = str::from_utf8(name).map_err(|_| Failed)?;
     fs::create(rt, path).map_err(|_| Failed)
 }
 
@@ -144,21 +140,17 @@ impl<R: Files + Drop> Desk for FolderDesk<R> {
 
     fn start_read(&mut self, name: &[u8]) -> Result<(), IoFault> {
         let kept = Vec::from_slice(self.alloc, name)?;
-        match open(&self.rt, name) {
-            Ok(file) => {
-                self.work = Work::Reading {
-                    name: kept,
-                    file,
-                    is_missed: false,
-                };
-                Ok(())
-            }
-            Err(Failed) => {
-                self.missed_before = Some(kept);
-                self.read_faults = counted(self.read_faults);
-                Err(IoFault::Failed)
-            }
-        }
+        let Ok(file) = open(&self.rt, name) else {
+            self.missed_before = Some(kept);
+            self.read_faults = counted(self.read_faults);
+            return Err(IoFault::Failed);
+        };
+        self.work = Work::Reading {
+            name: kept,
+            file,
+            is_missed: false,
+        };
+        Ok(())
     }
 
     fn read(&mut self, buffer: &mut [u8]) -> Result<usize, Failed> {
@@ -176,26 +168,20 @@ impl<R: Files + Drop> Desk for FolderDesk<R> {
 
     fn start_write(&mut self, name: &[u8]) -> Result<(), IoFault> {
         let kept = Vec::from_slice(self.alloc, name)?;
-        match create(&self.rt, name) {
-            Ok(file) => {
-                self.work = Work::Writing { name: kept, file };
-                Ok(())
-            }
-            Err(Failed) => {
-                self.write_faults = counted(self.write_faults);
-                Err(IoFault::Failed)
-            }
-        }
+        let Ok(file) = create(&self.rt, name) else {
+            self.write_faults = counted(self.write_faults);
+            return Err(IoFault::Failed);
+        };
+        self.work = Work::Writing { name: kept, file };
+        Ok(())
     }
 
     fn write(&mut self, bytes: &[u8]) -> Result<(), IoFault> {
-        match self.work.write(bytes) {
-            Ok(()) => Ok(()),
-            Err(Failed) => {
-                self.write_faults = counted(self.write_faults);
-                Err(IoFault::Failed)
-            }
+        if self.work.write(bytes).is_err() {
+            self.write_faults = counted(self.write_faults);
+            return Err(IoFault::Failed);
         }
+        Ok(())
     }
 
     fn finish(&mut self) -> Result<(), Failed> {

@@ -58,12 +58,10 @@ impl<W: Write + Drop> Sink for StreamSink<W> {
         ensures faults { CountsFaults result self.old.faults self.new.faults }
         ensures contents { OnOk result (Appends (W.contents self.old.writer) (W.contents self.new.writer) bytes.now) }
     {
-        match write_out(&mut self.writer, bytes) {
-            Ok(()) => Ok(()),
-            Err(_) => {
-                self.faults = counted(self.faults);
-                Err(IoFault::Failed)
-            }
+        if write_out(&mut self.writer, bytes).is_err() {
+            self.faults = counted(self.faults);
+            return Err(IoFault::Failed);
         }
+        Ok(())
     }
 }

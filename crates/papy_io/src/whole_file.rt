@@ -8,8 +8,7 @@ ghost use Rattle.papy_io.specs.Count.{CountsFaults};
 
 use crate::desk::Desk;
 use crate::fault::{Failed, IoFault};
-use papy_base::OutOfMemory;
-use std::alloc::{AllocError, AllocFailed, Global};
+use std::alloc::{AllocError, Global};
 use thiserror::Error;
 
 /// Why a file wasn't read.
@@ -47,26 +46,10 @@ impl From<IoFault> for ReadAllFault {
     }
 }
 
-impl From<OutOfMemory> for ReadAllFault {
-    ghost from_gives = { λ _ e. e ≡ fault.OutOfMemory };
-
-    fn from(_: OutOfMemory) -> ReadAllFault {
-        ReadAllFault::OutOfMemory
-    }
-}
-
 impl From<AllocError> for ReadAllFault {
     ghost from_gives = { λ _ e. e ≡ fault.OutOfMemory };
 
     fn from(_: AllocError) -> ReadAllFault {
-        ReadAllFault::OutOfMemory
-    }
-}
-
-impl<T: Drop> From<AllocFailed<T>> for ReadAllFault {
-    ghost from_gives = { λ _ e. e ≡ fault.OutOfMemory };
-
-    fn from(_: AllocFailed<T>) -> ReadAllFault {
         ReadAllFault::OutOfMemory
     }
 }

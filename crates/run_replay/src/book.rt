@@ -43,10 +43,7 @@ pub(crate) enum Stage {
 fn between_turns(stage: Stage) -> bool
     ensures { result ≡ between_turns stage }
 {
-    !matches!(
-        stage,
-        Stage::Start | Stage::Begun | Stage::Woken(_) | Stage::Ended
-    )
+    !before_run(stage) && !matches!(stage, Stage::Start | Stage::Ended)
 }
 
 // A turn has begun, and it isn't said yet whose it is.
@@ -184,10 +181,8 @@ impl Book {
             | LockMove::Release(_, instance) => {
                 in_turn(self.stage) && usize::from(instance) < self.instances.len()
             }
-            LockMove::Free(_) | LockMove::Leave(_) | LockMove::Sleep(_, _) | LockMove::Done(_) => {
-                in_turn(self.stage)
-            }
             LockMove::Run(_) | LockMove::Idle => before_run(self.stage),
+            _ => in_turn(self.stage),
         }
     }
 
@@ -308,11 +303,8 @@ impl Book {
         ensures { self.new ≡ moved self.old (moves.Take stack instance) }
     {
         let since = since_of(stack, self.waiters.as_slice());
-        add_to(
-            instance,
-            self.turn.saturating_sub(since),
-            &mut self.instances,
-        );
+        let waited = self.turn.saturating_sub(since);
+        add_to(instance, waited, &mut self.instances);
         self.stage = Stage::Acting(stack);
         put(stack, Place::Holds(instance), &mut self.places);
         remove_stack(stack, &mut self.waiters);
@@ -378,20 +370,11 @@ impl Book {
         ensures instances { map (λ p. p.0) result.instances.items ≡ self.names }
         ensures counts { map (λ p. p.1) result.instances.items ≡ counted self.waiters self.turns self.waited }
     {
-        let Book {
-            stage: _,
-            mut instances,
-            turns,
-            turn: _,
-            places: _,
-            waiters,
-        } = self;
-        for waiter in &waiters {
-            add_to(
-                waiter.instance,
-                turns.saturating_sub(waiter.since),
-                &mut instances,
-            );
+        let turns = self.turns;
+        let mut instances = self.instances;
+        for waiter in &self.waiters {
+            let waited = turns.saturating_sub(waiter.since);
+            add_to(waiter.instance, waited, &mut instances);
         }
         Waits { turns, instances }
     }

@@ -4,7 +4,6 @@ ghost use Rattle.std.specs.Prelude.{◌≡◌};
 ghost use Rattle.run_replay.specs.declared.fault.JournalFault.TheVariants.{OutOfMemory as NoMemory};
 
 use papy_base::OutOfMemory;
-use std::alloc::{AllocError, AllocFailed};
 use thiserror::Error;
 
 /// The rules of a journal. Where a line breaks both, the first counts.
@@ -34,22 +33,6 @@ impl From<OutOfMemory> for JournalFault {
     ghost from_gives = { λ _ fault. fault ≡ NoMemory };
 
     fn from(_error: OutOfMemory) -> JournalFault {
-        JournalFault::OutOfMemory
-    }
-}
-
-impl From<AllocError> for JournalFault {
-    ghost from_gives = { λ _ fault. fault ≡ NoMemory };
-
-    fn from(_error: AllocError) -> JournalFault {
-        JournalFault::OutOfMemory
-    }
-}
-
-impl<T: Drop> From<AllocFailed<T>> for JournalFault {
-    ghost from_gives = { λ _ fault. fault ≡ NoMemory };
-
-    fn from(_error: AllocFailed<T>) -> JournalFault {
         JournalFault::OutOfMemory
     }
 }

@@ -4,7 +4,7 @@ ghost use Rattle.std.specs.Prelude.{◌≡◌, ◌≢◌, ℕ, List, ◌++◌, �
 ghost use Rattle.std.specs.List.{list_all};
 ghost use Rattle.run_replay.specs.declared.arguments.Numbers.TheVariants as numbers;
 ghost use Rattle.run_replay.specs.Lines.{JournalLine, line_text, LineFits, is_instance_name, is_name_byte, word_of, spelled};
-ghost use Rattle.run_replay.specs.Reading.{seen, plain_line, line_with_one, line_with_two, numbered_line};
+ghost use Rattle.run_replay.specs.Reading.{seen, line_with_one, line_with_two, numbered_line};
 
 use crate::arguments::{Numbers, numbers_of};
 use crate::keyword::{Keyword, keyword_of};
@@ -56,17 +56,6 @@ fn name_at(bytes: &[u8]) -> Option<&[u8]>
     None
 }
 
-// The line of this word alone.
-fn plain_line<'a>(keyword: Keyword) -> Option<Line<'a>>
-    ensures known { option_map seen result ≡ plain_line keyword }
-    ensures read { IfSome result (λ l. LineFits (seen l) × (line_text (seen l) ≡ word_of keyword ++ spelled numbers.Nothing)) }
-{
-    match keyword {
-        Keyword::Idle => Some(Line::Move(LockMove::Idle)),
-        _ => None,
-    }
-}
-
 // The line of this word and a number.
 fn line_with_one<'a>(keyword: Keyword, number: u32) -> Option<Line<'a>>
     ensures known { option_map seen result ≡ line_with_one keyword number }
@@ -113,7 +102,10 @@ fn numbered_line<'a>(keyword: Keyword, values: Numbers) -> Option<Line<'a>>
     ensures read { IfSome result (λ l. LineFits (seen l) × (line_text (seen l) ≡ word_of keyword ++ spelled values)) }
 {
     match values {
-        Numbers::Nothing => plain_line(keyword),
+        Numbers::Nothing => match keyword {
+            Keyword::Idle => Some(Line::Move(LockMove::Idle)),
+            _ => None,
+        },
         Numbers::One(number) => line_with_one(keyword, number),
         Numbers::Two(first, second) => line_with_two(keyword, first, second),
     }

@@ -41,12 +41,13 @@ pub fn bind(
     let scripts = OutlineScripts::new(alloc, outline)?;
     let instances = Instances::new(alloc, &scripts, &tree.instances)?;
     let scope = Known {
+        alloc,
         scripts: &scripts,
         instances: &instances,
     };
-    let bound = bind_instances(alloc, scope, &tree.instances)?;
+    let bound = bind_instances(scope, &tree.instances)?;
     let natives = bind_natives(alloc, &tree, outline, devices)?;
-    let calls = bind_calls(alloc, scope, &tree.calls)?;
+    let calls = bind_calls(scope, &tree.calls)?;
     Ok(Scene {
         instances: bound,
         calls,
@@ -71,10 +72,10 @@ fn bind_natives(
     ensures limits { IfOk result (λ natives. All NativeKeeps tree.now.natives.items → All NativeKeepsLimits natives.items) }
 {
     let mut natives = Natives::new(alloc, outline, devices)?;
-    natives.bind_all(alloc, &tree.natives)?;
-    natives.bind_defaults(alloc)?;
+    natives.bind_all(&tree.natives)?;
+    natives.bind_defaults()?;
     if tree.tapes.len() > usize::from(devices) {
         return Err(SceneFault::of(SceneRule::NoDevice));
     }
-    natives.finish(alloc)
+    natives.finish()
 }

@@ -11,11 +11,9 @@ use crate::values::{Known, value_for};
 use core_tree::{BoundCall, CoreType, OutlineFunction, SceneCall, SceneValue, Value};
 use papy_base::Name;
 use scene_reader::{SceneFault, SceneRule};
-use std::alloc::Global;
 
 /// The calls. `NoFunction` and `Arguments` come by the first call that breaks one of them.
 pub(crate) fn bind_calls(
-    alloc: Global,
     scope: Known<'_, '_>,
     calls: &[SceneCall],
 ) -> Result<Vec<BoundCall>, SceneFault>
@@ -24,53 +22,50 @@ pub(crate) fn bind_calls(
     ensures limits { IfOk result (λ bound. All CallKeeps calls.now → All CallKeepsLimits bound.items) }
     ensures meant { IfOk result (λ bound. CallsAre scope.entry.instances.now calls.now bound.items) }
 {
-    let mut bound = Vec::with_capacity(alloc, calls.len())?;
+    let mut bound = Vec::with_capacity(scope.alloc, calls.len())?;
     for call in calls {
-        bound.push(bind_call(alloc, scope, call)?)?;
+        bound.push(bind_call(scope, call)?)?;
     }
     Ok(bound)
 }
 
-fn bind_call(alloc: Global, scope: Known<'_, '_>, call: &SceneCall) -> Result<BoundCall, SceneFault>
+fn bind_call(scope: Known<'_, '_>, call: &SceneCall) -> Result<BoundCall, SceneFault>
     ensures bound { IfOk result (IsBoundCall scope.entry.scripts.now scope.entry.instances.now.scripts.items) }
     ensures parts { IfOk result (λ bound. call_parts bound ≡ tree_call_parts call.now) }
     ensures limits { IfOk result (λ bound. CallKeeps call.now → CallKeepsLimits bound) }
     ensures meant { IfOk result (CallIs scope.entry.instances.now call.now) }
 {
-    let Some(instance) = scope.instances.find(alloc, &call.instance)? else {
+    let Some(instance) = scope.instances.find(scope.alloc, &call.instance)? else {
         return Err(SceneFault::of(SceneRule::NoFunction));
     };
     let name = call.function.as_bytes();
-    let function = called_function(alloc, scope, instance, name)?;
-    let arguments = bind_arguments(alloc, scope, &function.parameters, &call.arguments)?;
+    let function = called_function(scope, instance, name)?;
+    let arguments = bind_arguments(scope, &function.parameters, &call.arguments)?;
     Ok(BoundCall {
         turn: call.turn,
         instance,
-        function: Name::from_bytes(alloc, name)?,
+        function: Name::from_bytes(scope.alloc, name)?,
         arguments,
     })
 }
 
 /// The function that a call of this name on the instance means.
 fn called_function<'a>(
-    alloc: Global,
     scope: Known<'_, 'a>,
     instance: u16,
     name: &[u8],
 ) -> Result<&'a OutlineFunction, SceneFault>
     ensures { IfOk result (λ function. IsCallableOn scope.entry.scripts.now scope.entry.instances.now.scripts.items instance name.now function.now) }
 {
-    let Some(script) = scope.instances.script_of(usize::from(instance)) else {
-        return Err(SceneFault::of(SceneRule::NoFunction));
-    };
-    match scope.scripts.find_function(alloc, script, name)? {
+    let fault = SceneFault::of(SceneRule::NoFunction);
+    let script = scope.instances.script_of(instance).ok_or(fault)?;
+    match scope.scripts.find_function(scope.alloc, script, name)? {
         Some(function) if !function.is_native && !function.is_global => Ok(function),
-        _ => Err(SceneFault::of(SceneRule::NoFunction)),
+        _ => Err(fault),
     }
 }
 
 fn bind_arguments(
-    alloc: Global,
     scope: Known<'_, '_>,
     parameters: &[CoreType],
     arguments: &[SceneValue],
@@ -82,9 +77,9 @@ fn bind_arguments(
     if arguments.len() != parameters.len() {
         return Err(SceneFault::of(SceneRule::Arguments));
     }
-    let mut bound = Vec::with_capacity(alloc, arguments.len())?;
+    let mut bound = Vec::with_capacity(scope.alloc, arguments.len())?;
     for (place, value) in arguments.iter().enumerate() {
-        bound.push(value_for(alloc, scope, parameters[place], value)?)?;
+        bound.push(value_for(scope, parameters[place], value)?)?;
     }
     Ok(bound)
 }

@@ -52,17 +52,15 @@ impl Instances {
     pub(crate) fn find(&self, alloc: Global, name: &Text) -> Result<Option<u16>, OutOfMemory>
         ensures { IfOk result (λ found. IfSome found (λ n. number_in self.now.names (folded name.now) ≡ Some n)) }
     {
-        match self.names.find(alloc, name.as_bytes())? {
-            Some(number) => Ok(u16::try_from(number).ok()),
-            None => Ok(None),
-        }
+        let number = self.names.find(alloc, name.as_bytes())?;
+        Ok(number.and_then(|number| u16::try_from(number).ok()))
     }
 
     /// The script of the instance of this number.
-    pub(crate) fn script_of(&self, instance: usize) -> Option<u16>
+    pub(crate) fn script_of(&self, instance: u16) -> Option<u16>
         ensures { result ≡ slice_get self.now.scripts.items instance }
     {
-        self.scripts.as_slice().get(instance).copied()
+        self.scripts.as_slice().get(usize::from(instance)).copied()
     }
 }
 
@@ -74,8 +72,6 @@ fn script_of(
     ensures there { IfOk result (IsInstantiable scripts.now) }
     ensures named { IfOk result (λ script. script_named scripts.now instance.now.script ≡ Some script) }
 {
-    match scripts.find_instantiable(alloc, instance.script.as_bytes())? {
-        Some(script) => Ok(script),
-        None => Err(SceneFault::of(SceneRule::NoScript)),
-    }
+    let script = scripts.find_instantiable(alloc, instance.script.as_bytes())?;
+    script.ok_or(SceneFault::of(SceneRule::NoScript))
 }

@@ -53,37 +53,27 @@ impl<'a> Natives<'a> {
             devices,
         };
         for (number, script) in outline.scripts.iter().enumerate() {
-            found.add_script(alloc, number, script)?;
+            found.add_script(number, script)?;
         }
         Ok(found)
     }
 
     // Numbers of scripts and places of functions have 16 bits.
-    fn add_script(
-        &mut self,
-        alloc: Global,
-        number: usize,
-        script: &'a OutlineScript,
-    ) -> Result<(), OutOfMemory>
+    fn add_script(&mut self, number: usize, script: &'a OutlineScript) -> Result<(), OutOfMemory>
         ensures { OnOk result (Adds self.old self.new (native_places_in number script.now) (λ scripts. slice_get scripts number ≡ Some script.now)) }
     {
         match u16::try_from(number) {
-            Ok(number) => self.add_functions(alloc, number, script),
+            Ok(number) => self.add_functions(number, script),
             Err(_) => Ok(()),
         }
     }
 
-    fn add_functions(
-        &mut self,
-        alloc: Global,
-        number: u16,
-        script: &'a OutlineScript,
-    ) -> Result<(), OutOfMemory>
+    fn add_functions(&mut self, number: u16, script: &'a OutlineScript) -> Result<(), OutOfMemory>
         ensures { OnOk result (Adds self.old self.new (native_places_from number 0 script.now.functions.items) (λ scripts. slice_get scripts number ≡ Some script.now)) }
     {
         let functions = script.functions.as_slice();
         for (place, function) in functions.iter().enumerate() {
-            self.add(alloc, script, number, place, function)?;
+            self.add(script, number, place, function)?;
         }
         Ok(())
     }
@@ -91,7 +81,6 @@ impl<'a> Natives<'a> {
     // Adds a function where it is native.
     fn add(
         &mut self,
-        alloc: Global,
         script: &OutlineScript,
         number: u16,
         place: usize,
@@ -105,6 +94,7 @@ impl<'a> Natives<'a> {
         if !function.is_native {
             return Ok(());
         }
+        let alloc = *self.natives.allocator();
         let name = full_name(alloc, script, function)?;
         self.names.note(alloc, &name, self.natives.len())?;
         self.natives.push(Native {
@@ -118,30 +108,26 @@ impl<'a> Natives<'a> {
 
     /// Gives the natives the bindings of a scene. `DuplicateName`, `NoFunction`, `NoDevice` and
     /// `UnboundNative` come by the first entry that breaks one of them.
-    pub(crate) fn bind_all(
-        &mut self,
-        alloc: Global,
-        entries: &[(Text, Binding)],
-    ) -> Result<(), SceneFault>
+    pub(crate) fn bind_all(&mut self, entries: &[(Text, Binding)]) -> Result<(), SceneFault>
         ensures natives { (scripts : List OutlineScript) → AreNatives scripts self.old → AreNatives scripts self.new }
         ensures devices { self.new.devices ≡ self.old.devices }
         ensures limits { All NativeKeeps entries.now → NativesKeepLimits self.old → NativesKeepLimits self.new }
         ensures bound { OnOk result ((scripts : List OutlineScript) → AreNatives scripts self.old → AreBoundBy scripts [] self.old → AreBoundBy scripts entries.now self.new) }
     {
         for entry in entries {
-            self.bind(alloc, entry.0.as_bytes(), entry.1)?;
+            self.bind(entry.0.as_bytes(), entry.1)?;
         }
         Ok(())
     }
 
     // An earlier entry of the same name has bound the same native.
-    fn bind(&mut self, alloc: Global, name: &[u8], binding: Binding) -> Result<(), SceneFault>
+    fn bind(&mut self, name: &[u8], binding: Binding) -> Result<(), SceneFault>
         ensures natives { (scripts : List OutlineScript) → AreNatives scripts self.old → AreNatives scripts self.new }
         ensures devices { self.new.devices ≡ self.old.devices }
         ensures limits { BindingKeeps binding → NativesKeepLimits self.old → NativesKeepLimits self.new }
         ensures bound { OnOk result ((scripts : List OutlineScript) (entries : List (List ℕ × NativeBinding)) → AreNatives scripts self.old → AreBoundBy scripts entries self.old → AreBoundBy scripts (entries ++ (name.now, binding) ∷ []) self.new) }
     {
-        let Some(number) = self.find(alloc, name)? else {
+        let Some(number) = self.find(name)? else {
             return Err(SceneFault::of(SceneRule::NoFunction));
         };
         if self.natives[number].binding.is_some() {
@@ -158,11 +144,11 @@ impl<'a> Natives<'a> {
     }
 
     // The number of the native of this name.
-    fn find(&self, alloc: Global, name: &[u8]) -> Result<Option<usize>, OutOfMemory>
+    fn find(&self, name: &[u8]) -> Result<Option<usize>, OutOfMemory>
         ensures there { IfOk result (λ found. IfSome found (λ number. number < length self.now.natives.items)) }
         ensures named { IfOk result (λ found. IfSome found (λ number. number_in self.now.names (folded name.now) ≡ Some number)) }
     {
-        match self.names.find(alloc, name)? {
+        match self.names.find(*self.natives.allocator(), name)? {
             Some(number) if number < self.natives.len() => Ok(Some(number)),
             _ => Ok(None),
         }
@@ -170,33 +156,28 @@ impl<'a> Natives<'a> {
 
     /// Gives the natives of the first scripts what they do without an entry. `NoDevice` comes where the
     /// device isn't there.
-    pub(crate) fn bind_defaults(&mut self, alloc: Global) -> Result<(), SceneFault>
+    pub(crate) fn bind_defaults(&mut self) -> Result<(), SceneFault>
         ensures natives { (scripts : List OutlineScript) → AreNatives scripts self.old → AreNatives scripts self.new }
         ensures devices { self.new.devices ≡ self.old.devices }
         ensures limits { NativesKeepLimits self.old → NativesKeepLimits self.new }
         ensures meant { (scripts : List OutlineScript) (entries : List (List ℕ × NativeBinding)) → AreNatives scripts self.old → AreMeant scripts entries self.old → AreMeant scripts entries self.new }
     {
-        self.bind_default(alloc, b"Debug.Trace", Binding::Trace { latency: 0 })?;
-        self.bind_default(alloc, b"Scene.Sleep", Binding::Sleep)?;
+        self.bind_default(b"Debug.Trace", Binding::Trace { latency: 0 })?;
+        self.bind_default(b"Scene.Sleep", Binding::Sleep)?;
         let dice = Binding::Device {
             device: 3,
             latency: 0,
         };
-        self.bind_default(alloc, b"Utility.RandomInt", dice)
+        self.bind_default(b"Utility.RandomInt", dice)
     }
 
-    fn bind_default(
-        &mut self,
-        alloc: Global,
-        name: &[u8],
-        binding: Binding,
-    ) -> Result<(), SceneFault>
+    fn bind_default(&mut self, name: &[u8], binding: Binding) -> Result<(), SceneFault>
         ensures natives { (scripts : List OutlineScript) → AreNatives scripts self.old → AreNatives scripts self.new }
         ensures devices { self.new.devices ≡ self.old.devices }
         ensures limits { BindingKeeps binding → NativesKeepLimits self.old → NativesKeepLimits self.new }
         ensures meant { (scripts : List OutlineScript) (entries : List (List ℕ × NativeBinding)) → binding_in default_entries (folded name.now) ≡ Some binding → AreNatives scripts self.old → AreMeant scripts entries self.old → AreMeant scripts entries self.new }
     {
-        let Some(number) = self.find(alloc, name)? else {
+        let Some(number) = self.find(name)? else {
             return Ok(());
         };
         if self.natives[number].binding.is_some() {
@@ -212,11 +193,12 @@ impl<'a> Natives<'a> {
     }
 
     /// The natives with their bindings. `UnboundNative` comes where one has none.
-    pub(crate) fn finish(&self, alloc: Global) -> Result<Vec<BoundNative>, SceneFault>
+    pub(crate) fn finish(&self) -> Result<Vec<BoundNative>, SceneFault>
         ensures natives { (scripts : List OutlineScript) → AreNatives scripts self.now → IfOk result (λ bound. AreBoundNatives scripts self.now.devices bound.items) }
         ensures limits { IfOk result (λ bound. NativesKeepLimits self.now → All NativeKeepsLimits bound.items) }
         ensures meant { (scripts : List OutlineScript) (entries : List (List ℕ × NativeBinding)) → AreNatives scripts self.now → AreMeant scripts entries self.now → IfOk result (λ bound. All (IsNativeMeant scripts entries) bound.items) }
     {
+        let alloc = *self.natives.allocator();
         let mut bound = Vec::with_capacity(alloc, self.natives.len())?;
         for native in &self.natives {
             let Some(binding) = native.binding else {
@@ -290,12 +272,7 @@ fn may_call(parameters: &[CoreType], outcome: Option<CoreType>) -> bool
 fn are_cells(parameters: &[CoreType]) -> bool
     ensures { IsTrue result → All IsCell parameters.now }
 {
-    for kind in parameters {
-        if !is_cell(*kind) {
-            return false;
-        }
-    }
-    true
+    parameters.iter().all(|kind| is_cell(*kind))
 }
 
 // Devices know whole numbers and truth values.

@@ -12,12 +12,10 @@ use crate::values::{Known, value_for};
 use core_tree::{BoundInstance, SceneInstance, SceneValue, Value};
 use papy_base::Text;
 use scene_reader::{SceneFault, SceneRule};
-use std::alloc::Global;
 
 /// The instances, each with the values that it sets. `DuplicateName`, `NoProperty` and `Arguments` come by
 /// the first entry that breaks one of them.
 pub(crate) fn bind_instances(
-    alloc: Global,
     scope: Known<'_, '_>,
     instances: &[SceneInstance],
 ) -> Result<Vec<BoundInstance>, SceneFault>
@@ -29,16 +27,15 @@ pub(crate) fn bind_instances(
     ensures limits { IfOk result (λ bound. All InstanceKeeps instances.now → All InstanceKeepsLimits bound.items) }
     ensures meant { IfOk result (λ bound. SetsAre scope.entry.scripts.now scope.entry.instances.now instances.now bound.items) }
 {
-    let mut bound = Vec::with_capacity(alloc, instances.len())?;
+    let mut bound = Vec::with_capacity(scope.alloc, instances.len())?;
     for (number, instance) in instances.iter().enumerate() {
         let script = scope.instances.scripts[number];
-        bound.push(bind_instance(alloc, scope, script, instance)?)?;
+        bound.push(bind_instance(scope, script, instance)?)?;
     }
     Ok(bound)
 }
 
 fn bind_instance(
-    alloc: Global,
     scope: Known<'_, '_>,
     script: u16,
     instance: &SceneInstance,
@@ -51,14 +48,13 @@ fn bind_instance(
     ensures meant { IfOk result (SetIs scope.entry.scripts.now scope.entry.instances.now instance.now) }
 {
     Ok(BoundInstance {
-        name: instance.name.try_clone(alloc)?,
+        name: instance.name.try_clone(scope.alloc)?,
         script,
-        set: bind_entries(alloc, scope, script, &instance.set)?,
+        set: bind_entries(scope, script, &instance.set)?,
     })
 }
 
 fn bind_entries(
-    alloc: Global,
     scope: Known<'_, '_>,
     script: u16,
     entries: &[(Text, SceneValue)],
@@ -67,19 +63,18 @@ fn bind_entries(
     ensures short { IfOk result (λ bound. All EntryKeeps entries.now → All IsShortEntry bound.items) }
     ensures meant { IfOk result (λ bound. EntriesAre scope.entry.scripts.now scope.entry.instances.now script entries.now bound.items) }
 {
-    let mut names = NameTable::new(alloc);
-    let mut bound = Vec::with_capacity(alloc, entries.len())?;
+    let mut names = NameTable::new(scope.alloc);
+    let mut bound = Vec::with_capacity(scope.alloc, entries.len())?;
     for (place, entry) in entries.iter().enumerate() {
-        if !names.note(alloc, entry.0.as_bytes(), place)? {
+        if !names.note(scope.alloc, entry.0.as_bytes(), place)? {
             return Err(SceneFault::of(SceneRule::DuplicateName));
         }
-        bound.push(bind_entry(alloc, scope, script, &entry.0, &entry.1)?)?;
+        bound.push(bind_entry(scope, script, &entry.0, &entry.1)?)?;
     }
     Ok(bound)
 }
 
 fn bind_entry(
-    alloc: Global,
     scope: Known<'_, '_>,
     script: u16,
     name: &Text,
@@ -89,10 +84,11 @@ fn bind_entry(
     ensures short { IfOk result (λ bound. ValueKeeps value.now → IsShortEntry bound) }
     ensures meant { IfOk result (EntryIs scope.entry.scripts.now scope.entry.instances.now script (name.now, value.now)) }
 {
-    let found = scope.scripts.find_property(alloc, script, name.as_bytes())?;
+    let name = name.as_bytes();
+    let found = scope.scripts.find_property(scope.alloc, script, name)?;
     let Some((owner, property)) = found else {
         return Err(SceneFault::of(SceneRule::NoProperty));
     };
-    let value = value_for(alloc, scope, property.kind, value)?;
+    let value = value_for(scope, property.kind, value)?;
     Ok((owner, property.variable, value))
 }

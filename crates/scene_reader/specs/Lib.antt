@@ -1,3 +1,2 @@
 pub mod Default
 pub mod Limits
-pub mod Timing

@@ -42,8 +42,12 @@ ValueKeeps (values.Bool truth) = Unit {0}
 ValueKeeps (values.Text text) = IsShort text
 ValueKeeps (values.Instance name) = IsShort name
 
+-- what stands behind a name
+abbrev pub NamedKeeps : {T : Type 0} → (T → Type 0) → List ℕ × T → Type 0
+NamedKeeps keeps entry = IsShort entry.0 × keeps entry.1
+
 abbrev pub EntryKeeps : List ℕ × SceneValue → Type 0
-EntryKeeps entry = IsShort entry.0 × ValueKeeps entry.1
+EntryKeeps entry = NamedKeeps ValueKeeps entry
 
 pub record InstanceKeeps (instance : SceneInstance) : Type 0 where
   pub name : IsInstanceName instance.name
@@ -64,7 +68,7 @@ BindingKeeps bindings.PromptTrace = Unit {0}
 BindingKeeps (bindings.PromptDevice device) = Unit {0}
 
 abbrev pub NativeKeeps : List ℕ × Binding → Type 0
-NativeKeeps native = IsShort native.0 × BindingKeeps native.1
+NativeKeeps native = NamedKeeps BindingKeeps native
 
 abbrev pub TapeKeeps : Vec ℤ Global → Type 0
 TapeKeeps tape = length tape.items ≤ 100000

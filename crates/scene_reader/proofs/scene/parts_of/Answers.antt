@@ -2,7 +2,7 @@ use Rattle.scene_reader.proofs.scene.parts_of.Goals as goal
 
 pub returns : goal.returns
 returns c = λ h.
-    let tapes = c.in_ok-tapes.ensures h in
+    let tapes = c.in_ok-tapes.ensures.items h in
     let natives = c.in_ok-natives.ensures tapes.0 in
     let calls = c.in_ok-calls.ensures.items natives.0 in
     let few_calls = c.in_ok-calls.ensures.count natives.0 in

@@ -2,7 +2,7 @@ use Rattle.scene_reader.proofs.call.SceneCallItem.read.Goals as goal
 
 pub returns : goal.returns
 returns c = λ h.
-    let arguments = c.in_ok-arguments.ensures h in
+    let arguments = c.in_ok-arguments.ensures.items h in
     let function = c.in_ok-function.ensures arguments.0 in
     let instance = c.in_ok-instance.ensures function.0 in
     let turn = c.in_ok-turn.ensures instance.0 in

@@ -1,5 +1,5 @@
 use Rattle.std.proofs.lemmas.List.Elements.{All-push}
-use Rattle.scene_reader.proofs.list.read_items.Goals as goal
+use Rattle.scene_reader.proofs.parts.Reader.list.Goals as goal
 
 pub loop-value-preserved : goal.loop-value-preserved
 loop-value-preserved g c =

@@ -1,0 +1,154 @@
+// The parts of a scene that JSON values are read as.
+ghost use Rattle.std.specs.Prelude.{◌≡◌, ◌≤◌, ◌≤ℤ◌, length, IfOk, OnOk};
+ghost use Rattle.std.specs.List.{All};
+ghost use Rattle.scene_reader.specs.Limits.{Keeps, IsShort, TapeKeeps, NamedKeeps};
+
+use crate::fault::SceneFault;
+use crate::keys::SHAPE_FAULT;
+use crate::limits::{TAPE_LIMIT, TEXT_LIMIT};
+use papy_base::Text;
+use serde_json::Value;
+use std::alloc::Global;
+
+/// The versions of the form of scenes. The second has prompt natives and the quantum.
+#[derive(Clone, Copy, PartialEq, Eq)]
+pub(crate) enum Version {
+    One,
+    Two,
+}
+
+/// Reads the parts of a scene of a version, and notes whether one of them breaks a limit.
+#[derive(Clone, Copy)]
+pub(crate) struct Reader {
+    pub(crate) alloc: Global,
+    pub(crate) version: Version,
+    pub(crate) broken: bool,
+}
+
+/// What an item of a list is read as.
+pub(crate) trait Item: Drop {
+    /// Whether it keeps its limits.
+    ghost keeps: { Self → Type 0 };
+
+    fn read(reader: &mut Reader, value: &Value) -> Result<Self, SceneFault>
+        ensures { IfOk result (λ item. Keeps reader.old.broken reader.new.broken (keeps item)) };
+}
+
+impl Reader {
+    /// Notes that a limit is broken where there are more than it allows.
+    fn require_at_most(&mut self, count: usize, most: usize)
+        ensures { Keeps self.old.broken self.new.broken (count ≤ most) }
+    {
+        if count > most {
+            self.broken = true;
+        }
+    }
+
+    // A whole number. One past its bounds breaks a limit, and reads as the least one.
+    fn number(&mut self, value: &Value, least: i64, most: i64) -> Result<i64, SceneFault>
+        requires { least ≤ℤ most }
+        ensures limits { OnOk result (Keeps self.old.broken self.new.broken (Unit {0})) }
+        ensures within { IfOk result (λ n. (least ≤ℤ n) × (n ≤ℤ most)) }
+    {
+        if value.is_f64() || !value.is_number() {
+            return Err(SHAPE_FAULT);
+        }
+        match value.as_i64() {
+            Some(number) if least <= number && number <= most => Ok(number),
+            _ => {
+                self.broken = true;
+                Ok(least)
+            }
+        }
+    }
+
+    /// A number between these two.
+    pub(crate) fn count(&mut self, value: &Value, least: u32, most: u32) -> Result<u32, SceneFault>
+        requires { least ≤ most }
+        ensures { IfOk result (λ n. Keeps self.old.broken self.new.broken ((least ≤ n) × (n ≤ most))) }
+    {
+        Ok(self.number(value, i64::from(least), i64::from(most))? as u32)
+    }
+
+    /// The text that the value is.
+    pub(crate) fn text(&mut self, value: &Value) -> Result<Text, SceneFault>
+        ensures { IfOk result (λ text. Keeps self.old.broken self.new.broken (IsShort text)) }
+    {
+        self.text_of(value.as_str().ok_or(SHAPE_FAULT)?)
+    }
+
+    /// A text of these bytes. One that is too long breaks a limit.
+    pub(crate) fn text_of(&mut self, text: &str) -> Result<Text, SceneFault>
+        ensures { IfOk result (λ text. Keeps self.old.broken self.new.broken (IsShort text)) }
+    {
+        self.require_at_most(text.len(), TEXT_LIMIT);
+        Ok(Text::try_from_bytes(self.alloc, text.as_bytes())?)
+    }
+
+    /// The items of an array, none where there is no value. More than `most` break a limit.
+    pub(crate) fn list<T: Item>(
+        &mut self,
+        value: Option<&Value>,
+        most: usize,
+    ) -> Result<Vec<T>, SceneFault>
+        ensures count { IfOk result (λ items. Keeps self.old.broken self.new.broken (length items.items ≤ most)) }
+        ensures items { IfOk result (λ items. Keeps self.old.broken self.new.broken (All T.keeps items.items)) }
+    {
+        let mut items = Vec::new(self.alloc);
+        let Some(value) = value else {
+            return Ok(items);
+        };
+        for value in value.as_array().ok_or(SHAPE_FAULT)? {
+            let item = T::read(self, value)?;
+            items.push(item)?;
+        }
+        self.require_at_most(items.len(), most);
+        Ok(items)
+    }
+
+    /// The entries of an object in the order of the names' bytes, none where there is no value.
+    pub(crate) fn entries<T: Item>(
+        &mut self,
+        value: Option<&Value>,
+    ) -> Result<Vec<(Text, T)>, SceneFault>
+        ensures { IfOk result (λ entries. Keeps self.old.broken self.new.broken (All (NamedKeeps T.keeps) entries.items)) }
+    {
+        let mut entries = Vec::new(self.alloc);
+        let Some(value) = value else {
+            return Ok(entries);
+        };
+        for (key, value) in value.as_object().ok_or(SHAPE_FAULT)? {
+            let name = self.text_of(key.as_str())?;
+            let item = T::read(self, value)?;
+            entries.push((name, item))?;
+        }
+        Ok(entries)
+    }
+}
+
+/// A cell of a tape.
+impl Item for i32 {
+    ghost keeps = { λ _. Unit {0} };
+
+    fn read(reader: &mut Reader, value: &Value) -> Result<i32, SceneFault> {
+        Ok(reader.number(value, i64::from(i32::MIN), i64::from(i32::MAX))? as i32)
+    }
+}
+
+/// The number of a device or of a stack.
+impl Item for u16 {
+    ghost keeps = { λ _. Unit {0} };
+
+    fn read(reader: &mut Reader, value: &Value) -> Result<u16, SceneFault> {
+        Ok(reader.number(value, 0, i64::from(u16::MAX))? as u16)
+    }
+}
+
+/// A tape.
+impl Item for Vec<i32> {
+    ghost keeps = { TapeKeeps };
+
+    fn read(reader: &mut Reader, value: &Value) -> Result<Vec<i32>, SceneFault> {
+        reader.list::<i32>(Some(value), TAPE_LIMIT)
+    }
+}
