@@ -99,18 +99,11 @@ impl Progress {
     }
 
     /// The logical lines, with the last one.
-    pub fn finish(self, alloc: Global) -> Result<Vec<Line>, OutOfMemory>
+    pub fn finish(mut self, alloc: Global) -> Result<Vec<Line>, OutOfMemory>
         requires { IsReady self }
         ensures { IfOk result (λ lines. closed lines.items self) }
     {
-        let Progress {
-            at: _,
-            line: _,
-            begun,
-            mut tokens,
-            mut lines,
-        } = self;
-        end_line(alloc, &mut lines, &mut tokens, begun)?;
-        Ok(lines)
+        end_line(alloc, &mut self.lines, &mut self.tokens, self.begun)?;
+        Ok(self.lines)
     }
 }
