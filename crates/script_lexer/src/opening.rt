@@ -28,10 +28,8 @@ impl Opening {
     pub fn of(byte: u8) -> Opening
         ensures { result ≡ opening_of byte }
     {
-        if is_word_start(byte) {
-            return Opening::Word;
-        }
         match byte {
+            _ if is_word_start(byte) => Opening::Word,
             b' ' | b'\t' | b'\r' => Opening::Blank,
             b'\n' => Opening::LineEnd,
             b'\\' => Opening::Join,

@@ -105,15 +105,10 @@ impl Sign {
     pub(crate) fn of_bytes(first: u8, second: u8) -> Option<Sign>
         ensures { result ≡ sign_of_bytes first second }
     {
-        if second == b'=' {
-            return Sign::before_equal(first);
-        }
-        if first != second {
-            return None;
-        }
-        match first {
-            b'&' => Some(Sign::And),
-            b'|' => Some(Sign::Or),
+        match (first, second) {
+            (_, b'=') => Sign::before_equal(first),
+            (b'&', b'&') => Some(Sign::And),
+            (b'|', b'|') => Some(Sign::Or),
             _ => None,
         }
     }
