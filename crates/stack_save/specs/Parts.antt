@@ -61,3 +61,14 @@ pub record AreThings (things : PlainThings) : Type 0 where
   pub arrays : AreParts (2 ^ 16) savable.IsSavableArray ranges.IsArrayInRange things.arrays
   pub devices : AreParts (2 ^ 16) savable.IsSavableDevice ranges.IsDeviceInRange things.devices
   pub stacks : AreParts (2 ^ 16) savable.IsSavableStack ranges.IsStackInRange things.stacks
+
+pub record AreLocksInRange (locks : PlainLocks) : Type 0 where
+  pub owners : AllByRecursion ranges.IsPairInRange locks.owners
+  pub waiters : AllByRecursion ranges.IsPairInRange locks.waiters
+  pub free : AllByRecursion ranges.IsU16 locks.free
+  pub asleep : AllByRecursion ranges.IsSleeperInRange locks.asleep
+
+pub record AreThingsInRange (things : PlainThings) : Type 0 where
+  pub arrays : AllByRecursion ranges.IsArrayInRange things.arrays
+  pub devices : AllByRecursion ranges.IsDeviceInRange things.devices
+  pub stacks : AllByRecursion ranges.IsStackInRange things.stacks

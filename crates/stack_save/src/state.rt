@@ -1,11 +1,11 @@
 //! The state of the machine.
 
-ghost use Rattle.std.specs.Prelude.{◌≡◌, OnOk};
+ghost use Rattle.std.specs.Prelude.{◌≡◌, ◌^◌, ◌++◌, ⊤, map, OnOk};
 ghost use Rattle.machine_state.specs.Plain.{plain};
 ghost use Rattle.machine_state.specs.Ranges.{IsU16, IsPairInRange, IsSleeperInRange, IsInRange};
 ghost use Rattle.machine_state.specs.Savable.{IsSavable, firsts};
 ghost use Rattle.pex_values.specs.Spelling as pex;
-ghost use Rattle.stack_save.specs.Parts.{HasPut, Takes, IsPart, AreAscending};
+ghost use Rattle.stack_save.specs.Parts.{HasPut, Takes, IsPart, AreAscending, AreLocksInRange, AreThingsInRange};
 ghost use Rattle.stack_save.specs.Reading as reading;
 ghost use Rattle.stack_save.specs.Spelling as spell;
 
@@ -17,7 +17,28 @@ use crate::put::{put_number_or_none, put_u32};
 use machine_state::MachineState;
 use std::alloc::AllocError;
 
-#[tactic(auto, using(crate::proofs::Lists::each_trivial), unfolding(crate::specs::Spelling::state, crate::specs::Spelling::locks, crate::specs::Spelling::things))]
+#[tactic(auto, using(crate::proofs::Lists::each_trivial), unfolding(crate::specs::Spelling::locks))]
+fn put_locks(out: &mut Vec<u8>, state: &MachineState) -> Result<(), AllocError>
+    requires { IsSavable (plain state.now) }
+    ensures { OnOk result (HasPut (AreLocksInRange (spell.locks_of (plain state.now))) (spell.locks (spell.locks_of (plain state.now))) out.old.items out.new.items) }
+{
+    put_list(out, &state.owners)?;
+    put_list(out, &state.waiters)?;
+    put_list(out, &state.free)?;
+    put_list(out, &state.asleep)
+}
+
+#[tactic(auto, unfolding(crate::specs::Spelling::things))]
+fn put_things(out: &mut Vec<u8>, state: &MachineState) -> Result<(), AllocError>
+    requires { IsSavable (plain state.now) }
+    ensures { OnOk result (HasPut (AreThingsInRange (spell.things_of (plain state.now))) (spell.things (spell.things_of (plain state.now))) out.old.items out.new.items) }
+{
+    put_list(out, &state.arrays)?;
+    put_list(out, &state.devices)?;
+    put_list(out, &state.stacks)
+}
+
+#[tactic(auto, unfolding(crate::specs::Spelling::state))]
 pub(crate) fn put_state(out: &mut Vec<u8>, state: &MachineState) -> Result<(), AllocError>
     requires { IsSavable (plain state.now) }
     ensures { OnOk result (HasPut (IsInRange (plain state.now)) (spell.state (plain state.now)) out.old.items out.new.items) }
@@ -25,13 +46,8 @@ pub(crate) fn put_state(out: &mut Vec<u8>, state: &MachineState) -> Result<(), A
     put_u32(out, state.turn)?;
     put_number_or_none(out, state.last)?;
     put_list(out, &state.instances)?;
-    put_list(out, &state.owners)?;
-    put_list(out, &state.waiters)?;
-    put_list(out, &state.free)?;
-    put_list(out, &state.asleep)?;
-    put_list(out, &state.arrays)?;
-    put_list(out, &state.devices)?;
-    put_list(out, &state.stacks)
+    put_locks(out, state)?;
+    put_things(out, state)
 }
 
 fn take_owners(cursor: &mut Cursor<'_>) -> Taken<Vec<(u16, u16)>>
