@@ -7,7 +7,7 @@ use Rattle.machine_state.specs.Plain.{plain}
 use Rattle.machine_state.specs.Ranges.{IsInRange}
 use Rattle.machine_state.specs.Savable.{IsSavable}
 use Rattle.pex_values.specs.declared.values.Pex.{Pex}
-use Rattle.stack_save.specs.Held.{HasFiles, Spells, HasLayout, IsFile, AreFiles}
+use Rattle.stack_save.specs.Held.{HasFiles, Spells, HasLayout, AreFiles}
 use Rattle.stack_save.specs.Reading.{PlainHeld}
 use Rattle.pex_values.specs.Spelling.{list}
 use Rattle.stack_save.specs.Spelling.{heading, long_string, state}
@@ -49,10 +49,6 @@ abbrev pub BreaksFiles : HeldFault → Type 0
 BreaksFiles (Broken rules.BadFiles) = Unit {0}
 BreaksFiles (Broken _) = ⊥
 BreaksFiles OutOfMemory = Unit {0}
-
-abbrev pub DecodesFile : List ℕ → Result Pex HeldFault → Type 0
-DecodesFile bytes (Ok value) = IsFile bytes value
-DecodesFile bytes (Err fault) = BreaksFiles fault
 
 abbrev pub DecodesFiles : List (List ℕ) → Result (Vec Pex Global) HeldFault → Type 0
 DecodesFiles files (Ok values) = AreFiles files values.items

@@ -1,14 +1,11 @@
 -- Which parts of a file may be, and what putting one at the end of bytes or taking one from their front does.
-use Rattle.std.specs.Prelude.{◌≡◌, ℕ, ◌<◌, ◌^◌, List, ◌++◌, length, map, Result, Ok, Err, Some, None, ⊤}
+use Rattle.std.specs.Prelude.{◌≡◌, ℕ, ◌<◌, ◌^◌, List, ◌++◌, length, Result, Ok, Err, Some, None, ⊤}
 use Rattle.std.specs.List.{AllByRecursion}
 use Rattle.std.specs.List.Sorted.{IsStrictlyIncreasing}
 use Rattle.machine_state.specs.Ranges as ranges
 use Rattle.machine_state.specs.Savable as savable
 use Rattle.stack_save.specs.Reading.{Found}
 use Rattle.stack_save.specs.Spelling.{PlainLocks, PlainThings}
-use Rattle.stack_save.specs.declared.locks.Locks.{Locks}
-use Rattle.stack_save.specs.declared.state.Things.{Things}
-use Rattle.machine_state.specs.Plain.{plain_array, plain_device, plain_stack}
 use Rattle.stack_save.specs.declared.fault.LayoutFault.{LayoutFault}
 use Rattle.stack_save.specs.declared.fault.LayoutFault.TheVariants.{Missing, OutOfMemory}
 
@@ -75,9 +72,3 @@ pub record AreThingsInRange (things : PlainThings) : Type 0 where
   pub arrays : AllByRecursion ranges.IsArrayInRange things.arrays
   pub devices : AllByRecursion ranges.IsDeviceInRange things.devices
   pub stacks : AllByRecursion ranges.IsStackInRange things.stacks
-
-abbrev pub plain_locks : Locks → PlainLocks
-plain_locks l = record { owners = l.owners.items; waiters = l.waiters.items; free = l.free.items; asleep = l.asleep.items }
-
-abbrev pub plain_things : Things → PlainThings
-plain_things t = record { arrays = map plain_array t.arrays.items; devices = map plain_device t.devices.items; stacks = map plain_stack t.stacks.items }

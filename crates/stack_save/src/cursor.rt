@@ -1,6 +1,6 @@
 //! Takes numbers and bytes from the front of a file.
 
-ghost use Rattle.std.specs.Prelude.{◌≡◌, ◌<◌, ◌≤◌, ◌^◌, length, ⊤};
+ghost use Rattle.std.specs.Prelude.{◌≡◌, ◌<◌, ◌≤◌, ◌^◌, length};
 ghost use Rattle.byteorder.specs.Endian.{big_from};
 ghost use Rattle.machine_state.specs.Ranges.{IsI32, IsU16, IsU32};
 ghost use Rattle.machine_state.specs.Savable.{FitsTwoBytes, FitsFourBytes, IsNumbered};
@@ -9,8 +9,9 @@ ghost use Rattle.stack_save.specs.Parts.{Takes};
 ghost use Rattle.stack_save.specs.Reading as reading;
 ghost use Rattle.stack_save.specs.Spelling as spell;
 
-use crate::fault::LayoutFault;
+use crate::fault::{LayoutFault, Taken};
 use byteorder::{BigEndian, ByteOrder};
+use std::alloc::Global;
 
 /// The number that says none.
 pub(crate) const NONE: u16 = 0xFFFF;
@@ -19,6 +20,8 @@ pub(crate) const NONE: u16 = 0xFFFF;
 #[derive(Drop)]
 pub(crate) struct Cursor<'a> {
     pub(crate) rest: &'a [u8],
+    /// Where what is read is kept.
+    pub(crate) alloc: Global,
 }
 
 /// The number in two bytes.
@@ -51,7 +54,7 @@ fn number_of_eight(bytes: &[u8]) -> u64
 impl<'a> Cursor<'a> {
     /// So many bytes.
     #[tactic(auto, unfolding(crate::specs::Reading::bytes_at))]
-    pub(crate) fn take(&mut self, count: usize) -> Result<&'a [u8], LayoutFault>
+    pub(crate) fn take(&mut self, count: usize) -> Taken<&'a [u8]>
         ensures { Takes (λ b. b.now) (λ b. length b ≡ count) (λ b. b) (reading.bytes_at count) result self.old.rest.now self.new.rest.now }
     {
         if self.rest.len() < count {
@@ -62,7 +65,7 @@ impl<'a> Cursor<'a> {
         Ok(taken)
     }
 
-    pub(crate) fn take_byte(&mut self) -> Result<u8, LayoutFault>
+    pub(crate) fn take_byte(&mut self) -> Taken<u8>
         ensures { Takes (λ n. n) (λ n. n < 2 ^ 8) pex.one_byte reading.byte_at result self.old.rest.now self.new.rest.now }
     {
         let Some((byte, rest)) = self.rest.split_first() else {
@@ -73,7 +76,7 @@ impl<'a> Cursor<'a> {
     }
 
     /// A byte that is at most `most`.
-    pub(crate) fn take_tag(&mut self, most: u8) -> Result<u8, LayoutFault>
+    pub(crate) fn take_tag(&mut self, most: u8) -> Taken<u8>
         ensures { Takes (λ n. n) (λ n. n ≤ most) pex.one_byte (reading.tag_at most) result self.old.rest.now self.new.rest.now }
     {
         let tag = self.take_byte()?;
@@ -84,7 +87,7 @@ impl<'a> Cursor<'a> {
     }
 
     #[tactic(auto, unfolding(crate::specs::Reading::number_at))]
-    pub(crate) fn take_u16(&mut self) -> Result<u16, LayoutFault>
+    pub(crate) fn take_u16(&mut self) -> Taken<u16>
         ensures { Takes (λ n. n) IsU16 pex.two_bytes (reading.number_at 2) result self.old.rest.now self.new.rest.now }
     {
         let bytes = self.take(2)?;
@@ -92,7 +95,7 @@ impl<'a> Cursor<'a> {
     }
 
     #[tactic(auto, unfolding(crate::specs::Reading::number_at))]
-    pub(crate) fn take_u32(&mut self) -> Result<u32, LayoutFault>
+    pub(crate) fn take_u32(&mut self) -> Taken<u32>
         ensures { Takes (λ n. n) IsU32 pex.four_bytes (reading.number_at 4) result self.old.rest.now self.new.rest.now }
     {
         let bytes = self.take(4)?;
@@ -100,14 +103,14 @@ impl<'a> Cursor<'a> {
     }
 
     #[tactic(auto, unfolding(crate::specs::Reading::number_at))]
-    pub(crate) fn take_u64(&mut self) -> Result<u64, LayoutFault>
+    pub(crate) fn take_u64(&mut self) -> Taken<u64>
         ensures { Takes (λ n. n) (λ n. n < 2 ^ 64) pex.eight_bytes (reading.number_at 8) result self.old.rest.now self.new.rest.now }
     {
         let bytes = self.take(8)?;
         Ok(number_of_eight(bytes))
     }
 
-    pub(crate) fn take_i32(&mut self) -> Result<i32, LayoutFault>
+    pub(crate) fn take_i32(&mut self) -> Taken<i32>
         ensures { Takes (λ n. n) IsI32 spell.integer reading.integer_at result self.old.rest.now self.new.rest.now }
     {
         let number = self.take_u32()?;
@@ -115,7 +118,7 @@ impl<'a> Cursor<'a> {
     }
 
     /// A number, or none where it is 65,535.
-    pub(crate) fn take_number_or_none(&mut self) -> Result<Option<u16>, LayoutFault>
+    pub(crate) fn take_number_or_none(&mut self) -> Taken<Option<u16>>
         ensures { Takes (λ n. n) IsNumbered spell.number_or_none reading.number_or_none_at result self.old.rest.now self.new.rest.now }
     {
         let number = self.take_u16()?;
@@ -127,7 +130,7 @@ impl<'a> Cursor<'a> {
 
     /// The number of bytes, and the bytes.
     #[tactic(auto, unfolding(crate::specs::Reading::string_at))]
-    pub(crate) fn take_string(&mut self) -> Result<&'a [u8], LayoutFault>
+    pub(crate) fn take_string(&mut self) -> Taken<&'a [u8]>
         ensures { Takes (λ b. b.now) FitsTwoBytes pex.string reading.string_at result self.old.rest.now self.new.rest.now }
     {
         let length = self.take_u16()?;
@@ -136,7 +139,7 @@ impl<'a> Cursor<'a> {
 
     /// The number of bytes in four bytes, and the bytes.
     #[tactic(auto, unfolding(crate::specs::Reading::long_string_at))]
-    pub(crate) fn take_long_string(&mut self) -> Result<&'a [u8], LayoutFault>
+    pub(crate) fn take_long_string(&mut self) -> Taken<&'a [u8]>
         ensures { Takes (λ b. b.now) FitsFourBytes spell.long_string reading.long_string_at result self.old.rest.now self.new.rest.now }
     {
         let length = self.take_u32()?;

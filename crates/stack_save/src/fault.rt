@@ -20,14 +20,6 @@ pub enum SaveFault {
     OutOfMemory,
 }
 
-impl From<OutOfMemory> for SaveFault {
-    ghost from_gives = { λ _ fault. fault ≡ NoMemoryToSave };
-
-    fn from(_error: OutOfMemory) -> SaveFault {
-        SaveFault::OutOfMemory
-    }
-}
-
 impl From<AllocError> for SaveFault {
     ghost from_gives = { λ _ fault. fault ≡ NoMemoryToSave };
 
@@ -64,14 +56,6 @@ pub enum HeldFault {
     /// No memory was found.
     #[error("out of memory")]
     OutOfMemory,
-}
-
-impl From<OutOfMemory> for HeldFault {
-    ghost from_gives = { λ _ fault. fault ≡ NoMemoryToLoad };
-
-    fn from(_error: OutOfMemory) -> HeldFault {
-        HeldFault::OutOfMemory
-    }
 }
 
 impl From<AllocError> for HeldFault {
@@ -126,6 +110,9 @@ pub(crate) enum LayoutFault {
     #[error("out of memory")]
     OutOfMemory,
 }
+
+/// A part that was read.
+pub(crate) type Taken<T> = Result<T, LayoutFault>;
 
 impl From<OutOfMemory> for LayoutFault {
     ghost from_gives = { λ _ fault. fault ≡ NoMemoryToRead };

@@ -9,14 +9,14 @@ ghost use Rattle.stack_save.specs.Reading as reading;
 ghost use Rattle.stack_save.specs.Spelling as spell;
 
 use crate::cursor::Cursor;
-use crate::fault::LayoutFault;
+use crate::fault::Taken;
 use crate::part::{Part, put_list, take_list};
 use crate::put::{put_byte, put_number_or_none, put_string, put_u16};
 use crate::values::{take_name, take_text};
 use core_tree::Value;
 use machine_state::{BodyPlace, FrameState, Way};
 use papy_base::Name;
-use std::alloc::{AllocError, Global};
+use std::alloc::AllocError;
 
 // ---- calls
 
@@ -54,58 +54,43 @@ fn put_way(out: &mut Vec<u8>, way: &Way) -> Result<(), AllocError>
 
 /// The way behind its tag.
 #[tactic(auto, unfolding(crate::specs::Reading::way_at))]
-fn take_tagged_way(alloc: Global, cursor: &mut Cursor<'_>, tag: u8) -> Result<Way, LayoutFault>
+fn take_tagged_way(cursor: &mut Cursor<'_>, tag: u8) -> Taken<Way>
     requires { tag ≤ 4 }
     ensures { Takes (λ way. way) (IsPart (λ way. FitsTwoBytes (name_of way)) IsWayInRange) spell.way reading.way_at result (tag ∷ cursor.old.rest.now) cursor.new.rest.now }
 {
     match tag {
-        0 => Ok(Way::Method(take_name(alloc, cursor)?)),
+        0 => Ok(Way::Method(take_name(cursor)?)),
         1 => {
             let script = cursor.take_u16()?;
-            let name = take_name(alloc, cursor)?;
+            let name = take_name(cursor)?;
             Ok(Way::Parent { script, name })
         }
         2 => {
             let script = cursor.take_u16()?;
-            let name = take_name(alloc, cursor)?;
+            let name = take_name(cursor)?;
             Ok(Way::Global { script, name })
         }
-        3 => Ok(Way::Get(take_name(alloc, cursor)?)),
-        _ => Ok(Way::Set(take_name(alloc, cursor)?)),
+        3 => Ok(Way::Get(take_name(cursor)?)),
+        _ => Ok(Way::Set(take_name(cursor)?)),
     }
 }
 
 #[tactic(auto, unfolding(crate::specs::Reading::way_at))]
-fn take_way(alloc: Global, cursor: &mut Cursor<'_>) -> Result<Way, LayoutFault>
+fn take_way(cursor: &mut Cursor<'_>) -> Taken<Way>
     ensures { Takes (λ way. way) (IsPart (λ way. FitsTwoBytes (name_of way)) IsWayInRange) spell.way reading.way_at result cursor.old.rest.now cursor.new.rest.now }
 {
     let tag = cursor.take_tag(4)?;
-    take_tagged_way(alloc, cursor, tag)
+    take_tagged_way(cursor, tag)
 }
 
 /// A frame to enter behind its tag.
-#[tactic(auto, unfolding(crate::specs::Spelling::call))]
-fn put_call(
-    out: &mut Vec<u8>,
-    instance: Option<u16>,
-    way: &Way,
-    arguments: &[Value],
-) -> Result<(), AllocError>
-    requires { IsSavableCall (record { instance = instance; way = way.now; arguments = arguments.now }) }
-    ensures { OnOk result (let call : PlainCall = record { instance = instance; way = way.now; arguments = arguments.now } in HasPut (IsCallInRange call) (spell.call call) out.old.items out.new.items) }
-{
-    put_number_or_none(out, instance)?;
-    put_way(out, way)?;
-    put_list(out, arguments)
-}
-
 #[tactic(auto, unfolding(crate::specs::Spelling::call, crate::specs::Reading::call_at, crate::specs::Reading::frame_at))]
-fn take_call(alloc: Global, cursor: &mut Cursor<'_>) -> Result<FrameState, LayoutFault>
+fn take_call(cursor: &mut Cursor<'_>) -> Taken<FrameState>
     ensures { Takes plain_frame (IsPart IsSavableFrame IsFrameInRange) spell.frame reading.frame_at result (0 ∷ cursor.old.rest.now) cursor.new.rest.now }
 {
     let instance = cursor.take_number_or_none()?;
-    let way = take_way(alloc, cursor)?;
-    let arguments = take_list(alloc, cursor)?;
+    let way = take_way(cursor)?;
+    let arguments = take_list(cursor)?;
     Ok(FrameState::ToEnter {
         instance,
         way,
@@ -127,12 +112,12 @@ fn put_place(out: &mut Vec<u8>, place: &BodyPlace) -> Result<(), AllocError>
 }
 
 #[tactic(auto, unfolding(crate::specs::Spelling::place, crate::specs::Reading::place_at))]
-fn take_place(alloc: Global, cursor: &mut Cursor<'_>) -> Result<BodyPlace, LayoutFault>
+fn take_place(cursor: &mut Cursor<'_>) -> Taken<BodyPlace>
     ensures { Takes (λ place. place) (IsPart IsSavablePlace (λ place. IsU16 place.script)) spell.place reading.place_at result cursor.old.rest.now cursor.new.rest.now }
 {
     let script = cursor.take_u16()?;
-    let state = take_text(alloc, cursor)?;
-    let function = take_text(alloc, cursor)?;
+    let state = take_text(cursor)?;
+    let function = take_text(cursor)?;
     let kind = cursor.take_tag(2)?;
     Ok(BodyPlace {
         script,
@@ -156,45 +141,26 @@ fn put_reply(out: &mut Vec<u8>, reply: &Option<Value>) -> Result<(), AllocError>
 }
 
 #[tactic(auto, unfolding(crate::specs::Reading::reply_at))]
-fn take_reply(alloc: Global, cursor: &mut Cursor<'_>) -> Result<Option<Value>, LayoutFault>
+fn take_reply(cursor: &mut Cursor<'_>) -> Taken<Option<Value>>
     ensures { Takes (λ reply. reply) (IsPart (λ reply. IfSome reply IsSavableValue) (λ reply. IfSome reply IsValueInRange)) spell.reply reading.reply_at result cursor.old.rest.now cursor.new.rest.now }
 {
     if cursor.take_tag(1)? == 0 {
         return Ok(None);
     }
-    let value = Value::take(alloc, cursor)?;
+    let value = Value::take(cursor)?;
     Ok(Some(value))
 }
 
 /// A running frame behind its tag.
-#[tactic(auto, unfolding(crate::specs::Spelling::body))]
-fn put_body(
-    out: &mut Vec<u8>,
-    instance: Option<u16>,
-    place: &BodyPlace,
-    instruction: u16,
-    slots: &[Value],
-    reply: &Option<Value>,
-) -> Result<(), AllocError>
-    requires { IsSavableBody (record { instance = instance; place = place.now; instruction = instruction; slots = slots.now; reply = reply.now }) }
-    ensures { OnOk result (let body : PlainBody = record { instance = instance; place = place.now; instruction = instruction; slots = slots.now; reply = reply.now } in HasPut (IsBodyInRange body) (spell.body body) out.old.items out.new.items) }
-{
-    put_number_or_none(out, instance)?;
-    put_place(out, place)?;
-    put_u16(out, instruction)?;
-    put_list(out, slots)?;
-    put_reply(out, reply)
-}
-
 #[tactic(auto, unfolding(crate::specs::Spelling::body, crate::specs::Reading::body_at, crate::specs::Reading::frame_at))]
-fn take_body(alloc: Global, cursor: &mut Cursor<'_>) -> Result<FrameState, LayoutFault>
+fn take_body(cursor: &mut Cursor<'_>) -> Taken<FrameState>
     ensures { Takes plain_frame (IsPart IsSavableFrame IsFrameInRange) spell.frame reading.frame_at result (1 ∷ cursor.old.rest.now) cursor.new.rest.now }
 {
     let instance = cursor.take_number_or_none()?;
-    let at = take_place(alloc, cursor)?;
+    let at = take_place(cursor)?;
     let instruction = cursor.take_u16()?;
-    let slots = take_list(alloc, cursor)?;
-    let reply = take_reply(alloc, cursor)?;
+    let slots = take_list(cursor)?;
+    let reply = take_reply(cursor)?;
     Ok(FrameState::Running {
         instance,
         at,
@@ -223,6 +189,7 @@ impl Part for FrameState {
 
     ghost each = { λ items. refl };
 
+    #[tactic(auto, unfolding(crate::specs::Spelling::call, crate::specs::Spelling::body))]
     fn put(&self, out: &mut Vec<u8>) -> Result<(), AllocError> {
         match self {
             FrameState::ToEnter {
@@ -231,7 +198,9 @@ impl Part for FrameState {
                 arguments,
             } => {
                 put_byte(out, 0)?;
-                put_call(out, *instance, way, arguments)
+                put_number_or_none(out, *instance)?;
+                put_way(out, way)?;
+                put_list(out, arguments)
             }
             FrameState::Running {
                 instance,
@@ -241,17 +210,21 @@ impl Part for FrameState {
                 reply,
             } => {
                 put_byte(out, 1)?;
-                put_body(out, *instance, at, *instruction, slots, reply)
+                put_number_or_none(out, *instance)?;
+                put_place(out, at)?;
+                put_u16(out, *instruction)?;
+                put_list(out, slots)?;
+                put_reply(out, reply)
             }
         }
     }
 
     #[tactic(auto, unfolding(crate::specs::Reading::frame_at))]
-    fn take(alloc: Global, cursor: &mut Cursor<'_>) -> Result<FrameState, LayoutFault> {
+    fn take(cursor: &mut Cursor<'_>) -> Taken<FrameState> {
         if cursor.take_tag(1)? == 0 {
-            return take_call(alloc, cursor);
+            return take_call(cursor);
         }
-        take_body(alloc, cursor)
+        take_body(cursor)
     }
 }
 
@@ -277,7 +250,7 @@ impl Part for Vec<FrameState> {
         put_list(out, self)
     }
 
-    fn take(alloc: Global, cursor: &mut Cursor<'_>) -> Result<Vec<FrameState>, LayoutFault> {
-        take_list(alloc, cursor)
+    fn take(cursor: &mut Cursor<'_>) -> Taken<Vec<FrameState>> {
+        take_list(cursor)
     }
 }

@@ -7,7 +7,6 @@ mod fault;
 mod frames;
 mod laws;
 mod loading;
-mod locks;
 mod numbers;
 mod part;
 mod put;

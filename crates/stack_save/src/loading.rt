@@ -5,13 +5,13 @@ ghost use Rattle.std.specs.List.{flat_map};
 ghost use Rattle.machine_state.specs.Savable.{FitsFourBytes};
 ghost use Rattle.pex_values.specs.Spelling as pex;
 ghost use Rattle.stack_save.specs.Held.{LoadGives, HasHeading};
-ghost use Rattle.stack_save.specs.Loading.{IsLayout, ReadsLayout, DecodesFile, DecodesFiles, held_fields, plain_layout, lent};
+ghost use Rattle.stack_save.specs.Loading.{IsLayout, ReadsLayout, DecodesFiles, held_fields, plain_layout, lent};
 ghost use Rattle.stack_save.specs.Parts.{AreItems, AreParts, Takes};
 ghost use Rattle.stack_save.specs.Reading as reading;
 ghost use Rattle.stack_save.specs.Spelling as spell;
 
 use crate::cursor::Cursor;
-use crate::fault::{HeldFault, HeldRule, LayoutFault};
+use crate::fault::{HeldFault, HeldRule, LayoutFault, Taken};
 use crate::state::take_state;
 use crate::{HEADING, HELD_LIMIT};
 use machine_state::MachineState;
@@ -38,14 +38,10 @@ pub(crate) struct Layout<'a> {
 }
 
 /// So many files.
-fn take_each_file<'a>(
-    alloc: Global,
-    cursor: &mut Cursor<'a>,
-    count: usize,
-) -> Result<Vec<&'a [u8]>, LayoutFault>
+fn take_each_file<'a>(cursor: &mut Cursor<'a>, count: usize) -> Taken<Vec<&'a [u8]>>
     ensures { Takes (λ files. map lent files.items) (AreItems count FitsFourBytes (λ file. ⊤)) (flat_map spell.long_string) (reading.items_at reading.long_string_at count) result cursor.old.rest.now cursor.new.rest.now }
 {
-    let mut files = Vec::new(alloc);
+    let mut files = Vec::new(cursor.alloc);
     'files: for _ in 0..count {
         let file = cursor.take_long_string()?;
         files.push(file)?;
@@ -54,21 +50,21 @@ fn take_each_file<'a>(
 }
 
 #[tactic(auto, unfolding(crate::specs::Reading::list_at))]
-fn take_files<'a>(alloc: Global, cursor: &mut Cursor<'a>) -> Result<Vec<&'a [u8]>, LayoutFault>
+fn take_files<'a>(cursor: &mut Cursor<'a>) -> Taken<Vec<&'a [u8]>>
     ensures { Takes (λ files. map lent files.items) (AreParts (2 ^ 16) FitsFourBytes (λ file. ⊤)) (pex.list spell.long_string) (reading.list_at reading.long_string_at) result cursor.old.rest.now cursor.new.rest.now }
 {
     let count = cursor.take_u16()?;
-    take_each_file(alloc, cursor, count as usize)
+    take_each_file(cursor, count as usize)
 }
 
 /// What stands behind the heading.
 #[tactic(auto, unfolding(crate::specs::Reading::held_at))]
-fn take_layout<'a>(alloc: Global, cursor: &mut Cursor<'a>) -> Result<Layout<'a>, LayoutFault>
+fn take_layout<'a>(cursor: &mut Cursor<'a>) -> Taken<Layout<'a>>
     ensures { Takes plain_layout IsLayout held_fields reading.held_at result cursor.old.rest.now cursor.new.rest.now }
 {
-    let files = take_files(alloc, cursor)?;
+    let files = take_files(cursor)?;
     let scene = cursor.take_long_string()?;
-    let state = take_state(alloc, cursor)?;
+    let state = take_state(cursor)?;
     Ok(Layout {
         files,
         scene,
@@ -77,11 +73,11 @@ fn take_layout<'a>(alloc: Global, cursor: &mut Cursor<'a>) -> Result<Layout<'a>,
 }
 
 /// The layout of a file with these bytes behind its heading.
-fn read_layout<'a>(alloc: Global, bytes: &'a [u8]) -> Result<Layout<'a>, LayoutFault>
+fn read_layout<'a>(alloc: Global, bytes: &'a [u8]) -> Taken<Layout<'a>>
     ensures { ReadsLayout bytes.now result }
 {
-    let mut cursor = Cursor { rest: bytes };
-    let layout = take_layout(alloc, &mut cursor)?;
+    let mut cursor = Cursor { rest: bytes, alloc };
+    let layout = take_layout(&mut cursor)?;
     if !cursor.rest.is_empty() {
         drop(layout);
         return Err(LayoutFault::Missing);
@@ -89,21 +85,14 @@ fn read_layout<'a>(alloc: Global, bytes: &'a [u8]) -> Result<Layout<'a>, LayoutF
     Ok(layout)
 }
 
-/// The value of a PEX file.
+/// The values of the PEX files.
 #[tactic(auto, using(crate::proofs::Faults::breaks_files))]
-fn decode_file(alloc: Global, bytes: &[u8]) -> Result<Pex, HeldFault>
-    ensures { DecodesFile bytes.now result }
-{
-    let value = decode(alloc, bytes)?;
-    Ok(value)
-}
-
 fn decode_files(alloc: Global, files: &[&[u8]]) -> Result<Vec<Pex>, HeldFault>
     ensures { DecodesFiles (map lent files.now) result }
 {
     let mut values = Vec::new(alloc);
     for file in files {
-        let value = decode_file(alloc, file)?;
+        let value = decode(alloc, file)?;
         values.push(value)?;
     }
     Ok(values)

@@ -9,10 +9,10 @@ ghost use Rattle.stack_save.specs.Reading as reading;
 ghost use Rattle.stack_save.specs.Spelling as spell;
 
 use crate::cursor::Cursor;
-use crate::fault::LayoutFault;
+use crate::fault::Taken;
 use crate::part::Part;
 use crate::put::{put_i32, put_u16, put_u32};
-use std::alloc::{AllocError, Global};
+use std::alloc::AllocError;
 
 /// A free stack.
 impl Part for u16 {
@@ -36,7 +36,7 @@ impl Part for u16 {
         put_u16(out, *self)
     }
 
-    fn take(_alloc: Global, cursor: &mut Cursor<'_>) -> Result<u16, LayoutFault> {
+    fn take(cursor: &mut Cursor<'_>) -> Taken<u16> {
         cursor.take_u16()
     }
 }
@@ -63,7 +63,7 @@ impl Part for i32 {
         put_i32(out, *self)
     }
 
-    fn take(_alloc: Global, cursor: &mut Cursor<'_>) -> Result<i32, LayoutFault> {
+    fn take(cursor: &mut Cursor<'_>) -> Taken<i32> {
         cursor.take_i32()
     }
 }
@@ -92,7 +92,7 @@ impl Part for (u16, u16) {
     }
 
     #[tactic(auto, unfolding(crate::specs::Reading::pair_at))]
-    fn take(_alloc: Global, cursor: &mut Cursor<'_>) -> Result<(u16, u16), LayoutFault> {
+    fn take(cursor: &mut Cursor<'_>) -> Taken<(u16, u16)> {
         let instance = cursor.take_u16()?;
         let stack = cursor.take_u16()?;
         Ok((instance, stack))
@@ -123,7 +123,7 @@ impl Part for (u16, u32) {
     }
 
     #[tactic(auto, unfolding(crate::specs::Reading::sleeper_at))]
-    fn take(_alloc: Global, cursor: &mut Cursor<'_>) -> Result<(u16, u32), LayoutFault> {
+    fn take(cursor: &mut Cursor<'_>) -> Taken<(u16, u32)> {
         let stack = cursor.take_u16()?;
         let due = cursor.take_u32()?;
         Ok((stack, due))

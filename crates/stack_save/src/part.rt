@@ -8,9 +8,9 @@ ghost use Rattle.stack_save.specs.Reading as reading;
 ghost use Rattle.stack_save.specs.Spelling as spell;
 
 use crate::cursor::Cursor;
-use crate::fault::LayoutFault;
-use crate::put::{put_byte, put_u16, put_u32};
-use std::alloc::{AllocError, Global};
+use crate::fault::Taken;
+use crate::put::{put_u16, put_u32};
+use std::alloc::AllocError;
 
 /// A list gets room for at most so many items before they are there.
 const MOST_RESERVED: usize = 65_536;
@@ -42,7 +42,7 @@ pub(crate) trait Part: Drop {
         ensures { OnOk result (HasPut (in_range (plain self.now)) (spelling (plain self.now)) out.old.items out.new.items) };
 
     /// Takes it from the front.
-    fn take(alloc: Global, cursor: &mut Cursor<'_>) -> Result<Self, LayoutFault>
+    fn take(cursor: &mut Cursor<'_>) -> Taken<Self>
         ensures { Takes plain (IsPart savable in_range) spelling at result cursor.old.rest.now cursor.new.rest.now };
 
     ghost each: { (items : List Self) → plain_each items ≡ map plain items };
@@ -79,28 +79,14 @@ pub(crate) fn put_long_list<T: Part>(out: &mut Vec<u8>, items: &[T]) -> Result<(
     put_items(out, items)
 }
 
-/// The same with one byte for the number.
-pub(crate) fn put_short_list<T: Part>(out: &mut Vec<u8>, items: &[T]) -> Result<(), AllocError>
-    requires count { length items.now < 2 ^ 8 }
-    requires each { AllByRecursion T.savable (T.plain_each items.now) }
-    ensures { OnOk result (HasPut (AllByRecursion T.in_range (T.plain_each items.now)) (spell.short_list T.spelling (T.plain_each items.now)) out.old.items out.new.items) }
-{
-    put_byte(out, items.len() as u8)?;
-    put_items(out, items)
-}
-
 /// So many items.
-pub(crate) fn take_items<T: Part>(
-    alloc: Global,
-    cursor: &mut Cursor<'_>,
-    count: usize,
-) -> Result<Vec<T>, LayoutFault>
+pub(crate) fn take_items<T: Part>(cursor: &mut Cursor<'_>, count: usize) -> Taken<Vec<T>>
     ensures { Takes (λ items. T.plain_each items.items) (AreItems count T.savable T.in_range) (flat_map T.spelling) (reading.items_at T.at count) result cursor.old.rest.now cursor.new.rest.now }
 {
     let room = count.min(cursor.rest.len()).min(MOST_RESERVED);
-    let mut items = Vec::with_capacity(alloc, room)?;
+    let mut items = Vec::with_capacity(cursor.alloc, room)?;
     'items: for _ in 0..count {
-        let item = T::take(alloc, cursor)?;
+        let item = T::take(cursor)?;
         items.push(item)?;
     }
     Ok(items)
@@ -108,36 +94,18 @@ pub(crate) fn take_items<T: Part>(
 
 /// The number of items in two bytes, and the items.
 #[tactic(auto, unfolding(crate::specs::Reading::list_at))]
-pub(crate) fn take_list<T: Part>(
-    alloc: Global,
-    cursor: &mut Cursor<'_>,
-) -> Result<Vec<T>, LayoutFault>
+pub(crate) fn take_list<T: Part>(cursor: &mut Cursor<'_>) -> Taken<Vec<T>>
     ensures { Takes (λ items. T.plain_each items.items) (AreParts (2 ^ 16) T.savable T.in_range) (pex.list T.spelling) (reading.list_at T.at) result cursor.old.rest.now cursor.new.rest.now }
 {
     let count = cursor.take_u16()?;
-    take_items(alloc, cursor, count as usize)
+    take_items(cursor, count as usize)
 }
 
 /// The same with four bytes for the number.
 #[tactic(auto, unfolding(crate::specs::Reading::long_list_at))]
-pub(crate) fn take_long_list<T: Part>(
-    alloc: Global,
-    cursor: &mut Cursor<'_>,
-) -> Result<Vec<T>, LayoutFault>
+pub(crate) fn take_long_list<T: Part>(cursor: &mut Cursor<'_>) -> Taken<Vec<T>>
     ensures { Takes (λ items. T.plain_each items.items) (AreParts (2 ^ 32) T.savable T.in_range) (spell.long_list T.spelling) (reading.long_list_at T.at) result cursor.old.rest.now cursor.new.rest.now }
 {
     let count = cursor.take_u32()?;
-    take_items(alloc, cursor, count as usize)
-}
-
-/// The same with one byte for the number.
-#[tactic(auto, unfolding(crate::specs::Reading::short_list_at))]
-pub(crate) fn take_short_list<T: Part>(
-    alloc: Global,
-    cursor: &mut Cursor<'_>,
-) -> Result<Vec<T>, LayoutFault>
-    ensures { Takes (λ items. T.plain_each items.items) (AreParts (2 ^ 8) T.savable T.in_range) (spell.short_list T.spelling) (reading.short_list_at T.at) result cursor.old.rest.now cursor.new.rest.now }
-{
-    let count = cursor.take_byte()?;
-    take_items(alloc, cursor, count as usize)
+    take_items(cursor, count as usize)
 }

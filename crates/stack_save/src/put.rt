@@ -6,38 +6,30 @@ ghost use Rattle.pex_values.specs.Spelling as pex;
 ghost use Rattle.stack_save.specs.Spelling as spell;
 
 use crate::cursor::NONE;
-use byteorder::{BigEndian, ByteOrder};
 use std::alloc::AllocError;
 
 pub(crate) fn put_byte(out: &mut Vec<u8>, n: u8) -> Result<(), AllocError>
     ensures { OnOk result (out.new.items ≡ out.old.items ++ pex.one_byte n) }
 {
-    out.push(n)?;
-    Ok(())
+    Ok(out.push(n)?)
 }
 
 pub(crate) fn put_u16(out: &mut Vec<u8>, n: u16) -> Result<(), AllocError>
     ensures { OnOk result (out.new.items ≡ out.old.items ++ pex.two_bytes n) }
 {
-    let mut bytes = [0; 2];
-    BigEndian::write_u16(&mut bytes, n);
-    out.extend_from_slice(&bytes)
+    out.extend_from_slice(&n.to_be_bytes())
 }
 
 pub(crate) fn put_u32(out: &mut Vec<u8>, n: u32) -> Result<(), AllocError>
     ensures { OnOk result (out.new.items ≡ out.old.items ++ pex.four_bytes n) }
 {
-    let mut bytes = [0; 4];
-    BigEndian::write_u32(&mut bytes, n);
-    out.extend_from_slice(&bytes)
+    out.extend_from_slice(&n.to_be_bytes())
 }
 
 pub(crate) fn put_u64(out: &mut Vec<u8>, n: u64) -> Result<(), AllocError>
     ensures { OnOk result (out.new.items ≡ out.old.items ++ pex.eight_bytes n) }
 {
-    let mut bytes = [0; 8];
-    BigEndian::write_u64(&mut bytes, n);
-    out.extend_from_slice(&bytes)
+    out.extend_from_slice(&n.to_be_bytes())
 }
 
 pub(crate) fn put_i32(out: &mut Vec<u8>, n: i32) -> Result<(), AllocError>

@@ -37,27 +37,9 @@ fn put_files(out: &mut Vec<u8>, files: &[Vec<u8>]) -> Result<(), AllocError>
     put_each_file(out, files)
 }
 
-#[tactic(auto, unfolding(crate::specs::Spelling::spelling))]
-fn put_held(
-    out: &mut Vec<u8>,
-    files: &[Vec<u8>],
-    scene: &[u8],
-    state: &MachineState,
-) -> Result<(), AllocError>
-    requires count { length files.now < 2 ^ 16 }
-    requires each { AllByRecursion FitsFourBytes (map bytes_of files.now) }
-    requires scene { FitsFourBytes scene.now }
-    requires state { IsSavable (plain state.now) }
-    ensures { OnOk result (HasPut (IsInRange (plain state.now)) (spell.spelling (map bytes_of files.now) scene.now (plain state.now)) out.old.items out.new.items) }
-{
-    out.extend_from_slice(&HEADING)?;
-    put_files(out, files)?;
-    put_long_string(out, scene)?;
-    put_state(out, state)
-}
-
 /// The bytes of the held file with these PEX files, each as its bytes, this scene file and this state. `TooLarge` comes
 /// exactly where it would have more than 67,108,864 bytes.
+#[tactic(auto, unfolding(crate::specs::Spelling::spelling))]
 pub fn save(
     alloc: Global,
     files: &Vec<Vec<u8>>,
@@ -71,7 +53,10 @@ pub fn save(
     ensures { SaveGives (map bytes_of files.now.items) scene.now (plain state.now) result }
 {
     let mut out = Vec::new(alloc);
-    put_held(&mut out, files, scene, state)?;
+    out.extend_from_slice(&HEADING)?;
+    put_files(&mut out, files)?;
+    put_long_string(&mut out, scene)?;
+    put_state(&mut out, state)?;
     if out.len() > HELD_LIMIT as usize {
         return Err(SaveFault::TooLarge);
     }

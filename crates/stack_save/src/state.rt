@@ -1,29 +1,31 @@
 //! The state of the machine.
 
-ghost use Rattle.std.specs.Prelude.{◌≡◌, map, OnOk};
-ghost use Rattle.machine_state.specs.Plain.{plain, plain_instance};
-ghost use Rattle.machine_state.specs.Ranges.{IsInRange};
-ghost use Rattle.machine_state.specs.Savable.{IsSavable};
-ghost use Rattle.stack_save.specs.Parts.{HasPut, Takes, IsPart, AreThings, AreThingsInRange, plain_locks, plain_things};
+ghost use Rattle.std.specs.Prelude.{◌≡◌, ◌^◌, ◌++◌, ⊤, map, OnOk};
+ghost use Rattle.machine_state.specs.Plain.{plain};
+ghost use Rattle.machine_state.specs.Ranges.{IsU16, IsPairInRange, IsSleeperInRange, IsInRange};
+ghost use Rattle.machine_state.specs.Savable.{IsSavable, firsts};
+ghost use Rattle.pex_values.specs.Spelling as pex;
+ghost use Rattle.stack_save.specs.Parts.{HasPut, Takes, IsPart, AreAscending, AreLocksInRange, AreThingsInRange};
 ghost use Rattle.stack_save.specs.Reading as reading;
 ghost use Rattle.stack_save.specs.Spelling as spell;
 
+use crate::ascending::ascends;
 use crate::cursor::Cursor;
-use crate::fault::LayoutFault;
-use crate::locks::{Locks, put_locks, take_locks};
+use crate::fault::{LayoutFault, Taken};
 use crate::part::{put_list, take_list};
 use crate::put::{put_number_or_none, put_u32};
-use core_tree::{CoreType, DeviceKind, Value};
-use machine_state::{FrameState, MachineState};
-use papy_base::Text;
-use std::alloc::{AllocError, Global};
+use machine_state::MachineState;
+use std::alloc::AllocError;
 
-/// The arrays, the devices and the stacks.
-#[derive(Drop)]
-pub(crate) struct Things {
-    pub(crate) arrays: Vec<(CoreType, Vec<Value>)>,
-    pub(crate) devices: Vec<(DeviceKind, Vec<i32>, u64)>,
-    pub(crate) stacks: Vec<Vec<FrameState>>,
+#[tactic(auto, using(crate::proofs::Lists::each_trivial), unfolding(crate::specs::Spelling::locks))]
+fn put_locks(out: &mut Vec<u8>, state: &MachineState) -> Result<(), AllocError>
+    requires { IsSavable (plain state.now) }
+    ensures { OnOk result (HasPut (AreLocksInRange (spell.locks_of (plain state.now))) (spell.locks (spell.locks_of (plain state.now))) out.old.items out.new.items) }
+{
+    put_list(out, &state.owners)?;
+    put_list(out, &state.waiters)?;
+    put_list(out, &state.free)?;
+    put_list(out, &state.asleep)
 }
 
 #[tactic(auto, unfolding(crate::specs::Spelling::things))]
@@ -34,20 +36,6 @@ fn put_things(out: &mut Vec<u8>, state: &MachineState) -> Result<(), AllocError>
     put_list(out, &state.arrays)?;
     put_list(out, &state.devices)?;
     put_list(out, &state.stacks)
-}
-
-#[tactic(auto, unfolding(crate::specs::Spelling::things, crate::specs::Reading::things_at))]
-fn take_things(alloc: Global, cursor: &mut Cursor<'_>) -> Result<Things, LayoutFault>
-    ensures { Takes plain_things AreThings spell.things reading.things_at result cursor.old.rest.now cursor.new.rest.now }
-{
-    let arrays = take_list(alloc, cursor)?;
-    let devices = take_list(alloc, cursor)?;
-    let stacks = take_list(alloc, cursor)?;
-    Ok(Things {
-        arrays,
-        devices,
-        stacks,
-    })
 }
 
 #[tactic(auto, unfolding(crate::specs::Spelling::state))]
@@ -62,52 +50,50 @@ pub(crate) fn put_state(out: &mut Vec<u8>, state: &MachineState) -> Result<(), A
     put_things(out, state)
 }
 
-#[tactic(auto, unfolding(crate::specs::Spelling::state, crate::specs::Reading::state_at))]
-pub(crate) fn take_state(
-    alloc: Global,
-    cursor: &mut Cursor<'_>,
-) -> Result<MachineState, LayoutFault>
-    ensures { Takes plain (IsPart IsSavable IsInRange) spell.state reading.state_at result cursor.old.rest.now cursor.new.rest.now }
+fn take_owners(cursor: &mut Cursor<'_>) -> Taken<Vec<(u16, u16)>>
+    ensures { Takes (λ owners. owners.items) (AreAscending firsts IsPairInRange) (pex.list pex.pair) reading.owners_at result cursor.old.rest.now cursor.new.rest.now }
 {
-    let turn = cursor.take_u32()?;
-    let last = cursor.take_number_or_none()?;
-    let instances = take_list(alloc, cursor)?;
-    let locks = take_locks(alloc, cursor)?;
-    let things = take_things(alloc, cursor)?;
-    Ok(joined(turn, last, instances, locks, things))
+    let owners = take_list(cursor)?;
+    if !ascends(&owners) {
+        return Err(LayoutFault::Missing);
+    }
+    Ok(owners)
 }
 
-/// The state of these parts.
-fn joined(
-    turn: u32,
-    last: Option<u16>,
-    instances: Vec<(Text, Vec<Value>)>,
-    locks: Locks,
-    things: Things,
-) -> MachineState
-    ensures { plain result ≡ reading.state_of turn last (map plain_instance instances.items) (plain_locks locks) (plain_things things) }
+fn take_free(cursor: &mut Cursor<'_>) -> Taken<Vec<u16>>
+    ensures { Takes (λ free. free.items) (AreAscending (λ free. free) IsU16) (pex.list pex.two_bytes) reading.free_at result cursor.old.rest.now cursor.new.rest.now }
 {
-    let Locks {
-        owners,
-        waiters,
-        free,
-        asleep,
-    } = locks;
-    let Things {
-        arrays,
-        devices,
-        stacks,
-    } = things;
-    MachineState {
-        turn,
-        last,
-        instances,
-        owners,
-        waiters,
-        free,
-        asleep,
-        arrays,
-        devices,
-        stacks,
+    let free = take_list(cursor)?;
+    if !ascends(&free) {
+        return Err(LayoutFault::Missing);
     }
+    Ok(free)
+}
+
+fn take_asleep(cursor: &mut Cursor<'_>) -> Taken<Vec<(u16, u32)>>
+    ensures { Takes (λ asleep. asleep.items) (AreAscending firsts IsSleeperInRange) (pex.list spell.sleeper) reading.asleep_at result cursor.old.rest.now cursor.new.rest.now }
+{
+    let asleep = take_list(cursor)?;
+    if !ascends(&asleep) {
+        return Err(LayoutFault::Missing);
+    }
+    Ok(asleep)
+}
+
+#[tactic(auto, unfolding(crate::specs::Reading::state_at, crate::specs::Reading::locks_at, crate::specs::Reading::things_at))]
+pub(crate) fn take_state(cursor: &mut Cursor<'_>) -> Taken<MachineState>
+    ensures { Takes plain (IsPart IsSavable IsInRange) spell.state reading.state_at result cursor.old.rest.now cursor.new.rest.now }
+{
+    Ok(MachineState {
+        turn: cursor.take_u32()?,
+        last: cursor.take_number_or_none()?,
+        instances: take_list(cursor)?,
+        owners: take_owners(cursor)?,
+        waiters: take_list(cursor)?,
+        free: take_free(cursor)?,
+        asleep: take_asleep(cursor)?,
+        arrays: take_list(cursor)?,
+        devices: take_list(cursor)?,
+        stacks: take_list(cursor)?,
+    })
 }

@@ -10,13 +10,13 @@ ghost use Rattle.stack_save.specs.Reading as reading;
 ghost use Rattle.stack_save.specs.Spelling as spell;
 
 use crate::cursor::Cursor;
-use crate::fault::LayoutFault;
-use crate::part::{Part, put_long_list, put_short_list, take_long_list, take_short_list};
+use crate::fault::Taken;
+use crate::part::{Part, put_items, put_long_list, take_items, take_long_list};
 use crate::put::{put_byte, put_string, put_u16, put_u64};
 use crate::values::take_text;
 use core_tree::{CoreType, DeviceKind, Value};
 use papy_base::Text;
-use std::alloc::{AllocError, Global};
+use std::alloc::AllocError;
 
 /// An instance: the text of its state, and the values of its variables.
 impl Part for (Text, Vec<Value>) {
@@ -43,9 +43,9 @@ impl Part for (Text, Vec<Value>) {
     }
 
     #[tactic(auto, unfolding(crate::specs::Spelling::instance, crate::specs::Reading::instance_at))]
-    fn take(alloc: Global, cursor: &mut Cursor<'_>) -> Result<(Text, Vec<Value>), LayoutFault> {
-        let state = take_text(alloc, cursor)?;
-        let values = take_long_list(alloc, cursor)?;
+    fn take(cursor: &mut Cursor<'_>) -> Taken<(Text, Vec<Value>)> {
+        let state = take_text(cursor)?;
+        let values = take_long_list(cursor)?;
         Ok((state, values))
     }
 }
@@ -69,7 +69,7 @@ fn put_element_type(out: &mut Vec<u8>, element: CoreType) -> Result<(), AllocErr
 
 /// The type behind its tag.
 #[tactic(auto, unfolding(crate::specs::Reading::element_type_at))]
-fn take_tagged_type(cursor: &mut Cursor<'_>, tag: u8) -> Result<CoreType, LayoutFault>
+fn take_tagged_type(cursor: &mut Cursor<'_>, tag: u8) -> Taken<CoreType>
     requires { tag ≤ 3 }
     ensures { Takes (λ element. element) (IsPart IsElementType IsTypeInRange) spell.element_type reading.element_type_at result (tag ∷ cursor.old.rest.now) cursor.new.rest.now }
 {
@@ -82,7 +82,7 @@ fn take_tagged_type(cursor: &mut Cursor<'_>, tag: u8) -> Result<CoreType, Layout
 }
 
 #[tactic(auto, unfolding(crate::specs::Reading::element_type_at))]
-fn take_element_type(cursor: &mut Cursor<'_>) -> Result<CoreType, LayoutFault>
+fn take_element_type(cursor: &mut Cursor<'_>) -> Taken<CoreType>
     ensures { Takes (λ element. element) (IsPart IsElementType IsTypeInRange) spell.element_type reading.element_type_at result cursor.old.rest.now cursor.new.rest.now }
 {
     let tag = cursor.take_tag(3)?;
@@ -110,13 +110,15 @@ impl Part for (CoreType, Vec<Value>) {
     #[tactic(auto, unfolding(crate::specs::Spelling::array))]
     fn put(&self, out: &mut Vec<u8>) -> Result<(), AllocError> {
         put_element_type(out, self.0)?;
-        put_short_list(out, &self.1)
+        put_byte(out, self.1.len() as u8)?;
+        put_items(out, &self.1)
     }
 
-    #[tactic(auto, unfolding(crate::specs::Spelling::array, crate::specs::Reading::array_at))]
-    fn take(alloc: Global, cursor: &mut Cursor<'_>) -> Result<(CoreType, Vec<Value>), LayoutFault> {
+    #[tactic(auto, unfolding(crate::specs::Spelling::array, crate::specs::Reading::array_at, crate::specs::Reading::short_list_at))]
+    fn take(cursor: &mut Cursor<'_>) -> Taken<(CoreType, Vec<Value>)> {
         let element = take_element_type(cursor)?;
-        let values = take_short_list(alloc, cursor)?;
+        let count = cursor.take_byte()?;
+        let values = take_items(cursor, count as usize)?;
         Ok((element, values))
     }
 }
@@ -132,7 +134,7 @@ fn put_device_kind(out: &mut Vec<u8>, kind: DeviceKind) -> Result<(), AllocError
     }
 }
 
-fn take_device_kind(cursor: &mut Cursor<'_>) -> Result<DeviceKind, LayoutFault>
+fn take_device_kind(cursor: &mut Cursor<'_>) -> Taken<DeviceKind>
     ensures { Takes (λ kind. kind) (λ _. ⊤) spell.device_kind reading.device_kind_at result cursor.old.rest.now cursor.new.rest.now }
 {
     let tag = cursor.take_tag(3)?;
@@ -170,12 +172,9 @@ impl Part for (DeviceKind, Vec<i32>, u64) {
     }
 
     #[tactic(auto, unfolding(crate::specs::Spelling::device, crate::specs::Reading::device_at))]
-    fn take(
-        alloc: Global,
-        cursor: &mut Cursor<'_>,
-    ) -> Result<(DeviceKind, Vec<i32>, u64), LayoutFault> {
+    fn take(cursor: &mut Cursor<'_>) -> Taken<(DeviceKind, Vec<i32>, u64)> {
         let kind = take_device_kind(cursor)?;
-        let cells = take_long_list(alloc, cursor)?;
+        let cells = take_long_list(cursor)?;
         let place = cursor.take_u64()?;
         Ok((kind, cells, place))
     }

@@ -12,30 +12,30 @@ ghost use Rattle.stack_save.specs.Reading as reading;
 ghost use Rattle.stack_save.specs.Spelling as spell;
 
 use crate::cursor::Cursor;
-use crate::fault::LayoutFault;
+use crate::fault::Taken;
 use crate::part::Part;
 use crate::put::{put_byte, put_i32, put_string, put_u16};
 use core_tree::Value;
 use papy_base::{Name, Text};
-use std::alloc::{AllocError, Global};
+use std::alloc::AllocError;
 
-pub(crate) fn take_text(alloc: Global, cursor: &mut Cursor<'_>) -> Result<Text, LayoutFault>
+pub(crate) fn take_text(cursor: &mut Cursor<'_>) -> Taken<Text>
     ensures { Takes (λ text. text) FitsTwoBytes pex.string reading.string_at result cursor.old.rest.now cursor.new.rest.now }
 {
     let bytes = cursor.take_string()?;
-    Ok(Text::try_from_bytes(alloc, bytes)?)
+    Ok(Text::try_from_bytes(cursor.alloc, bytes)?)
 }
 
-pub(crate) fn take_name(alloc: Global, cursor: &mut Cursor<'_>) -> Result<Name, LayoutFault>
+pub(crate) fn take_name(cursor: &mut Cursor<'_>) -> Taken<Name>
     ensures { Takes (λ name. name) FitsTwoBytes pex.string reading.string_at result cursor.old.rest.now cursor.new.rest.now }
 {
     let bytes = cursor.take_string()?;
-    Ok(Name::from_bytes(alloc, bytes)?)
+    Ok(Name::from_bytes(cursor.alloc, bytes)?)
 }
 
 /// The value behind its tag.
 #[tactic(auto, unfolding(crate::specs::Reading::value_at))]
-fn take_tagged(alloc: Global, cursor: &mut Cursor<'_>, tag: u8) -> Result<Value, LayoutFault>
+fn take_tagged(cursor: &mut Cursor<'_>, tag: u8) -> Taken<Value>
     requires { tag ≤ 5 }
     ensures { Takes (λ value. value) (IsPart IsSavableValue IsValueInRange) spell.value reading.value_at result (tag ∷ cursor.old.rest.now) cursor.new.rest.now }
 {
@@ -43,7 +43,7 @@ fn take_tagged(alloc: Global, cursor: &mut Cursor<'_>, tag: u8) -> Result<Value,
         0 => Ok(Value::NoneValue),
         1 => Ok(Value::Int(cursor.take_i32()?)),
         2 => Ok(Value::Bool(cursor.take_tag(1)? == 1)),
-        3 => Ok(Value::Text(take_text(alloc, cursor)?)),
+        3 => Ok(Value::Text(take_text(cursor)?)),
         4 => Ok(Value::Instance(cursor.take_u16()?)),
         _ => Ok(Value::Array(cursor.take_u16()?)),
     }
@@ -93,8 +93,8 @@ impl Part for Value {
     }
 
     #[tactic(auto, unfolding(crate::specs::Reading::value_at))]
-    fn take(alloc: Global, cursor: &mut Cursor<'_>) -> Result<Value, LayoutFault> {
+    fn take(cursor: &mut Cursor<'_>) -> Taken<Value> {
         let tag = cursor.take_tag(5)?;
-        take_tagged(alloc, cursor, tag)
+        take_tagged(cursor, tag)
     }
 }

@@ -3,7 +3,7 @@ use Rattle.machine_state.specs.Ranges.{IsPairInRange}
 use Rattle.machine_state.specs.Savable.{firsts}
 use Rattle.pex_values.specs.Spelling.{list, pair}
 use Rattle.stack_save.proofs.Ascends.{ascending_taken}
-use Rattle.stack_save.proofs.locks.take_owners.Goals as goal
+use Rattle.stack_save.proofs.state.take_owners.Goals as goal
 use Rattle.stack_save.specs.Reading.{ascending, list_at, pair_at}
 
 pub returns : goal.returns

@@ -2,7 +2,7 @@ use Rattle.std.proofs.Common.{ℕ, List, sym, ap, ◌∙◌}
 use Rattle.machine_state.specs.Ranges.{IsU16}
 use Rattle.pex_values.specs.Spelling.{list, two_bytes}
 use Rattle.stack_save.proofs.Ascends.{ascending_taken}
-use Rattle.stack_save.proofs.locks.take_free.Goals as goal
+use Rattle.stack_save.proofs.state.take_free.Goals as goal
 use Rattle.stack_save.specs.Reading.{ascending, list_at, number_at}
 
 pub returns : goal.returns

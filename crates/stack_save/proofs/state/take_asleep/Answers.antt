@@ -3,7 +3,7 @@ use Rattle.machine_state.specs.Ranges.{IsSleeperInRange}
 use Rattle.machine_state.specs.Savable.{firsts}
 use Rattle.pex_values.specs.Spelling.{list}
 use Rattle.stack_save.proofs.Ascends.{ascending_taken}
-use Rattle.stack_save.proofs.locks.take_asleep.Goals as goal
+use Rattle.stack_save.proofs.state.take_asleep.Goals as goal
 use Rattle.stack_save.specs.Reading.{ascending, list_at, sleeper_at}
 use Rattle.stack_save.specs.Spelling.{sleeper}
 
