@@ -72,15 +72,6 @@ instruction_passed strings old new taken = record {
   moved = moved 1 (fixed_at strings old.at old.rest.now) old.at old.rest.now 0 new.at new.rest.now (fixed_moves strings old.at old.rest.now) taken;
 }
 
-nop_at : (strings at : ℕ) (rest : List ℕ) → fixed_at strings at (0 ∷ rest) ≡ Got 0 (suc at) rest
-unfolding fixed_at opcode_at
-nop_at strings at rest = refl
-
-pub nop_passed : (strings : ℕ) (old new : Cursor) → old.rest.now ≡ 0 ∷ new.rest.now → new.at ≡ suc old.at → PassesOne part.Instruction strings old new
-nop_passed strings old new front at =
-    instruction_passed strings old new
-    (ap (λ (b : List ℕ). fixed_at strings old.at b) front ∙ nop_at strings old.at new.rest.now ∙ ap (λ (n : ℕ). Got 0 n new.rest.now) (sym at))
-
 -- ---- a row
 
 pub Moved-on : (least more from : ℕ) (bytes : List ℕ) (to : ℕ) (behind : List ℕ) (end : ℕ) (rest : List ℕ) → Moved least from bytes to behind → Moved more to behind end rest → Moved (least + more) from bytes end rest

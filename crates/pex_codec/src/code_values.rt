@@ -63,14 +63,6 @@ impl Item for Instruction {
     #[tactic(auto, unfolding(crate::specs::Reading::instruction_at))]
     fn take(alloc: Global, cursor: &mut Cursor<'_>, strings: u16) -> Result<Instruction, Stop> {
         let operation = cursor.opcode()?;
-        // A row of `nop`s is read a third faster so.
-        if operation.fixed == 0 && !operation.more {
-            return Ok(Instruction {
-                opcode: operation.opcode,
-                fixed: Vec::new(alloc),
-                more: Vec::new(alloc),
-            });
-        }
         let fixed = take_items(alloc, cursor, strings, operation.fixed as usize)?;
         if !operation.more {
             return Ok(Instruction {

@@ -4,12 +4,10 @@ ghost use Rattle.pex_codec.specs.Opening.{fixed_at, fixed_with, Passes, PassesIf
 ghost use Rattle.pex_codec.specs.Scanning.{times_at};
 ghost use Rattle.pex_codec.specs.Taking.{Takes};
 ghost use Rattle.pex_codec.specs.declared.parts.Part.TheVariants as part;
-ghost use Rattle.std.specs.Prelude.{◌≡◌, ℕ, Some, false};
+ghost use Rattle.std.specs.Prelude.{Some};
 
 use crate::cursor::{Cursor, Stop};
-
-/// The opcode that does nothing.
-const NOP: u8 = 0;
+use crate::parts::Part;
 
 impl<'a> Cursor<'a> {
     /// So many operands.
@@ -45,67 +43,27 @@ impl<'a> Cursor<'a> {
         self.fixed_of(strings, operation.fixed, operation.more)
     }
 
-    /// Whether an operand was passed.
+    /// Whether one of a part was passed: an operand, or an instruction that has no operands more.
     #[inline(always)]
-    fn passes_operand(&mut self, strings: u16) -> bool
-        ensures { PassesIf result part.Operand strings self.old self.new }
+    fn passes(&mut self, part: Part, strings: u16) -> bool
+        ensures { PassesIf result part strings self.old self.new }
     {
-        self.datum(strings).is_ok()
-    }
-
-    /// Whether a `nop` was passed.
-    #[inline(always)]
-    fn passes_nop(&mut self) -> bool
-        ensures passed { (strings : ℕ) → PassesIf result part.Instruction strings self.old self.new }
-        ensures other { result ≡ false → self.new ≡ self.old }
-    {
-        let Some((byte, rest)) = self.rest.split_first() else {
-            return false;
-        };
-        if *byte != NOP {
-            return false;
+        match part {
+            Part::Operand => self.datum(strings).is_ok(),
+            Part::Instruction => matches!(self.fixed(strings), Ok(0)),
+            _ => false,
         }
-        let at = self.at + 1;
-        *self = Cursor { at, rest };
-        true
-    }
-
-    /// Whether an instruction was passed that has no operands more.
-    #[inline(always)]
-    fn passes_instruction(&mut self, strings: u16) -> bool
-        ensures { PassesIf result part.Instruction strings self.old self.new }
-    {
-        if self.passes_nop() {
-            return true;
-        }
-        matches!(self.fixed(strings), Ok(0))
     }
 }
 
-/// Passes operands while they are whole, and says how many of so many are left.
-pub(crate) fn pass_operands(strings: u16, count: u32, cursor: &mut Cursor<'_>) -> u32
-    ensures { Passes part.Operand strings count cursor.old result cursor.new }
+/// Passes what it can of a row, and says how many of so many are left.
+pub(crate) fn pass_row(part: Part, strings: u16, count: u32, cursor: &mut Cursor<'_>) -> u32
+    ensures { Passes part strings count cursor.old result cursor.new }
 {
     let mut left = count;
-    'operands: while left > 0 {
+    'row: while left > 0 {
         let mut ahead = *cursor;
-        if !ahead.passes_operand(strings) {
-            return left;
-        }
-        *cursor = ahead;
-        left -= 1;
-    }
-    left
-}
-
-/// Passes instructions while they are whole and have no operands more, and says how many of so many are left.
-pub(crate) fn pass_instructions(strings: u16, count: u32, cursor: &mut Cursor<'_>) -> u32
-    ensures { Passes part.Instruction strings count cursor.old result cursor.new }
-{
-    let mut left = count;
-    'instructions: while left > 0 {
-        let mut ahead = *cursor;
-        if !ahead.passes_instruction(strings) {
+        if !ahead.passes(part, strings) {
             return left;
         }
         *cursor = ahead;

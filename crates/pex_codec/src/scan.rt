@@ -1,7 +1,7 @@
 //! Goes through a file without its values.
 
 ghost use Rattle.std.specs.Prelude.{◌≡◌, ◌<◌, Decides, IfOk, [], ◌∷◌, ◌++◌};
-ghost use Rattle.pex_codec.specs.Opening.{Passes, least_of, whole_file};
+ghost use Rattle.pex_codec.specs.Opening.{least_of, whole_file};
 ghost use Rattle.pex_codec.specs.ScanSteps.{work_of, IsStep, Steps, StepsIf, SameStack};
 ghost use Rattle.pex_codec.specs.Scans.{stack_of, ScansOn};
 ghost use Rattle.pex_codec.specs.declared.parts.Part.TheVariants as part;
@@ -9,7 +9,7 @@ ghost use Rattle.pex_codec.specs.declared.parts.Part.TheVariants as part;
 use crate::cursor::{Cursor, Stop};
 use crate::opening::open;
 use crate::parts::{Opened, Part, Task};
-use crate::rows::{pass_instructions, pass_operands};
+use crate::rows::pass_row;
 use papy_base::OutOfMemory;
 use std::alloc::{AllocError, Global};
 
@@ -22,17 +22,6 @@ pub(crate) struct Scan {
     pub(crate) current: Task,
     /// What comes then, the last one first.
     pub(crate) below: Vec<Task>,
-}
-
-/// Passes what it can of a row, and says how many are left.
-fn pass_row(part: Part, strings: u16, left: u32, cursor: &mut Cursor<'_>) -> u32
-    ensures { Passes part strings left cursor.old result cursor.new }
-{
-    match part {
-        Part::Instruction => pass_instructions(strings, left, cursor),
-        Part::Operand => pass_operands(strings, left, cursor),
-        _ => left,
-    }
 }
 
 /// Puts a task on the stack, where there is something of it.

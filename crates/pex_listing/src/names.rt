@@ -10,12 +10,6 @@ use std::str;
 /// The most bytes of a string that a reference is spelled by.
 const LONGEST_WORD: usize = 64;
 
-/// For each string of a file the word that a reference to it is spelled by, if it is.
-#[derive(Clone, Copy)]
-pub(crate) struct Names<'a> {
-    pub words: &'a [Option<&'a str>],
-}
-
 fn is_word_byte(byte: u8) -> bool {
     matches!(byte, b'A'..=b'Z' | b'a'..=b'z' | b'0'..=b'9' | b'_' | b':' | b'.' | b'[' | b']')
 }
