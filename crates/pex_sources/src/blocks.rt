@@ -225,14 +225,21 @@ impl<'w, 'f> Blocks<'w, 'f> {
 
     // An If that is all of an Else is an ElseIf, and the end of that If is the end of this one.
     fn end_else(&mut self, line: usize, statements: usize) -> Found<()> {
-        let begun = self.lines.as_mut_slice().split_at_mut_checked(line);
-        if let (1, Some((_, [first, second, ..]))) = (statements, begun) {
-            if let Line::If(test) = *second {
-                *first = Line::ElseIf(test);
-                *second = Line::Skipped;
-                return Ok(());
+        let behind = line.saturating_add(1);
+        match self.lines.get(behind) {
+            Some(Line::If(test)) if statements == 1 => {
+                let test = *test;
+                self.set(line, Line::Skipped);
+                self.set(behind, Line::ElseIf(test));
+                Ok(())
             }
+            _ => self.put(Line::EndIf),
         }
-        self.put(Line::EndIf)
+    }
+
+    fn set(&mut self, at: usize, line: Line) {
+        if let Some(old) = self.lines.get_mut(at) {
+            *old = line;
+        }
     }
 }

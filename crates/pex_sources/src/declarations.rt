@@ -201,9 +201,11 @@ impl<'a> Author<'a> {
 
     // How many functions of the empty state stand before those that a compiler adds.
     fn written_count(self, state: &PexState) -> usize {
+        if self.has_parent() {
+            return state.functions.len();
+        }
         let mut functions = state.functions.iter();
-        let last = functions.rposition(|(name, f)| self.has_parent()
-            || !self.is_generated(*name, f));
+        let last = functions.rposition(|(name, function)| !self.is_generated(*name, function));
         last.map_or(0, |last| last.saturating_add(1))
     }
 
@@ -219,10 +221,17 @@ impl<'a> Author<'a> {
     }
 
     fn put_function(self, page: &mut Page, name: &[u8], function: &'a PexFunction) -> Found<()> {
+        let (begin, end): (&[u8], &[u8]) = if self.is_event(name, function) {
+            (b"Event ", b"EndEvent")
+        } else {
+            (b"Function ", b"EndFunction")
+        };
         page.blank()?;
         page.begin()?;
-        let end = self.put_kind(page, name, function)?;
-        page.put_all(&[name, b"("])?;
+        if self.has_result(function) {
+            page.put_all(&[self.script.text(function.result), b" "])?;
+        }
+        page.put_all(&[begin, name, b"("])?;
         self.put_parameters(page, function)?;
         page.put(b")")?;
         page.put_bits(u32::from(function.bits), [b" Global", b" Native"])?;
@@ -236,32 +245,21 @@ impl<'a> Author<'a> {
         page.line(&[end])
     }
 
-    // Appends what kind of function it is, and gives what ends it. Those without result whose names begin with `On` are events.
-    fn put_kind(
-        self,
-        page: &mut Page,
-        name: &[u8],
-        function: &PexFunction,
-    ) -> Found<&'static [u8]> {
-        let has_result = self.script.number(function.result) != NONE;
+    fn has_result(self, function: &PexFunction) -> bool {
+        self.script.number(function.result) != NONE
+    }
+
+    // Functions without result whose names begin with `On` are events.
+    fn is_event(self, name: &[u8], function: &PexFunction) -> bool {
         let begins = matches!(name, [b'O' | b'o', b'N' | b'n', ..]);
-        if begins && function.bits & GLOBAL == 0 && !has_result {
-            page.put(b"Event ")?;
-            return Ok(b"EndEvent");
-        }
-        if has_result {
-            page.put_all(&[self.script.text(function.result), b" "])?;
-        }
-        page.put(b"Function ")?;
-        Ok(b"EndFunction")
+        begins && function.bits & GLOBAL == 0 && !self.has_result(function)
     }
 
     fn put_parameters(self, page: &mut Page, function: &PexFunction) -> Found<()> {
-        let (world, script) = (self.world, self.script);
         for (place, pair) in function.parameters.iter().enumerate() {
             let comma: &[u8] = if place > 0 { b", " } else { b"" };
-            page.put_all(&[comma, script.text(pair.1), b" "])?;
-            world.put_slot(page, script, *pair, place)?;
+            page.put_all(&[comma, self.script.text(pair.1), b" "])?;
+            self.world.put_slot(page, (self.script, *pair, place))?;
         }
         Ok(())
     }

@@ -7,7 +7,7 @@ use crate::opcodes::{
     sign_of,
 };
 use crate::page::Page;
-use crate::script::Script;
+use crate::script::Slot;
 use crate::trees::{Form, Input, Node, Trees};
 use crate::words::BOOL;
 use pex_values::Datum;
@@ -31,8 +31,7 @@ pub(crate) enum Item<'a> {
     Node(usize, u8),
     Bytes(&'a [u8]),
     Literal(Datum),
-    /// A parameter or a local: its script, references to its name and type, and its place.
-    Slot(&'a Script<'a>, (u16, u16), usize),
+    Slot(Slot<'a>),
 }
 
 type Items<'a> = Vec<Item<'a>>;
@@ -71,7 +70,7 @@ impl<'w, 'f> Speaker<'w, 'f> {
             Item::Node(number, level) => self.expand(number, level, items),
             Item::Bytes(bytes) => page.put(bytes),
             Item::Literal(value) => page.put_literal(self.code.script, value),
-            Item::Slot(script, pair, place) => self.code.world.put_slot(page, script, pair, place),
+            Item::Slot(slot) => self.code.world.put_slot(page, slot),
         }
     }
 
@@ -127,16 +126,13 @@ impl<'w, 'f> Speaker<'w, 'f> {
                 push(items, &[Item::Bytes(b"!"), Item::Node(value, CAST_LEVEL)])
             }
             INEG => push(items, &[Item::Bytes(b"-"), self.first(node, CAST_LEVEL)?]),
-            CAST => push(
-                items,
-                &[self.first(node, CHAIN)?, Item::Bytes(b" as "), name],
-            ),
-            PROPGET => push(items, &[self.first(node, CHAIN)?, Item::Bytes(b"."), name]),
+            CAST => self.suffixed(node, [Item::Bytes(b" as "), name], items),
+            PROPGET => self.suffixed(node, [Item::Bytes(b"."), name], items),
             ARRAY_LENGTH => push(items, &[self.first(node, CHAIN)?, Item::Bytes(b".Length")]),
             ARRAY_GETELEMENT => {
                 let index = Item::Node(self.trees.input(node, 1)?, 0);
-                let array = self.first(node, CHAIN)?;
-                push(items, &[array, Item::Bytes(b"["), index, Item::Bytes(b"]")])
+                push(items, &[index, Item::Bytes(b"]")])?;
+                push(items, &[self.first(node, CHAIN)?, Item::Bytes(b"[")])
             }
             ARRAY_CREATE => self.new_array(node, names.1, items),
             ARRAY_FINDELEMENT => self.find(node, b".Find(", 0, items),
@@ -152,7 +148,7 @@ impl<'w, 'f> Speaker<'w, 'f> {
     pub(crate) fn leaf(self, operand: Operand) -> Found<Item<'w>> {
         let script = self.code.script;
         match operand {
-            Operand::Slot(place) => Ok(Item::Slot(script, self.code.pair(place)?, place)),
+            Operand::Slot(place) => Ok(Item::Slot((script, self.code.pair(place)?, place))),
             Operand::Variable(place) => {
                 let name = script.variable(place)?.name;
                 let property = self.code.world.property(script, script.number(name));
@@ -166,6 +162,12 @@ impl<'w, 'f> Speaker<'w, 'f> {
 
     fn first(self, node: Node, level: u8) -> Found<Item<'w>> {
         Ok(Item::Node(self.trees.input(node, 0)?, level))
+    }
+
+    // The first input and what stands behind it.
+    fn suffixed(self, node: Node, parts: [Item<'w>; 2], items: &mut Items<'w>) -> Found<()> {
+        push(items, &parts)?;
+        push(items, &[self.first(node, CHAIN)?])
     }
 
     // Two values with a sign between them.
@@ -195,23 +197,10 @@ impl<'w, 'f> Speaker<'w, 'f> {
     }
 
     fn new_array(self, node: Node, kind: u16, items: &mut Items<'w>) -> Found<()> {
-        let element = self
-            .code
-            .script
-            .text(kind)
-            .strip_suffix(b"[]")
-            .ok_or(NOT_FOUND)?;
-        let (kind, size) = (Item::Bytes(element), self.first(node, 0)?);
-        push(
-            items,
-            &[
-                Item::Bytes(b"new "),
-                kind,
-                Item::Bytes(b"["),
-                size,
-                Item::Bytes(b"]"),
-            ],
-        )
+        let element = self.code.script.text(kind).strip_suffix(b"[]");
+        let element = Item::Bytes(element.ok_or(NOT_FOUND)?);
+        push(items, &[self.first(node, 0)?, Item::Bytes(b"]")])?;
+        push(items, &[Item::Bytes(b"new "), element, Item::Bytes(b"[")])
     }
 
     fn call(self, node: Node, opcode: u8, names: (u16, u16), items: &mut Items<'w>) -> Found<()> {
@@ -229,7 +218,7 @@ impl<'w, 'f> Speaker<'w, 'f> {
                 if target.form == Form::Leaf(Operand::OwnInstance) {
                     return push(items, &[name]);
                 }
-                push(items, &[self.first(node, CHAIN)?, Item::Bytes(b"."), name])
+                self.suffixed(node, [Item::Bytes(b"."), name], items)
             }
             _ => {
                 let kind = script.number(names.0);
@@ -271,10 +260,8 @@ impl<'w, 'f> Speaker<'w, 'f> {
             let value = self.loose(input.node, script.number(pair.1))?;
             items.push(Item::Node(value, 0))?;
             if at >= in_place {
-                push(
-                    items,
-                    &[Item::Slot(script, pair, input.place), Item::Bytes(b" = ")],
-                )?;
+                let slot = Item::Slot((script, pair, input.place));
+                push(items, &[slot, Item::Bytes(b" = ")])?;
             }
             if at > 0 {
                 items.push(Item::Bytes(b", "))?;

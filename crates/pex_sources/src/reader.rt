@@ -233,10 +233,7 @@ impl<'w, 'f> Reader<'w, 'f> {
     // A jump: the left side of And or Or ends with it where the instruction before assigned what it tests, and else a test.
     fn jump(&mut self, at: usize, step: Step, end: usize, fresh: Option<usize>) -> Found<Outcome> {
         match self.code.operand(step.first)? {
-            Operand::Slot(slot) if fresh == Some(slot) => {
-                self.begin_side(at, step, slot, end)?;
-                Ok(Outcome::Open)
-            }
+            Operand::Slot(slot) if fresh == Some(slot) => self.begin_side(at, step, slot, end),
             _ => {
                 check(step.opcode == JMPF)?;
                 Ok(Outcome::Test(self.end_with_one()?))
@@ -244,18 +241,19 @@ impl<'w, 'f> Reader<'w, 'f> {
         }
     }
 
-    fn begin_side(&mut self, at: usize, step: Step, slot: usize, limit: usize) -> Found<()> {
+    fn begin_side(&mut self, at: usize, step: Step, slot: usize, limit: usize) -> Found<Outcome> {
         let end = step.target.ok_or(NOT_FOUND)?;
         let outer = self.side_end().unwrap_or(limit);
         check(end > at.saturating_add(1) && end <= outer)?;
+        let left = self.only_input()?;
         self.sides.push(Side {
             opcode: step.opcode,
             slot,
-            left: self.only_input()?,
+            left,
             start: at.saturating_sub(1),
             end,
         })?;
-        Ok(())
+        Ok(Outcome::Open)
     }
 
     /// Ends the innermost And or Or, whose right side ends before this place.
@@ -275,22 +273,19 @@ impl<'w, 'f> Reader<'w, 'f> {
 
     // An assignment. The first to a local is its definition.
     fn assign(&mut self, at: usize, step: Step) -> Found<Outcome> {
-        let target = self.code.operand(step.first)?;
-        match (target, self.slots.undefined(target)) {
-            (Operand::Slot(slot), _) if self.slots.is_temporary(slot) => {
-                self.assign_temporary(at, step, slot)
+        let target = match self.code.operand(step.first)? {
+            Operand::Slot(slot) if self.slots.is_temporary(slot) => {
+                return self.assign_temporary(at, step, slot);
             }
-            (_, Some(slot)) => {
-                let value = self.end_with_one()?;
-                self.slots.define(slot)?;
-                Ok(Outcome::Done(Line::Define(slot, value)))
-            }
-            _ => {
-                let value = self.end_with_one()?;
-                let target = self.read_leaf(target)?;
-                Ok(Outcome::Done(Line::Set(target.node, value)))
-            }
+            target => target,
+        };
+        let value = self.end_with_one()?;
+        if let Some(slot) = self.slots.undefined(target) {
+            self.slots.define(slot)?;
+            return Ok(Outcome::Done(Line::Define(slot, value)));
         }
+        let target = self.read_leaf(target)?.node;
+        Ok(Outcome::Done(Line::Set(target, value)))
     }
 
     // A temporary gets a value: a side of And or Or, or a variable that is kept.
@@ -317,13 +312,11 @@ impl<'w, 'f> Reader<'w, 'f> {
 
     // Whether the instruction behind this place is a jump that tests the slot.
     fn is_tested(&self, slot: usize, at: usize) -> bool {
-        match self.code.step(at.saturating_add(1)) {
-            Ok(next) => {
-                matches!(next.opcode, JMPF | JMPT)
-                    && self.code.operand(next.first) == Ok(Operand::Slot(slot))
-            }
-            Err(_) => false,
-        }
+        let next = self.code.steps.get(at.saturating_add(1));
+        next.is_some_and(|next| {
+            matches!(next.opcode, JMPF | JMPT)
+                && self.code.operand(next.first) == Ok(Operand::Slot(slot))
+        })
     }
 
     // A variable is kept while a later operand acts.
@@ -361,21 +354,20 @@ impl<'w, 'f> Reader<'w, 'f> {
     // A property or an element is set, which a shared input may also have computed with.
     fn set(&mut self, at: usize, step: Step) -> Found<Outcome> {
         self.end()?;
-        let [of @ .., value] = self.inputs.as_slice() else {
-            return Err(NOT_FOUND);
-        };
-        let (form, kind) = self.set_target(step, of)?;
-        let target = self.trees.add(form, kind, of, Some((at, at)))?;
-        if of.iter().any(|input| input.is_shared) {
-            check(self.trees.change(value.node, target)?.is_some())?;
+        let value = self.inputs.pop().ok_or(NOT_FOUND)?.node;
+        let (form, kind) = self.set_target(step, self.only_input()?.node)?;
+        let inputs = self.inputs.as_slice();
+        let target = self.trees.add(form, kind, inputs, Some((at, at)))?;
+        if inputs.iter().any(|input| input.is_shared) {
+            check(self.trees.change(value, target)?.is_some())?;
         }
-        Ok(Outcome::Done(Line::Set(target, value.node)))
+        Ok(Outcome::Done(Line::Set(target, value)))
     }
 
     // The expression that gets what is set, with its type.
-    fn set_target(&self, step: Step, of: &[Input]) -> Found<(Form, usize)> {
+    fn set_target(&self, step: Step, of: usize) -> Found<(Form, usize)> {
         let (world, (_, name)) = (self.code.world, step.names);
-        let kind = self.trees.node(of.first().ok_or(NOT_FOUND)?.node)?.kind;
+        let kind = self.trees.node(of)?.kind;
         if step.opcode == ARRAY_SETELEMENT {
             let form = Form::Apply(ARRAY_GETELEMENT, step.names);
             return Ok((form, world.element(kind)?));

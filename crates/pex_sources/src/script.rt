@@ -4,6 +4,9 @@ use papy_base::Text;
 use pex_set::{FileNames, text_at};
 use pex_values::{PexObject, PexVariable};
 
+/// A parameter or a local: its script, references to its name and type, and its place.
+pub(crate) type Slot<'a> = (&'a Script<'a>, (u16, u16), usize);
+
 /// A script.
 #[derive(Drop)]
 pub(crate) struct Script<'a> {

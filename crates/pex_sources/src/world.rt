@@ -1,11 +1,11 @@
 // The scripts of a set, the prelude's before those of the files, and what is found among them by name.
 use crate::fault::{Found, NOT_FOUND, check};
 use crate::page::Page;
-use crate::script::Script;
+use crate::script::{Script, Slot};
 use crate::words::{BOOL, INT, NONE, STRING, WORDS, free_infix, is_word, stem};
 use papy_base::OutOfMemory;
 use pex_set::{FileNames, NameTable, Prelude};
-use pex_values::{Pex, PexFunction, PexObject, PexProperty};
+use pex_values::{Pex, PexFunction, PexProperty};
 use std::alloc::Global;
 use std::collections::{HashMap, HashSet};
 
@@ -79,76 +79,56 @@ impl<'a> World<'a> {
 
     fn add_file(&mut self, file: &'a Pex) -> Result<(), OutOfMemory> {
         for object in &file.objects {
-            let names = FileNames::of_strings(self.alloc, &mut self.table, &file.strings)?;
-            self.add_members(&names, object)?;
-            self.scripts.push(Script {
+            let script = Script {
                 place: self.scripts.len(),
                 object,
                 strings: &file.strings,
-                names,
-            })?;
+                names: FileNames::of_strings(self.alloc, &mut self.table, &file.strings)?,
+            };
+            self.add_members(&script)?;
+            self.scripts.push(script)?;
         }
         Ok(())
     }
 
     // Adds the members of the next script, and its name.
-    fn add_members(&mut self, names: &FileNames, object: &'a PexObject) -> Result<(), OutOfMemory> {
-        let script = self.scripts.len();
-        let name = names.number(object.name);
-        self.by_name.insert(name, script)?;
-        self.taken.insert(name)?;
-        self.add_functions(script, names, object)?;
-        self.add_properties(script, names, object)?;
-        self.add_variables(script, names, object)
+    fn add_members(&mut self, script: &Script<'a>) -> Result<(), OutOfMemory> {
+        self.by_name.insert(script.name(), script.place)?;
+        self.taken.insert(script.name())?;
+        self.add_functions(script)?;
+        self.add_properties(script)?;
+        self.add_variables(script)
     }
 
     // Adds the functions of the empty state, which stands first where there is one.
-    fn add_functions(
-        &mut self,
-        script: usize,
-        names: &FileNames,
-        object: &'a PexObject,
-    ) -> Result<(), OutOfMemory> {
-        for (name, function) in object
-            .states
-            .iter()
-            .take(1)
-            .flat_map(|state| state.functions.iter())
-        {
-            self.functions
-                .insert((script, names.number(*name)), function)?;
-        }
-        Ok(())
-    }
-
-    fn add_properties(
-        &mut self,
-        script: usize,
-        names: &FileNames,
-        object: &'a PexObject,
-    ) -> Result<(), OutOfMemory> {
-        for property in &object.properties {
-            let name = names.number(property.name);
-            self.taken.insert(name)?;
-            self.properties.insert((script, name), property)?;
-            if let Some(variable) = property.variable {
-                self.properties
-                    .insert((script, names.number(variable)), property)?;
+    fn add_functions(&mut self, script: &Script<'a>) -> Result<(), OutOfMemory> {
+        if let Some(state) = script.object.states.first() {
+            for (name, function) in &state.functions {
+                let key = (script.place, script.number(*name));
+                self.functions.insert(key, function)?;
             }
         }
         Ok(())
     }
 
-    fn add_variables(
-        &mut self,
-        script: usize,
-        names: &FileNames,
-        object: &'a PexObject,
-    ) -> Result<(), OutOfMemory> {
-        for (place, variable) in object.variables.iter().enumerate() {
-            let name = names.number(variable.name);
+    fn add_properties(&mut self, script: &Script<'a>) -> Result<(), OutOfMemory> {
+        for property in &script.object.properties {
+            let name = script.number(property.name);
             self.taken.insert(name)?;
-            self.variables.insert((script, name), place)?;
+            self.properties.insert((script.place, name), property)?;
+            if let Some(variable) = property.variable {
+                let key = (script.place, script.number(variable));
+                self.properties.insert(key, property)?;
+            }
+        }
+        Ok(())
+    }
+
+    fn add_variables(&mut self, script: &Script<'a>) -> Result<(), OutOfMemory> {
+        for (place, variable) in script.object.variables.iter().enumerate() {
+            let name = script.number(variable.name);
+            self.taken.insert(name)?;
+            self.variables.insert((script.place, name), place)?;
         }
         Ok(())
     }
@@ -168,15 +148,9 @@ impl<'a> World<'a> {
         self.properties.get(&(script.place, name)).copied()
     }
 
-    /// Appends the name of a parameter or a local at this place, of which references to its name and type are given: its own where
-    /// that is a word that is free, else one by its type and place.
-    pub(crate) fn put_slot(
-        &self,
-        page: &mut Page,
-        script: &Script<'_>,
-        (name, kind): (u16, u16),
-        place: usize,
-    ) -> Found<()> {
+    /// Appends the name of a parameter or a local: its own where that is a word that is free, else one by its type and place.
+    pub(crate) fn put_slot(&self, page: &mut Page, slot: Slot<'_>) -> Found<()> {
+        let (script, (name, kind), place) = slot;
         let own = script.text(name);
         if is_word(own) && !self.taken.contains(&script.number(name)) {
             return page.put(own);
