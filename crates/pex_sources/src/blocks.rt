@@ -1,8 +1,8 @@
 // Jumps, read into If and While, and the definitions of locals in them.
 use crate::code::Code;
 use crate::fault::{Found, NOT_FOUND, SourceFault, check};
-use crate::lines::{Body, Line};
-use crate::opcodes::JMP;
+use crate::lines::Line;
+use crate::opcodes::{JMP, JMPF};
 use crate::reader::{Outcome, Reader};
 
 // What a block that is open belongs to, where it ends, how many statements stand in it so far, and the first local that wasn't
@@ -28,51 +28,49 @@ enum BlockKind {
     While,
 }
 
+/// The body of a function as it is read: its lines, with its expressions in the reader.
 #[derive(Drop)]
-struct Blocks<'w, 'f> {
+pub(crate) struct Blocks<'w, 'f> {
     code: &'f Code<'w>,
-    reader: Reader<'w, 'f>,
-    lines: Vec<Line>,
+    pub reader: Reader<'w, 'f>,
+    pub lines: Vec<Line>,
     open: Vec<Block>,
     // Whether a statement or a test has begun, and the jump back of the While whose test it is.
     begun: bool,
     back: Option<usize>,
 }
 
-/// The body of a function. A file doesn't tell how many of its locals were locals of the source, so the numbers are tried in
-/// turn, the least first: it has the fewest lines. `NotFound` comes where none of them gives a body.
-pub(crate) fn body_of(code: &Code<'_>) -> Found<Body> {
-    for first in code.function.parameters.len()..code.locals_end.saturating_add(1) {
-        match read_body(code, first) {
-            Err(SourceFault::NotFound) => {}
-            ended => return ended,
+impl<'w, 'f> Blocks<'w, 'f> {
+    /// A body without lines, in which the slots from `first` on are temporaries.
+    pub(crate) fn new(code: &'f Code<'w>, first: usize) -> Blocks<'w, 'f> {
+        let alloc = code.world.alloc;
+        Blocks {
+            code,
+            reader: Reader::new(code, first),
+            lines: Vec::new(alloc),
+            open: Vec::new(alloc),
+            begun: false,
+            back: None,
         }
     }
-    Err(NOT_FOUND)
-}
 
-// The body of a function whose slots from `first` on are temporaries.
-fn read_body(code: &Code<'_>, first: usize) -> Found<Body> {
-    let alloc = code.world.alloc;
-    let mut blocks = Blocks {
-        code,
-        reader: Reader::new(code, first)?,
-        lines: Vec::new(alloc),
-        open: Vec::new(alloc),
-        begun: false,
-        back: None,
-    };
-    blocks.read()?;
-    Ok(Body {
-        lines: blocks.lines,
-        trees: blocks.reader.trees,
-    })
-}
+    /// Reads the function. A file doesn't tell how many of its locals were locals of the source, so the numbers are tried in turn,
+    /// the least first: it has the fewest lines. `NotFound` comes where none of them gives a body.
+    pub(crate) fn read(&mut self) -> Found<()> {
+        let code = self.code;
+        for first in code.function.parameters.len()..code.locals_end().saturating_add(1) {
+            *self = Blocks::new(code, first);
+            match self.attempt() {
+                Err(SourceFault::NotFound) => {}
+                ended => return ended,
+            }
+        }
+        Err(NOT_FOUND)
+    }
 
-impl<'w, 'f> Blocks<'w, 'f> {
     // Each turn goes behind an instruction, ends the right side of And or Or, or ends a block, of which an instruction opens
     // two at most.
-    fn read(&mut self) -> Found<()> {
+    fn attempt(&mut self) -> Found<()> {
         let count = self.code.steps.len();
         self.open_block(BlockKind::Function, count)?;
         let mut at = 0usize;
@@ -110,7 +108,7 @@ impl<'w, 'f> Blocks<'w, 'f> {
 
     // A statement or a test begins here, unless one has.
     fn begin(&mut self, block: Block, at: usize) -> Found<()> {
-        let back = self.code.landing(at)?.back;
+        let back = self.code.jump_to(at, JMP);
         if self.begun {
             return check(back.is_none());
         }
@@ -120,18 +118,7 @@ impl<'w, 'f> Blocks<'w, 'f> {
         Ok(())
     }
 
-    // Appends a line. The first assignment to a local is its definition.
     fn put(&mut self, line: Line) -> Found<()> {
-        let line = match line {
-            Line::Set(target, value) => match self.reader.slots.undefined(target) {
-                Some(slot) => {
-                    self.reader.slots.define(slot)?;
-                    Line::Define(slot, value)
-                }
-                None => line,
-            },
-            _ => line,
-        };
         self.lines.push(line)?;
         Ok(())
     }
@@ -190,7 +177,7 @@ impl<'w, 'f> Blocks<'w, 'f> {
         let jump = self.code.step(last)?;
         let is_own = last >= next
             && jump.opcode == JMP
-            && self.code.landing(over)?.skip == Some(at);
+            && self.code.jump_to(over, JMPF) == Some(at);
         match jump.target {
             Some(end) if is_own && end >= over => Ok(Some(end)),
             _ => Ok(None),
@@ -210,22 +197,17 @@ impl<'w, 'f> Blocks<'w, 'f> {
     fn end_block(&mut self, block: Block, at: usize) -> Found<Option<usize>> {
         let _ = self.open.pop();
         self.reader.slots.end_block(block.defined_end);
-        let next = match block.kind {
+        let mut next = at;
+        match block.kind {
             BlockKind::Function => return Ok(None),
             BlockKind::ThenElse { over, end } => return self.open_else(over, end),
-            BlockKind::Then => {
-                self.put(Line::EndIf)?;
-                at
-            }
-            BlockKind::Else { line } => {
-                self.end_else(line, block.statements)?;
-                at
-            }
+            BlockKind::Then => self.put(Line::EndIf)?,
+            BlockKind::Else { line } => self.end_else(line, block.statements)?,
             BlockKind::While => {
                 self.put(Line::EndWhile)?;
-                at.saturating_add(1)
+                next = at.saturating_add(1);
             }
-        };
+        }
         self.count_statement();
         Ok(Some(next))
     }

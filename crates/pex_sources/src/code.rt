@@ -1,25 +1,21 @@
 // The code of a function, with its operands resolved, and what is known of it however many locals its source had.
 use crate::fault::{Found, NOT_FOUND};
 use crate::opcodes::{ASSIGN, JMP, JMPF, JMPT, names_of, result_of};
-use crate::script::{Script, TypeName};
-use crate::words::unspelled;
+use crate::script::Script;
+use crate::words::{BOOL, INT, NONE, OWN_INSTANCE, STATE_VARIABLE, STRING};
 use crate::world::World;
 use papy_base::OutOfMemory;
 use pex_values::{Datum, Instruction, PexFunction};
 use std::collections::HashMap;
 
-/// What an operand stands for. A slot is a parameter or a local by its place, a variable one of the script by its place, and a
-/// text a reference to its string.
+/// What an operand stands for. A slot is a parameter or a local by its place, and a variable one of the script by its place.
 #[derive(Clone, Copy, PartialEq, Eq)]
 pub(crate) enum Operand {
     Slot(usize),
     Variable(usize),
     OwnInstance,
     StateText,
-    NoneValue,
-    Int(i32),
-    Bool(bool),
-    Text(u16),
+    Literal(Datum),
 }
 
 /// An instruction. Its operands that are no names stand among those of the function from `first` to `end`, and from `arguments` on
@@ -38,13 +34,6 @@ pub(crate) struct Step {
     pub target: Option<usize>,
 }
 
-/// The jumps that lead to a place: the one back from behind, and the last that is made where a test doesn't hold.
-#[derive(Clone, Copy)]
-pub(crate) struct Landing {
-    pub back: Option<usize>,
-    pub skip: Option<usize>,
-}
-
 /// The instructions of a function.
 #[derive(Drop)]
 pub(crate) struct Code<'w> {
@@ -52,160 +41,105 @@ pub(crate) struct Code<'w> {
     pub script: &'w Script<'w>,
     pub function: &'w PexFunction,
     pub steps: Vec<Step>,
-    /// The end of the slots that may be locals of the source: only assignments write them, and they have a type.
-    pub locals_end: usize,
     operands: Vec<Operand>,
     // For each operand that is a slot, whether the next instruction that has the slot reads it.
     read_next: Vec<bool>,
-    landings: Vec<Landing>,
+    // By its target and its opcode, the last jump that leads there; of those without test only one from behind.
+    jumps: HashMap<(usize, u8), usize>,
     // The first slot of each name.
     slots: HashMap<usize, usize>,
 }
 
 impl<'w> Code<'w> {
-    /// The code of a function of the script.
-    pub(crate) fn of(
+    /// A function of the script, of which no instruction is read.
+    pub(crate) fn new(
         world: &'w World<'w>,
         script: &'w Script<'w>,
         function: &'w PexFunction,
-    ) -> Found<Code<'w>> {
+    ) -> Code<'w> {
         let alloc = world.alloc;
-        let mut code = Code {
+        Code {
             world,
             script,
             function,
             steps: Vec::new(alloc),
-            locals_end: 0,
             operands: Vec::new(alloc),
             read_next: Vec::new(alloc),
-            landings: Vec::new(alloc),
+            jumps: HashMap::new(alloc),
             slots: HashMap::new(alloc),
-        };
-        code.locals_end = code.slot_count();
-        code.add_slots()?;
-        code.add_steps()?;
-        code.note_uses()?;
-        Ok(code)
+        }
+    }
+
+    /// Reads the instructions.
+    pub(crate) fn fill(&mut self) -> Found<()> {
+        self.add_slots()?;
+        for (at, instruction) in self.function.code.iter().enumerate() {
+            self.add(at, instruction)?;
+        }
+        self.note_uses()?;
+        Ok(())
     }
 
     // Notes the first slot of each name.
     fn add_slots(&mut self) -> Result<(), OutOfMemory> {
         let function = self.function;
-        for (slot, (name, kind)) in function
-            .parameters
-            .iter()
-            .chain(function.locals.iter())
-            .enumerate()
-        {
+        let pairs = function.parameters.iter().chain(function.locals.iter());
+        for (slot, (name, _)) in pairs.enumerate() {
             let name = self.script.number(*name);
-            if self.slots.get(&name).is_none() {
+            if !self.slots.contains_key(&name) {
                 self.slots.insert(name, slot)?;
             }
-            if self.script.number(*kind) == self.world.words.none_type {
-                self.end_locals(slot);
-            }
         }
         Ok(())
     }
 
-    // This slot is no local of the source.
-    fn end_locals(&mut self, slot: usize) {
-        if slot >= self.function.parameters.len() {
-            self.locals_end = self.locals_end.min(slot);
-        }
-    }
-
-    fn add_steps(&mut self) -> Found<()> {
-        let function = self.function;
-        let places = function.code.len().saturating_add(1);
-        let nowhere = Landing {
-            back: None,
-            skip: None,
-        };
-        self.landings = vec![in self.world.alloc; nowhere; places]?;
-        for (at, instruction) in function.code.iter().enumerate() {
-            let step = self.add(at, instruction)?;
-            self.note_result(step);
-            self.note_jump(at, step);
-            self.steps.push(step)?;
-        }
-        Ok(())
-    }
-
-    // Adds the operands of an instruction.
-    fn add(&mut self, at: usize, instruction: &Instruction) -> Found<Step> {
+    // Adds an instruction with its operands.
+    fn add(&mut self, at: usize, instruction: &Instruction) -> Found<()> {
         let opcode = instruction.opcode;
         let first = self.operands.len();
         let fixed = instruction.fixed.get(names_of(opcode)..);
         self.add_operands(fixed.ok_or(NOT_FOUND)?)?;
         let arguments = self.operands.len();
         self.add_operands(&instruction.more)?;
-        Ok(Step {
+        let target = target(at, instruction);
+        if let Some(target) = target {
+            if opcode != JMP || target <= at {
+                self.jumps.insert((target, opcode), at)?;
+            }
+        }
+        self.steps.push(Step {
             opcode,
             names: names(instruction),
             first,
             arguments,
             end: self.operands.len(),
             result: result_of(opcode).map(|place| first.saturating_add(place)),
-            target: target(at, instruction),
-        })
+            target,
+        })?;
+        Ok(())
     }
 
     fn add_operands(&mut self, data: &[Datum]) -> Found<()> {
         for datum in data {
-            let operand = self.resolved(*datum)?;
+            let operand = match *datum {
+                Datum::Word(name) => self.variable(self.script.number(name))?,
+                literal => Operand::Literal(literal),
+            };
             self.operands.push(operand)?;
         }
         Ok(())
     }
 
-    // What isn't only assigned to is no local of the source.
-    fn note_result(&mut self, step: Step) {
-        if let (Some(result), true) = (step.result, step.opcode != ASSIGN) {
-            if let Some(Operand::Slot(slot)) = self.operands.get(result).copied() {
-                self.end_locals(slot);
-            }
-        }
-    }
-
-    fn resolved(&self, datum: Datum) -> Found<Operand> {
-        match datum {
-            Datum::NoneValue => Ok(Operand::NoneValue),
-            Datum::Int(number) => Ok(Operand::Int(number)),
-            Datum::Bool(byte) => Ok(Operand::Bool(byte != 0)),
-            Datum::Quoted(text) => Ok(Operand::Text(text)),
-            Datum::Word(name) => self.variable(self.script.number(name)).ok_or(NOT_FOUND),
-            Datum::Float(_) => Err(NOT_FOUND),
-        }
-    }
-
     // What the identifier of this number means.
-    fn variable(&self, name: usize) -> Option<Operand> {
-        let words = &self.world.words;
+    fn variable(&self, name: usize) -> Found<Operand> {
         if let Some(slot) = self.slots.get(&name) {
-            Some(Operand::Slot(*slot))
-        } else if let Some(place) = self.script.variable_place(name) {
-            Some(Operand::Variable(place))
-        } else if name == words.own_instance {
-            Some(Operand::OwnInstance)
-        } else if name == words.state_variable {
-            Some(Operand::StateText)
-        } else {
-            None
+            return Ok(Operand::Slot(*slot));
         }
-    }
-
-    fn note_jump(&mut self, at: usize, step: Step) {
-        let Some(target) = step.target else {
-            return;
-        };
-        if let Some(landing) = self.landings.get_mut(target) {
-            if step.opcode == JMP && target <= at {
-                landing.back = Some(at);
-            }
-            if step.opcode == JMPF {
-                landing.skip = Some(at);
-            }
+        match (self.world.variable(self.script, name), name) {
+            (Some(place), _) => Ok(Operand::Variable(place)),
+            (None, OWN_INSTANCE) => Ok(Operand::OwnInstance),
+            (None, STATE_VARIABLE) => Ok(Operand::StateText),
+            _ => Err(NOT_FOUND),
         }
     }
 
@@ -229,6 +163,19 @@ impl<'w> Code<'w> {
             .saturating_add(function.locals.len())
     }
 
+    /// The end of the slots that may be locals of the source: those behind the parameters that only assignments write.
+    pub(crate) fn locals_end(&self) -> usize {
+        let written = self.steps.iter().filter(|step| step.opcode != ASSIGN);
+        written
+            .filter_map(|step| match self.operands.get(step.result?) {
+                Some(Operand::Slot(slot)) => Some(*slot),
+                _ => None,
+            })
+            .filter(|slot| *slot >= self.function.parameters.len())
+            .min()
+            .unwrap_or(self.slot_count())
+    }
+
     /// The instruction at a place.
     pub(crate) fn step(&self, at: usize) -> Found<Step> {
         self.steps.get(at).copied().ok_or(NOT_FOUND)
@@ -244,9 +191,9 @@ impl<'w> Code<'w> {
         self.read_next.get(operand).copied().unwrap_or(false)
     }
 
-    /// The jumps that lead to a place.
-    pub(crate) fn landing(&self, at: usize) -> Found<Landing> {
-        self.landings.get(at).copied().ok_or(NOT_FOUND)
+    /// The last jump of this opcode that leads to a place; of those without test only one from behind.
+    pub(crate) fn jump_to(&self, place: usize, opcode: u8) -> Option<usize> {
+        self.jumps.get(&(place, opcode)).copied()
     }
 
     /// References to the name and the type of a parameter or a local.
@@ -260,21 +207,22 @@ impl<'w> Code<'w> {
     }
 
     /// The type of a parameter or a local.
-    pub(crate) fn slot_type(&self, slot: usize) -> Found<TypeName> {
-        Ok(self.script.type_name(self.pair(slot)?.1))
+    pub(crate) fn slot_type(&self, slot: usize) -> Found<usize> {
+        Ok(self.script.number(self.pair(slot)?.1))
     }
 
     /// The type of what an operand stands for.
-    pub(crate) fn type_of(&self, operand: Operand) -> Found<TypeName> {
-        let (script, words) = (self.script, &self.world.words);
+    pub(crate) fn type_of(&self, operand: Operand) -> Found<usize> {
         match operand {
             Operand::Slot(slot) => self.slot_type(slot),
-            Operand::Variable(place) => Ok(script.type_name(script.variable(place)?.kind)),
-            Operand::OwnInstance => Ok(script.type_name(script.object.name)),
-            Operand::StateText | Operand::Text(_) => Ok(unspelled(words.string_type)),
-            Operand::Int(_) => Ok(unspelled(words.int_type)),
-            Operand::Bool(_) => Ok(unspelled(words.bool_type)),
-            Operand::NoneValue => Ok(unspelled(words.none_type)),
+            Operand::Variable(place) => {
+                Ok(self.script.number(self.script.variable(place)?.kind))
+            }
+            Operand::OwnInstance => Ok(self.script.name()),
+            Operand::StateText | Operand::Literal(Datum::Quoted(_)) => Ok(STRING),
+            Operand::Literal(Datum::Int(_)) => Ok(INT),
+            Operand::Literal(Datum::Bool(_)) => Ok(BOOL),
+            Operand::Literal(_) => Ok(NONE),
         }
     }
 }

@@ -1,17 +1,16 @@
 // The text of a script: its heading, variables, properties, functions and states.
-use crate::blocks::body_of;
+use crate::blocks::Blocks;
 use crate::code::Code;
 use crate::expressions::Speaker;
 use crate::fault::{Found, NOT_FOUND, check};
 use crate::imports::put_imports;
 use crate::opcodes::RETURN;
 use crate::page::Page;
-use crate::script::{Script, Slot};
+use crate::script::Script;
+use crate::words::NONE;
 use crate::world::World;
 use papy_base::Text;
-use pex_values::{
-    Datum, Instruction, PexFunction, PexProperty, PexState, PexVariable, has_variable,
-};
+use pex_values::{Datum, PexFunction, PexProperty, PexState, PexVariable};
 
 /// The bits of a function.
 const GLOBAL: u8 = 1;
@@ -35,11 +34,13 @@ struct Author<'a> {
 pub(crate) fn script_text(world: &World<'_>, number: usize) -> Found<Text> {
     let script = world.script(number)?;
     let author = Author { world, script };
-    let mut bytes = author.bytes(true)?;
-    if !fits(&bytes) {
-        bytes = author.bytes(false)?;
+    let mut page = Page::new(world.alloc, true);
+    author.put_script(&mut page)?;
+    if !fits(&page.bytes) {
+        page = Page::new(world.alloc, false);
+        author.put_script(&mut page)?;
     }
-    Ok(Text::try_from_bytes(world.alloc, &bytes)?)
+    Ok(Text::try_from_bytes(world.alloc, &page.bytes)?)
 }
 
 // Whether a script may have so many bytes and lines.
@@ -48,12 +49,6 @@ fn fits(bytes: &[u8]) -> bool {
 }
 
 impl<'a> Author<'a> {
-    fn bytes(self, is_indented: bool) -> Found<Vec<u8>> {
-        let mut page = Page::new(self.world.alloc, is_indented);
-        self.put_script(&mut page)?;
-        Ok(page.bytes)
-    }
-
     fn put_script(self, page: &mut Page) -> Found<()> {
         self.put_heading(page)?;
         put_imports(page, self.world, self.script)?;
@@ -66,23 +61,17 @@ impl<'a> Author<'a> {
     }
 
     fn put_heading(self, page: &mut Page) -> Found<()> {
-        let object = self.script.object;
+        let (script, object) = (self.script, self.script.object);
         page.begin()?;
-        page.put_all(&[b"ScriptName ", self.script.text(object.name)])?;
+        page.put_all(&[b"ScriptName ", script.text(object.name)])?;
         if self.has_parent() {
-            page.put_all(&[b" Extends ", self.script.text(object.parent)])?;
+            page.put_all(&[b" Extends ", script.text(object.parent)])?;
         }
-        self.end_heading(page, object.flags, object.doc)
+        page.end_heading(script, object.flags, object.doc)
     }
 
     fn has_parent(self) -> bool {
         !self.script.text(self.script.object.parent).is_empty()
-    }
-
-    // Ends a heading with flags and documentation.
-    fn end_heading(self, page: &mut Page, flags: u32, doc: u16) -> Found<()> {
-        put_flags(page, flags)?;
-        page.end_heading(self.script.text(doc))
     }
 
     // Variables and properties: each variable before the first Auto property whose variable stands behind it.
@@ -100,15 +89,16 @@ impl<'a> Author<'a> {
     }
 
     fn variable_place(self, name: u16) -> Found<usize> {
-        let name = self.script.number(name);
-        self.script.variable_place(name).ok_or(NOT_FOUND)
+        let place = self.world.variable(self.script, self.script.number(name));
+        place.ok_or(NOT_FOUND)
     }
 
     // The variables from one place up to another, but for those of Auto properties.
     fn put_variables(self, page: &mut Page, from: usize, to: usize) -> Found<()> {
         for place in from..to {
             let variable = self.script.variable(place)?;
-            if self.script.auto_property(variable).is_none() {
+            let name = self.script.number(variable.name);
+            if self.world.property(self.script, name).is_none() {
                 self.put_variable(page, variable)?;
             }
         }
@@ -120,7 +110,7 @@ impl<'a> Author<'a> {
         page.begin()?;
         page.put_all(&[script.text(variable.kind), b" ", script.text(variable.name)])?;
         self.put_initial(page, variable)?;
-        put_flags(page, variable.flags)?;
+        page.put_flags(variable.flags)?;
         page.end()
     }
 
@@ -129,42 +119,34 @@ impl<'a> Author<'a> {
         match variable.value {
             Datum::NoneValue | Datum::Int(0) | Datum::Bool(0) => Ok(()),
             Datum::Quoted(text) if self.script.text(text).is_empty() => Ok(()),
-            value => self.put_literal(page, value),
+            value => self.put_value(page, value),
         }
     }
 
-    fn put_literal(self, page: &mut Page, value: Datum) -> Found<()> {
+    fn put_value(self, page: &mut Page, value: Datum) -> Found<()> {
         page.put(b" = ")?;
-        match value {
-            Datum::NoneValue => page.put(b"None"),
-            Datum::Int(number) => page.put_int(number),
-            Datum::Bool(0) => page.put(b"False"),
-            Datum::Bool(_) => page.put(b"True"),
-            Datum::Quoted(text) => page.put_text(self.script.text(text)),
-            Datum::Word(_) | Datum::Float(_) => Err(NOT_FOUND),
-        }
+        page.put_literal(self.script, value)
     }
 
     fn put_property(self, page: &mut Page, property: &'a PexProperty) -> Found<()> {
         let script = self.script;
+        let (kind, name) = (script.text(property.kind), script.text(property.name));
         page.begin()?;
-        page.put_all(&[
-            script.text(property.kind),
-            b" Property ",
-            script.text(property.name),
-        ])?;
-        if has_variable(property.bits) {
-            let place = self.variable_place(property.variable.ok_or(NOT_FOUND)?)?;
-            self.put_initial(page, script.variable(place)?)?;
+        page.put_all(&[kind, b" Property ", name])?;
+        if let Some(name) = property.variable {
+            self.put_initial(page, script.variable(self.variable_place(name)?)?)?;
             page.put(b" Auto")?;
-            return self.end_heading(page, property.flags, property.doc);
-        }
-        if let Some(value) = self.constant(property) {
-            self.put_literal(page, value)?;
+        } else if let Some(value) = self.constant(property) {
+            self.put_value(page, value)?;
             page.put(b" AutoReadOnly")?;
-            return self.end_heading(page, property.flags, property.doc);
+        } else {
+            page.end_heading(script, property.flags, property.doc)?;
+            return self.put_accessors(page, property);
         }
-        self.end_heading(page, property.flags, property.doc)?;
+        page.end_heading(script, property.flags, property.doc)
+    }
+
+    fn put_accessors(self, page: &mut Page, property: &'a PexProperty) -> Found<()> {
         page.indent();
         if let Some(function) = &property.read {
             self.put_function(page, b"Get", function)?;
@@ -176,26 +158,15 @@ impl<'a> Author<'a> {
         page.line(&[b"EndProperty"])
     }
 
-    // What a property gives that is only read, where it is a constant of its type.
+    // What a property gives that is only read, where it is a constant.
     fn constant(self, property: &PexProperty) -> Option<Datum> {
         let read = property.read.as_ref()?;
-        let value = returned(&read.code)?;
-        let kind = self.script.number(property.kind);
-        let words = &self.world.words;
-        let fits = match value {
-            Datum::Int(_) => kind == words.int_type,
-            Datum::Bool(_) => kind == words.bool_type,
-            Datum::Quoted(_) => kind == words.string_type,
-            Datum::NoneValue => {
-                ![words.int_type, words.bool_type, words.string_type].contains(&kind)
+        match read.code.as_slice() {
+            [only] if only.opcode == RETURN && property.write.is_none() && self.is_bare(read) => {
+                let value = *only.fixed.first()?;
+                (!matches!(value, Datum::Word(_))).then_some(value)
             }
-            _ => false,
-        };
-        let is_bare = self.is_bare(read) && read.parameters.is_empty() && read.locals.is_empty();
-        if fits && is_bare && property.write.is_none() {
-            Some(value)
-        } else {
-            None
+            _ => None,
         }
     }
 
@@ -208,11 +179,7 @@ impl<'a> Author<'a> {
         let name = self.script.text(state.name);
         if name.is_empty() {
             check(is_first)?;
-            let count = state
-                .functions
-                .len()
-                .saturating_sub(self.generated_count(state));
-            return self.put_functions(page, state, count);
+            return self.put_functions(page, state, self.written_count(state));
         }
         let is_auto = name == self.script.text(self.script.object.auto_state);
         let auto: &[u8] = if is_auto { b"Auto " } else { b"" };
@@ -232,16 +199,14 @@ impl<'a> Author<'a> {
         Ok(())
     }
 
-    // How many functions stand at the end of the empty state that a compiler adds.
-    fn generated_count(self, state: &PexState) -> usize {
-        let mut count = 0usize;
-        for (name, function) in state.functions.iter().rev() {
-            if self.has_parent() || !self.is_generated(*name, function) {
-                return count;
-            }
-            count = count.saturating_add(1);
+    // How many functions of the empty state stand before those that a compiler adds.
+    fn written_count(self, state: &PexState) -> usize {
+        if self.has_parent() {
+            return state.functions.len();
         }
-        count
+        let mut functions = state.functions.iter();
+        let last = functions.rposition(|(name, function)| !self.is_generated(*name, function));
+        last.map_or(0, |last| last.saturating_add(1))
     }
 
     // Whether a compiler adds this member to a script without parent.
@@ -256,14 +221,21 @@ impl<'a> Author<'a> {
     }
 
     fn put_function(self, page: &mut Page, name: &[u8], function: &'a PexFunction) -> Found<()> {
+        let (begin, end): (&[u8], &[u8]) = if self.is_event(name, function) {
+            (b"Event ", b"EndEvent")
+        } else {
+            (b"Function ", b"EndFunction")
+        };
         page.blank()?;
         page.begin()?;
-        let end = self.put_kind(page, name, function)?;
-        page.put_all(&[name, b"("])?;
+        if self.has_result(function) {
+            page.put_all(&[self.script.text(function.result), b" "])?;
+        }
+        page.put_all(&[begin, name, b"("])?;
         self.put_parameters(page, function)?;
         page.put(b")")?;
-        put_bits(page, u32::from(function.bits), [b" Global", b" Native"])?;
-        self.end_heading(page, function.flags, function.doc)?;
+        page.put_bits(u32::from(function.bits), [b" Global", b" Native"])?;
+        page.end_heading(self.script, function.flags, function.doc)?;
         if function.bits & NATIVE != 0 {
             return Ok(());
         }
@@ -273,74 +245,35 @@ impl<'a> Author<'a> {
         page.line(&[end])
     }
 
-    // Appends what kind of function it is, and gives what ends it. Those without result whose names begin with `On` are events.
-    fn put_kind(
-        self,
-        page: &mut Page,
-        name: &[u8],
-        function: &PexFunction,
-    ) -> Found<&'static [u8]> {
-        let has_result = self.script.number(function.result) != self.world.words.none_type;
+    fn has_result(self, function: &PexFunction) -> bool {
+        self.script.number(function.result) != NONE
+    }
+
+    // Functions without result whose names begin with `On` are events.
+    fn is_event(self, name: &[u8], function: &PexFunction) -> bool {
         let begins = matches!(name, [b'O' | b'o', b'N' | b'n', ..]);
-        if begins && function.bits & GLOBAL == 0 && !has_result {
-            page.put(b"Event ")?;
-            return Ok(b"EndEvent");
-        }
-        if has_result {
-            page.put_all(&[self.script.text(function.result), b" "])?;
-        }
-        page.put(b"Function ")?;
-        Ok(b"EndFunction")
+        begins && function.bits & GLOBAL == 0 && !self.has_result(function)
     }
 
     fn put_parameters(self, page: &mut Page, function: &PexFunction) -> Found<()> {
         for (place, pair) in function.parameters.iter().enumerate() {
-            if place > 0 {
-                page.put(b", ")?;
-            }
-            page.put_all(&[self.script.text(pair.1), b" "])?;
-            let slot = Slot {
-                script: self.script,
-                pair: *pair,
-                place,
-            };
-            self.world.put_slot(page, slot)?;
+            let comma: &[u8] = if place > 0 { b", " } else { b"" };
+            page.put_all(&[comma, self.script.text(pair.1), b" "])?;
+            self.world.put_slot(page, (self.script, *pair, place))?;
         }
         Ok(())
     }
 
     fn put_body(self, page: &mut Page, function: &'a PexFunction) -> Found<()> {
-        let code = Code::of(self.world, self.script, function)?;
-        let body = body_of(&code)?;
-        let speaker = Speaker {
-            code: &code,
-            trees: &body.trees,
-        };
-        speaker.put_lines(page, &body.lines)
+        let mut code = Code::new(self.world, self.script, function);
+        code.fill()?;
+        put_code(page, &code)
     }
 }
 
-// What code returns that does nothing else.
-fn returned(code: &[Instruction]) -> Option<Datum> {
-    match code {
-        [only] if only.opcode == RETURN => only.fixed.first().copied(),
-        _ => None,
-    }
-}
-
-// The words for the two lowest of some bits, which are all that may be set.
-fn put_bits(page: &mut Page, bits: u32, words: [&[u8]; 2]) -> Found<()> {
-    let [first, second] = words;
-    check(bits <= 3)?;
-    if bits & 1 != 0 {
-        page.put(first)?;
-    }
-    if bits & 2 != 0 {
-        page.put(second)?;
-    }
-    Ok(())
-}
-
-fn put_flags(page: &mut Page, flags: u32) -> Found<()> {
-    put_bits(page, flags, [b" Hidden", b" Conditional"])
+fn put_code(page: &mut Page, code: &Code<'_>) -> Found<()> {
+    let mut blocks = Blocks::new(code, 0);
+    blocks.read()?;
+    let trees = &blocks.reader.trees;
+    Speaker { code, trees }.put_lines(page, &blocks.lines)
 }

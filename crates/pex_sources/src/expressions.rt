@@ -7,11 +7,13 @@ use crate::opcodes::{
     sign_of,
 };
 use crate::page::Page;
-use crate::script::{Script, Slot};
+use crate::script::Slot;
 use crate::trees::{Form, Input, Node, Trees};
+use crate::words::BOOL;
+use pex_values::Datum;
 
 /// The levels of the grammar above those of the signs between two values: a chain, a cast, and a sign before a value.
-pub(crate) const CHAIN: u8 = 7;
+const CHAIN: u8 = 7;
 
 const CAST_LEVEL: u8 = 6;
 
@@ -28,8 +30,7 @@ pub(crate) enum Item<'a> {
     /// An expression, in brackets where its own level is below this one.
     Node(usize, u8),
     Bytes(&'a [u8]),
-    Text(&'a [u8]),
-    Int(i32),
+    Literal(Datum),
     Slot(Slot<'a>),
 }
 
@@ -68,8 +69,7 @@ impl<'w, 'f> Speaker<'w, 'f> {
         match item {
             Item::Node(number, level) => self.expand(number, level, items),
             Item::Bytes(bytes) => page.put(bytes),
-            Item::Text(text) => page.put_text(text),
-            Item::Int(int) => page.put_int(int),
+            Item::Literal(value) => page.put_literal(self.code.script, value),
             Item::Slot(slot) => self.code.world.put_slot(page, slot),
         }
     }
@@ -101,7 +101,7 @@ impl<'w, 'f> Speaker<'w, 'f> {
             Form::Apply(NOT, _) => {
                 let inner = self.trees.node(self.trees.input(node, 0)?)?;
                 match inner.form {
-                    Form::Apply(CMP_EQ, _) => Some((inner, (b"!=", EQUAL))),
+                    Form::Apply(CMP_EQ, _) => Some((inner, (b" != ", EQUAL))),
                     _ => None,
                 }
             }
@@ -118,22 +118,23 @@ impl<'w, 'f> Speaker<'w, 'f> {
         if let Some((operation, sign)) = self.sign(node)? {
             return self.binary(operation, sign, items);
         }
+        let name = self.named(names.1);
         match opcode {
             CALL_METHOD | CALL_PARENT | CALL_STATIC => self.call(node, opcode, names, items),
             NOT => {
-                let to = self.code.world.words.bool_type;
-                let value = self.loose(self.trees.input(node, 0)?, to)?;
+                let value = self.loose(self.trees.input(node, 0)?, BOOL)?;
                 push(items, &[Item::Bytes(b"!"), Item::Node(value, CAST_LEVEL)])
             }
             INEG => push(items, &[Item::Bytes(b"-"), self.first(node, CAST_LEVEL)?]),
-            CAST => {
-                let kind = self.named(node.kind.reference);
-                self.suffixed(node, [Item::Bytes(b" as "), kind], items)
-            }
-            PROPGET => self.suffixed(node, [Item::Bytes(b"."), self.named(names.1)], items),
+            CAST => self.suffixed(node, [Item::Bytes(b" as "), name], items),
+            PROPGET => self.suffixed(node, [Item::Bytes(b"."), name], items),
             ARRAY_LENGTH => push(items, &[self.first(node, CHAIN)?, Item::Bytes(b".Length")]),
-            ARRAY_GETELEMENT => self.element(node, items),
-            ARRAY_CREATE => self.new_array(node, items),
+            ARRAY_GETELEMENT => {
+                let index = Item::Node(self.trees.input(node, 1)?, 0);
+                push(items, &[index, Item::Bytes(b"]")])?;
+                push(items, &[self.first(node, CHAIN)?, Item::Bytes(b"[")])
+            }
+            ARRAY_CREATE => self.new_array(node, names.1, items),
             ARRAY_FINDELEMENT => self.find(node, b".Find(", 0, items),
             ARRAY_RFINDELEMENT => self.find(node, b".RFind(", -1, items),
             _ => Err(NOT_FOUND),
@@ -147,27 +148,14 @@ impl<'w, 'f> Speaker<'w, 'f> {
     pub(crate) fn leaf(self, operand: Operand) -> Found<Item<'w>> {
         let script = self.code.script;
         match operand {
-            Operand::Slot(place) => {
-                let pair = self.code.pair(place)?;
-                Ok(Item::Slot(Slot {
-                    script,
-                    pair,
-                    place,
-                }))
-            }
+            Operand::Slot(place) => Ok(Item::Slot((script, self.code.pair(place)?, place))),
             Operand::Variable(place) => {
-                let variable = script.variable(place)?;
-                Ok(match script.auto_property(variable) {
-                    Some(property) => self.named(property.name),
-                    None => self.named(variable.name),
-                })
+                let name = script.variable(place)?.name;
+                let property = self.code.world.property(script, script.number(name));
+                Ok(self.named(property.map_or(name, |property| property.name)))
             }
             Operand::OwnInstance => Ok(Item::Bytes(b"Self")),
-            Operand::NoneValue => Ok(Item::Bytes(b"None")),
-            Operand::Int(number) => Ok(Item::Int(number)),
-            Operand::Bool(true) => Ok(Item::Bytes(b"True")),
-            Operand::Bool(false) => Ok(Item::Bytes(b"False")),
-            Operand::Text(text) => Ok(Item::Text(script.text(text))),
+            Operand::Literal(value) => Ok(Item::Literal(value)),
             Operand::StateText => Err(NOT_FOUND),
         }
     }
@@ -186,21 +174,8 @@ impl<'w, 'f> Speaker<'w, 'f> {
     fn binary(self, node: Node, sign: (&'static [u8], u8), items: &mut Items<'w>) -> Found<()> {
         let (left, right) = self.sides(node)?;
         let (sign, level) = sign;
-        let parts = [
-            Item::Node(left, level),
-            Item::Bytes(b" "),
-            Item::Bytes(sign),
-            Item::Bytes(b" "),
-            Item::Node(right, level.saturating_add(1)),
-        ];
-        push(items, &parts)
-    }
-
-    fn element(self, node: Node, items: &mut Items<'w>) -> Found<()> {
-        let [array, index] = self.trees.inputs(node)? else {
-            return Err(NOT_FOUND);
-        };
-        push(items, &element_items(array.node, index.node))
+        let right = Item::Node(right, level.saturating_add(1));
+        push(items, &[Item::Node(left, level), Item::Bytes(sign), right])
     }
 
     // A search, whose start is left out where it is the one that stands for none.
@@ -208,30 +183,24 @@ impl<'w, 'f> Speaker<'w, 'f> {
         let [array, value, from] = self.trees.inputs(node)? else {
             return Err(NOT_FOUND);
         };
-        let array_type = self.trees.node(array.node)?.kind.number;
-        let value = self.loose(value.node, self.code.world.element(array_type)?)?;
+        let element = self.code.world.element(self.trees.node(array.node)?.kind)?;
+        let value = Item::Node(self.loose(value.node, element)?, 0);
         items.push(Item::Bytes(b")"))?;
-        if self.trees.node(from.node)?.form != Form::Leaf(Operand::Int(start)) {
+        if !self.is_int(from.node, start)? {
             push(items, &[Item::Bytes(b", "), Item::Node(from.node, 0)])?;
         }
-        let parts = [
-            Item::Node(array.node, CHAIN),
-            Item::Bytes(name),
-            Item::Node(value, 0),
-        ];
-        push(items, &parts)
+        push(items, &[self.first(node, CHAIN)?, Item::Bytes(name), value])
     }
 
-    fn new_array(self, node: Node, items: &mut Items<'w>) -> Found<()> {
-        let text = self.code.script.text(node.kind.reference);
-        let parts = [
-            Item::Bytes(b"new "),
-            Item::Bytes(text.strip_suffix(b"[]").ok_or(NOT_FOUND)?),
-            Item::Bytes(b"["),
-            self.first(node, 0)?,
-            Item::Bytes(b"]"),
-        ];
-        push(items, &parts)
+    fn is_int(self, node: usize, number: i32) -> Found<bool> {
+        Ok(self.trees.node(node)?.form == Form::Leaf(Operand::Literal(Datum::Int(number))))
+    }
+
+    fn new_array(self, node: Node, kind: u16, items: &mut Items<'w>) -> Found<()> {
+        let element = self.code.script.text(kind).strip_suffix(b"[]");
+        let element = Item::Bytes(element.ok_or(NOT_FOUND)?);
+        push(items, &[self.first(node, 0)?, Item::Bytes(b"]")])?;
+        push(items, &[Item::Bytes(b"new "), element, Item::Bytes(b"[")])
     }
 
     fn call(self, node: Node, opcode: u8, names: (u16, u16), items: &mut Items<'w>) -> Found<()> {
@@ -245,14 +214,11 @@ impl<'w, 'f> Speaker<'w, 'f> {
             }
             (CALL_METHOD, [of, arguments @ ..]) => {
                 let target = self.trees.node(of.node)?;
-                self.arguments(target.kind.number, names.1, arguments, items)?;
+                self.arguments(target.kind, names.1, arguments, items)?;
                 if target.form == Form::Leaf(Operand::OwnInstance) {
                     return push(items, &[name]);
                 }
-                push(
-                    items,
-                    &[Item::Node(of.node, CHAIN), Item::Bytes(b"."), name],
-                )
+                self.suffixed(node, [Item::Bytes(b"."), name], items)
             }
             _ => {
                 let kind = script.number(names.0);
@@ -285,53 +251,34 @@ impl<'w, 'f> Speaker<'w, 'f> {
             .unwrap_or(inputs.len());
         items.push(Item::Bytes(b")"))?;
         for (at, input) in inputs.iter().enumerate().rev() {
-            if !self.is_default(script, at, *input)? {
-                let place = input.place;
-                let pair = *function.parameters.get(place).ok_or(NOT_FOUND)?;
-                let slot = Slot {
-                    script,
-                    pair,
-                    place,
-                };
-                self.argument(slot, input.node, at >= in_place, items)?;
-                if at > 0 {
-                    items.push(Item::Bytes(b", "))?;
-                }
+            let pair = *function.parameters.get(input.place).ok_or(NOT_FOUND)?;
+            // The argument of Debug.Trace that stands there where none is written.
+            let is_last = script.place == DEBUG && at == 1 && input.place == 1;
+            if is_last && self.is_int(input.node, 0)? {
+                continue;
+            }
+            let value = self.loose(input.node, script.number(pair.1))?;
+            items.push(Item::Node(value, 0))?;
+            if at >= in_place {
+                let slot = Item::Slot((script, pair, input.place));
+                push(items, &[slot, Item::Bytes(b" = ")])?;
+            }
+            if at > 0 {
+                items.push(Item::Bytes(b", "))?;
             }
         }
         items.push(Item::Bytes(b"("))?;
         Ok(())
     }
 
-    // Whether it is the argument of Debug.Trace that stands there where none is written.
-    fn is_default(self, script: &Script<'_>, at: usize, input: Input) -> Found<bool> {
-        let is_last = script.place == DEBUG && at == 1 && input.place == 1;
-        Ok(is_last && self.trees.node(input.node)?.form == Form::Leaf(Operand::Int(0)))
-    }
-
-    fn argument(
-        self,
-        slot: Slot<'w>,
-        node: usize,
-        named: bool,
-        items: &mut Items<'w>,
-    ) -> Found<()> {
-        let kind = slot.script.number(slot.pair.1);
-        items.push(Item::Node(self.loose(node, kind)?, 0))?;
-        if named {
-            push(items, &[Item::Slot(slot), Item::Bytes(b" = ")])?;
-        }
-        Ok(())
-    }
-
     /// The expression without its cast, where a value converts to that type by itself.
     pub(crate) fn loose(self, number: usize, to: usize) -> Found<usize> {
         let node = self.trees.node(number)?;
-        if !matches!(node.form, Form::Apply(CAST, _)) || node.kind.number != to {
+        if !matches!(node.form, Form::Apply(CAST, _)) || node.kind != to {
             return Ok(number);
         }
         let inner = self.trees.input(node, 0)?;
-        let kind = self.trees.node(inner)?.kind.number;
+        let kind = self.trees.node(inner)?.kind;
         let is_loose = kind != to && self.code.world.converts(kind, to);
         Ok(if is_loose { inner } else { number })
     }
@@ -342,9 +289,8 @@ impl<'w, 'f> Speaker<'w, 'f> {
             return Err(NOT_FOUND);
         };
         let (left, right) = (left.node, right.node);
-        let bool_type = self.code.world.words.bool_type;
         match opcode {
-            JMPF | JMPT => Ok((self.loose(left, bool_type)?, self.loose(right, bool_type)?)),
+            JMPF | JMPT => Ok((self.loose(left, BOOL)?, self.loose(right, BOOL)?)),
             STRCAT | CMP_EQ => {
                 let other = self.loose_beside(right, left, opcode)?;
                 if other != right {
@@ -358,24 +304,10 @@ impl<'w, 'f> Speaker<'w, 'f> {
 
     // One side of such an operation without its cast, where the other side brings it back.
     fn loose_beside(self, side: usize, other: usize, opcode: u8) -> Found<usize> {
-        let kind = self.trees.node(side)?.kind.number;
+        let kind = self.trees.node(side)?.kind;
         let loose = self.loose(side, kind)?;
-        let loose_type = self.trees.node(loose)?.kind.number;
-        let common = self
-            .code
-            .world
-            .common(self.trees.node(other)?.kind.number, loose_type);
-        let comes_back = opcode == STRCAT || common == Some(kind);
+        let (other, inner) = (self.trees.node(other)?.kind, self.trees.node(loose)?.kind);
+        let comes_back = opcode == STRCAT || self.code.world.common(other, inner) == Some(kind);
         Ok(if comes_back { loose } else { side })
     }
-}
-
-/// An element of an array.
-pub(crate) fn element_items<'a>(array: usize, index: usize) -> [Item<'a>; 4] {
-    [
-        Item::Node(array, CHAIN),
-        Item::Bytes(b"["),
-        Item::Node(index, 0),
-        Item::Bytes(b"]"),
-    ]
 }

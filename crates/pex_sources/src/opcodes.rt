@@ -61,21 +61,22 @@ pub(crate) fn result_of(opcode: u8) -> Option<usize> {
     }
 }
 
-/// The sign of an operation on two values, and the level of its grammar. And and Or have the opcodes of their jumps.
+/// The sign of an operation on two values, with blanks around it, and the level of its grammar. And and Or have the opcodes of
+/// their jumps.
 pub(crate) fn sign_of(opcode: u8) -> Option<(&'static [u8], u8)> {
     match opcode {
-        JMPT => Some((b"||", 0)),
-        JMPF => Some((b"&&", 1)),
-        CMP_EQ => Some((b"==", 2)),
-        0x10 => Some((b"<", 2)),
-        0x11 => Some((b"<=", 2)),
-        0x12 => Some((b">", 2)),
-        0x13 => Some((b">=", 2)),
-        0x01 | STRCAT => Some((b"+", 3)),
-        0x03 => Some((b"-", 3)),
-        0x05 => Some((b"*", 4)),
-        0x07 => Some((b"/", 4)),
-        0x09 => Some((b"%", 4)),
+        JMPT => Some((b" || ", 0)),
+        JMPF => Some((b" && ", 1)),
+        CMP_EQ => Some((b" == ", 2)),
+        0x10 => Some((b" < ", 2)),
+        0x11 => Some((b" <= ", 2)),
+        0x12 => Some((b" > ", 2)),
+        0x13 => Some((b" >= ", 2)),
+        0x01 | STRCAT => Some((b" + ", 3)),
+        0x03 => Some((b" - ", 3)),
+        0x05 => Some((b" * ", 4)),
+        0x07 => Some((b" / ", 4)),
+        0x09 => Some((b" % ", 4)),
         _ => None,
     }
 }

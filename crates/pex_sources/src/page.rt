@@ -1,5 +1,7 @@
 // The text of a script while it is written.
-use crate::fault::Found;
+use crate::fault::{Found, NOT_FOUND, check};
+use crate::script::Script;
+use pex_values::Datum;
 use std::alloc::Global;
 
 /// The bytes so far. Where lines are indented, documentation stands on lines of its own. What appends fails where no memory is
@@ -75,8 +77,10 @@ impl Page {
         self.end()
     }
 
-    /// Ends the heading of what has this documentation.
-    pub(crate) fn end_heading(&mut self, doc: &[u8]) -> Found<()> {
+    /// Ends a heading with flags and documentation.
+    pub(crate) fn end_heading(&mut self, script: &Script<'_>, flags: u32, doc: u16) -> Found<()> {
+        self.put_flags(flags)?;
+        let doc = script.text(doc);
         if doc.is_empty() {
             return self.end();
         }
@@ -100,8 +104,32 @@ impl Page {
         self.depth = self.depth.saturating_sub(1);
     }
 
-    /// Appends a number, below 0 in hexadecimal.
-    pub(crate) fn put_int(&mut self, number: i32) -> Found<()> {
+    /// Appends the words for the flags of a script or a member.
+    pub(crate) fn put_flags(&mut self, flags: u32) -> Found<()> {
+        self.put_bits(flags, [b" Hidden", b" Conditional"])
+    }
+
+    /// Appends the words for the two lowest of some bits, which are all that may be set.
+    pub(crate) fn put_bits(&mut self, bits: u32, words: [&[u8]; 2]) -> Found<()> {
+        let [first, second] = words;
+        check(bits <= 3)?;
+        self.put(if bits & 1 != 0 { first } else { b"" })?;
+        self.put(if bits & 2 != 0 { second } else { b"" })
+    }
+
+    /// Appends a literal of a script, a number below 0 in hexadecimal. `NotFound` comes for what is none.
+    pub(crate) fn put_literal(&mut self, script: &Script<'_>, value: Datum) -> Found<()> {
+        match value {
+            Datum::NoneValue => self.put(b"None"),
+            Datum::Int(number) => self.put_int(number),
+            Datum::Bool(0) => self.put(b"False"),
+            Datum::Bool(_) => self.put(b"True"),
+            Datum::Quoted(text) => self.put_text(script.text(text)),
+            Datum::Word(_) | Datum::Float(_) => Err(NOT_FOUND),
+        }
+    }
+
+    fn put_int(&mut self, number: i32) -> Found<()> {
         let text = if number < 0 {
             let bits = i64::from(number) & 0xFFFF_FFFF;
             format!(in self.alloc; "0x{bits:x}")?
@@ -111,8 +139,8 @@ impl Page {
         self.put(text.as_bytes())
     }
 
-    /// Appends a text in quotes.
-    pub(crate) fn put_text(&mut self, text: &[u8]) -> Found<()> {
+    // Appends a text in quotes.
+    fn put_text(&mut self, text: &[u8]) -> Found<()> {
         self.put(b"\"")?;
         for byte in text {
             match *byte {

@@ -3,12 +3,13 @@ use crate::code::{Code, Operand, Step};
 use crate::fault::{Found, NOT_FOUND, check};
 use crate::lines::Line;
 use crate::opcodes::{
-    ARRAY_GETELEMENT, ARRAY_SETELEMENT, ASSIGN, JMPF, JMPT, PROPGET, PROPSET, RETURN,
+    ARRAY_CREATE, ARRAY_GETELEMENT, ARRAY_SETELEMENT, ASSIGN, CAST, JMPF, JMPT, PROPGET, PROPSET,
+    RETURN,
 };
 use crate::slots::Slots;
 use crate::trees::{Form, Input, Trees};
-use crate::words::unspelled;
-use papy_base::OutOfMemory;
+use crate::words::{BOOL, NONE};
+use std::collections::HashMap;
 
 /// What an instruction ends.
 #[derive(Clone, Copy)]
@@ -44,11 +45,9 @@ pub(crate) struct Reader<'w, 'f> {
     code: &'f Code<'w>,
     pub trees: Trees,
     pub slots: Slots<'w, 'f>,
-    // For each temporary its value while it is still to be read.
-    values: Vec<Option<Value>>,
+    // The values of temporaries that are still to be read.
+    values: HashMap<usize, Value>,
     sides: Vec<Side>,
-    // How many values and sides there are.
-    waiting: usize,
     // The operands of the instruction, in the order of evaluation.
     inputs: Vec<Input>,
     // The temporary that the instruction before assigned to.
@@ -57,19 +56,17 @@ pub(crate) struct Reader<'w, 'f> {
 
 impl<'w, 'f> Reader<'w, 'f> {
     /// A reader for which the slots from `first` on are temporaries.
-    pub(crate) fn new(code: &'f Code<'w>, first: usize) -> Result<Reader<'w, 'f>, OutOfMemory> {
+    pub(crate) fn new(code: &'f Code<'w>, first: usize) -> Reader<'w, 'f> {
         let alloc = code.world.alloc;
-        let values = vec![in alloc; None; code.slot_count()]?;
-        Ok(Reader {
+        Reader {
             code,
             trees: Trees::new(alloc),
-            slots: Slots::new(code, first)?,
-            values,
+            slots: Slots::new(code, first),
+            values: HashMap::new(alloc),
             sides: Vec::new(alloc),
-            waiting: 0,
             inputs: Vec::new(alloc),
             fresh: None,
-        })
+        }
     }
 
     /// Where the right side of the innermost And or Or ends.
@@ -86,8 +83,7 @@ impl<'w, 'f> Reader<'w, 'f> {
             ASSIGN => self.assign(at, step),
             JMPF | JMPT => self.jump(at, step, limit, fresh),
             RETURN => Ok(Outcome::Done(Line::Return(self.end_with_one()?))),
-            PROPSET => self.set_property(step),
-            ARRAY_SETELEMENT => self.set_element(),
+            PROPSET | ARRAY_SETELEMENT => self.set(at, step),
             _ => self.apply(at, step),
         }
     }
@@ -114,34 +110,36 @@ impl<'w, 'f> Reader<'w, 'f> {
         is_get(opcode) && self.inputs.iter().any(|input| input.is_shared)
     }
 
-    fn read(&mut self, step: Step, operand: usize) -> Found<Input> {
-        let value = match self.code.operand(operand)? {
+    // Reads the operand at a place among those of the function.
+    fn read(&mut self, step: Step, at: usize) -> Found<Input> {
+        let operand = self.code.operand(at)?;
+        let value = match operand {
             Operand::Slot(slot) if self.slots.is_temporary(slot) => {
-                self.read_temporary(step.opcode, operand, slot)?
+                self.read_temporary(step.opcode, at, slot)?
             }
-            leaf => Value {
-                node: self.read_leaf(leaf)?,
-                is_shared: false,
-            },
+            _ => self.read_leaf(operand)?,
         };
         let order = match self.trees.node(value.node)?.code {
-            _ if operand < step.arguments => 0,
-            Some((_, at)) => at,
+            _ if at < step.arguments => 0,
+            Some((_, last)) => last,
             None => usize::MAX,
         };
         Ok(Input {
             node: value.node,
             operand,
-            place: operand.saturating_sub(step.arguments),
+            place: at.saturating_sub(step.arguments),
             is_shared: value.is_shared,
             order,
         })
     }
 
-    fn read_leaf(&mut self, operand: Operand) -> Found<usize> {
+    fn read_leaf(&mut self, operand: Operand) -> Found<Value> {
         check(self.slots.undefined(operand).is_none())?;
         let kind = self.code.type_of(operand)?;
-        self.trees.add_leaf(operand, kind, None)
+        Ok(Value {
+            node: self.trees.add(Form::Leaf(operand), kind, &[], None)?,
+            is_shared: false,
+        })
     }
 
     // What a get reads may be read once more by a set.
@@ -156,17 +154,13 @@ impl<'w, 'f> Reader<'w, 'f> {
     }
 
     fn take_value(&mut self, slot: usize) -> Found<Value> {
-        let value = self.values.get_mut(slot).ok_or(NOT_FOUND)?;
-        self.waiting = self.waiting.saturating_sub(1);
-        value.take().ok_or(NOT_FOUND)
+        self.values.remove(&slot).ok_or(NOT_FOUND)
     }
 
     // Notes that a temporary has this value from now on.
     fn put_value(&mut self, slot: usize, node: usize, is_shared: bool) -> Found<Value> {
-        check(!has_value(&self.values, slot))?;
         let value = Value { node, is_shared };
-        *self.values.get_mut(slot).ok_or(NOT_FOUND)? = Some(value);
-        self.waiting = self.waiting.saturating_add(1);
+        check(self.values.insert(slot, value)?.is_none())?;
         Ok(value)
     }
 
@@ -193,8 +187,8 @@ impl<'w, 'f> Reader<'w, 'f> {
     // Takes back the temporaries that are read no more.
     fn give_back(&mut self) -> Found<()> {
         for input in &self.inputs {
-            match self.code.operand(input.operand)? {
-                Operand::Slot(slot) if !has_value(&self.values, slot) => {
+            match input.operand {
+                Operand::Slot(slot) if !self.values.contains_key(&slot) => {
                     self.slots.give_back(slot)?;
                 }
                 _ => {}
@@ -203,13 +197,18 @@ impl<'w, 'f> Reader<'w, 'f> {
         Ok(())
     }
 
-    // A statement ends, with nothing left to be read.
+    // Whether nothing is left to be read.
+    fn is_done(&self) -> bool {
+        self.values.is_empty() && self.sides.is_empty()
+    }
+
+    // A statement or a test ends, with nothing left to be read.
     fn end(&mut self) -> Found<()> {
-        check(self.waiting == 0)?;
+        check(self.is_done())?;
         self.give_back()
     }
 
-    // A statement or a test ends, which has one value.
+    // The same, where it has one value.
     fn end_with_one(&mut self) -> Found<usize> {
         self.end()?;
         Ok(self.only_input()?.node)
@@ -222,12 +221,11 @@ impl<'w, 'f> Reader<'w, 'f> {
 
     // The value that an instruction has given to a temporary. It is a statement where nobody reads it.
     fn store(&mut self, operand: usize, slot: usize, node: usize) -> Found<Outcome> {
-        let has_type = self.code.slot_type(slot)?.number != self.code.world.words.none_type;
-        if has_type && self.code.is_read_next(operand) {
+        if self.code.slot_type(slot)? != NONE && self.code.is_read_next(operand) {
             self.put_value(slot, node, false)?;
             return Ok(Outcome::Open);
         }
-        check(self.waiting == 0)?;
+        check(self.is_done())?;
         self.slots.give_back(slot)?;
         Ok(Outcome::Done(Line::Plain(node)))
     }
@@ -235,10 +233,7 @@ impl<'w, 'f> Reader<'w, 'f> {
     // A jump: the left side of And or Or ends with it where the instruction before assigned what it tests, and else a test.
     fn jump(&mut self, at: usize, step: Step, end: usize, fresh: Option<usize>) -> Found<Outcome> {
         match self.code.operand(step.first)? {
-            Operand::Slot(slot) if fresh == Some(slot) => {
-                self.begin_side(at, step, slot, end)?;
-                Ok(Outcome::Open)
-            }
+            Operand::Slot(slot) if fresh == Some(slot) => self.begin_side(at, step, slot, end),
             _ => {
                 check(step.opcode == JMPF)?;
                 Ok(Outcome::Test(self.end_with_one()?))
@@ -246,12 +241,11 @@ impl<'w, 'f> Reader<'w, 'f> {
         }
     }
 
-    fn begin_side(&mut self, at: usize, step: Step, slot: usize, limit: usize) -> Found<()> {
+    fn begin_side(&mut self, at: usize, step: Step, slot: usize, limit: usize) -> Found<Outcome> {
         let end = step.target.ok_or(NOT_FOUND)?;
         let outer = self.side_end().unwrap_or(limit);
         check(end > at.saturating_add(1) && end <= outer)?;
         let left = self.only_input()?;
-        self.waiting = self.waiting.saturating_add(1);
         self.sides.push(Side {
             opcode: step.opcode,
             slot,
@@ -259,7 +253,7 @@ impl<'w, 'f> Reader<'w, 'f> {
             start: at.saturating_sub(1),
             end,
         })?;
-        Ok(())
+        Ok(Outcome::Open)
     }
 
     /// Ends the innermost And or Or, whose right side ends before this place.
@@ -270,23 +264,28 @@ impl<'w, 'f> Reader<'w, 'f> {
             node: self.take_value(side.slot)?.node,
             ..side.left
         };
-        self.waiting = self.waiting.saturating_sub(1);
-        let kind = unspelled(self.code.world.words.bool_type);
         let form = Form::Apply(side.opcode, (0, 0));
         let last = at.saturating_sub(1);
-        let node = self
-            .trees
-            .add(form, kind, &[side.left, right], side.start, last)?;
+        let code = Some((side.start, last));
+        let node = self.trees.add(form, BOOL, &[side.left, right], code)?;
         self.store(self.code.step(last)?.first, side.slot, node)
     }
 
+    // An assignment. The first to a local is its definition.
     fn assign(&mut self, at: usize, step: Step) -> Found<Outcome> {
-        match self.code.operand(step.first)? {
+        let target = match self.code.operand(step.first)? {
             Operand::Slot(slot) if self.slots.is_temporary(slot) => {
-                self.assign_temporary(at, step, slot)
+                return self.assign_temporary(at, step, slot);
             }
-            target => Ok(Outcome::Done(Line::Set(target, self.end_with_one()?))),
+            target => target,
+        };
+        let value = self.end_with_one()?;
+        if let Some(slot) = self.slots.undefined(target) {
+            self.slots.define(slot)?;
+            return Ok(Outcome::Done(Line::Define(slot, value)));
         }
+        let target = self.read_leaf(target)?.node;
+        Ok(Outcome::Done(Line::Set(target, value)))
     }
 
     // A temporary gets a value: a side of And or Or, or a variable that is kept.
@@ -307,19 +306,17 @@ impl<'w, 'f> Reader<'w, 'f> {
 
     // Whether the right side of the innermost And or Or ends with the assignment at this place.
     fn ends_side(&self, slot: usize, at: usize) -> bool {
-        match self.sides.last() {
-            Some(side) => side.slot == slot && side.end == at.saturating_add(1),
-            None => false,
-        }
+        let side = self.sides.last();
+        side.is_some_and(|side| side.slot == slot && side.end == at.saturating_add(1))
     }
 
     // Whether the instruction behind this place is a jump that tests the slot.
     fn is_tested(&self, slot: usize, at: usize) -> bool {
-        match self.code.step(at.saturating_add(1)) {
-            Ok(next) => matches!(next.opcode, JMPF | JMPT)
-                && self.code.operand(next.first) == Ok(Operand::Slot(slot)),
-            Err(_) => false,
-        }
+        let next = self.code.steps.get(at.saturating_add(1));
+        next.is_some_and(|next| {
+            matches!(next.opcode, JMPF | JMPT)
+                && self.code.operand(next.first) == Ok(Operand::Slot(slot))
+        })
     }
 
     // A variable is kept while a later operand acts.
@@ -328,8 +325,8 @@ impl<'w, 'f> Reader<'w, 'f> {
         let is_read = self.code.is_read_next(step.first);
         check(variable.varies() && variable.code.is_none() && is_read)?;
         self.slots.take(slot)?;
-        let operand = self.code.operand(input.operand)?;
-        let node = self.trees.add_leaf(operand, variable.kind, Some(at))?;
+        let (form, code) = (variable.form, Some((at, at)));
+        let node = self.trees.add(form, variable.kind, &[], code)?;
         self.put_value(slot, node, false)?;
         Ok(Outcome::Open)
     }
@@ -343,44 +340,41 @@ impl<'w, 'f> Reader<'w, 'f> {
         check(self.slots.is_temporary(slot))?;
         self.slots.take(slot)?;
         self.give_back()?;
-        let kind = self.code.slot_type(slot)?;
-        let form = Form::Apply(step.opcode, step.names);
-        let node = self.trees.add(form, kind, &self.inputs, at, at)?;
+        let (_, kind) = self.code.pair(slot)?;
+        let names = match step.opcode {
+            CAST | ARRAY_CREATE => (0, kind),
+            _ => step.names,
+        };
+        let form = Form::Apply(step.opcode, names);
+        let kind = self.code.script.number(kind);
+        let node = self.trees.add(form, kind, &self.inputs, Some((at, at)))?;
         self.store(result, slot, node)
     }
 
-    fn set_property(&mut self, step: Step) -> Found<Outcome> {
+    // A property or an element is set, which a shared input may also have computed with.
+    fn set(&mut self, at: usize, step: Step) -> Found<Outcome> {
         self.end()?;
-        let [of, value] = *self.inputs.as_slice() else {
-            return Err(NOT_FOUND);
-        };
-        if of.is_shared {
-            self.check_change(value, Form::Apply(PROPGET, step.names), &[of.node])?;
+        let value = self.inputs.pop().ok_or(NOT_FOUND)?.node;
+        let (form, kind) = self.set_target(step, self.only_input()?.node)?;
+        let inputs = self.inputs.as_slice();
+        let target = self.trees.add(form, kind, inputs, Some((at, at)))?;
+        if inputs.iter().any(|input| input.is_shared) {
+            check(self.trees.change(value, target)?.is_some())?;
         }
-        let (_, name) = step.names;
-        Ok(Outcome::Done(Line::SetProperty(name, of.node, value.node)))
+        Ok(Outcome::Done(Line::Set(target, value)))
     }
 
-    fn set_element(&mut self) -> Found<Outcome> {
-        self.end()?;
-        let [array, index, value] = *self.inputs.as_slice() else {
-            return Err(NOT_FOUND);
-        };
-        if array.is_shared || index.is_shared {
-            let form = Form::Apply(ARRAY_GETELEMENT, (0, 0));
-            self.check_change(value, form, &[array.node, index.node])?;
+    // The expression that gets what is set, with its type.
+    fn set_target(&self, step: Step, of: usize) -> Found<(Form, usize)> {
+        let (world, (_, name)) = (self.code.world, step.names);
+        let kind = self.trees.node(of)?.kind;
+        if step.opcode == ARRAY_SETELEMENT {
+            let form = Form::Apply(ARRAY_GETELEMENT, step.names);
+            return Ok((form, world.element(kind)?));
         }
-        let line = Line::SetElement(array.node, index.node, value.node);
-        Ok(Outcome::Done(line))
+        let found = world.find_property(kind, self.code.script.number(name));
+        Ok((Form::Apply(PROPGET, step.names), found.ok_or(NOT_FOUND)?))
     }
-
-    fn check_change(&self, value: Input, form: Form, of: &[usize]) -> Found<()> {
-        check(self.trees.change(value.node, form, of)?.is_some())
-    }
-}
-
-fn has_value(values: &[Option<Value>], slot: usize) -> bool {
-    matches!(values.get(slot), Some(Some(_)))
 }
 
 // Whether the opcode gets a property or an element, which a later instruction may set.

@@ -3,16 +3,17 @@ ghost use Rattle.std.specs.Prelude.{◌<◌, length, IfSome};
 
 use crate::code::{Code, Operand};
 use crate::fault::{Found, check};
-use papy_base::OutOfMemory;
+use crate::words::NONE;
+use std::collections::HashSet;
 
 /// The slots of a function: parameters, then locals of the source, and from `first` on temporaries.
 #[derive(Drop)]
 pub(crate) struct Slots<'w, 'f> {
     code: &'f Code<'w>,
     first: usize,
-    // The next local to be defined, and for each slot whether it is a local that is defined in a block that is open.
+    // The next local to be defined, and those that are defined in a block that is open.
     next_local: usize,
-    defined: Vec<bool>,
+    defined: HashSet<usize>,
     // The next temporary that wasn't handed out yet, and those that may be handed out again, each with the number of its type, in
     // this order. That of the type of no value is never in use.
     next_temporary: usize,
@@ -21,16 +22,16 @@ pub(crate) struct Slots<'w, 'f> {
 
 impl<'w, 'f> Slots<'w, 'f> {
     /// No local is defined and no temporary is handed out. The slots from `first` on are temporaries.
-    pub(crate) fn new(code: &'f Code<'w>, first: usize) -> Result<Slots<'w, 'f>, OutOfMemory> {
+    pub(crate) fn new(code: &'f Code<'w>, first: usize) -> Slots<'w, 'f> {
         let alloc = code.world.alloc;
-        Ok(Slots {
+        Slots {
             code,
             first,
             next_local: code.function.parameters.len(),
-            defined: vec![in alloc; false; code.slot_count()]?,
+            defined: HashSet::new(alloc),
             next_temporary: first,
             spare: Vec::new(alloc),
-        })
+        }
     }
 
     /// Whether a slot is a temporary.
@@ -49,12 +50,7 @@ impl<'w, 'f> Slots<'w, 'f> {
             return None;
         };
         let is_local = slot >= self.code.function.parameters.len() && slot < self.first;
-        let is_defined = self.defined.get(slot).copied().unwrap_or(false);
-        if is_local && !is_defined {
-            Some(slot)
-        } else {
-            None
-        }
+        (is_local && !self.defined.contains(&slot)).then_some(slot)
     }
 
     /// How many slots are parameters and locals that have been defined.
@@ -66,33 +62,27 @@ impl<'w, 'f> Slots<'w, 'f> {
     pub(crate) fn define(&mut self, slot: usize) -> Found<()> {
         check(slot == self.next_local)?;
         self.next_local = slot.saturating_add(1);
-        self.mark(slot, true);
+        self.defined.insert(slot)?;
         Ok(())
     }
 
     /// Ends the block in which the locals from this one on were defined.
     pub(crate) fn end_block(&mut self, from: usize) {
         for slot in from..self.next_local {
-            self.mark(slot, false);
-        }
-    }
-
-    fn mark(&mut self, slot: usize, is_defined: bool) {
-        if let Some(marked) = self.defined.get_mut(slot) {
-            *marked = is_defined;
+            self.defined.remove(&slot);
         }
     }
 
     /// Hands out this temporary, where it is the one that a compiler takes for a value of its type.
     pub(crate) fn take(&mut self, slot: usize) -> Found<()> {
-        let kind = self.code.slot_type(slot)?.number;
+        let kind = self.code.slot_type(slot)?;
         let taken = match spare_place(&self.spare, kind) {
             Some(at) => self.spare.remove(at).1,
             None => self.next_temporary,
         };
         check(taken == slot)?;
         self.next_temporary = self.next_temporary.max(slot.saturating_add(1));
-        if kind == self.code.world.words.none_type {
+        if kind == NONE {
             self.spare.push((kind, slot))?;
         }
         Ok(())
@@ -100,8 +90,8 @@ impl<'w, 'f> Slots<'w, 'f> {
 
     /// Takes a slot back, which is read no more, where it is a temporary.
     pub(crate) fn give_back(&mut self, slot: usize) -> Found<()> {
-        let kind = self.code.slot_type(slot)?.number;
-        if self.is_temporary(slot) && kind != self.code.world.words.none_type {
+        let kind = self.code.slot_type(slot)?;
+        if self.is_temporary(slot) && kind != NONE {
             self.spare.push((kind, slot))?;
         }
         Ok(())

@@ -19,10 +19,18 @@ pub fn sources(alloc: Global, files: &[Pex]) -> Result<Vec<Text>, SourceFault>
     ensures { IfOk result (λ texts. vec_len texts ≡ length files.now) }
 {
     let prelude = Prelude::new(alloc)?;
-    let world = World::new(alloc, &prelude, files)?;
-    let mut texts = Vec::with_capacity(alloc, files.len())?;
-    for number in 0..files.len() {
-        texts.push(script_text(&world, PRELUDE_COUNT.saturating_add(number))?)?;
+    let mut world = World::new(alloc, &prelude)?;
+    world.fill(&prelude, files)?;
+    texts_of(&world, files.len())
+}
+
+// The texts of the first scripts behind the prelude's, so many.
+fn texts_of(world: &World<'_>, count: usize) -> Result<Vec<Text>, SourceFault>
+    ensures { IfOk result (λ texts. vec_len texts ≡ count) }
+{
+    let mut texts = Vec::with_capacity(world.alloc, count)?;
+    for number in 0..count {
+        texts.push(script_text(world, PRELUDE_COUNT.saturating_add(number))?)?;
     }
     Ok(texts)
 }

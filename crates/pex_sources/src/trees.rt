@@ -2,26 +2,27 @@
 use crate::code::Operand;
 use crate::fault::{Found, NOT_FOUND};
 use crate::opcodes::{CALL_METHOD, CALL_PARENT, CALL_STATIC, PROPGET, is_arithmetic};
-use crate::script::TypeName;
 use std::alloc::Global;
 
 /// What an expression is: a name or a literal, or what an opcode gives, with references to the names of a script and of a function
-/// or a property. And and Or have the opcodes of their jumps.
+/// or a property, or to that of its type. And and Or have the opcodes of their jumps.
 #[derive(Clone, Copy, PartialEq, Eq)]
 pub(crate) enum Form {
     Leaf(Operand),
     Apply(u8, (u16, u16)),
 }
 
-/// An expression, with its inputs among those of the function.
+/// The first and the last of the instructions of an expression, where it has any.
+pub(crate) type Extent = Option<(usize, usize)>;
+
+/// An expression, with the number of its type and its inputs among those of the function.
 #[derive(Clone, Copy)]
 pub(crate) struct Node {
     pub form: Form,
-    pub kind: TypeName,
+    pub kind: usize,
     first: usize,
     end: usize,
-    /// The first and the last of its instructions, where it has any.
-    pub code: Option<(usize, usize)>,
+    pub code: Extent,
     /// Whether it comes to an act, in which another stack may change variables.
     pub acts: bool,
 }
@@ -45,8 +46,7 @@ impl Node {
 #[derive(Clone, Copy)]
 pub(crate) struct Input {
     pub node: usize,
-    /// Its place among the operands of the function.
-    pub operand: usize,
+    pub operand: Operand,
     /// The place of its parameter, where it is an argument.
     pub place: usize,
     /// Whether it is read here and by an assignment that also computes with what is read.
@@ -91,89 +91,56 @@ impl Trees {
         Ok(self.inputs(node)?.get(place).ok_or(NOT_FOUND)?.node)
     }
 
-    /// Adds a name or a literal, which the instruction `at` has kept, if any, and gives its number.
-    pub(crate) fn add_leaf(
-        &mut self,
-        operand: Operand,
-        kind: TypeName,
-        at: Option<usize>,
-    ) -> Found<usize> {
-        self.push(Node {
-            form: Form::Leaf(operand),
-            kind,
-            first: 0,
-            end: 0,
-            code: at.map(|at| (at, at)),
-            acts: false,
-        })
-    }
-
-    /// Adds an expression, whose last instruction stands `at`, and of which none but its inputs' stands before `from`. Gives its
-    /// number, or `NotFound` where an input is no expression of these. The code of what is shared isn't its own.
+    /// Adds an expression, which has this code beside that of its inputs, before which it may begin. Gives its number, or `NotFound`
+    /// where an input is no expression of these. The code of what is shared isn't its own.
     pub(crate) fn add(
         &mut self,
         form: Form,
-        kind: TypeName,
+        kind: usize,
         inputs: &[Input],
-        from: usize,
-        at: usize,
+        mut code: Extent,
     ) -> Found<usize> {
         let first = self.inputs.len();
-        let mut start = from;
         let mut acts = is_act(form);
         for input in inputs {
             let node = self.node(input.node)?;
             if !input.is_shared {
                 acts = acts || node.acts;
-                start = node.code.map_or(start, |(earlier, _)| start.min(earlier));
+                code = code.map(|(start, last)| (earlier(start, node.code), last));
             }
             self.inputs.push(*input)?;
         }
-        let end = self.inputs.len();
-        self.push(Node {
+        let number = self.nodes.len();
+        self.nodes.push(Node {
             form,
             kind,
             first,
-            end,
-            code: Some((start, at)),
+            end: self.inputs.len(),
+            code,
             acts,
-        })
-    }
-
-    fn push(&mut self, node: Node) -> Found<usize> {
-        let number = self.nodes.len();
-        self.nodes.push(node)?;
+        })?;
         Ok(number)
     }
 
     /// The opcode and the right side of a value with which an assignment also computes: an operation on numbers, or one that joins
-    /// texts, whose left side is what is assigned to, of this form and with these inputs.
-    pub(crate) fn change(
-        &self,
-        value: usize,
-        form: Form,
-        inputs: &[usize],
-    ) -> Found<Option<(u8, usize)>> {
+    /// texts, whose left side is the target.
+    pub(crate) fn change(&self, value: usize, target: usize) -> Found<Option<(u8, usize)>> {
         let node = self.node(value)?;
         let (Form::Apply(opcode, _), [left, right]) = (node.form, self.inputs(node)?) else {
             return Ok(None);
         };
-        let old = self.node(left.node)?;
+        let (old, target) = (self.node(left.node)?, self.node(target)?);
         let is_old = is_arithmetic(opcode)
-            && old.form == form
-            && old.kind.number == node.kind.number
-            && old.is_bare() == matches!(form, Form::Leaf(_))
-            && self.has_inputs(old, inputs)?;
-        Ok(if is_old {
-            Some((opcode, right.node))
-        } else {
-            None
-        })
+            && old.form == target.form
+            && old.kind == node.kind
+            && old.is_bare() == target.is_bare()
+            && self.has_inputs(old, self.inputs(target)?)?;
+        Ok(is_old.then_some((opcode, right.node)))
     }
 
-    fn has_inputs(&self, node: Node, wanted: &[usize]) -> Found<bool> {
+    fn has_inputs(&self, node: Node, wanted: &[Input]) -> Found<bool> {
         for (input, wanted) in self.inputs(node)?.iter().zip(wanted) {
-            if !self.is_same(input.node, *wanted)? {
+            if !self.is_same(input.node, wanted.node)? {
                 return Ok(false);
             }
         }
@@ -185,6 +152,11 @@ impl Trees {
         let (node, same) = (self.node(number)?, self.node(other)?);
         Ok(number == other || (node.form == same.form && node.is_bare() && same.is_bare()))
     }
+}
+
+// The earlier of a place and the first instruction of an expression.
+fn earlier(place: usize, code: Extent) -> usize {
+    code.map_or(place, |(start, _)| start.min(place))
 }
 
 fn is_act(form: Form) -> bool {

@@ -1,65 +1,29 @@
 // Words that Papyrus keeps for itself, and names that are made up.
-use crate::script::TypeName;
 use papy_base::OutOfMemory;
 use pex_set::NameTable;
 use pex_values::Pex;
 use std::alloc::Global;
 
-/// The numbers of words that have a meaning in compiled files.
-#[derive(Clone, Copy)]
-pub(crate) struct Words {
-    pub int_type: usize,
-    pub bool_type: usize,
-    pub string_type: usize,
-    pub none_type: usize,
-    pub own_instance: usize,
-    pub state_variable: usize,
-}
+/// The numbers of the first words.
+pub(crate) const INT: usize = 1;
 
-impl Words {
-    /// The numbers that these words have in the table, in which they get one where they have none.
-    pub(crate) fn of(alloc: Global, table: &mut NameTable) -> Result<Words, OutOfMemory> {
-        Ok(Words {
-            int_type: table.number(alloc, b"int")?,
-            bool_type: table.number(alloc, b"bool")?,
-            string_type: table.number(alloc, b"string")?,
-            none_type: table.number(alloc, b"none")?,
-            own_instance: table.number(alloc, b"self")?,
-            state_variable: table.number(alloc, b"::state")?,
-        })
-    }
+pub(crate) const BOOL: usize = 2;
 
-    /// The beginning of a made up name for a value of this type.
-    pub(crate) fn stem(&self, kind: usize, is_script: bool) -> &'static str {
-        if kind == self.int_type {
-            "number"
-        } else if kind == self.bool_type {
-            "flag"
-        } else if kind == self.string_type {
-            "text"
-        } else if is_script {
-            "object"
-        } else {
-            "list"
-        }
-    }
-}
+pub(crate) const STRING: usize = 3;
 
-/// The type of this number, whose name no file needs to have.
-pub(crate) fn unspelled(number: usize) -> TypeName {
-    TypeName {
-        reference: 0,
-        number,
-    }
-}
+pub(crate) const NONE: usize = 4;
 
-/// The keywords, which name nothing.
+pub(crate) const OWN_INSTANCE: usize = 5;
+
+pub(crate) const STATE_VARIABLE: usize = 6;
+
+/// The words that no parameter or local may have, by their numbers from 1 on: the keywords, and the name of the state's variable.
 #[rattlefmt::skip]
-pub(crate) static KEYWORDS: [&str; 34] = [
-    "as", "auto", "autoreadonly", "bool", "else", "elseif", "endevent", "endfunction", "endif", "endproperty",
-    "endstate", "endwhile", "event", "extends", "false", "float", "function", "global", "if", "import", "int",
-    "length", "native", "new", "none", "parent", "property", "return", "scriptname", "self", "state", "string",
-    "true", "while",
+pub(crate) static WORDS: [&str; 35] = [
+    "int", "bool", "string", "none", "self", "::state", "as", "auto", "autoreadonly", "else", "elseif", "endevent",
+    "endfunction", "endif", "endproperty", "endstate", "endwhile", "event", "extends", "false", "float", "function",
+    "global", "if", "import", "length", "native", "new", "parent", "property", "return", "scriptname", "state", "true",
+    "while",
 ];
 
 /// Whether the bytes are a word.
@@ -75,29 +39,33 @@ pub(crate) fn is_word(bytes: &[u8]) -> bool {
 /// The beginnings of made up names.
 static STEMS: [&str; 5] = ["number", "flag", "text", "object", "list"];
 
+/// The beginning of a made up name for a value of this type.
+pub(crate) fn stem(kind: usize, is_script: bool) -> &'static str {
+    match kind {
+        INT => "number",
+        BOOL => "flag",
+        STRING => "text",
+        _ if is_script => "object",
+        _ => "list",
+    }
+}
+
 /// What stands between the stem and the place in a made up name, so that no string of the files is such a name: nothing, or
 /// where one is, a number between two `_`.
 pub(crate) fn free_infix(alloc: Global, files: &[Pex]) -> Result<String, OutOfMemory> {
     let mut heads = NameTable::new(alloc)?;
-    for file in files {
-        add_heads(alloc, file, &mut heads)?;
+    for string in files.iter().flat_map(|file| file.strings.iter()) {
+        add_head(alloc, string.as_bytes(), &mut heads)?;
     }
     least_free(alloc, &heads)
 }
 
-// Adds what stands before the last digits of each string that ends with any.
-fn add_heads(alloc: Global, file: &Pex, heads: &mut NameTable) -> Result<(), OutOfMemory> {
-    for string in &file.strings {
-        let bytes = string.as_bytes();
-        let digits = bytes
-            .iter()
-            .rev()
-            .position(|byte| !byte.is_ascii_digit())
-            .unwrap_or(0);
-        let end = bytes.len().saturating_sub(digits);
-        if let (true, Some(head)) = (digits > 0, bytes.get(..end)) {
-            heads.number(alloc, head)?;
-        }
+// Adds what stands before the last digits of a string that ends with any.
+fn add_head(alloc: Global, string: &[u8], heads: &mut NameTable) -> Result<(), OutOfMemory> {
+    let last = string.iter().rposition(|byte| !byte.is_ascii_digit());
+    let end = last.map_or(string.len(), |last| last.saturating_add(1));
+    if let Some((head, [_, ..])) = string.split_at_checked(end) {
+        heads.number(alloc, head)?;
     }
     Ok(())
 }

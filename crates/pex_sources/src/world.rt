@@ -1,25 +1,31 @@
 // The scripts of a set, the prelude's before those of the files, and what is found among them by name.
-use crate::fault::{Found, NOT_FOUND};
+use crate::fault::{Found, NOT_FOUND, check};
 use crate::page::Page;
 use crate::script::{Script, Slot};
-use crate::words::{KEYWORDS, Words, free_infix, is_word};
+use crate::words::{BOOL, INT, NONE, STRING, WORDS, free_infix, is_word, stem};
 use papy_base::OutOfMemory;
-use pex_set::{NameTable, Prelude, text_at};
-use pex_values::{Pex, PexFunction, PexObject};
+use pex_set::{FileNames, NameTable, Prelude};
+use pex_values::{Pex, PexFunction, PexProperty};
 use std::alloc::Global;
 use std::collections::{HashMap, HashSet};
+
+/// A script by its place, and a name by its number.
+type Key = (usize, usize);
 
 /// The scripts and their names.
 #[derive(Drop)]
 pub(crate) struct World<'a> {
     pub alloc: Global,
-    pub words: Words,
     scripts: Vec<Script<'a>>,
     // What stands in the names that are made up, so that nothing in the set has one of them.
     infix: String,
     table: NameTable,
     by_name: HashMap<usize, usize>,
-    // The names that no parameter or local may have: keywords, and those of scripts, variables and properties.
+    functions: HashMap<Key, &'a PexFunction>,
+    // By their names, and Auto properties also by those of their variables.
+    properties: HashMap<Key, &'a PexProperty>,
+    variables: HashMap<Key, usize>,
+    // The names that no parameter or local may have: words, and those of scripts, variables and properties.
     taken: HashSet<usize>,
     // What each script without parent has, also where its file doesn't, with references into the prelude's strings.
     members: &'a [(u16, PexFunction)],
@@ -34,61 +40,96 @@ enum Sought {
 }
 
 impl<'a> World<'a> {
-    /// The scripts of these files behind those of the prelude. `NotFound` comes where a file hasn't one script.
-    pub(crate) fn new(alloc: Global, prelude: &'a Prelude, files: &'a [Pex]) -> Found<World<'a>> {
-        let infix = free_infix(alloc, files)?;
-        let mut table = NameTable::new(alloc)?;
-        let words = Words::of(alloc, &mut table)?;
-        let mut world = World {
+    /// A world without scripts.
+    pub(crate) fn new(alloc: Global, prelude: &'a Prelude) -> Result<World<'a>, OutOfMemory> {
+        let table = NameTable::new(alloc)?;
+        Ok(World {
             alloc,
-            words,
             scripts: Vec::new(alloc),
-            infix,
+            infix: String::new(alloc),
             table,
             by_name: HashMap::new(alloc),
+            functions: HashMap::new(alloc),
+            properties: HashMap::new(alloc),
+            variables: HashMap::new(alloc),
             taken: HashSet::new(alloc),
             members: &prelude.members,
-        };
-        world.fill(prelude, files)?;
-        Ok(world)
+        })
     }
 
-    fn fill(&mut self, prelude: &'a Prelude, files: &'a [Pex]) -> Found<()> {
-        self.take_keywords()?;
-        for object in &prelude.file.objects {
-            self.add(&prelude.file, object)?;
+    /// Adds the scripts of these files behind those of the prelude. `NotFound` comes where a file hasn't one script.
+    pub(crate) fn fill(&mut self, prelude: &'a Prelude, files: &'a [Pex]) -> Found<()> {
+        self.infix = free_infix(self.alloc, files)?;
+        self.take_words()?;
+        self.add_file(&prelude.file)?;
+        for file in files {
+            check(file.objects.len() == 1)?;
+            self.add_file(file)?;
         }
-        self.add_files(files)
+        Ok(())
     }
 
-    fn take_keywords(&mut self) -> Result<(), OutOfMemory> {
-        for keyword in KEYWORDS.iter() {
-            let number = self.table.number(self.alloc, keyword.as_bytes())?;
+    fn take_words(&mut self) -> Result<(), OutOfMemory> {
+        for word in WORDS.iter() {
+            let number = self.table.number(self.alloc, word.as_bytes())?;
             self.taken.insert(number)?;
         }
         Ok(())
     }
 
-    fn add_files(&mut self, files: &'a [Pex]) -> Found<()> {
-        for file in files {
-            match file.objects.as_slice() {
-                [object] => self.add(file, object)?,
-                _ => return Err(NOT_FOUND),
+    fn add_file(&mut self, file: &'a Pex) -> Result<(), OutOfMemory> {
+        for object in &file.objects {
+            let script = Script {
+                place: self.scripts.len(),
+                object,
+                strings: &file.strings,
+                names: FileNames::of_strings(self.alloc, &mut self.table, &file.strings)?,
+            };
+            self.add_members(&script)?;
+            self.scripts.push(script)?;
+        }
+        Ok(())
+    }
+
+    // Adds the members of the next script, and its name.
+    fn add_members(&mut self, script: &Script<'a>) -> Result<(), OutOfMemory> {
+        self.by_name.insert(script.name(), script.place)?;
+        self.taken.insert(script.name())?;
+        self.add_functions(script)?;
+        self.add_properties(script)?;
+        self.add_variables(script)
+    }
+
+    // Adds the functions of the empty state, which stands first where there is one.
+    fn add_functions(&mut self, script: &Script<'a>) -> Result<(), OutOfMemory> {
+        if let Some(state) = script.object.states.first() {
+            for (name, function) in &state.functions {
+                let key = (script.place, script.number(*name));
+                self.functions.insert(key, function)?;
             }
         }
         Ok(())
     }
 
-    fn add(&mut self, file: &'a Pex, object: &'a PexObject) -> Found<()> {
-        let place = self.scripts.len();
-        let name = self
-            .table
-            .number(self.alloc, text_at(&file.strings, object.name))?;
-        self.by_name.insert(name, place)?;
-        self.taken.insert(name)?;
-        let (table, taken) = (&mut self.table, &mut self.taken);
-        let script = Script::new(self.alloc, table, taken, file, object, place)?;
-        self.scripts.push(script)?;
+    fn add_properties(&mut self, script: &Script<'a>) -> Result<(), OutOfMemory> {
+        for property in &script.object.properties {
+            let name = script.number(property.name);
+            self.taken.insert(name)?;
+            self.properties.insert((script.place, name), property)?;
+            if let Some(variable) = property.variable {
+                let key = (script.place, script.number(variable));
+                self.properties.insert(key, property)?;
+            }
+        }
+        Ok(())
+    }
+
+    fn add_variables(&mut self, script: &Script<'a>) -> Result<(), OutOfMemory> {
+        for (place, variable) in script.object.variables.iter().enumerate() {
+            let name = script.number(variable.name);
+            self.taken.insert(name)?;
+            self.variables.insert((script.place, name), place)?;
+        }
         Ok(())
     }
 
@@ -97,16 +138,25 @@ impl<'a> World<'a> {
         self.scripts.get(number).ok_or(NOT_FOUND)
     }
 
+    /// The place of a script's own variable of this name.
+    pub(crate) fn variable(&self, script: &Script<'_>, name: usize) -> Option<usize> {
+        self.variables.get(&(script.place, name)).copied()
+    }
+
+    /// A script's own property of this name, or whose variable has it.
+    pub(crate) fn property(&self, script: &Script<'_>, name: usize) -> Option<&'a PexProperty> {
+        self.properties.get(&(script.place, name)).copied()
+    }
+
     /// Appends the name of a parameter or a local: its own where that is a word that is free, else one by its type and place.
     pub(crate) fn put_slot(&self, page: &mut Page, slot: Slot<'_>) -> Found<()> {
-        let (script, (name, kind), place) = (slot.script, slot.pair, slot.place);
+        let (script, (name, kind), place) = slot;
         let own = script.text(name);
         if is_word(own) && !self.taken.contains(&script.number(name)) {
             return page.put(own);
         }
         let kind = script.number(kind);
-        let stem = self.words.stem(kind, self.is_script(kind));
-        let infix = self.infix.as_str();
+        let (stem, infix) = (stem(kind, self.is_script(kind)), self.infix.as_str());
         let name = format!(in page.alloc; "{stem}{infix}{place}")?;
         page.put(name.as_bytes())
     }
@@ -117,7 +167,7 @@ impl<'a> World<'a> {
     }
 
     fn is_script(&self, kind: usize) -> bool {
-        self.by_name.get(&kind).is_some()
+        self.by_name.contains_key(&kind)
     }
 
     // The nearest script that has it, from the script of this type upward.
@@ -126,8 +176,8 @@ impl<'a> World<'a> {
         for _ in 0..self.scripts.len() {
             let is_found = match sought {
                 Sought::Script(name) => script.name() == name,
-                Sought::Function(name) => script.function(name).is_some(),
-                Sought::Property(name) => script.property(name).is_some(),
+                Sought::Function(name) => self.functions.contains_key(&(script.place, name)),
+                Sought::Property(name) => self.properties.contains_key(&(script.place, name)),
             };
             if is_found {
                 return Some(script);
@@ -145,26 +195,23 @@ impl<'a> World<'a> {
         name: usize,
     ) -> Option<(&Script<'a>, &'a PexFunction)> {
         if let Some(script) = self.nearest(kind, Sought::Function(name)) {
-            return Some((script, script.function(name)?));
+            return Some((script, *self.functions.get(&(script.place, name))?));
         }
         let first = self.scripts.first()?;
-        for (member, function) in self.members {
-            if first.number(*member) == name {
-                return Some((first, function));
-            }
-        }
-        None
+        let mut members = self.members.iter();
+        let (_, function) = members.find(|(member, _)| first.number(*member) == name)?;
+        Some((first, function))
     }
 
     /// The nearest property of a name, from the script of this type upward, with the number of its type.
     pub(crate) fn find_property(&self, kind: usize, name: usize) -> Option<usize> {
         let script = self.nearest(kind, Sought::Property(name))?;
-        Some(script.number(script.property(name)?.kind))
+        Some(script.number(self.property(script, name)?.kind))
     }
 
     /// Whether the name of a script means a variable or a property in this one.
     pub(crate) fn hides(&self, script: &Script<'_>, name: usize) -> bool {
-        script.variable_place(name).is_some() || self.find_property(script.name(), name).is_some()
+        self.variable(script, name).is_some() || self.find_property(script.name(), name).is_some()
     }
 
     /// The type of the elements of an array type. `NotFound` comes for every other type.
@@ -175,24 +222,19 @@ impl<'a> World<'a> {
 
     /// Whether a value of one type converts to another by itself.
     pub(crate) fn converts(&self, kind: usize, to: usize) -> bool {
-        let words = &self.words;
-        if kind == to || to == words.bool_type {
-            return true;
+        match (kind, to) {
+            _ if kind == to => true,
+            (_, BOOL) => true,
+            (INT | BOOL | NONE, STRING) => true,
+            (_, STRING) => self.is_script(kind),
+            (NONE, _) => self.table.name(to).ends_with(b"[]") || self.is_script(to),
+            _ => self.nearest(kind, Sought::Script(to)).is_some(),
         }
-        if to == words.string_type {
-            return [words.int_type, words.bool_type, words.none_type].contains(&kind)
-                || self.is_script(kind);
-        }
-        if kind == words.none_type {
-            return self.table.name(to).ends_with(b"[]") || self.is_script(to);
-        }
-        self.nearest(kind, Sought::Script(to)).is_some()
     }
 
     /// The type in which two values of these types are compared.
     pub(crate) fn common(&self, left: usize, right: usize) -> Option<usize> {
-        let words = &self.words;
-        for to in [words.string_type, words.bool_type, right, left] {
+        for to in [STRING, BOOL, right, left] {
             if (left == to || right == to) && self.converts(left, to) && self.converts(right, to) {
                 return Some(to);
             }
