@@ -34,7 +34,9 @@ fn read_with_fault(
     limit: u32,
 ) -> Result<Vec<u8>, ReadAllFault> {
     let mut desk = MemoryDesk::new(alloc, [fault].to_vec(alloc)?);
-    desk.put(b"a", b"abc")?;
+    if desk.put(b"a", b"abc").is_err() {
+        return Err(ReadAllFault::OutOfMemory);
+    }
     read_all(alloc, &mut desk, name, limit)
 }
 
