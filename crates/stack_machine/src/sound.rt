@@ -69,27 +69,10 @@ impl Judged<'_> {
     fn has_sound_frames(&self, frames: &[FrameState]) -> Result<bool, OutOfMemory> {
         for (place, frame) in frames.iter().enumerate() {
             let above = frames.get(place.saturating_add(1));
-            if !self.is_sound_frame(frame, above, place == 0)? {
+            if !self.is_sound_call(frame, place == 0)? || !self.is_sound_body(frame, above)? {
                 return Ok(false);
             }
         }
         Ok(true)
-    }
-
-    // A frame, with the one that it called, none of the innermost one.
-    fn is_sound_frame(
-        &self,
-        frame: &FrameState,
-        above: Option<&FrameState>,
-        is_first: bool,
-    ) -> Result<bool, OutOfMemory> {
-        match frame {
-            FrameState::ToEnter {
-                instance,
-                way,
-                arguments,
-            } => self.is_sound_call(*instance, way, arguments, is_first),
-            FrameState::Running { .. } => self.is_sound_body(frame, above),
-        }
     }
 }

@@ -7,15 +7,8 @@ use machine_state::{BodyPlace, FrameState};
 use papy_base::OutOfMemory;
 use pex_verify::{LoadedFunction, LoadedInstruction, action_of};
 
-fn calls(instruction: &LoadedInstruction) -> bool {
-    match action_of(instruction.opcode) {
-        Some(action) => is_call(action),
-        None => false,
-    }
-}
-
 impl Judged<'_> {
-    /// Whether a running frame stands in a body of the set, has slots of the types of its function's parameters and locals,
+    /// Whether a frame that is running stands in a body of the set, has slots of the types of its function's parameters and locals,
     /// and an instance of the body's script exactly where the function isn't Global. Where a frame above is open or a reply
     /// waits, it has come to an instruction that calls, and the operand that takes the result takes these.
     pub fn is_sound_body(
@@ -42,7 +35,7 @@ impl Judged<'_> {
         if place > function.code.len()
             || !self.is_on_script(*instance, at.script, function)
             || !self.fit_places(slots, function)
-            || (waits && !comes_to.is_some_and(|found| calls(found)))
+            || (waits && !calls(comes_to))
         {
             return Ok(false);
         }
@@ -98,9 +91,13 @@ impl Judged<'_> {
 
     // The function of the body that a place names.
     fn function_of(&self, at: &BodyPlace) -> Result<Option<&LoadedFunction>, OutOfMemory> {
-        Ok(match self.setting.body_named(self.alloc, at)? {
-            Some(body) => self.setting.function(body),
-            None => None,
-        })
+        let found = self.setting.body_named(self.alloc, at)?;
+        Ok(found.and_then(|body| self.setting.function(body)))
     }
+}
+
+fn calls(instruction: Option<&LoadedInstruction>) -> bool {
+    instruction
+        .and_then(|found| action_of(found.opcode))
+        .is_some_and(|action| is_call(action))
 }

@@ -3,8 +3,8 @@
 use crate::frame::CallWay;
 use crate::lookup::{Found, look_up};
 use crate::sound::Judged;
-use core_tree::{CoreType, Value};
-use machine_state::Way;
+use core_tree::CoreType;
+use machine_state::{FrameState, Way};
 use papy_base::OutOfMemory;
 use pex_verify::{LoadedFunction, LoadedProperty};
 
@@ -28,18 +28,6 @@ impl Callee<'_> {
             Callee::AutoSet(_) => None,
         }
     }
-
-    // A Global function with a body exactly for the way `Global`, else one with a body, or a native one where a frame stands
-    // below.
-    fn may_be_entered(self, is_global: bool, is_first: bool) -> bool {
-        match self {
-            Callee::Function(function) => {
-                function.is_global == is_global
-                    && (!function.is_native || (!is_global && !is_first))
-            }
-            Callee::AutoGet(_) | Callee::AutoSet(_) => true,
-        }
-    }
 }
 
 // The bits of a property that may be read, and of one that may be written.
@@ -48,23 +36,34 @@ const READ: u8 = 1;
 const WRITE: u8 = 2;
 
 impl Judged<'_> {
-    /// Whether a call finds a function that it may enter. Its arguments are of the types of the function's parameters, and it
-    /// has no instance exactly for the way `Global`.
-    pub fn is_sound_call(
-        &self,
-        instance: Option<u16>,
-        way: &Way,
-        arguments: &[Value],
-        is_first: bool,
-    ) -> Result<bool, OutOfMemory> {
+    /// Whether a frame that is to be entered calls what it may enter: a Global function with a body exactly for the way
+    /// `Global`, where it has no instance, else one with a body, or a native one where a frame stands below, or an Auto
+    /// property. Its arguments are of the types of the function's parameters.
+    pub fn is_sound_call(&self, frame: &FrameState, is_first: bool) -> Result<bool, OutOfMemory> {
+        let FrameState::ToEnter {
+            instance,
+            way,
+            arguments,
+        } = frame
+        else {
+            return Ok(true);
+        };
         let is_global = matches!(way, Way::Global { .. });
-        if instance.is_none() != is_global || !self.is_below_way(instance, way) {
+        if instance.is_none() != is_global || !self.is_below_way(*instance, way) {
             return Ok(false);
         }
-        Ok(match self.callee_of(instance, way)? {
-            Some(callee) => {
-                callee.may_be_entered(is_global, is_first) && self.fit_callee(arguments, callee)
+        Ok(match self.callee_of(*instance, way)? {
+            Some(Callee::Function(function)) => {
+                function.is_global == is_global
+                    && (!function.is_native || (!is_global && !is_first))
+                    && arguments.len() == function.parameters.len()
+                    && self.fit_slots(arguments, function)
             }
+            Some(Callee::AutoGet(_)) => arguments.is_empty(),
+            Some(Callee::AutoSet(kind)) => match arguments.as_slice() {
+                [value] => self.fits(value, Some(kind)),
+                _ => false,
+            },
             None => false,
         })
     }
@@ -77,19 +76,6 @@ impl Judged<'_> {
         }
     }
 
-    fn fit_callee(&self, arguments: &[Value], callee: Callee<'_>) -> bool {
-        match callee {
-            Callee::Function(function) => {
-                arguments.len() == function.parameters.len() && self.fit_slots(arguments, function)
-            }
-            Callee::AutoGet(_) => arguments.is_empty(),
-            Callee::AutoSet(kind) => match arguments {
-                [value] => self.fits(value, Some(kind)),
-                _ => false,
-            },
-        }
-    }
-
     /// What a call finds, none where nothing has its name.
     pub fn callee_of(
         &self,
@@ -99,22 +85,15 @@ impl Judged<'_> {
         let Some(way) = self.setting.way_named(self.alloc, way)? else {
             return Ok(None);
         };
-        let state = self.state_number(instance)?;
-        Ok(self.callee(state, instance, way))
-    }
-
-    // The number of the name of an instance's state, none where no file has it.
-    fn state_number(&self, instance: Option<u16>) -> Result<Option<usize>, OutOfMemory> {
-        let Some(instance) = instance else {
-            return Ok(None);
+        let held = instance.and_then(|number| self.state.instances.get(usize::from(number)));
+        let state = match held {
+            Some(found) => {
+                let loaded = &self.setting.loaded;
+                loaded.name_number(self.alloc, found.0.as_bytes())?
+            }
+            None => None,
         };
-        match self.state.instances.get(usize::from(instance)) {
-            Some(found) => self
-                .setting
-                .loaded
-                .name_number(self.alloc, found.0.as_bytes()),
-            None => Ok(None),
-        }
+        Ok(self.callee(state, instance, way))
     }
 
     fn callee(

@@ -88,12 +88,8 @@ impl Judged<'_> {
 
     // Whether the script that a type names is there.
     fn has_script(&self, kind: CoreType) -> bool {
-        match kind {
-            CoreType::Script(script) => {
-                usize::from(script) < self.setting.loaded.outline().scripts.len()
-            }
-            _ => true,
-        }
+        let count = self.setting.loaded.outline().scripts.len();
+        !matches!(kind, CoreType::Script(script) if usize::from(script) >= count)
     }
 }
 
