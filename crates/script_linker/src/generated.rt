@@ -88,8 +88,7 @@ fn goto_state(alloc: Global) -> Result<Function, OutOfMemory>
     ensures { IfOk result (IsMember goto_state) }
 {
     let lines = goto_lines(alloc)?;
-    let mut parameters = Vec::with_capacity(alloc, 1)?;
-    parameters.push(parameter(alloc, b"String", b"asNewState", None)?)?;
+    let parameters = vec![in alloc; parameter(alloc, b"String", b"asNewState", None)?]?;
     let heading = heading(alloc, b"GotoState", parameters, false)?;
     Ok(function(heading, Body::Lines(lines)))
 }
@@ -97,11 +96,10 @@ fn goto_state(alloc: Global) -> Result<Function, OutOfMemory>
 fn goto_lines(alloc: Global) -> Result<Vec<Statement>, OutOfMemory>
     ensures { IfOk result (λ lines. Pairwise IsStatement acts_of_goto lines.items) }
 {
-    let mut lines = Vec::with_capacity(alloc, 3)?;
-    lines.push(statement(call(alloc, b"OnEndState")?))?;
-    lines.push(statement(state_change(alloc)?))?;
-    lines.push(statement(call(alloc, b"OnBeginState")?))?;
-    Ok(lines)
+    let end = statement(call(alloc, b"OnEndState")?);
+    let change = statement(state_change(alloc)?);
+    let begin = statement(call(alloc, b"OnBeginState")?);
+    Ok(vec![in alloc; end, change, begin]?)
 }
 
 fn state_change(alloc: Global) -> Result<StatementForm, OutOfMemory>
@@ -131,9 +129,8 @@ fn get_lines(alloc: Global) -> Result<Vec<Statement>, OutOfMemory>
     ensures { IfOk result (λ lines. Pairwise IsStatement (Returns (codes "::State") ∷ []) lines.items) }
 {
     let state = Name::from_bytes(alloc, STATE_WORD)?;
-    let mut lines = Vec::with_capacity(alloc, 1)?;
-    lines.push(statement(StatementForm::Return(Some(Expr::Word(state)))))?;
-    Ok(lines)
+    let line = statement(StatementForm::Return(Some(Expr::Word(state))));
+    Ok(vec![in alloc; line]?)
 }
 
 fn statement(form: StatementForm) -> Statement
