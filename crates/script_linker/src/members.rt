@@ -47,8 +47,7 @@ pub(crate) fn member_fault(
         ((file : SourceFile) → HasSmallScript (slice_index_or scripts.now number file))) }
 {
     let script = &scripts.file(number).script;
-    let functions = script.functions.as_slice();
-    let own = &functions[..declared.min(functions.len())];
+    let own = first_functions(script.functions.as_slice(), declared);
     let mut first = Earliest { found: None };
     let passes_limit = passes_limit(number - PRELUDE_COUNT, script);
     first.note(passes_limit, script.line, LinkRule::Limit);
@@ -59,6 +58,16 @@ pub(crate) fn member_fault(
     let properties = script.properties.as_slice();
     judge_properties(alloc, scripts, number, properties, &mut first)?;
     Ok(found_or_limit(first.found, script))
+}
+
+fn first_functions(functions: &[Function], count: usize) -> &[Function]
+    ensures { result.now ≡ take count functions.now }
+{
+    if count < functions.len() {
+        &functions[..count]
+    } else {
+        functions
+    }
 }
 
 // N12, where the script breaks no other rule: so many functions or properties have too many names, or
