@@ -23,3 +23,6 @@ returns-in-Some c =
       resolved = tt;
       broken = IsFaultOn-at (λ n. heading_lines) c.args.files.now c.loop-number.number c.in-Some.found.line c.in-Some.found.rule c.fault.result c.fault.ensures (omega arith) (omega arith) line;
     }
+
+pub returns-clause-resolved : goal.returns-clause-resolved
+returns-clause-resolved c = λ n file behind inside. c.loop-number.invariant n file behind (omega arith)
