@@ -20,21 +20,15 @@ pub enum JumpKind {
 pub fn make_jump(alloc: Global, kind: JumpKind, offset: i32) -> Result<Instruction, AllocError>
     ensures { IfOk result (λ i. plain_instruction i ≡ jump kind offset) }
 {
-    match kind {
-        JumpKind::Always => Ok(Instruction {
-            opcode: 0x14,
-            fixed: vec![in alloc; Datum::Int(offset)]?,
-            more: Vec::new(alloc),
-        }),
-        JumpKind::IfTrue(condition) => Ok(Instruction {
-            opcode: 0x15,
-            fixed: vec![in alloc; condition, Datum::Int(offset)]?,
-            more: Vec::new(alloc),
-        }),
-        JumpKind::IfFalse(condition) => Ok(Instruction {
-            opcode: 0x16,
-            fixed: vec![in alloc; condition, Datum::Int(offset)]?,
-            more: Vec::new(alloc),
-        }),
-    }
+    let offset = Datum::Int(offset);
+    let (opcode, fixed) = match kind {
+        JumpKind::Always => (0x14, vec![in alloc; offset]?),
+        JumpKind::IfTrue(condition) => (0x15, vec![in alloc; condition, offset]?),
+        JumpKind::IfFalse(condition) => (0x16, vec![in alloc; condition, offset]?),
+    };
+    Ok(Instruction {
+        opcode,
+        fixed,
+        more: Vec::new(alloc),
+    })
 }

@@ -2,7 +2,6 @@
 use Rattle.std.specs.Prelude.{◌≡◌, ℕ, ◌<◌, ◌≤◌, List, [], ◌∷◌, length, take, drop, map, ◌++◌, ◌⊎◌, Option, None, Result, Ok, Err, ⊤, Bool, false, ◌==◌}
 use Rattle.script_lexer.specs.declared.opening.Opening.{Opening}
 use Rattle.script_lexer.specs.declared.piece.Piece.{Piece}
-use Rattle.script_lexer.specs.declared.piece.Found.{Found}
 use Rattle.script_lexer.specs.declared.fault.LexRule.{LexRule}
 use Rattle.script_lexer.specs.declared.piece.PieceFault.{PieceFault}
 use Rattle.script_lexer.specs.declared.piece.PieceFault.TheVariants as fault
@@ -34,8 +33,8 @@ abbrev pub Refuses : List ℕ → PieceFault → Type 0
 Refuses rest (fault.Broken r) = IsLowest rest r
 Refuses rest fault.OutOfMemory = ⊤
 
-abbrev pub Answers : List ℕ → Result Found PieceFault → Type 0
-Answers rest (Ok found) = Stands rest found.piece found.len
+abbrev pub Answers : List ℕ → Result (Piece × ℕ) PieceFault → Type 0
+Answers rest (Ok found) = Stands rest found.0 found.1
 Answers rest (Err f) = Refuses rest f
 
 -- the test of a hexadecimal number, at all of its bytes

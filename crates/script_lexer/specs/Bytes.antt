@@ -1,6 +1,7 @@
 -- Classes of bytes, and what a byte opens.
 use Rattle.std.specs.Prelude.{ℕ, Bool, true, false, List, drop, not, ◌==◌, ◌||◌, if◌then◌else◌}
 use Rattle.std.specs.List.{prefix_len, take_while, count_by}
+use Rattle.std.specs.Int.{is_in_range}
 use Rattle.std.specs.Char.{is_ascii_digit, is_ascii_hexdigit, is_ascii_alphabetic}
 use Rattle.script_lexer.specs.declared.byte_class.ByteClass.{ByteClass}
 use Rattle.script_lexer.specs.declared.byte_class.ByteClass.TheVariants as class
@@ -38,11 +39,10 @@ class_test class.Digit b = is_ascii_digit b
 class_test class.HexDigit b = is_ascii_hexdigit b
 class_test class.Word b = is_word_byte b
 
--- ( ) [ ] , . = ! < > + - * / % & |
+-- ! % & ( ) * + , - . / < = > [ ] |
 abbrev pub is_sign_start : ℕ → Bool
 is_sign_start b =
-    (b == 40) || ((b == 41) || ((b == 91) || ((b == 93) || ((b == 44) || ((b == 46) || ((b == 61) || ((b == 33) || ((b == 60) || ((b == 62)
-    || ((b == 43) || ((b == 45) || ((b == 42) || ((b == 47) || ((b == 37) || ((b == 38) || (b == 124))))))))))))))))
+    (b == 33) || ((b == 37) || ((b == 38) || (is_in_range 40 47 b || (is_in_range 60 62 b || ((b == 91) || ((b == 93) || (b == 124)))))))
 
 -- what a piece opens with this byte
 unfoldable pub opening_of : ℕ → Opening

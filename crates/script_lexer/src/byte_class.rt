@@ -3,7 +3,7 @@ ghost use Rattle.std.specs.List.{prefix_len};
 ghost use Rattle.script_lexer.specs.Bytes.{class_test, is_word_start, is_word_byte};
 
 /// A class of bytes that stand in a row.
-#[derive(Clone, Copy, PartialEq, Eq)]
+#[derive(Clone, Copy)]
 pub enum ByteClass {
     /// Space, tab and carriage return.
     Blank,

@@ -2,7 +2,6 @@ ghost use Rattle.std.specs.Prelude.{◌≡◌};
 ghost use Rattle.script_lexer.specs.declared.fault.LexFault.TheVariants.{OutOfMemory as NoMemory};
 
 use papy_base::OutOfMemory;
-use std::alloc::{AllocError, AllocFailed};
 use thiserror::Error;
 
 /// The rules of the lexical form, in order: where two are broken at one place, the first counts.
@@ -53,22 +52,6 @@ impl From<OutOfMemory> for LexFault {
     ghost from_gives = { λ _ fault. fault ≡ NoMemory };
 
     fn from(_error: OutOfMemory) -> LexFault {
-        LexFault::OutOfMemory
-    }
-}
-
-impl From<AllocError> for LexFault {
-    ghost from_gives = { λ _ fault. fault ≡ NoMemory };
-
-    fn from(_error: AllocError) -> LexFault {
-        LexFault::OutOfMemory
-    }
-}
-
-impl<T: Drop> From<AllocFailed<T>> for LexFault {
-    ghost from_gives = { λ _ fault. fault ≡ NoMemory };
-
-    fn from(_error: AllocFailed<T>) -> LexFault {
         LexFault::OutOfMemory
     }
 }

@@ -2,16 +2,23 @@ ghost use Rattle.std.specs.Prelude.{◌≡◌, ◌+◌, ◌<◌, ◌≤◌, ◌^
 ghost use Rattle.script_lexer.specs.Bytes.{line_ends, stays_in_line};
 ghost use Rattle.script_lexer.specs.Lines.{mark_len, physical_lines, logical_lines, text_of, IsUnbroken, Lexes};
 ghost use Rattle.script_lexer.specs.Progress.{IsReady};
+ghost use Rattle.script_lexer.specs.Answers.{Opens, Stands, Answers};
 ghost use Rattle.script_lexer.specs.Spans.{LinesStand};
 ghost use Rattle.script_lexer.specs.Steps.{PassesBlanks, CountsWithin, ends_before_last, StepAnswer, TextAnswer, FileFault};
+ghost use Rattle.script_lexer.specs.declared.opening.Opening.TheVariants as opening;
+ghost use Rattle.script_lexer.specs.declared.piece.Piece.TheVariants as piece;
 
 use crate::byte_class::ByteClass;
 use crate::fault::{LexFault, LexRule};
 use crate::line::Lines;
-use crate::next_piece::next_piece;
+use crate::number::number;
 use crate::opening::Opening;
-use crate::piece::Found;
+use crate::piece::{Found, Piece, PieceFault};
 use crate::progress::Progress;
+use crate::punctuation::sign;
+use crate::quoted::text;
+use crate::trivia::{comment, documentation, join};
+use crate::word::word;
 use papy_base::NamePool;
 use std::alloc::Global;
 
@@ -64,6 +71,31 @@ fn line_ends_within(opening: Opening, line: u32, bytes: &[u8]) -> Option<u32>
     Some((before_last + count_line_ends(last)) as u32)
 }
 
+// The longest piece that stands here, or the lowest rule that is broken here.
+fn next_piece(
+    alloc: Global,
+    names: &mut NamePool,
+    opening: Opening,
+    rest: &[u8],
+) -> Result<Found, PieceFault>
+    requires nonempty { 0 < length rest.now }
+    requires opens { Opens opening rest.now }
+    ensures { Answers rest.now result }
+{
+    match opening {
+        Opening::Blank => Ok((Piece::Blank, 1)),
+        Opening::LineEnd => Ok((Piece::LineEnd, 1)),
+        Opening::Join => join(rest),
+        Opening::Comment => comment(rest),
+        Opening::Documentation => documentation(alloc, rest),
+        Opening::Quote => text(alloc, rest),
+        Opening::Number => number(rest),
+        Opening::Word => word(names, rest),
+        Opening::Sign => sign(rest),
+        Opening::Nothing => Err(PieceFault::Broken(LexRule::BadByte)),
+    }
+}
+
 // One piece more. Gives what is left behind it.
 fn step<'a>(
     alloc: Global,
@@ -79,16 +111,13 @@ fn step<'a>(
 {
     let line = progress.line;
     let opening = Opening::of(rest[0]);
-    let Found { piece, len } = match next_piece(alloc, names, opening, rest) {
+    let (piece, len) = match next_piece(alloc, names, opening, rest) {
         Ok(found) => found,
         Err(fault) => return Err(fault.at_line(line)),
     };
     let (bytes, after) = rest.split_at(len);
     let Some(ends) = line_ends_within(opening, line, bytes) else {
-        return Err(LexFault::Broken {
-            line: 65536,
-            rule: LexRule::TooLarge,
-        });
+        return Err(PieceFault::Broken(LexRule::TooLarge).at_line(65536));
     };
     progress.take(alloc, piece, bytes, ends)?;
     Ok(after)
@@ -160,10 +189,7 @@ pub fn lex(alloc: Global, bytes: &[u8]) -> Result<Lines, LexFault>
     ensures broken { IfErr result (FileFault bytes.now) }
 {
     if bytes.len() > FILE_LIMIT {
-        return Err(LexFault::Broken {
-            line: 0,
-            rule: LexRule::TooLarge,
-        });
+        return Err(PieceFault::Broken(LexRule::TooLarge).at_line(0));
     }
     let start = mark_len(bytes);
     let (_, text) = bytes.split_at(start);

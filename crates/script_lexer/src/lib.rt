@@ -7,7 +7,6 @@ mod keyword;
 mod laws;
 mod lexer;
 mod line;
-mod next_piece;
 mod number;
 mod opening;
 mod piece;

@@ -49,28 +49,19 @@ fn magnitude(base: u32, digits: &[u8]) -> Option<u32>
 fn is_hexadecimal(rest: &[u8]) -> bool
     ensures { result ≡ is_hexadecimal_at rest.now }
 {
-    match rest {
-        [b'0', b'x', digit, ..] => digit.is_ascii_hexdigit(),
-        _ => false,
-    }
+    matches!(rest, [b'0', b'x', digit, ..] if digit.is_ascii_hexdigit())
 }
 
 fn is_fraction(after: &[u8]) -> bool
     ensures { IsTrue result ↔ IsFraction after.now }
 {
-    match after {
-        [b'.', digit, ..] => digit.is_ascii_digit(),
-        _ => false,
-    }
+    matches!(after, [b'.', digit, ..] if digit.is_ascii_digit())
 }
 
 fn begins_word(after: &[u8]) -> bool
     ensures { IsTrue result ↔ BeginsWith is_word_start after.now }
 {
-    match after {
-        [first, ..] => is_word_start(*first),
-        [] => false,
-    }
+    matches!(after, [first, ..] if is_word_start(*first))
 }
 
 // `0x` and hexadecimal digits, which are read as two's complement.
@@ -89,10 +80,7 @@ fn hexadecimal(rest: &[u8]) -> Result<Found, PieceFault>
     if begins_word(after) {
         return Err(PieceFault::Broken(LexRule::NumberRange));
     }
-    Ok(Found {
-        piece: Piece::Token(Token::Int(number.cast_signed())),
-        len: len + 2,
-    })
+    Ok((Piece::Token(Token::Int(number.cast_signed())), len + 2))
 }
 
 fn decimal(rest: &[u8]) -> Result<Found, PieceFault>
@@ -110,16 +98,10 @@ fn decimal(rest: &[u8]) -> Result<Found, PieceFault>
     let Some(number) = magnitude(10, digits) else {
         return Err(PieceFault::Broken(LexRule::NumberRange));
     };
-    if number > DECIMAL_LIMIT {
+    if number > DECIMAL_LIMIT || begins_word(after) {
         return Err(PieceFault::Broken(LexRule::NumberRange));
     }
-    if begins_word(after) {
-        return Err(PieceFault::Broken(LexRule::NumberRange));
-    }
-    Ok(Found {
-        piece: Piece::Token(Token::Int(number as i32)),
-        len,
-    })
+    Ok((Piece::Token(Token::Int(number as i32)), len))
 }
 
 /// A number.

@@ -4,7 +4,7 @@ ghost use Rattle.script_lexer.specs.Bytes.{opening_of, is_sign_start, stays_in_l
 use crate::byte_class::is_word_start;
 
 /// What the first byte of a piece opens.
-#[derive(Clone, Copy, PartialEq, Eq)]
+#[derive(Clone, Copy)]
 pub enum Opening {
     /// A blank is one byte.
     Blank,
@@ -28,10 +28,8 @@ impl Opening {
     pub fn of(byte: u8) -> Opening
         ensures { result ≡ opening_of byte }
     {
-        if is_word_start(byte) {
-            return Opening::Word;
-        }
         match byte {
+            _ if is_word_start(byte) => Opening::Word,
             b' ' | b'\t' | b'\r' => Opening::Blank,
             b'\n' => Opening::LineEnd,
             b'\\' => Opening::Join,
@@ -39,23 +37,7 @@ impl Opening {
             b'{' => Opening::Documentation,
             b'"' => Opening::Quote,
             b'0'..=b'9' => Opening::Number,
-            b'('
-            | b')'
-            | b'['
-            | b']'
-            | b','
-            | b'.'
-            | b'='
-            | b'!'
-            | b'<'
-            | b'>'
-            | b'+'
-            | b'-'
-            | b'*'
-            | b'/'
-            | b'%'
-            | b'&'
-            | b'|' => Opening::Sign,
+            b'!' | b'%' | b'&' | b'('..=b'/' | b'<'..=b'>' | b'[' | b']' | b'|' => Opening::Sign,
             _ => Opening::Nothing,
         }
     }

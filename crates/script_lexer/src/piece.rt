@@ -4,7 +4,6 @@ ghost use Rattle.script_lexer.specs.declared.piece.PieceFault.TheVariants.{OutOf
 use crate::fault::{LexFault, LexRule};
 use crate::token::Token;
 use papy_base::OutOfMemory;
-use std::alloc::{AllocError, AllocFailed};
 
 /// A piece of a script: what stands between the places at which pieces begin.
 #[derive(Drop)]
@@ -18,14 +17,10 @@ pub enum Piece {
 }
 
 /// A piece and how many bytes it takes.
-#[derive(Drop)]
-pub struct Found {
-    pub piece: Piece,
-    pub len: usize,
-}
+pub type Found = (Piece, usize);
 
 /// Why no piece stands at a place.
-#[derive(Clone, Copy, PartialEq, Eq)]
+#[derive(Clone, Copy)]
 pub enum PieceFault {
     /// The lowest rule that is broken there.
     Broken(LexRule),
@@ -51,22 +46,6 @@ impl From<OutOfMemory> for PieceFault {
     ghost from_gives = { λ _ fault. fault ≡ NoMemory };
 
     fn from(_error: OutOfMemory) -> PieceFault {
-        PieceFault::OutOfMemory
-    }
-}
-
-impl From<AllocError> for PieceFault {
-    ghost from_gives = { λ _ fault. fault ≡ NoMemory };
-
-    fn from(_error: AllocError) -> PieceFault {
-        PieceFault::OutOfMemory
-    }
-}
-
-impl<T: Drop> From<AllocFailed<T>> for PieceFault {
-    ghost from_gives = { λ _ fault. fault ≡ NoMemory };
-
-    fn from(_error: AllocFailed<T>) -> PieceFault {
         PieceFault::OutOfMemory
     }
 }

@@ -23,33 +23,11 @@ pub struct Progress {
     pub lines: Vec<Line>,
 }
 
-// Ends a logical line, which counts where it has tokens. They move to a list of their length.
-fn end_line(
-    alloc: Global,
-    lines: &mut Vec<Line>,
-    tokens: &mut Vec<Spanned>,
-    begun: u32,
-) -> Result<(), OutOfMemory>
-    requires { 0 < length tokens.old.items → begun ≤ 65535 }
-    ensures ended { OnOk result (logical_lines lines.new.items ≡ logical_lines lines.old.items ++ nonempty begun tokens.old.items []) }
-    ensures empty { OnOk result (tokens.new.items ≡ []) }
-{
-    if tokens.is_empty() {
-        return Ok(());
-    }
-    let mut own = Vec::with_capacity(alloc, tokens.len())?;
-    own.append(tokens)?;
-    lines.push(Line {
-        number: begun as u16,
-        tokens: own,
-    })?;
-    Ok(())
-}
-
 impl Progress {
     ghost use Rattle.std.specs.Prelude.{◌≡◌, ◌+◌, ◌<◌, ◌≤◌, ◌^◌, [], ◌++◌, List, ℕ, length, IfOk, OnOk};
     ghost use Rattle.script_lexer.specs.Bytes.{line_ends};
     ghost use Rattle.script_lexer.specs.Progress.{IsStart, IsReady, Takes, closed};
+    ghost use Rattle.script_lexer.specs.Lines.{logical_lines, nonempty};
     ghost use Rattle.script_lexer.specs.declared.piece.Piece.TheVariants as piece;
 
     /// Nothing was read, and the text begins at this place.
@@ -63,6 +41,27 @@ impl Progress {
             tokens: Vec::new(alloc),
             lines: Vec::new(alloc),
         }
+    }
+
+    // Ends the current logical line, which counts where it has tokens. They move to a list of their length.
+    fn end_line(&mut self, alloc: Global) -> Result<(), OutOfMemory>
+        requires { 0 < length self.old.tokens.items → self.old.begun ≤ 65535 }
+        ensures ended { OnOk result (logical_lines self.new.lines.items ≡ logical_lines self.old.lines.items ++ nonempty self.old.begun self.old.tokens.items []) }
+        ensures empty { OnOk result (self.new.tokens.items ≡ []) }
+        ensures place { self.new.at ≡ self.old.at }
+        ensures line { self.new.line ≡ self.old.line }
+        ensures begun { self.new.begun ≡ self.old.begun }
+    {
+        if self.tokens.is_empty() {
+            return Ok(());
+        }
+        let mut tokens = Vec::with_capacity(alloc, self.tokens.len())?;
+        tokens.append(&mut self.tokens)?;
+        self.lines.push(Line {
+            number: self.begun as u16,
+            tokens,
+        })?;
+        Ok(())
     }
 
     /// One piece more, with its bytes and the number of their line ends.
@@ -85,7 +84,7 @@ impl Progress {
         let line = self.line + ends;
         match piece {
             Piece::LineEnd => {
-                end_line(alloc, &mut self.lines, &mut self.tokens, self.begun)?;
+                self.end_line(alloc)?;
                 self.begun = line;
             }
             Piece::Token(token) => {
@@ -99,18 +98,11 @@ impl Progress {
     }
 
     /// The logical lines, with the last one.
-    pub fn finish(self, alloc: Global) -> Result<Vec<Line>, OutOfMemory>
+    pub fn finish(mut self, alloc: Global) -> Result<Vec<Line>, OutOfMemory>
         requires { IsReady self }
         ensures { IfOk result (λ lines. closed lines.items self) }
     {
-        let Progress {
-            at: _,
-            line: _,
-            begun,
-            mut tokens,
-            mut lines,
-        } = self;
-        end_line(alloc, &mut lines, &mut tokens, begun)?;
-        Ok(lines)
+        self.end_line(alloc)?;
+        Ok(self.lines)
     }
 }

@@ -26,15 +26,9 @@ pub fn sign(rest: &[u8]) -> Result<Found, PieceFault>
     ensures { Answers rest.now result }
 {
     match pair(rest) {
-        Some(sign) => Ok(Found {
-            piece: Piece::Token(Token::Sign(sign)),
-            len: 2,
-        }),
+        Some(sign) => Ok((Piece::Token(Token::Sign(sign)), 2)),
         None => match Sign::of_byte(rest[0]) {
-            Some(sign) => Ok(Found {
-                piece: Piece::Token(Token::Sign(sign)),
-                len: 1,
-            }),
+            Some(sign) => Ok((Piece::Token(Token::Sign(sign)), 1)),
             None => Err(PieceFault::Broken(LexRule::BadByte)),
         },
     }

@@ -31,29 +31,25 @@ fn next_item(rest: &[u8]) -> Option<TextItem>
 #[derive(Drop)]
 struct Read {
     meant: Vec<u8>,
-    is_good: bool,
+    good: bool,
     len: usize,
 }
 
 // The items of a text, up to where it stops.
 fn read_items(alloc: Global, bytes: &[u8]) -> Result<Read, OutOfMemory>
-    ensures { IfOk result (λ r. ReadsItems bytes.now r.meant.items r.is_good r.len) }
+    ensures { IfOk result (λ r. ReadsItems bytes.now r.meant.items r.good r.len) }
 {
     let mut meant = Vec::new(alloc);
-    let mut is_good = true;
+    let mut good = true;
     let mut rest = bytes;
     while let Some(item) = next_item(rest) {
         meant.push(item.value())?;
-        is_good = is_good && item.is_good();
+        good = good && item.is_good();
         let (_, after) = rest.split_at(item.len());
         rest = after;
     }
     let len = bytes.len() - rest.len();
-    Ok(Read {
-        meant,
-        is_good,
-        len,
-    })
+    Ok(Read { meant, good, len })
 }
 
 /// A text, up to its closing quote.
@@ -63,23 +59,16 @@ pub fn text(alloc: Global, rest: &[u8]) -> Result<Found, PieceFault>
     ensures { Answers rest.now result }
 {
     let (_, behind) = rest.split_at(1);
-    let Read {
-        meant,
-        is_good,
-        len,
-    } = read_items(alloc, behind)?;
+    let Read { meant, good, len } = read_items(alloc, behind)?;
     if len >= behind.len() || behind[len] != b'"' {
         return Err(PieceFault::Broken(LexRule::OpenText));
     }
-    if !is_good {
+    if !good {
         return Err(PieceFault::Broken(LexRule::BadEscape));
     }
     if meant.len() > TEXT_LIMIT {
         return Err(PieceFault::Broken(LexRule::TextTooLong));
     }
     let text = Text::try_from_bytes(alloc, &meant)?;
-    Ok(Found {
-        piece: Piece::Token(Token::Quoted(text)),
-        len: len + 2,
-    })
+    Ok((Piece::Token(Token::Quoted(text)), len + 2))
 }

@@ -1,5 +1,5 @@
 ghost use Rattle.std.specs.Prelude.{◌≡◌};
-ghost use Rattle.script_lexer.specs.Words.{sign_spelling, sign_of_byte, sign_before_equal, sign_of_bytes};
+ghost use Rattle.script_lexer.specs.Words.{sign_of_byte, sign_before_equal, sign_of_bytes};
 
 /// A sign of one or two bytes.
 #[derive(Clone, Copy, Debug, PartialEq, Eq)]
@@ -59,40 +59,6 @@ pub enum Sign {
 }
 
 impl Sign {
-    /// The bytes of the sign.
-    pub fn spelling(self) -> &'static [u8]
-        ensures { result.now ≡ sign_spelling self }
-    {
-        match self {
-            Sign::OpenParen => b"(",
-            Sign::CloseParen => b")",
-            Sign::OpenBracket => b"[",
-            Sign::CloseBracket => b"]",
-            Sign::Comma => b",",
-            Sign::Dot => b".",
-            Sign::Assign => b"=",
-            Sign::Equal => b"==",
-            Sign::NotEqual => b"!=",
-            Sign::Less => b"<",
-            Sign::Greater => b">",
-            Sign::LessEqual => b"<=",
-            Sign::GreaterEqual => b">=",
-            Sign::Plus => b"+",
-            Sign::Minus => b"-",
-            Sign::Star => b"*",
-            Sign::Slash => b"/",
-            Sign::Percent => b"%",
-            Sign::Not => b"!",
-            Sign::And => b"&&",
-            Sign::Or => b"||",
-            Sign::PlusAssign => b"+=",
-            Sign::MinusAssign => b"-=",
-            Sign::StarAssign => b"*=",
-            Sign::SlashAssign => b"/=",
-            Sign::PercentAssign => b"%=",
-        }
-    }
-
     /// The sign that is this byte.
     pub(crate) fn of_byte(byte: u8) -> Option<Sign>
         ensures { result ≡ sign_of_byte byte }
@@ -139,15 +105,10 @@ impl Sign {
     pub(crate) fn of_bytes(first: u8, second: u8) -> Option<Sign>
         ensures { result ≡ sign_of_bytes first second }
     {
-        if second == b'=' {
-            return Sign::before_equal(first);
-        }
-        if first != second {
-            return None;
-        }
-        match first {
-            b'&' => Some(Sign::And),
-            b'|' => Some(Sign::Or),
+        match (first, second) {
+            (_, b'=') => Sign::before_equal(first),
+            (b'&', b'&') => Some(Sign::And),
+            (b'|', b'|') => Some(Sign::Or),
             _ => None,
         }
     }

@@ -24,10 +24,7 @@ pub fn join(rest: &[u8]) -> Result<Found, PieceFault>
     let (_, behind) = rest.split_at(1);
     let blanks = ByteClass::Blank.run_len(behind);
     if blanks < behind.len() && behind[blanks] == b'\n' {
-        Ok(Found {
-            piece: Piece::Join,
-            len: blanks + 2,
-        })
+        Ok((Piece::Join, blanks + 2))
     } else {
         Err(PieceFault::Broken(LexRule::BadByte))
     }
@@ -50,40 +47,7 @@ fn close_end(bytes: &[u8]) -> Option<usize>
 fn begins_block(behind: &[u8]) -> bool
     ensures { result ≡ begins_block behind.now }
 {
-    match behind {
-        [first, ..] => *first == b'/',
-        [] => false,
-    }
-}
-
-fn line_comment(rest: &[u8]) -> Found
-    requires nonempty { 0 < length rest.now }
-    requires opens { Opens opening.Comment rest.now }
-    requires line { begins_block (drop 1 rest.now) ≡ false }
-    ensures { Stands rest.now result.piece result.len }
-{
-    let (_, behind) = rest.split_at(1);
-    let len = 1 + ByteClass::Comment.run_len(behind);
-    Found {
-        piece: Piece::Comment,
-        len,
-    }
-}
-
-fn block_comment(rest: &[u8]) -> Result<Found, PieceFault>
-    requires long { 2 ≤ length rest.now }
-    requires opens { Opens opening.Comment rest.now }
-    requires block { begins_block (drop 1 rest.now) ≡ true }
-    ensures { Answers rest.now result }
-{
-    let (_, body) = rest.split_at(2);
-    match close_end(body) {
-        Some(end) => Ok(Found {
-            piece: Piece::Comment,
-            len: end + 2,
-        }),
-        None => Err(PieceFault::Broken(LexRule::OpenComment)),
-    }
+    matches!(behind, [b'/', ..])
 }
 
 /// A comment, up to the line's end or from `;/` to the first `/;`.
@@ -93,10 +57,14 @@ pub fn comment(rest: &[u8]) -> Result<Found, PieceFault>
     ensures { Answers rest.now result }
 {
     let (_, behind) = rest.split_at(1);
-    if begins_block(behind) {
-        block_comment(rest)
-    } else {
-        Ok(line_comment(rest))
+    if !begins_block(behind) {
+        let len = 1 + ByteClass::Comment.run_len(behind);
+        return Ok((Piece::Comment, len));
+    }
+    let (_, body) = rest.split_at(2);
+    match close_end(body) {
+        Some(end) => Ok((Piece::Comment, end + 2)),
+        None => Err(PieceFault::Broken(LexRule::OpenComment)),
     }
 }
 
@@ -116,8 +84,5 @@ pub fn documentation(alloc: Global, rest: &[u8]) -> Result<Found, PieceFault>
     }
     let (bytes, _) = behind.split_at(len);
     let text = Text::try_from_bytes(alloc, bytes)?;
-    Ok(Found {
-        piece: Piece::Token(Token::Doc(text)),
-        len: len + 2,
-    })
+    Ok((Piece::Token(Token::Doc(text)), len + 2))
 }

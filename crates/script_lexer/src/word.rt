@@ -29,17 +29,11 @@ pub fn word(names: &mut NamePool, rest: &[u8]) -> Result<Found, PieceFault>
     match Keyword::of(bytes) {
         Some(keyword) => match keyword {
             Keyword::Float => Err(PieceFault::Broken(LexRule::FloatWord)),
-            _ => Ok(Found {
-                piece: Piece::Token(Token::Key(keyword)),
-                len,
-            }),
+            _ => Ok((Piece::Token(Token::Key(keyword)), len)),
         },
         None => {
             let name = names.name(bytes)?;
-            Ok(Found {
-                piece: Piece::Token(Token::Word(name)),
-                len,
-            })
+            Ok((Piece::Token(Token::Word(name)), len))
         }
     }
 }

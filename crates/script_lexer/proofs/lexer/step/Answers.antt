@@ -6,4 +6,4 @@ use Rattle.script_lexer.proofs.lexer.step.Goals as goal
 pub line_ends_within-requires-clause-in_line : goal.line_ends_within-requires-clause-in_line
 line_ends_within-requires-clause-in_line c =
     let opens : Opens c.of-opening.result c.args.rest.now = search rules in
-    holds_no_line_end c.of-opening.result c.args.rest.now c.split_at.result.0.now c.in-Ok.found.piece c.in-Ok.found.len opens c.in-Ok.ensures c.split_at.ensures.front
+    holds_no_line_end c.of-opening.result c.args.rest.now c.split_at.result.0.now c.in-Ok.found.0 c.in-Ok.found.1 opens c.in-Ok.ensures c.split_at.ensures.front
