@@ -88,7 +88,8 @@ fn goto_state(alloc: Global) -> Result<Function, OutOfMemory>
     ensures { IfOk result (IsMember goto_state) }
 {
     let lines = goto_lines(alloc)?;
-    let parameters = vec![in alloc; parameter(alloc, b"String", b"asNewState", None)?]?;
+    let mut parameters = Vec::with_capacity(alloc, 1)?;
+    parameters.push(parameter(alloc, b"String", b"asNewState", None)?)?;
     let heading = heading(alloc, b"GotoState", parameters, false)?;
     Ok(function(heading, Body::Lines(lines)))
 }
@@ -96,10 +97,11 @@ fn goto_state(alloc: Global) -> Result<Function, OutOfMemory>
 fn goto_lines(alloc: Global) -> Result<Vec<Statement>, OutOfMemory>
     ensures { IfOk result (λ lines. Pairwise IsStatement acts_of_goto lines.items) }
 {
-    let end = statement(call(alloc, b"OnEndState")?);
-    let change = statement(state_change(alloc)?);
-    let begin = statement(call(alloc, b"OnBeginState")?);
-    Ok(vec![in alloc; end, change, begin]?)
+    let mut lines = Vec::with_capacity(alloc, 3)?;
+    lines.push(statement(call(alloc, b"OnEndState")?))?;
+    lines.push(statement(state_change(alloc)?))?;
+    lines.push(statement(call(alloc, b"OnBeginState")?))?;
+    Ok(lines)
 }
 
 fn state_change(alloc: Global) -> Result<StatementForm, OutOfMemory>
@@ -129,8 +131,9 @@ fn get_lines(alloc: Global) -> Result<Vec<Statement>, OutOfMemory>
     ensures { IfOk result (λ lines. Pairwise IsStatement (Returns (codes "::State") ∷ []) lines.items) }
 {
     let state = Name::from_bytes(alloc, STATE_WORD)?;
-    let line = statement(StatementForm::Return(Some(Expr::Word(state))));
-    Ok(vec![in alloc; line]?)
+    let mut lines = Vec::with_capacity(alloc, 1)?;
+    lines.push(statement(StatementForm::Return(Some(Expr::Word(state)))))?;
+    Ok(lines)
 }
 
 fn statement(form: StatementForm) -> Statement

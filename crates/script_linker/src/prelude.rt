@@ -37,13 +37,13 @@ fn libraries(alloc: Global) -> Result<Vec<SourceFile>, OutOfMemory>
     ensures few { IfOk result (λ files. All HasSmallScript files.items) }
     ensures standard { IfOk result (λ files. AreStandard libraries files.items) }
 {
-    let of_debug = vec![in alloc; trace(alloc)?]?;
-    let of_utility = vec![in alloc; random_int(alloc)?]?;
-    let of_scene = vec![in alloc; sleep(alloc)?]?;
+    let of_debug = one(alloc, trace(alloc)?)?;
+    let of_utility = one(alloc, random_int(alloc)?)?;
+    let of_scene = one(alloc, sleep(alloc)?)?;
     let debug = file(alloc, b"Debug", None, of_debug)?;
     let utility = file(alloc, b"Utility", None, of_utility)?;
     let scene = file(alloc, b"Scene", None, of_scene)?;
-    Ok(vec![in alloc; debug, utility, scene]?)
+    three(alloc, debug, utility, scene)
 }
 
 fn types(alloc: Global) -> Result<Vec<SourceFile>, OutOfMemory>
@@ -55,7 +55,7 @@ fn types(alloc: Global) -> Result<Vec<SourceFile>, OutOfMemory>
     let form = file(alloc, b"Form", None, lacking_members(alloc, &[])?)?;
     let quest = child_of_form(alloc, b"Quest")?;
     let reference = child_of_form(alloc, b"ObjectReference")?;
-    Ok(vec![in alloc; form, quest, reference]?)
+    three(alloc, form, quest, reference)
 }
 
 // A script that extends Form and has an empty event OnInit.
@@ -66,8 +66,35 @@ fn child_of_form(alloc: Global, name: &[u8]) -> Result<SourceFile, OutOfMemory>
     ensures standard { IfOk result (IsStandard (standard_child name.now)) }
 {
     let form = Name::from_bytes(alloc, b"Form")?;
-    let functions = vec![in alloc; empty_event(alloc, b"OnInit")?]?;
-    file(alloc, name, Some(form), functions)
+    file(
+        alloc,
+        name,
+        Some(form),
+        one(alloc, empty_event(alloc, b"OnInit")?)?,
+    )
+}
+
+fn three(
+    alloc: Global,
+    first: SourceFile,
+    second: SourceFile,
+    third: SourceFile,
+) -> Result<Vec<SourceFile>, OutOfMemory>
+    ensures { IfOk result (λ files. files.items ≡ first ∷ second ∷ third ∷ []) }
+{
+    let mut files = Vec::with_capacity(alloc, 3)?;
+    files.push(first)?;
+    files.push(second)?;
+    files.push(third)?;
+    Ok(files)
+}
+
+fn one(alloc: Global, function: Function) -> Result<Vec<Function>, OutOfMemory>
+    ensures { IfOk result (λ functions. functions.items ≡ function ∷ []) }
+{
+    let mut functions = Vec::with_capacity(alloc, 1)?;
+    functions.push(function)?;
+    Ok(functions)
 }
 
 // `Trace(String asTextToPrint, Int aiSeverity = 0)`
@@ -95,7 +122,8 @@ fn random_int(alloc: Global) -> Result<Function, OutOfMemory>
 fn sleep(alloc: Global) -> Result<Function, OutOfMemory>
     ensures { IfOk result (IsMember sleep) }
 {
-    let parameters = vec![in alloc; parameter(alloc, b"Int", b"turns", None)?]?;
+    let mut parameters = Vec::with_capacity(alloc, 1)?;
+    parameters.push(parameter(alloc, b"Int", b"turns", None)?)?;
     native(alloc, b"Sleep", parameters, None)
 }
 
