@@ -5,31 +5,13 @@ ghost use Rattle.pex_listing.specs.Opened.{word_of};
 
 use pex_values::OPCODES;
 
-/// What a line begins with, in the order of a listing.
-#[derive(Clone, Copy, PartialEq, Eq)]
-pub(crate) enum FirstWord {
-    Pex,
-    Source,
-    User,
-    Machine,
-    String,
-    NoDebug,
-    Debug,
-    Lines,
-    Flag,
-    Object,
-    Variable,
-    Property,
-    Read,
-    Write,
-    State,
-    Function,
-    Parameter,
-    Local,
+/// What a line begins with.
+#[derive(Clone, Copy)]
+pub(crate) enum FirstWord<'a> {
+    /// A word that is no opcode's name.
+    Word(&'a [u8]),
     /// An opcode's name.
     Opcode,
-    /// No line begins so.
-    Unknown,
     /// No line is left that ends with LF.
     End,
 }
@@ -44,36 +26,4 @@ pub(crate) fn opcode_of(word: &[u8]) -> Option<u8>
         }
     }
     None
-}
-
-/// What a line with this first word is.
-pub(crate) fn first_word_of(word: &[u8]) -> FirstWord
-    ensures { IfSome (word_of result) (λ spelled. word.now ≡ spelled) }
-{
-    match word {
-        b"pex" => FirstWord::Pex,
-        b"source" => FirstWord::Source,
-        b"user" => FirstWord::User,
-        b"machine" => FirstWord::Machine,
-        b"string" => FirstWord::String,
-        b"nodebug" => FirstWord::NoDebug,
-        b"debug" => FirstWord::Debug,
-        b"lines" => FirstWord::Lines,
-        b"flag" => FirstWord::Flag,
-        b"object" => FirstWord::Object,
-        b"variable" => FirstWord::Variable,
-        b"property" => FirstWord::Property,
-        b"read" => FirstWord::Read,
-        b"write" => FirstWord::Write,
-        b"state" => FirstWord::State,
-        b"function" => FirstWord::Function,
-        b"param" => FirstWord::Parameter,
-        b"local" => FirstWord::Local,
-        _ => {
-            if opcode_of(word).is_some() {
-                return FirstWord::Opcode;
-            }
-            FirstWord::Unknown
-        }
-    }
 }

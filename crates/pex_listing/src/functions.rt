@@ -7,13 +7,13 @@ ghost use Rattle.pex_values.specs.Spelling as spell;
 ghost use Rattle.pex_listing.specs.Headings.{IsFunctionHeading};
 ghost use Rattle.pex_listing.specs.Reading.{HoldsFunction, HoldsNamed, ReadsAccessor};
 
-use crate::faults::LineFault;
+use crate::faults::Read;
 use crate::first_word::FirstWord;
 use crate::item::{Item, read_all};
 use crate::listing::Listing;
 use crate::room::Room;
 use crate::strings::Strings;
-use pex_values::{Instruction, PexFunction};
+use pex_values::PexFunction;
 
 /// What stands in the line that a function begins with, behind its name.
 #[derive(Clone, Copy)]
@@ -25,7 +25,7 @@ pub(crate) struct FunctionHeading {
 }
 
 /// The rest of the line that a function begins with.
-fn read_heading(listing: &mut Listing, names: &Strings) -> Result<FunctionHeading, LineFault>
+fn read_heading(listing: &mut Listing, names: &Strings) -> Read<FunctionHeading>
     ensures { IfOk result (IsFunctionHeading (vec_len names.now.spelled)) }
 {
     let result = listing.reference(names)?;
@@ -47,7 +47,7 @@ impl Item for (u16, u16) {
 
     ghost spelling = { spell.pair };
 
-    fn read(listing: &mut Listing, names: &Strings, room: &mut Room) -> Result<Self, LineFault> {
+    fn read(listing: &mut Listing, names: &Strings, room: &mut Room) -> Read<Self> {
         room.spend(4)?;
         let name = listing.reference(names)?;
         let kind = listing.reference(names)?;
@@ -64,14 +64,14 @@ fn read_body(
     names: &Strings,
     room: &mut Room,
     heading: FunctionHeading,
-) -> Result<PexFunction, LineFault>
+) -> Read<PexFunction>
     requires { IsFunctionHeading (vec_len names.now.spelled) heading }
     ensures holds { IfOk result (HoldsFunction (vec_len names.now.spelled)) }
     ensures room { IfOk result (λ f. room.new.left + length (spell.function (plain_function f)) ≤ room.old.left + 15) }
 {
-    let parameters = read_all(listing, names, room, FirstWord::Parameter)?;
-    let locals = read_all(listing, names, room, FirstWord::Local)?;
-    let code: Vec<Instruction> = read_all(listing, names, room, FirstWord::Opcode)?;
+    let parameters = read_all(listing, names, room, FirstWord::Word(b"param"))?;
+    let locals = read_all(listing, names, room, FirstWord::Word(b"local"))?;
+    let code = read_all(listing, names, room, FirstWord::Opcode)?;
     Ok(PexFunction {
         result: heading.result,
         doc: heading.doc,
@@ -89,7 +89,7 @@ impl Item for (u16, PexFunction) {
 
     ghost spelling = { λ f. spell.named (plain_named f) };
 
-    fn read(listing: &mut Listing, names: &Strings, room: &mut Room) -> Result<Self, LineFault> {
+    fn read(listing: &mut Listing, names: &Strings, room: &mut Room) -> Read<Self> {
         room.spend(17)?;
         let name = listing.reference(names)?;
         let heading = read_heading(listing, names)?;
@@ -106,15 +106,15 @@ pub(crate) fn read_accessor(
     listing: &mut Listing,
     names: &Strings,
     room: &mut Room,
-    first_word: FirstWord,
+    word: &[u8],
     is_asked: bool,
-) -> Result<Option<PexFunction>, LineFault>
+) -> Read<Option<PexFunction>>
     ensures { IfOk result (ReadsAccessor (vec_len names.now.spelled) is_asked room.old.left room.new.left) }
 {
     if !is_asked {
         return Ok(None);
     }
-    listing.expect(first_word)?;
+    listing.expect(word)?;
     let heading = read_heading(listing, names)?;
     listing.next_line()?;
     let function = read_body(listing, names, room, heading)?;

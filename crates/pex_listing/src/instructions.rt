@@ -7,7 +7,7 @@ ghost use Rattle.pex_values.specs.Shape.{IsShapedDatum};
 ghost use Rattle.pex_values.specs.Spelling as spell;
 ghost use Rattle.pex_listing.specs.Reading.{Reads, ReadsData, HoldsInstruction};
 
-use crate::faults::{LineFault, ListingRule};
+use crate::faults::{BAD_LINE, Read};
 use crate::item::Item;
 use crate::listing::{Listing, known};
 use crate::room::Room;
@@ -19,7 +19,7 @@ pub(crate) fn read_datum(
     listing: &mut Listing,
     names: &Strings,
     room: &mut Room,
-) -> Result<Option<Datum>, LineFault>
+) -> Read<Option<Datum>>
     ensures value { IfOk result (λ found. IfSome found (Reads (IsShapedDatum (vec_len names.now.spelled)) spell.datum room.old.left room.new.left)) }
     ensures less { OnOk result (room.new.left < room.old.left) }
 {
@@ -50,7 +50,7 @@ pub(crate) fn read_datum(
             room.spend(2)?;
             Ok(Some(Datum::Bool(listing.unsigned_8()?)))
         }
-        _ => Err(LineFault::Broken(ListingRule::BadLine)),
+        _ => Err(BAD_LINE),
     }
 }
 
@@ -60,12 +60,12 @@ fn read_fixed(
     names: &Strings,
     room: &mut Room,
     count: u8,
-) -> Result<Option<Vec<Datum>>, LineFault>
+) -> Read<Option<Vec<Datum>>>
     ensures values { IfOk result (λ found. IfSome found (λ v. ReadsData (vec_len names.now.spelled) room.old.left room.new.left v.items)) }
     ensures count { IfOk result (λ found. IfSome found (λ v. length v.items ≡ count)) }
     ensures room { OnOk result (room.new.left ≤ room.old.left) }
 {
-    let mut values = Vec::new(listing.alloc());
+    let mut values = Vec::new(listing.alloc);
     for _place in 0..count {
         if let Some(value) = read_datum(listing, names, room)? {
             values.push(value)?;
@@ -78,17 +78,13 @@ fn read_fixed(
 }
 
 /// The values up to the end of the line. None where a reference in them names no string.
-fn read_more(
-    listing: &mut Listing,
-    names: &Strings,
-    room: &mut Room,
-) -> Result<Option<Vec<Datum>>, LineFault>
+fn read_more(listing: &mut Listing, names: &Strings, room: &mut Room) -> Read<Option<Vec<Datum>>>
     ensures values { IfOk result (λ found. IfSome found (λ v. ReadsData (vec_len names.now.spelled) room.old.left room.new.left v.items)) }
     ensures room { OnOk result (room.new.left ≤ room.old.left) }
 {
-    let mut values = Vec::new(listing.alloc());
+    let mut values = Vec::new(listing.alloc);
     let mut all_known = true;
-    'values: while listing.has_field() {
+    'values: while listing.fields.is_some() {
         match read_datum(listing, names, room)? {
             Some(value) => values.push(value)?,
             None => all_known = false,
@@ -107,7 +103,7 @@ fn read_plain(
     room: &mut Room,
     opcode: u8,
     count: u8,
-) -> Result<Instruction, LineFault>
+) -> Read<Instruction>
     requires { operands_of opcode ≡ Some (count, false) }
     ensures { IfOk result (Reads (HoldsInstruction (vec_len names.now.spelled)) (λ i. spell.instruction (plain_instruction i)) room.old.left room.new.left) }
 {
@@ -116,7 +112,7 @@ fn read_plain(
     listing.end_of_line()?;
     let fixed = known(fixed)?;
     listing.next_line()?;
-    let more = Vec::new(listing.alloc());
+    let more = Vec::new(listing.alloc);
     Ok(Instruction {
         opcode,
         fixed,
@@ -131,7 +127,7 @@ fn read_counted(
     room: &mut Room,
     opcode: u8,
     count: u8,
-) -> Result<Instruction, LineFault>
+) -> Read<Instruction>
     requires { operands_of opcode ≡ Some (count, true) }
     ensures { IfOk result (Reads (HoldsInstruction (vec_len names.now.spelled)) (λ i. spell.instruction (plain_instruction i)) room.old.left room.new.left) }
 {
@@ -153,10 +149,10 @@ impl Item for Instruction {
 
     ghost spelling = { λ i. spell.instruction (plain_instruction i) };
 
-    fn read(listing: &mut Listing, names: &Strings, room: &mut Room) -> Result<Self, LineFault> {
-        let opcode = listing.opcode();
+    fn read(listing: &mut Listing, names: &Strings, room: &mut Room) -> Read<Self> {
+        let opcode = listing.opcode;
         match operand_count(opcode) {
-            None => Err(LineFault::Broken(ListingRule::BadLine)),
+            None => Err(BAD_LINE),
             Some((count, false)) => read_plain(listing, names, room, opcode, count),
             Some((count, true)) => read_counted(listing, names, room, opcode, count),
         }

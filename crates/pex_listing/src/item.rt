@@ -3,7 +3,7 @@
 ghost use Rattle.std.specs.Prelude.{ℕ, List, ◌+◌, ◌<◌, ◌^◌, vec_len, OnOk, IfOk};
 ghost use Rattle.pex_listing.specs.Reading.{Reads, ReadsAll};
 
-use crate::faults::{LineFault, ListingRule};
+use crate::faults::{BAD_LINE, Read};
 use crate::first_word::FirstWord;
 use crate::listing::Listing;
 use crate::room::Room;
@@ -21,16 +21,16 @@ pub(crate) trait Item: Drop {
     ghost spelling: { Self → List ℕ };
 
     /// Reads the part. The open line begins with its first word.
-    fn read(listing: &mut Listing, names: &Strings, room: &mut Room) -> Result<Self, LineFault>
+    fn read(listing: &mut Listing, names: &Strings, room: &mut Room) -> Read<Self>
         ensures { IfOk result (λ part. Reads (holds (vec_len names.now.spelled)) spelling room.old.left room.new.left part) };
 }
 
 /// A list of this length has a place for one item more.
-pub(crate) fn check_place(length: usize) -> Result<(), LineFault>
+pub(crate) fn check_place(length: usize) -> Read<()>
     ensures { OnOk result (length + 1 < 2 ^ 16) }
 {
     if length >= MOST_ITEMS {
-        return Err(LineFault::Broken(ListingRule::BadLine));
+        return Err(BAD_LINE);
     }
     Ok(())
 }
@@ -41,10 +41,10 @@ pub(crate) fn read_all<T: Item>(
     names: &Strings,
     room: &mut Room,
     first_word: FirstWord,
-) -> Result<Vec<T>, LineFault>
+) -> Read<Vec<T>>
     ensures { IfOk result (λ parts. ReadsAll (T.holds (vec_len names.now.spelled)) T.spelling room.old.left room.new.left parts.items) }
 {
-    let mut parts = Vec::new(listing.alloc());
+    let mut parts = Vec::new(listing.alloc);
     'parts: while listing.is_at(first_word) {
         check_place(parts.len())?;
         let part = T::read(listing, names, room)?;

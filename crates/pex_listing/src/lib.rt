@@ -8,7 +8,6 @@ mod functions;
 mod instructions;
 mod item;
 mod listing;
-mod names;
 mod numbers;
 mod objects;
 mod parts;

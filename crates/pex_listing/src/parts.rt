@@ -4,10 +4,9 @@ ghost use Rattle.std.specs.Prelude.{◌≡◌, ◌++◌, IfOk};
 ghost use Rattle.std.specs.String.{string_bytes};
 ghost use Rattle.pex_listing.specs.Lines.{escaped, quoted, string_line};
 
-use crate::names::Names;
 use papy_base::Text;
 use pex_values::{
-    Datum, Instruction, OPCODES, PexDebug, PexFunction, PexLines, PexObject, PexProperty, PexState,
+    Datum, Instruction, OPCODES, PexFunction, PexLines, PexObject, PexProperty, PexState,
     PexVariable, SizeForm,
 };
 use std::alloc::AllocError;
@@ -47,211 +46,163 @@ pub(crate) fn put_string_line(out: &mut String, word: &str, text: &Text) -> Resu
     out.push('\n')
 }
 
-/// A reference with a space before it: the string, or `#` and its index.
-fn put_reference(out: &mut String, names: &Names, index: u16) -> Result<(), AllocError> {
-    if let Some(Some(word)) = names.words.get(index as usize) {
-        out.push(' ')?;
-        return out.push_str(word);
+/// Lines that weren't written yet, and how references in them are spelled.
+#[derive(Drop)]
+pub(crate) struct Lines<'a> {
+    pub text: String,
+    /// For each string of the file the word that a reference to it is spelled by, if it is.
+    pub words: Vec<Option<&'a str>>,
+}
+
+/// A part of a file, as a listing has it.
+pub(crate) trait Shown {
+    /// Adds what the listing has of it.
+    fn put(&self, lines: &mut Lines) -> Result<(), AllocError>;
+}
+
+impl<'a> Lines<'a> {
+    pub(crate) fn put_all<T: Shown>(&mut self, parts: &[T]) -> Result<(), AllocError> {
+        for part in parts {
+            part.put(self)?;
+        }
+        Ok(())
     }
-    write!(out, " #{index}")
+
+    /// A word, and references with a space before each: the string, or `#` and its index.
+    fn put_names(&mut self, word: &str, references: &[u16]) -> Result<(), AllocError> {
+        self.text.push_str(word)?;
+        for index in references {
+            match self.words.get(*index as usize) {
+                Some(Some(word)) => write!(self.text, " {word}")?,
+                _ => write!(self.text, " #{index}")?,
+            }
+        }
+        Ok(())
+    }
+
+    /// A `param` or `local` line for each pair of a name and a type.
+    fn put_pairs(&mut self, word: &str, pairs: &[(u16, u16)]) -> Result<(), AllocError> {
+        for (name, kind) in pairs {
+            self.put_names(word, &[*name, *kind])?;
+            self.text.push('\n')?;
+        }
+        Ok(())
+    }
+
+    /// The lines of a function that reads or writes a property.
+    fn put_accessor(&mut self, word: &str, of: &Option<PexFunction>) -> Result<(), AllocError> {
+        let Some(function) = of else {
+            return Ok(());
+        };
+        self.text.push_str(word)?;
+        function.put(self)
+    }
+
+    /// The line that a state begins with.
+    pub(crate) fn put_state_line(&mut self, state: &PexState) -> Result<(), AllocError> {
+        self.put_names("state", &[state.name])?;
+        self.text.push('\n')
+    }
+
+    /// The lines of an object but for its states.
+    pub(crate) fn put_object(&mut self, object: &PexObject) -> Result<(), AllocError> {
+        self.put_names("object", &[object.name])?;
+        self.text.push_str(match object.size_form {
+            SizeForm::Counted => " counted",
+            SizeForm::Bare => " bare",
+        })?;
+        self.put_names("", &[object.parent, object.doc])?;
+        write!(self.text, " {}", object.flags)?;
+        self.put_names("", &[object.auto_state])?;
+        self.text.push('\n')?;
+        self.put_all(&object.variables)?;
+        self.put_all(&object.properties)
+    }
 }
 
 /// A value with a space before it.
-fn put_datum(out: &mut String, names: &Names, datum: &Datum) -> Result<(), AllocError> {
-    match *datum {
-        Datum::NoneValue => out.push_str(" none"),
-        Datum::Word(index) => {
-            out.push_str(" id")?;
-            put_reference(out, names, index)
+impl Shown for Datum {
+    fn put(&self, lines: &mut Lines) -> Result<(), AllocError> {
+        match *self {
+            Datum::NoneValue => lines.text.push_str(" none"),
+            Datum::Word(index) => lines.put_names(" id", &[index]),
+            Datum::Quoted(index) => lines.put_names(" text", &[index]),
+            Datum::Int(number) => write!(lines.text, " int {number}"),
+            Datum::Float(bits) => write!(lines.text, " float {bits:08x}"),
+            Datum::Bool(byte) => write!(lines.text, " bool {byte}"),
         }
-        Datum::Quoted(index) => {
-            out.push_str(" text")?;
-            put_reference(out, names, index)
+    }
+}
+
+impl Shown for Instruction {
+    fn put(&self, lines: &mut Lines) -> Result<(), AllocError> {
+        if let Some(opcode) = OPCODES.get(self.opcode as usize) {
+            lines.text.push_str(opcode.name)?;
         }
-        Datum::Int(number) => write!(out, " int {number}"),
-        Datum::Float(bits) => write!(out, " float {bits:08x}"),
-        Datum::Bool(byte) => write!(out, " bool {byte}"),
+        lines.put_all(&self.fixed)?;
+        lines.put_all(&self.more)?;
+        lines.text.push('\n')
     }
-}
-
-fn put_data(out: &mut String, names: &Names, values: &[Datum]) -> Result<(), AllocError> {
-    for value in values {
-        put_datum(out, names, value)?;
-    }
-    Ok(())
-}
-
-/// The `param` or `local` lines of a function.
-fn put_pairs(
-    out: &mut String,
-    names: &Names,
-    word: &str,
-    pairs: &[(u16, u16)],
-) -> Result<(), AllocError> {
-    for (name, kind) in pairs {
-        out.push_str(word)?;
-        put_reference(out, names, *name)?;
-        put_reference(out, names, *kind)?;
-        out.push('\n')?;
-    }
-    Ok(())
-}
-
-fn put_instruction(
-    out: &mut String,
-    names: &Names,
-    instruction: &Instruction,
-) -> Result<(), AllocError> {
-    if let Some(opcode) = OPCODES.get(instruction.opcode as usize) {
-        out.push_str(opcode.name)?;
-    }
-    put_data(out, names, &instruction.fixed)?;
-    put_data(out, names, &instruction.more)?;
-    out.push('\n')
 }
 
 /// The rest of the line that a function begins with, and the lines of its parameters, locals and code.
-fn put_function(out: &mut String, names: &Names, function: &PexFunction) -> Result<(), AllocError> {
-    put_reference(out, names, function.result)?;
-    put_reference(out, names, function.doc)?;
-    write!(out, " {} {}\n", function.flags, function.bits)?;
-    put_pairs(out, names, "param", &function.parameters)?;
-    put_pairs(out, names, "local", &function.locals)?;
-    for instruction in &function.code {
-        put_instruction(out, names, instruction)?;
+impl Shown for PexFunction {
+    fn put(&self, lines: &mut Lines) -> Result<(), AllocError> {
+        lines.put_names("", &[self.result, self.doc])?;
+        write!(lines.text, " {} {}\n", self.flags, self.bits)?;
+        lines.put_pairs("param", &self.parameters)?;
+        lines.put_pairs("local", &self.locals)?;
+        lines.put_all(&self.code)
     }
-    Ok(())
 }
 
-/// The lines of variables.
-pub(crate) fn put_variables(
-    out: &mut String,
-    names: &Names,
-    variables: &[PexVariable],
-) -> Result<(), AllocError> {
-    for variable in variables {
-        out.push_str("variable")?;
-        put_reference(out, names, variable.name)?;
-        put_reference(out, names, variable.kind)?;
-        write!(out, " {}", variable.flags)?;
-        put_datum(out, names, &variable.value)?;
-        out.push('\n')?;
+/// A function of a state.
+impl Shown for (u16, PexFunction) {
+    fn put(&self, lines: &mut Lines) -> Result<(), AllocError> {
+        lines.put_names("function", &[self.0])?;
+        self.1.put(lines)
     }
-    Ok(())
 }
 
-/// The lines of properties, each with those of its functions.
-pub(crate) fn put_properties(
-    out: &mut String,
-    names: &Names,
-    properties: &[PexProperty],
-) -> Result<(), AllocError> {
-    for property in properties {
-        out.push_str("property")?;
-        put_reference(out, names, property.name)?;
-        put_reference(out, names, property.kind)?;
-        put_reference(out, names, property.doc)?;
-        write!(out, " {} {}", property.flags, property.bits)?;
-        if let Some(variable) = property.variable {
-            put_reference(out, names, variable)?;
+impl Shown for PexVariable {
+    fn put(&self, lines: &mut Lines) -> Result<(), AllocError> {
+        lines.put_names("variable", &[self.name, self.kind])?;
+        write!(lines.text, " {}", self.flags)?;
+        self.value.put(lines)?;
+        lines.text.push('\n')
+    }
+}
+
+/// A property with its functions.
+impl Shown for PexProperty {
+    fn put(&self, lines: &mut Lines) -> Result<(), AllocError> {
+        lines.put_names("property", &[self.name, self.kind, self.doc])?;
+        write!(lines.text, " {} {}", self.flags, self.bits)?;
+        if let Some(variable) = self.variable {
+            lines.put_names("", &[variable])?;
         }
-        out.push('\n')?;
-        put_accessor(out, names, "read", &property.read)?;
-        put_accessor(out, names, "write", &property.write)?;
-    }
-    Ok(())
-}
-
-fn put_accessor(
-    out: &mut String,
-    names: &Names,
-    word: &str,
-    function: &Option<PexFunction>,
-) -> Result<(), AllocError> {
-    let Some(function) = function else {
-        return Ok(());
-    };
-    out.push_str(word)?;
-    put_function(out, names, function)
-}
-
-/// The line that a state begins with.
-pub(crate) fn put_state_line(
-    out: &mut String,
-    names: &Names,
-    state: &PexState,
-) -> Result<(), AllocError> {
-    out.push_str("state")?;
-    put_reference(out, names, state.name)?;
-    out.push('\n')
-}
-
-/// The lines of a function of a state.
-pub(crate) fn put_named_function(
-    out: &mut String,
-    names: &Names,
-    name: u16,
-    function: &PexFunction,
-) -> Result<(), AllocError> {
-    out.push_str("function")?;
-    put_reference(out, names, name)?;
-    put_function(out, names, function)
-}
-
-/// The line that an object begins with.
-pub(crate) fn put_object_line(
-    out: &mut String,
-    names: &Names,
-    object: &PexObject,
-) -> Result<(), AllocError> {
-    out.push_str("object")?;
-    put_reference(out, names, object.name)?;
-    out.push_str(match object.size_form {
-        SizeForm::Counted => " counted",
-        SizeForm::Bare => " bare",
-    })?;
-    put_reference(out, names, object.parent)?;
-    put_reference(out, names, object.doc)?;
-    write!(out, " {}", object.flags)?;
-    put_reference(out, names, object.auto_state)?;
-    out.push('\n')
-}
-
-/// The line `nodebug`, or the first one of the debug information.
-pub(crate) fn put_debug_line(out: &mut String, debug: &Option<PexDebug>) -> Result<(), AllocError> {
-    match debug {
-        None => out.push_str("nodebug\n"),
-        Some(debug) => write!(out, "debug {}\n", debug.time),
+        lines.text.push('\n')?;
+        lines.put_accessor("read", &self.read)?;
+        lines.put_accessor("write", &self.write)
     }
 }
 
-/// The line of an entry of the debug information.
-pub(crate) fn put_lines(
-    out: &mut String,
-    names: &Names,
-    entry: &PexLines,
-) -> Result<(), AllocError> {
-    out.push_str("lines")?;
-    put_reference(out, names, entry.object)?;
-    put_reference(out, names, entry.state)?;
-    put_reference(out, names, entry.function)?;
-    write!(out, " {}", entry.kind)?;
-    for line in &entry.lines {
-        write!(out, " {line}")?;
+/// An entry of the debug information.
+impl Shown for PexLines {
+    fn put(&self, lines: &mut Lines) -> Result<(), AllocError> {
+        lines.put_names("lines", &[self.object, self.state, self.function])?;
+        write!(lines.text, " {}", self.kind)?;
+        for line in &self.lines {
+            write!(lines.text, " {line}")?;
+        }
+        lines.text.push('\n')
     }
-    out.push('\n')
 }
 
-/// The lines of the user flags.
-pub(crate) fn put_flags(
-    out: &mut String,
-    names: &Names,
-    flags: &[(u16, u8)],
-) -> Result<(), AllocError> {
-    for (name, index) in flags {
-        out.push_str("flag")?;
-        put_reference(out, names, *name)?;
-        write!(out, " {index}\n")?;
+/// A user flag.
+impl Shown for (u16, u8) {
+    fn put(&self, lines: &mut Lines) -> Result<(), AllocError> {
+        lines.put_names("flag", &[self.0])?;
+        write!(lines.text, " {}\n", self.1)
     }
-    Ok(())
 }

@@ -2,7 +2,7 @@
 
 ghost use Rattle.std.specs.Prelude.{◌≡◌, ◌+◌, ◌≤◌, OnOk};
 
-use crate::faults::{LineFault, ListingRule};
+use crate::faults::{BAD_LINE, Read};
 use pex_values::FILE_LIMIT;
 
 /// The bytes that no part of the value has taken yet. The parts that every value has are taken at the start.
@@ -25,11 +25,11 @@ impl Room {
     }
 
     /// Takes so many bytes. The value no longer fits where fewer are left.
-    pub(crate) fn spend(&mut self, bytes: u32) -> Result<(), LineFault>
+    pub(crate) fn spend(&mut self, bytes: u32) -> Read<()>
         ensures { OnOk result (self.new.left + bytes ≡ self.old.left) }
     {
         if bytes > self.left {
-            return Err(LineFault::Broken(ListingRule::BadLine));
+            return Err(BAD_LINE);
         }
         self.left -= bytes;
         Ok(())

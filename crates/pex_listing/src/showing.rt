@@ -9,14 +9,11 @@ ghost use Rattle.pex_listing.specs.Showing.{Begins, Shows};
 ghost use Rattle.papy_io.specs.Sink.{Appended, AppendsSome};
 
 use crate::faults::ShowFault;
-use crate::names::{Names, reference_words};
-use crate::parts::{
-    put_debug_line, put_flags, put_lines, put_named_function, put_object_line, put_properties,
-    put_state_line, put_string_line, put_variables,
-};
+use crate::parts::{Lines, Shown, put_string_line};
+use crate::strings::reference_words;
 use papy_base::Text;
 use papy_io::{IoFault, Sink};
-use pex_values::{Pex, PexDebug, PexFunction, PexLines, PexObject, PexState};
+use pex_values::{Pex, PexDebug, PexObject, PexState};
 use std::alloc::{AllocError, Global};
 use std::fmt::Write;
 
@@ -32,13 +29,14 @@ pub fn show<S: Sink>(alloc: Global, value: &Pex, sink: &mut S) -> Result<(), Sho
     ensures begun { IfOk result (λ _. Begins (head_lines (plain value.now)) (S.written sink.old) (S.written sink.new)) }
 {
     let words = reference_words(alloc, &value.strings)?;
-    let names = Names { words: &words };
-    let mut out = String::new(alloc);
-    show_strings(&mut out, value, sink)?;
-    show_debug(&mut out, &names, &value.debug, sink)?;
-    put_flags(&mut out, &names, &value.user_flags)?;
-    flush(&mut out, sink)?;
-    show_objects(&mut out, &names, &value.objects, sink)
+    let mut lines = Lines {
+        text: String::new(alloc),
+        words,
+    };
+    show_strings(&mut lines.text, value, sink)?;
+    show_debug(&mut lines, &value.debug, sink)?;
+    show_all(&mut lines, &value.user_flags, sink)?;
+    show_objects(&mut lines, &value.objects, sink)
 }
 
 /// The line that a listing begins with.
@@ -103,35 +101,18 @@ fn show_table<S: Sink>(out: &mut String, strings: &[Text], sink: &mut S) -> Resu
 
 /// The debug line, and the entries behind it.
 fn show_debug<S: Sink>(
-    out: &mut String,
-    names: &Names,
+    lines: &mut Lines,
     debug: &Option<PexDebug>,
     sink: &mut S,
 ) -> Result<(), ShowFault>
     ensures faults { Shows S.faults result sink.old sink.new }
     ensures appended { AppendsSome (S.written sink.old) (S.written sink.new) }
 {
-    put_debug_line(out, debug)?;
-    match debug {
-        Some(debug) => show_entries(out, names, &debug.functions, sink),
-        None => Ok(()),
-    }
-}
-
-fn show_entries<S: Sink>(
-    out: &mut String,
-    names: &Names,
-    entries: &[PexLines],
-    sink: &mut S,
-) -> Result<(), ShowFault>
-    ensures faults { Shows S.faults result sink.old sink.new }
-    ensures appended { AppendsSome (S.written sink.old) (S.written sink.new) }
-{
-    for entry in entries {
-        put_lines(out, names, entry)?;
-        flush(out, sink)?;
-    }
-    Ok(())
+    let Some(debug) = debug else {
+        return Ok(lines.text.push_str("nodebug\n")?);
+    };
+    write!(lines.text, "debug {}\n", debug.time)?;
+    show_all(lines, &debug.functions, sink)
 }
 
 /// Writes what stands in the buffer where it is long enough.
@@ -145,25 +126,24 @@ fn flush_part<S: Sink>(out: &mut String, sink: &mut S) -> Result<(), ShowFault>
     flush(out, sink)
 }
 
-fn show_functions<S: Sink>(
-    out: &mut String,
-    names: &Names,
-    functions: &[(u16, PexFunction)],
+/// Parts one after another, written where there are bytes enough.
+fn show_all<S: Sink, T: Shown>(
+    lines: &mut Lines,
+    parts: &[T],
     sink: &mut S,
 ) -> Result<(), ShowFault>
     ensures faults { Shows S.faults result sink.old sink.new }
     ensures appended { AppendsSome (S.written sink.old) (S.written sink.new) }
 {
-    for (name, function) in functions {
-        put_named_function(out, names, *name, function)?;
-        flush_part(out, sink)?;
+    for part in parts {
+        part.put(lines)?;
+        flush_part(&mut lines.text, sink)?;
     }
     Ok(())
 }
 
 fn show_states<S: Sink>(
-    out: &mut String,
-    names: &Names,
+    lines: &mut Lines,
     states: &[PexState],
     sink: &mut S,
 ) -> Result<(), ShowFault>
@@ -171,15 +151,14 @@ fn show_states<S: Sink>(
     ensures appended { AppendsSome (S.written sink.old) (S.written sink.new) }
 {
     for state in states {
-        put_state_line(out, names, state)?;
-        show_functions(out, names, &state.functions, sink)?;
+        lines.put_state_line(state)?;
+        show_all(lines, &state.functions, sink)?;
     }
     Ok(())
 }
 
 fn show_objects<S: Sink>(
-    out: &mut String,
-    names: &Names,
+    lines: &mut Lines,
     objects: &[PexObject],
     sink: &mut S,
 ) -> Result<(), ShowFault>
@@ -187,10 +166,8 @@ fn show_objects<S: Sink>(
     ensures appended { AppendsSome (S.written sink.old) (S.written sink.new) }
 {
     for object in objects {
-        put_object_line(out, names, object)?;
-        put_variables(out, names, &object.variables)?;
-        put_properties(out, names, &object.properties)?;
-        show_states(out, names, &object.states, sink)?;
+        lines.put_object(object)?;
+        show_states(lines, &object.states, sink)?;
     }
-    flush(out, sink)
+    flush(&mut lines.text, sink)
 }
