@@ -1,13 +1,93 @@
-// Which objects stand below which.
-ghost use Rattle.std.specs.Prelude.{◌≡◌, ◌<◌, ◌++◌, length, vec_len, IfOk, OnOk, slice_get, set, option_to_list};
+// Which objects stand above themselves, and which stand below which.
+ghost use Rattle.std.specs.Prelude.{◌≡◌, ◌⊎◌, ◌+◌, ◌<◌, ◌++◌, ℕ, true, length, vec_len, IfOk, OnOk, slice_get, set, option_to_list};
 ghost use Rattle.std.specs.Option.{option_and_then};
+ghost use Rattle.pex_set.specs.Circles.{is_marked, CanStart, Walked, IsOnCircle, IsMarked, AreSearched, MarksCircles, NoneMarked};
 ghost use Rattle.pex_set.specs.Lineage.{AreAmong, AreRooted};
 ghost use Rattle.pex_set.specs.Orders.{parent_number as number_of_parent, IsForest, AreLinked, IsOrder, AreReached, reaching};
 ghost use Rattle.pex_set.specs.Ranks.{has as is_between, span_at, is_below as is_by_ranks, IsDescentOf};
 
-use papy_base::OutOfMemory;
+use crate::names::Made;
 use std::alloc::Global;
 use std::marker::Model;
+
+/// Of each object, whether it stands above itself: on a circle of parents, each of which is one of the objects. An object that
+/// only leads to a circle of parents doesn't.
+pub fn on_circles(alloc: Global, parents: &[Option<usize>]) -> Made<Vec<bool>>
+    ensures length { IfOk result (λ found. vec_len found ≡ length parents.now) }
+    ensures exact { IfOk result (λ found. AreAmong parents.now → MarksCircles parents.now found.items) }
+    ensures rooted { IfOk result (λ found. AreAmong parents.now → NoneMarked found.items → AreRooted parents.now) }
+{
+    let mut is_above_itself = vec![in alloc; false; parents.len()]?;
+    let mut walks = vec![in alloc; None; parents.len()]?;
+    for start in 0..parents.len() {
+        search_from(parents, &mut walks, &mut is_above_itself, start);
+    }
+    Ok(is_above_itself)
+}
+
+// Marks the circle to which the object leads, where no earlier walk came to it.
+fn search_from(
+    parents: &[Option<usize>],
+    walks: &mut [Option<usize>],
+    is_above_itself: &mut [bool],
+    start: usize,
+)
+    ensures { AreAmong parents.now → start < length parents.now → AreSearched parents.now walks.old is_above_itself.old start
+        → AreSearched parents.now walks.new is_above_itself.new (start + 1) }
+{
+    if let Some(end) = walk(parents, walks, start) {
+        mark_circle(parents, is_above_itself, end);
+    }
+}
+
+// Goes upward from an object to the first one that some walk has been at, and notes this walk at each on
+// the way. Gives that last object where this walk itself has been at it: then it stands on a circle.
+fn walk(parents: &[Option<usize>], walks: &mut [Option<usize>], start: usize) -> Option<usize>
+    ensures { CanStart parents.now walks.old start → Walked parents.now walks.old start result walks.new }
+{
+    let mut here = start;
+    for _ in 0..parents.len() {
+        if here >= walks.len() {
+            return None;
+        }
+        if let Some(walk) = walks[here] {
+            return if walk == start { Some(here) } else { None };
+        }
+        walks[here] = Some(start);
+        here = item_at(parents, here)?;
+    }
+    // It has been at each of the objects.
+    Some(here)
+}
+
+// Marks the objects of the circle that this one stands on.
+fn mark_circle(parents: &[Option<usize>], is_above_itself: &mut [bool], start: usize)
+    ensures { length is_above_itself.old ≡ length parents.now → IsOnCircle parents.now start
+        → IsMarked parents.now is_above_itself.old start is_above_itself.new }
+{
+    let mut here = start;
+    for _ in 0..parents.len() {
+        mark(is_above_itself, here);
+        let Some(parent) = item_at(parents, here) else {
+            return;
+        };
+        if parent == start {
+            return;
+        }
+        here = parent;
+    }
+}
+
+fn mark(is_above_itself: &mut [bool], object: usize)
+    ensures marked { object < length is_above_itself.old → is_marked is_above_itself.new object ≡ true }
+    ensures stay { (other : ℕ) → is_marked is_above_itself.old other ≡ true → is_marked is_above_itself.new other ≡ true }
+    ensures only { (other : ℕ) → is_marked is_above_itself.new other ≡ true
+        → (is_marked is_above_itself.old other ≡ true) ⊎ (other ≡ object) }
+{
+    if object < is_above_itself.len() {
+        is_above_itself[object] = true;
+    }
+}
 
 /// The ranks of an object and of all below it: from `start` on, and below `end`.
 #[derive(Clone, Copy, PartialEq, Eq, PartialOrd, Ord)]
@@ -46,7 +126,7 @@ impl Model for Descent {
 impl Descent {
     /// The ranks of objects with these parents. A parent that is none of the objects counts as none. Objects on a
     /// circle of parents, and those below one, get no ranks.
-    pub fn of(alloc: Global, parents: &[Option<usize>]) -> Result<Descent, OutOfMemory>
+    pub fn of(alloc: Global, parents: &[Option<usize>]) -> Made<Descent>
         ensures count { IfOk result (λ descent. length descent ≡ length parents.now) }
         ensures exact { IfOk result (λ descent. AreAmong parents.now → AreRooted parents.now → IsDescentOf parents.now descent) }
     {
@@ -75,14 +155,11 @@ impl Descent {
 fn span_of(spans: &[Span], object: usize) -> Span
     ensures { result ≡ span_at spans.now object }
 {
-    match spans.get(object) {
-        Some(span) => *span,
-        None => NO_RANKS,
-    }
+    spans.get(object).copied().unwrap_or(NO_RANKS)
 }
 
 // The objects, each followed at once by all below it. Those on a circle of parents or below one are left out.
-fn order_of(alloc: Global, parents: &[Option<usize>]) -> Result<Vec<usize>, OutOfMemory>
+fn order_of(alloc: Global, parents: &[Option<usize>]) -> Made<Vec<usize>>
     ensures { IfOk result (λ order. IsForest parents.now → IsOrder parents.now order.items) }
 {
     let links = Links::of(alloc, parents)?;
@@ -101,7 +178,7 @@ fn order_of(alloc: Global, parents: &[Option<usize>]) -> Result<Vec<usize>, OutO
     Ok(order)
 }
 
-fn push_some(list: &mut Vec<usize>, object: Option<usize>) -> Result<(), OutOfMemory>
+fn push_some(list: &mut Vec<usize>, object: Option<usize>) -> Made<()>
     ensures { OnOk result (list.new.items ≡ list.old.items ++ option_to_list object) }
 {
     if let Some(object) = object {
@@ -154,7 +231,7 @@ struct Links {
 }
 
 impl Links {
-    fn of(alloc: Global, parents: &[Option<usize>]) -> Result<Links, OutOfMemory>
+    fn of(alloc: Global, parents: &[Option<usize>]) -> Made<Links>
         ensures { IfOk result (λ links. AreLinked parents.now (length parents.now) links.last.items links.before.items) }
     {
         let mut last = vec![in alloc; None; parents.len() + 1]?;
@@ -172,14 +249,11 @@ impl Links {
 fn parent_number(parents: &[Option<usize>], object: usize) -> usize
     ensures { result ≡ number_of_parent parents.now object }
 {
-    match item_at(parents, object) {
-        Some(parent) => parent.min(parents.len()),
-        None => parents.len(),
-    }
+    item_at(parents, object).map_or(parents.len(), |parent| parent.min(parents.len()))
 }
 
-/// What stands at the place, and none past the list.
-pub(crate) fn item_at(list: &[Option<usize>], place: usize) -> Option<usize>
+// What stands at the place, and none past the list.
+fn item_at(list: &[Option<usize>], place: usize) -> Option<usize>
     ensures { result ≡ option_and_then (λ item. item) (slice_get list.now place) }
 {
     *list.get(place)?

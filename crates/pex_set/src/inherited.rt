@@ -6,7 +6,7 @@ ghost use Rattle.pex_set.specs.Inherited.{found_in, is_up_to as comes_by, Ascend
 ghost use Rattle.pex_set.specs.Sweep.{member_of as member_by, is_reached, earlier_end, AreSorted, AreInOrder, AreCovered, IsBehind, Fits, IsOrdered, IsSwept, AreMoved, IsLastBehind, IsOpened};
 
 use crate::descent::Span;
-use papy_base::OutOfMemory;
+use crate::names::Made;
 use std::alloc::Global;
 use std::marker::Model;
 
@@ -66,12 +66,7 @@ impl OwnMembers {
 
     /// Adds a member of an object with these ranks. Objects come one after the other. Of two members of an object with the
     /// same names, the first counts.
-    pub fn add(
-        &mut self,
-        names: MemberNames,
-        place: MemberPlace,
-        span: Span,
-    ) -> Result<(), OutOfMemory>
+    pub fn add(&mut self, names: MemberNames, place: MemberPlace, span: Span) -> Made<()>
         ensures { OnOk result
             (self.new ≡ self.old ++ record { names = names; span = span; place = place } ∷ []) }
     {
@@ -80,7 +75,7 @@ impl OwnMembers {
     }
 
     /// What each object has from itself upward.
-    pub fn inherited(self, alloc: Global) -> Result<Inherited, OutOfMemory>
+    pub fn inherited(self, alloc: Global) -> Made<Inherited>
         ensures nearest { IfOk result
             (λ inherited. AreLaminar self → (names : Names) (rank : ℕ) → IsNearest self names rank (found_in inherited names rank)) }
         ensures absent { IfOk result
@@ -153,7 +148,7 @@ struct Sweep {
 }
 
 // What objects have of members in the order of their names and starts.
-fn swept(alloc: Global, members: &[OwnMember]) -> Result<Inherited, OutOfMemory>
+fn swept(alloc: Global, members: &[OwnMember]) -> Made<Inherited>
     requires { AreSorted members.now }
     ensures { IfOk result
         (λ inherited. AreInOrder members.now → AreCovered members.now inherited) }
@@ -170,7 +165,7 @@ fn swept(alloc: Global, members: &[OwnMember]) -> Result<Inherited, OutOfMemory>
 
 impl Sweep {
     // Adds a member, unless its object has an earlier one of these names, or no ranks.
-    fn add(&mut self, member: &OwnMember) -> Result<(), OutOfMemory>
+    fn add(&mut self, member: &OwnMember) -> Made<()>
         ensures ordered { (done : List OwnMember)
             → IsOrdered done self.old.stretches.items self.old.ends.items
             → IsBehind done member.now
@@ -194,14 +189,12 @@ impl Sweep {
     fn has_come_to(&self, start: Position) -> bool
         ensures { result ≡ is_reached start (last_or None self.now.stretches.items) }
     {
-        match last(self.stretches.as_slice()) {
-            Some(latest) => is_up_to(start, latest.start),
-            None => false,
-        }
+        let latest = last(self.stretches.as_slice());
+        latest.is_some_and(|latest| is_up_to(start, latest.start))
     }
 
     // Ends the members that end up to this position.
-    fn close(&mut self, position: Position) -> Result<(), OutOfMemory>
+    fn close(&mut self, position: Position) -> Made<()>
         ensures moved { OnOk result
             (AreMoved position self.old.stretches.items self.old.ends.items self.new.stretches.items self.new.ends.items) }
         ensures rest { OnOk result (IsLastBehind position self.new.ends.items) }
@@ -229,12 +222,7 @@ impl Sweep {
     }
 
     // Begins a member inside those that go on, with which it ends at the latest.
-    fn open(
-        &mut self,
-        start: Position,
-        end: Position,
-        place: MemberPlace,
-    ) -> Result<(), OutOfMemory>
+    fn open(&mut self, start: Position, end: Position, place: MemberPlace) -> Made<()>
         ensures { OnOk result
             (IsOpened start end place self.old.stretches.items self.old.ends.items self.new.stretches.items self.new.ends.items) }
     {
@@ -262,7 +250,7 @@ impl Sweep {
     }
 
     // Ends all members.
-    fn inherited(mut self) -> Result<Inherited, OutOfMemory>
+    fn inherited(mut self) -> Made<Inherited>
         requires { Ascends (self.stretches.items ++ reverse self.ends.items) }
         ensures { IfOk result (λ inherited. inherited ≡ self.stretches.items ++ reverse self.ends.items) }
     {

@@ -5,9 +5,7 @@ ghost use Rattle.std.specs.Option.{option_or};
 ghost use Rattle.pex_set.specs.Lineage.{AreAmong};
 ghost use Rattle.pex_set.specs.Objects.{first_named, parent_in, parents_in, AddsFile};
 
-use crate::file_names::FileNames;
-use crate::name_table::{EMPTY_NAME, NameTable};
-use papy_base::OutOfMemory;
+use crate::names::{EMPTY_NAME, FileNames, Made};
 use pex_values::Pex;
 use std::alloc::Global;
 use std::collections::HashMap;
@@ -64,7 +62,7 @@ impl Objects {
     }
 
     /// Adds the objects of the next file, whose strings have these numbers.
-    pub fn add_file(&mut self, names: &FileNames, pex: &Pex) -> Result<(), OutOfMemory>
+    pub fn add_file(&mut self, names: &FileNames, pex: &Pex) -> Made<()>
         ensures length { OnOk result (length self.new ≡ length self.old + vec_len pex.now.objects) }
         ensures heads { OnOk result (AddsFile self.old names.now pex.now.objects.items self.new) }
     {
@@ -82,7 +80,7 @@ impl Objects {
         Ok(())
     }
 
-    fn add(&mut self, head: Head) -> Result<(), OutOfMemory>
+    fn add(&mut self, head: Head) -> Made<()>
         ensures added { OnOk result (self.new ≡ self.old ++ head ∷ []) }
         ensures unchanged { OnErr result (self.new ≡ self.old) }
     {
@@ -114,7 +112,7 @@ impl Objects {
     }
 
     /// The number of each object's parent, none where it names none or one that is not there.
-    pub fn parents(&self, alloc: Global) -> Result<Vec<Option<usize>>, OutOfMemory>
+    pub fn parents(&self, alloc: Global) -> Made<Vec<Option<usize>>>
         ensures length { IfOk result (λ parents. vec_len parents ≡ length self.now) }
         ensures parents { IfOk result (λ parents. parents.items ≡ parents_in self.now) }
         ensures among { IfOk result (λ parents. AreAmong parents.items) }
@@ -137,11 +135,7 @@ impl Objects {
 }
 
 // Notes this object as the first of its name, where none is noted.
-fn note_first(
-    first: &mut HashMap<usize, usize>,
-    name: usize,
-    number: usize,
-) -> Result<(), OutOfMemory>
+fn note_first(first: &mut HashMap<usize, usize>, name: usize, number: usize) -> Made<()>
     ensures noted { OnOk result ((other : ℕ) → get nat_eq first.new other ≡ option_or (get nat_eq first.old other) (if name == other then Some number else None)) }
     ensures unchanged { OnErr result ((other : ℕ) → get nat_eq first.new other ≡ get nat_eq first.old other) }
 {

@@ -2,7 +2,8 @@
 ghost use Rattle.std.specs.Prelude.{◌≡◌, vec_len, All, IfOk};
 ghost use Rattle.pex_set.specs.Plain.{HasNoProperties};
 
-use papy_base::{OutOfMemory, Text};
+use crate::names::Made;
+use papy_base::Text;
 use pex_values::{Datum, Instruction, Pex, PexFunction, PexObject, PexState, SizeForm};
 use std::alloc::Global;
 
@@ -43,7 +44,7 @@ const GLOBAL_NATIVE: u8 = 3;
 
 impl Prelude {
     /// The prelude's six scripts and the four members.
-    pub fn new(alloc: Global) -> Result<Prelude, OutOfMemory>
+    pub fn new(alloc: Global) -> Made<Prelude>
         ensures objects { IfOk result (λ prelude. vec_len prelude.file.objects ≡ 6) }
         ensures members { IfOk result (λ prelude. vec_len prelude.members ≡ 4) }
         ensures plain { IfOk result (λ prelude. All HasNoProperties prelude.file.objects.items) }
@@ -66,7 +67,7 @@ impl Prelude {
     }
 }
 
-fn strings(alloc: Global) -> Result<Vec<Text>, OutOfMemory> {
+fn strings(alloc: Global) -> Made<Vec<Text>> {
     let mut strings = Vec::with_capacity(alloc, STRINGS.len())?;
     for string in &STRINGS {
         strings.push(Text::try_from_bytes(alloc, string.as_bytes())?)?;
@@ -76,56 +77,30 @@ fn strings(alloc: Global) -> Result<Vec<Text>, OutOfMemory> {
 
 // The reference to one of these strings.
 fn reference(wanted: &str) -> u16 {
-    for (place, string) in STRINGS.iter().enumerate() {
-        if *string == wanted {
-            return place as u16;
-        }
-    }
-    0
+    let place = STRINGS.iter().position(|string| *string == wanted);
+    place.map_or(0, |place| place as u16)
 }
 
-fn objects(alloc: Global) -> Result<Vec<PexObject>, OutOfMemory>
+fn objects(alloc: Global) -> Made<Vec<PexObject>>
     ensures count { IfOk result (λ objects. vec_len objects ≡ 6) }
     ensures plain { IfOk result (λ objects. All HasNoProperties objects.items) }
 {
-    let trace = native(
-        alloc,
-        "None",
-        &[("asTextToPrint", "String"), ("aiSeverity", "Int")],
-    )?;
-    let random_int = native(alloc, "Int", &[("aiMin", "Int"), ("aiMax", "Int")])?;
-    let sleep = native(alloc, "None", &[("turns", "Int")])?;
+    let traced = [("asTextToPrint", "String"), ("aiSeverity", "Int")];
+    let bounds = [("aiMin", "Int"), ("aiMax", "Int")];
+    let trace = native(alloc, "Trace", "None", &traced)?;
+    let random_int = native(alloc, "RandomInt", "Int", &bounds)?;
+    let sleep = native(alloc, "Sleep", "None", &[("turns", "Int")])?;
     let mut objects = Vec::with_capacity(alloc, PRELUDE_COUNT)?;
-    objects.push(with_function(alloc, "Debug", "", "Trace", trace)?)?;
-    objects.push(with_function(alloc, "Utility", "", "RandomInt", random_int)?)?;
-    objects.push(with_function(alloc, "Scene", "", "Sleep", sleep)?)?;
-    objects.push(object("Form", "", Vec::new(alloc), alloc))?;
-    objects.push(with_function(alloc, "Quest", "Form", "OnInit", event(alloc))?)?;
-    objects.push(with_function(alloc, "ObjectReference", "Form", "OnInit", event(alloc))?)?;
+    objects.push(object(alloc, "Debug", "", trace))?;
+    objects.push(object(alloc, "Utility", "", random_int))?;
+    objects.push(object(alloc, "Scene", "", sleep))?;
+    objects.push(object(alloc, "Form", "", Vec::new(alloc)))?;
+    objects.push(object(alloc, "Quest", "Form", on_init(alloc)?))?;
+    objects.push(object(alloc, "ObjectReference", "Form", on_init(alloc)?))?;
     Ok(objects)
 }
 
-// An object with one function, in its empty state.
-fn with_function(
-    alloc: Global,
-    name: &str,
-    parent: &str,
-    function_name: &str,
-    function: PexFunction,
-) -> Result<PexObject, OutOfMemory>
-    ensures { IfOk result HasNoProperties }
-{
-    let mut functions = Vec::with_capacity(alloc, 1)?;
-    functions.push((reference(function_name), function))?;
-    let mut states = Vec::with_capacity(alloc, 1)?;
-    states.push(PexState {
-        name: EMPTY,
-        functions,
-    })?;
-    Ok(object(name, parent, states, alloc))
-}
-
-fn object(name: &str, parent: &str, states: Vec<PexState>, alloc: Global) -> PexObject
+fn object(alloc: Global, name: &str, parent: &str, states: Vec<PexState>) -> PexObject
     ensures { HasNoProperties result }
 {
     PexObject {
@@ -141,46 +116,50 @@ fn object(name: &str, parent: &str, states: Vec<PexState>, alloc: Global) -> Pex
     }
 }
 
-// A global native function with a result of this type.
-fn native(
-    alloc: Global,
-    kind: &str,
-    parameters: &[(&str, &str)],
-) -> Result<PexFunction, OutOfMemory> {
-    let mut pairs = Vec::with_capacity(alloc, parameters.len())?;
-    for (name, declared) in parameters {
-        pairs.push((reference(*name), reference(*declared)))?;
+// The empty state, with a global native function that has a result of this type.
+fn native(alloc: Global, name: &str, kind: &str, taken: &[(&str, &str)]) -> Made<Vec<PexState>> {
+    let mut parameters = Vec::with_capacity(alloc, taken.len())?;
+    for (name, declared) in taken {
+        parameters.push((reference(*name), reference(*declared)))?;
     }
-    Ok(PexFunction {
+    let function = PexFunction {
+        result: reference(kind),
         bits: GLOBAL_NATIVE,
-        ..function(kind, pairs, Vec::new(alloc), alloc)
-    })
+        parameters,
+        ..event(alloc)
+    };
+    states_of(alloc, name, function)
+}
+
+// The empty state, with the event of an instance that begins.
+fn on_init(alloc: Global) -> Made<Vec<PexState>> {
+    states_of(alloc, "OnInit", event(alloc))
+}
+
+// The empty state, with this function alone.
+fn states_of(alloc: Global, name: &str, function: PexFunction) -> Made<Vec<PexState>> {
+    let functions = vec![in alloc; (reference(name), function)]?;
+    let state = PexState {
+        name: EMPTY,
+        functions,
+    };
+    Ok(vec![in alloc; state]?)
 }
 
 // An event without parameters that does nothing.
 fn event(alloc: Global) -> PexFunction {
-    function("None", Vec::new(alloc), Vec::new(alloc), alloc)
-}
-
-// A function without locals, with a result of this type.
-fn function(
-    kind: &str,
-    parameters: Vec<(u16, u16)>,
-    code: Vec<Instruction>,
-    alloc: Global,
-) -> PexFunction {
     PexFunction {
-        result: reference(kind),
+        result: reference("None"),
         doc: EMPTY,
         flags: 0,
         bits: 0,
-        parameters,
+        parameters: Vec::new(alloc),
         locals: Vec::new(alloc),
-        code,
+        code: Vec::new(alloc),
     }
 }
 
-fn members(alloc: Global) -> Result<Vec<(u16, PexFunction)>, OutOfMemory>
+fn members(alloc: Global) -> Made<Vec<(u16, PexFunction)>>
     ensures { IfOk result (λ members. vec_len members ≡ 4) }
 {
     let mut members = Vec::with_capacity(alloc, 4)?;
@@ -192,28 +171,30 @@ fn members(alloc: Global) -> Result<Vec<(u16, PexFunction)>, OutOfMemory>
 }
 
 // Calls OnEndState, changes the state, and calls OnBeginState.
-fn goto_state(alloc: Global) -> Result<PexFunction, OutOfMemory> {
+fn goto_state(alloc: Global) -> Made<PexFunction> {
     let mut code = Vec::with_capacity(alloc, 3)?;
     code.push(instruction(alloc, CALL_METHOD, &["OnEndState", "self", "::NoneVar"])?)?;
     code.push(instruction(alloc, ASSIGN, &["::State", "asNewState"])?)?;
     code.push(instruction(alloc, CALL_METHOD, &["OnBeginState", "self", "::NoneVar"])?)?;
-    let parameters = [(reference("asNewState"), reference("String"))].to_vec(alloc)?;
-    let mut goto_state = function("None", parameters, code, alloc);
-    goto_state
-        .locals
-        .push((reference("::NoneVar"), reference("None")))?;
-    Ok(goto_state)
+    Ok(PexFunction {
+        parameters: vec![in alloc; (reference("asNewState"), reference("String"))]?,
+        locals: vec![in alloc; (reference("::NoneVar"), reference("None"))]?,
+        code,
+        ..event(alloc)
+    })
 }
 
 // Gives the name of the state.
-fn get_state(alloc: Global) -> Result<PexFunction, OutOfMemory> {
-    let mut code = Vec::with_capacity(alloc, 1)?;
-    code.push(instruction(alloc, RETURN, &["::State"])?)?;
-    Ok(function("String", Vec::new(alloc), code, alloc))
+fn get_state(alloc: Global) -> Made<PexFunction> {
+    Ok(PexFunction {
+        result: reference("String"),
+        code: vec![in alloc; instruction(alloc, RETURN, &["::State"])?]?,
+        ..event(alloc)
+    })
 }
 
 // An instruction of which each operand is a name.
-fn instruction(alloc: Global, opcode: u8, names: &[&str]) -> Result<Instruction, OutOfMemory> {
+fn instruction(alloc: Global, opcode: u8, names: &[&str]) -> Made<Instruction> {
     let mut fixed = Vec::with_capacity(alloc, names.len())?;
     for name in names {
         fixed.push(Datum::Word(reference(*name)))?;

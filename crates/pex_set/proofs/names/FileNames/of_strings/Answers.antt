@@ -3,7 +3,7 @@ use Rattle.std.proofs.lemmas.Grind.{common_steps}
 use Rattle.std.proofs.lemmas.List.Sums.{fold_push}
 use Rattle.pex_set.specs.Names.{number_in, with_name, with_names, IsGrown}
 use Rattle.pex_set.proofs.NameLemmas.{IsGrown-trans, IsGrown-with_name, numbers-push}
-use Rattle.pex_set.proofs.file_names.FileNames.of_strings.Goals as goal
+use Rattle.pex_set.proofs.names.FileNames.of_strings.Goals as goal
 
 pub returns-in_err-number-clause-grows : goal.returns-in_err-number-clause-grows
 returns-in_err-number-clause-grows c =

@@ -1,6 +1,6 @@
 use Rattle.std.proofs.Common.{◌≡◌, map, take, Some, vec_len}
 use Rattle.pex_set.specs.Names.{number_in, with_names, IsGrown}
-use Rattle.pex_set.proofs.file_names.FileNames.of_strings.Given as goal
+use Rattle.pex_set.proofs.names.FileNames.of_strings.Given as goal
 
 abbrev pub invariant-loop-string : goal.invariant-loop-string
 invariant-loop-string l = record {

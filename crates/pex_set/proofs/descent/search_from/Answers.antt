@@ -1,6 +1,6 @@
 use Rattle.pex_set.specs.Circles.{CanStart}
 use Rattle.pex_set.proofs.CircleLemmas.{AreSearched-ended, AreSearched-marked}
-use Rattle.pex_set.proofs.circles.search_from.Goals as goal
+use Rattle.pex_set.proofs.descent.search_from.Goals as goal
 
 pub returns-in-Some : goal.returns-in-Some
 returns-in-Some c =

@@ -1,6 +1,6 @@
 use Rattle.pex_set.proofs.NameLemmas.{alike-number, empty_number, position-grown, IsGrown-with_name}
 use Rattle.std.specs.Str.{bytes_eq, str_to_ascii_lowercase}
-use Rattle.pex_set.proofs.name_table.one_number_of_a_name.Goals as goal
+use Rattle.pex_set.proofs.names.one_number_of_a_name.Goals as goal
 
 pub returns-clause-alike : goal.returns-clause-alike
 returns-clause-alike c = alike-number

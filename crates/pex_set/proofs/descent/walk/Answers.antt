@@ -1,7 +1,7 @@
 use Rattle.std.proofs.Common.{ℕ, Option, Some, set, sym, ap, subst, ◌∙◌, arith}
 use Rattle.pex_set.specs.Circles.{Walked}
 use Rattle.pex_set.proofs.CircleWalks.{begins, goes_on, comes_out, meets, circles, fills}
-use Rattle.pex_set.proofs.circles.walk.Goals as goal
+use Rattle.pex_set.proofs.descent.walk.Goals as goal
 
 pub loop-init : goal.loop-init
 loop-init c = begins c.args.parents.now c.args.walks.now c.args.start

@@ -1,6 +1,6 @@
 use Rattle.pex_set.specs.Circles.{CanStart}
 use Rattle.pex_set.proofs.CircleWalks.{OnWalk}
-use Rattle.pex_set.proofs.circles.walk.Given as goal
+use Rattle.pex_set.proofs.descent.walk.Given as goal
 
 abbrev pub invariant-loop : goal.invariant-loop
 invariant-loop l =

@@ -1,6 +1,6 @@
 use Rattle.std.proofs.Common.{◌≡◌, length}
 use Rattle.pex_set.proofs.CircleLemmas.{IsMarking}
-use Rattle.pex_set.proofs.circles.mark_circle.Given as goal
+use Rattle.pex_set.proofs.descent.mark_circle.Given as goal
 
 abbrev pub invariant-loop : goal.invariant-loop
 invariant-loop l =

@@ -1,12 +1,15 @@
-// Names as numbers, with the case of A to Z ignored.
-ghost use Rattle.std.specs.Prelude.{◌≡◌, ◌↔◌, ℕ, List, [], ◌∷◌, ◌++◌, Some, true, length, slice_index_or, IfOk, OnOk, OnErr};
+// Names as numbers, with the case of A to Z ignored, and the strings of a file by these numbers.
+ghost use Rattle.std.specs.Prelude.{◌≡◌, ◌↔◌, ℕ, List, [], ◌∷◌, ◌++◌, Some, true, map, length, slice_index_or, IfOk, OnOk, OnErr};
 ghost use Rattle.std.specs.Str.{str_to_ascii_lowercase, str_eq_ignore_ascii_case};
-ghost use Rattle.pex_set.specs.Names.{number_in, with_name, IsGrown, IsNumbered};
+ghost use Rattle.pex_set.specs.Names.{number_in, with_name, with_names, IsGrown, IsNumbered};
 
 use indexmap::IndexSet;
-use papy_base::OutOfMemory;
+use papy_base::{OutOfMemory, Text};
 use std::alloc::Global;
 use std::marker::Model;
+
+/// What was made, unless there was no memory for it.
+pub type Made<T> = Result<T, OutOfMemory>;
 
 /// The number of the empty name.
 pub const EMPTY_NAME: usize = 0;
@@ -32,7 +35,7 @@ impl Model for NameTable {
 
 impl NameTable {
     /// A table of the empty name alone.
-    pub fn new(alloc: Global) -> Result<NameTable, OutOfMemory>
+    pub fn new(alloc: Global) -> Made<NameTable>
         ensures { IfOk result (λ table. table ≡ [] ∷ []) }
     {
         let mut names = IndexSet::new(alloc);
@@ -41,7 +44,7 @@ impl NameTable {
     }
 
     /// The number of this name, a new one where the table has none.
-    pub fn number(&mut self, alloc: Global, name: &[u8]) -> Result<usize, OutOfMemory>
+    pub fn number(&mut self, alloc: Global, name: &[u8]) -> Made<usize>
         ensures table { OnOk result (self.new ≡ with_name self.old name.now) }
         ensures number { IfOk result (λ number. number_in self.new name.now ≡ Some number) }
         ensures unchanged { OnErr result (self.new ≡ self.old) }
@@ -52,7 +55,7 @@ impl NameTable {
     }
 
     /// The number of this name, where the table has one.
-    pub fn find(&self, alloc: Global, name: &[u8]) -> Result<Option<usize>, OutOfMemory>
+    pub fn find(&self, alloc: Global, name: &[u8]) -> Made<Option<usize>>
         ensures { IfOk result (λ number. number ≡ number_in self.now name.now) }
     {
         let folded = folded(alloc, name)?;
@@ -79,12 +82,60 @@ impl NameTable {
 }
 
 /// The bytes of a name with A to Z read as a to z.
-pub fn folded(alloc: Global, name: &[u8]) -> Result<Vec<u8>, OutOfMemory>
+pub fn folded(alloc: Global, name: &[u8]) -> Made<Vec<u8>>
     ensures { IfOk result (λ bytes. bytes.items ≡ str_to_ascii_lowercase name.now) }
 {
     let mut bytes = name.to_vec(alloc)?;
     bytes.as_mut_slice().make_ascii_lowercase();
     Ok(bytes)
+}
+
+/// The numbers of a file's strings, in the order of its string table.
+#[derive(Drop)]
+pub struct FileNames {
+    numbers: Vec<usize>,
+}
+
+impl Model for FileNames {
+    ghost use Rattle.std.specs.Prelude.{ℕ, List};
+
+    ghost Value = { List ℕ };
+
+    ghost view = { λ names. names.numbers.items };
+}
+
+impl FileNames {
+    /// The numbers of these strings, which the table then has.
+    pub fn of_strings(alloc: Global, table: &mut NameTable, strings: &[Text]) -> Made<FileNames>
+        ensures length { IfOk result (λ names. length names ≡ length strings.now) }
+        ensures numbers { IfOk result (λ names. map Some names ≡ map (number_in table.new) strings.now) }
+        ensures table { OnOk result (table.new ≡ with_names table.old strings.now) }
+        ensures grows { IsGrown table.old table.new }
+    {
+        let mut numbers = Vec::with_capacity(alloc, strings.len())?;
+        for string in strings {
+            numbers.push(table.number(alloc, string.as_bytes())?)?;
+        }
+        Ok(FileNames { numbers })
+    }
+
+    /// The number of the string at this reference, and that of the empty name where there is none.
+    pub fn number(&self, reference: u16) -> usize
+        ensures { result ≡ slice_index_or self.now reference EMPTY_NAME }
+    {
+        let number = self.numbers.get(usize::from(reference));
+        number.copied().unwrap_or(EMPTY_NAME)
+    }
+}
+
+/// The bytes of the string at this reference, and none where there is no such string.
+pub fn text_at(strings: &[Text], reference: u16) -> &[u8]
+    ensures { result.now ≡ slice_index_or strings.now reference [] }
+{
+    match strings.get(usize::from(reference)) {
+        Some(text) => text.as_bytes(),
+        None => &[],
+    }
 }
 
 /// Names have one number where they are alike and no other, and a number stays as the table grows. `EMPTY_NAME` is that of

@@ -1,6 +1,6 @@
 use Rattle.std.proofs.Common.{arith}
 use Rattle.pex_set.proofs.CircleLemmas.{MarksCircles-from_search, AreRooted-from_search}
-use Rattle.pex_set.proofs.circles.on_circles.Goals as goal
+use Rattle.pex_set.proofs.descent.on_circles.Goals as goal
 
 pub returns-clause-exact : goal.returns-clause-exact
 returns-clause-exact c =
