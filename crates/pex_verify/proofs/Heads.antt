@@ -1,7 +1,7 @@
 -- Heads of scripts as they are made.
 use Rattle.std.proofs.Common.{◌≡◌, ℕ, List, [], ◌∷◌, ◌++◌, map, Option, Some, sym, ap, ◌∙◌}
 use Rattle.std.proofs.lemmas.List.{map-append}
-use Rattle.pex_verify.specs.declared.signature.Signature.{Signature}
+use Rattle.pex_verify.specs.declared.scripts.Signature.{Signature}
 use Rattle.pex_verify.specs.Signatures.{Declared, declared_of}
 use Rattle.pex_verify.specs.Heads.{Members, member_at}
 use Rattle.pex_verify.proofs.Pairs.{behind_next}

@@ -14,7 +14,7 @@ use Rattle.pex_values.specs.declared.values.PexState.{PexState}
 use Rattle.pex_verify.specs.declared.scope.Home.{Home}
 use Rattle.pex_verify.specs.declared.scripts.ScriptHead.{ScriptHead}
 use Rattle.pex_verify.specs.declared.scripts.ScriptSet.{ScriptSet}
-use Rattle.pex_verify.specs.declared.signature.Signature.{Signature}
+use Rattle.pex_verify.specs.declared.scripts.Signature.{Signature}
 use Rattle.pex_verify.specs.declared.sources.SetFile.{SetFile}
 use Rattle.pex_verify.specs.Agreement.{IsOffered}
 use Rattle.pex_verify.specs.Found.{function_at, function_found, parent_of, rank_of}

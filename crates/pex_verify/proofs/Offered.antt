@@ -12,7 +12,7 @@ use Rattle.code_meaning.specs.Code.{Script}
 use Rattle.code_meaning.specs.LookUp.{FoundMethod, first_method, method_in, native_at}
 use Rattle.code_meaning.specs.Typed.{MethodMeets}
 use Rattle.pex_set.specs.Names.{number_in}
-use Rattle.pex_verify.specs.declared.signature.Signature.{Signature}
+use Rattle.pex_verify.specs.declared.scripts.Signature.{Signature}
 use Rattle.pex_verify.specs.declared.value_type.ValueType.TheVariants.{Of}
 use Rattle.pex_verify.specs.Agreement.{IsOffered}
 use Rattle.pex_verify.specs.Meanings.{Meanings, of_result, result_meaning, value_meaning}

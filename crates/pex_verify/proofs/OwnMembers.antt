@@ -16,7 +16,7 @@ use Rattle.pex_values.specs.declared.values.PexFunction.{PexFunction}
 use Rattle.pex_values.specs.declared.values.PexState.{PexState}
 use Rattle.pex_verify.specs.declared.scripts.PropertyHead.{PropertyHead}
 use Rattle.pex_verify.specs.declared.scripts.ScriptHead.{ScriptHead}
-use Rattle.pex_verify.specs.declared.signature.Signature.{Signature}
+use Rattle.pex_verify.specs.declared.scripts.Signature.{Signature}
 use Rattle.pex_verify.specs.Heads.{Placed, Members, member_at, empty_state_of, empty_functions, functions_of_state, IsHeadOf}
 use Rattle.pex_verify.specs.Members.{Owner, member_of, with_places, functions_of, methods_in, methods_of_state, methods_of_states}
 use Rattle.pex_verify.specs.Signatures.{Declared, declared_of, declared_by, number_at}

@@ -10,7 +10,7 @@ use Rattle.code_meaning.specs.LookUp.{numbered, one_on}
 use Rattle.pex_set.specs.declared.inherited.MemberPlace.{MemberPlace}
 use Rattle.pex_set.specs.declared.inherited.OwnMember.{OwnMember}
 use Rattle.pex_set.specs.Nearest.{nearest}
-use Rattle.pex_verify.specs.declared.signature.Signature.{Signature}
+use Rattle.pex_verify.specs.declared.scripts.Signature.{Signature}
 use Rattle.pex_verify.specs.Signatures.{Declared, declared_of, AreAlike}
 use Rattle.pex_verify.proofs.Views.{StateView, view_of, OwnFound, own_at, own_of_state, own_found, ViewFound, found_of_script, first_found, offered, Replaces, place_of, AreMembersOf, HaveSignatures, sought, KeepsAbove}
 use Rattle.pex_verify.proofs.Offers.{found_above}

@@ -12,7 +12,7 @@ use Rattle.code_meaning.specs.Typed.{Scope, AllGive, Calls, CallsOn, Gives, Meth
 use Rattle.pex_verify.specs.declared.loaded.Operand.{Operand}
 use Rattle.pex_verify.specs.declared.scope.FunctionScope.{FunctionScope}
 use Rattle.pex_verify.specs.declared.scripts.PropertyHead.{PropertyHead}
-use Rattle.pex_verify.specs.declared.signature.Signature.{Signature}
+use Rattle.pex_verify.specs.declared.scripts.Signature.{Signature}
 use Rattle.pex_verify.specs.declared.value_type.ValueType.{ValueType}
 use Rattle.pex_verify.specs.declared.value_type.ValueType.TheVariants.{Nothing, Float, Unknown, Of}
 use Rattle.pex_verify.specs.Accepted.{EachFits}

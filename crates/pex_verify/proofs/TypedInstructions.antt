@@ -17,8 +17,8 @@ use Rattle.pex_verify.specs.declared.action.Use.{Use}
 use Rattle.pex_verify.specs.declared.action.Use.TheVariants.{Name}
 use Rattle.pex_verify.specs.declared.loaded.Operand.{Operand}
 use Rattle.pex_verify.specs.declared.loaded.Operand.TheVariants as loaded
-use Rattle.pex_verify.specs.declared.lookup.Lookup.{Lookup}
-use Rattle.pex_verify.specs.declared.lookup.Lookup.TheVariants.{Unsought, Missing, Function, Property}
+use Rattle.pex_verify.specs.declared.operand_rules.Lookup.{Lookup}
+use Rattle.pex_verify.specs.declared.operand_rules.Lookup.TheVariants.{Unsought, Missing, Function, Property}
 use Rattle.pex_verify.specs.declared.scope.FunctionScope.{FunctionScope}
 use Rattle.pex_verify.specs.declared.value_type.ValueType.{ValueType}
 use Rattle.pex_verify.specs.Accepted.{at, OperandsFit}

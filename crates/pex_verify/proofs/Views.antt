@@ -15,7 +15,7 @@ use Rattle.pex_set.specs.declared.inherited.MemberPlace.{MemberPlace}
 use Rattle.pex_set.specs.declared.inherited.OwnMember.{OwnMember}
 use Rattle.pex_set.specs.Nearest.{nearest, own_member}
 use Rattle.pex_verify.specs.declared.scripts.PropertyHead.{PropertyHead}
-use Rattle.pex_verify.specs.declared.signature.Signature.{Signature}
+use Rattle.pex_verify.specs.declared.scripts.Signature.{Signature}
 use Rattle.pex_verify.specs.declared.value_type.ValueType.TheVariants.{Of}
 use Rattle.pex_verify.specs.Found.{is_readable, is_writable}
 use Rattle.pex_verify.specs.Meanings.{Meanings, of_result, result_meaning, value_meaning}

@@ -7,8 +7,8 @@ use Rattle.pex_verify.specs.declared.action.Action.{Action}
 use Rattle.pex_verify.specs.declared.action.Action.TheVariants as action
 use Rattle.pex_verify.specs.declared.loaded.Operand.{Operand}
 use Rattle.pex_verify.specs.declared.loaded.Operand.TheVariants as loaded
-use Rattle.pex_verify.specs.declared.lookup.Lookup.{Lookup}
-use Rattle.pex_verify.specs.declared.lookup.Lookup.TheVariants.{Function, Property}
+use Rattle.pex_verify.specs.declared.operand_rules.Lookup.{Lookup}
+use Rattle.pex_verify.specs.declared.operand_rules.Lookup.TheVariants.{Function, Property}
 use Rattle.pex_verify.specs.declared.scope.FunctionScope.{FunctionScope}
 use Rattle.pex_verify.specs.declared.scripts.ScriptSet.{ScriptSet}
 use Rattle.pex_verify.specs.declared.value_type.ValueType.{ValueType}

@@ -14,7 +14,7 @@ use Rattle.code_meaning.specs.Typed.{MethodMeets, GetMeets, SetMeets}
 use Rattle.pex_verify.specs.declared.scope.FunctionScope.{FunctionScope}
 use Rattle.pex_verify.specs.declared.scripts.PropertyHead.{PropertyHead}
 use Rattle.pex_verify.specs.declared.scripts.ScriptSet.{ScriptSet}
-use Rattle.pex_verify.specs.declared.signature.Signature.{Signature}
+use Rattle.pex_verify.specs.declared.scripts.Signature.{Signature}
 use Rattle.pex_verify.specs.declared.value_type.ValueType.TheVariants.{Of}
 use Rattle.pex_verify.specs.Found.{function_found, property_found, parent_of, is_global, is_readable, is_writable}
 use Rattle.pex_verify.specs.Meanings.{Meanings, of_result, result_meaning, value_meaning}

@@ -14,12 +14,12 @@ use Rattle.pex_verify.specs.declared.action.Use.{Use}
 use Rattle.pex_verify.specs.declared.action.Use.TheVariants as purpose
 use Rattle.pex_verify.specs.declared.loaded.Operand.{Operand}
 use Rattle.pex_verify.specs.declared.loaded.Operand.TheVariants as loaded
-use Rattle.pex_verify.specs.declared.lookup.Lookup.{Lookup}
-use Rattle.pex_verify.specs.declared.lookup.Lookup.TheVariants.{Unsought, Missing, Function, Property}
+use Rattle.pex_verify.specs.declared.operand_rules.Lookup.{Lookup}
+use Rattle.pex_verify.specs.declared.operand_rules.Lookup.TheVariants.{Unsought, Missing, Function, Property}
 use Rattle.pex_verify.specs.declared.scope.FunctionScope.{FunctionScope}
 use Rattle.pex_verify.specs.declared.scripts.PropertyHead.{PropertyHead}
 use Rattle.pex_verify.specs.declared.scripts.ScriptSet.{ScriptSet}
-use Rattle.pex_verify.specs.declared.signature.Signature.{Signature}
+use Rattle.pex_verify.specs.declared.scripts.Signature.{Signature}
 use Rattle.pex_verify.specs.Accepted.{at}
 use Rattle.pex_verify.specs.Judgement.{type_by, IsSeenIn}
 use Rattle.pex_verify.specs.Meanings.{script_type}

@@ -8,7 +8,7 @@ use Rattle.code_meaning.specs.Typed.{Scope, IsTyped}
 use Rattle.pex_verify.specs.declared.action.Action.{Action}
 use Rattle.pex_verify.specs.declared.loaded.LoadedInstruction.{LoadedInstruction}
 use Rattle.pex_verify.specs.declared.loaded.Operand.{Operand}
-use Rattle.pex_verify.specs.declared.lookup.Lookup.{Lookup}
+use Rattle.pex_verify.specs.declared.operand_rules.Lookup.{Lookup}
 use Rattle.pex_verify.specs.declared.scope.FunctionScope.{FunctionScope}
 use Rattle.pex_verify.specs.Accepted.{HasInstance, OperandsFit}
 use Rattle.pex_verify.specs.Agreement.{Agrees, AreNumbered, Stands}

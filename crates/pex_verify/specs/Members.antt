@@ -10,7 +10,7 @@ use Rattle.pex_values.specs.declared.values.PexState.{PexState}
 use Rattle.pex_verify.specs.declared.members.MemberLists.{MemberLists}
 use Rattle.pex_verify.specs.declared.scripts.PropertyHead.{PropertyHead}
 use Rattle.pex_verify.specs.declared.scripts.ScriptHead.{ScriptHead}
-use Rattle.pex_verify.specs.declared.signature.Signature.{Signature}
+use Rattle.pex_verify.specs.declared.scripts.Signature.{Signature}
 use Rattle.pex_verify.specs.Signatures.{number_at}
 
 -- a script by its number, with the ranks of those below it

@@ -1,7 +1,7 @@
 -- What holds where code stands, and of what calls look up.
 use Rattle.std.specs.Prelude.{ℕ, ◌<◌, vec_len}
-use Rattle.pex_verify.specs.declared.lookup.Lookup.{Lookup}
-use Rattle.pex_verify.specs.declared.lookup.Lookup.TheVariants.{Function}
+use Rattle.pex_verify.specs.declared.operand_rules.Lookup.{Lookup}
+use Rattle.pex_verify.specs.declared.operand_rules.Lookup.TheVariants.{Function}
 use Rattle.pex_verify.specs.declared.scope.Home.{Home}
 use Rattle.pex_verify.specs.Soundness.{Bounds, bounds_with}
 

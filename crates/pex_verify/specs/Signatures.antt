@@ -1,7 +1,7 @@
 -- Functions as other scripts see them, by the numbers of names.
 use Rattle.std.specs.Prelude.{◌≡◌, ℕ, ◌==◌, Bool, not, List, [], map, bit_and, slice_index_or}
 use Rattle.pex_values.specs.declared.values.PexFunction.{PexFunction}
-use Rattle.pex_verify.specs.declared.signature.Signature.{Signature}
+use Rattle.pex_verify.specs.declared.scripts.Signature.{Signature}
 
 -- the number of the string at a reference of a file, with the numbers of its strings
 abbrev pub number_at : List ℕ → ℕ → ℕ

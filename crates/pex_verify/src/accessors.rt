@@ -9,12 +9,12 @@ ghost use Rattle.pex_verify.specs.Rules.{IsNewProperty};
 ghost use Rattle.pex_verify.specs.Signatures.{number_at};
 ghost use Rattle.pex_verify.specs.Properties.{Reads, Writes, IsAccessor, AreAccessors, IsOfKind, IsProperty};
 
-use crate::fault::{Refusal, VerifyRule};
+use crate::fault::{Judged, Refusal, VerifyRule, check};
 use crate::function::{FunctionLists, has_too_many_slots, known_type, load_function};
-use crate::lines::{OF_READ, OF_WRITE};
 use crate::loaded::{LoadedFunction, LoadedProperty};
 use crate::scope::Home;
-use crate::signature::KIND_BITS;
+use crate::scripts::KIND_BITS;
+use crate::sources::{OF_READ, OF_WRITE};
 use crate::value_type::ValueType;
 use core_tree::CoreType;
 use pex_set::EMPTY_NAME;
@@ -26,7 +26,7 @@ pub(crate) fn load_property(
     lists: &mut FunctionLists,
     place: usize,
     property: &PexProperty,
-) -> Result<LoadedProperty, Refusal>
+) -> Judged<LoadedProperty>
     ensures sound { IfOk result (IsSoundProperty (bounds_of home.now)) }
     ensures property { IfOk result (IsProperty home.now place property.now) }
 {
@@ -46,7 +46,7 @@ pub(crate) fn load_property(
 }
 
 // The type of a property whose name is new: V2, V5, then V7.
-fn judged_type(home: &Home<'_>, place: usize, property: &PexProperty) -> Result<CoreType, Refusal>
+fn judged_type(home: &Home<'_>, place: usize, property: &PexProperty) -> Judged<CoreType>
     ensures among { IfOk result (IsTypeAmong (vec_len home.now.set.now.heads)) }
     ensures meaning { IfOk result (λ kind. Of kind ≡ value_meaning home.now.set.now.types (number_at home.now.source.now.names.now property.now.kind)) }
     ensures new { OnOk result (IsNewProperty home.now place (number_at home.now.source.now.names.now property.now.name)) }
@@ -77,17 +77,15 @@ fn repeats_property(home: &Home<'_>, place: usize, property: &PexProperty) -> bo
 }
 
 // The variable of an auto property: V14 where it isn't one of the object, of the property's type.
-fn judged_variable(home: &Home<'_>, property: &PexProperty) -> Result<Option<u16>, Refusal>
+fn judged_variable(home: &Home<'_>, property: &PexProperty) -> Judged<Option<u16>>
     ensures within { IfOk result (λ variable. IfSome variable (λ n. n < vec_len home.now.variables.now.list)) }
     ensures kind { IfOk result (IsOfKind home.now property.now property.now.variable) }
 {
     let Some(reference) = property.variable else {
         return Ok(None);
     };
-    match variable_place(home, property, reference) {
-        Some(place) => Ok(Some(place)),
-        None => Err(Refusal::of(VerifyRule::BadPropertyBits)),
-    }
+    let place = variable_place(home, property, reference);
+    Ok(Some(place.ok_or(Refusal::of(VerifyRule::BadPropertyBits))?))
 }
 
 fn variable_place(home: &Home<'_>, property: &PexProperty, reference: u16) -> Option<u16>
@@ -97,11 +95,8 @@ fn variable_place(home: &Home<'_>, property: &PexProperty, reference: u16) -> Op
     let names = home.source.names;
     let place = home.variables.place(names.number(reference))?;
     let variable = home.object.variables.get(usize::from(place))?;
-    if names.number(variable.kind) == names.number(property.kind) {
-        Some(place)
-    } else {
-        None
-    }
+    let is_alike = names.number(variable.kind) == names.number(property.kind);
+    is_alike.then_some(place)
 }
 
 // The function that reads a property, if there is one.
@@ -109,7 +104,7 @@ fn load_reader(
     home: &Home<'_>,
     lists: &mut FunctionLists,
     property: &PexProperty,
-) -> Result<Option<LoadedFunction>, Refusal>
+) -> Judged<Option<LoadedFunction>>
     ensures sound { IfOk result (λ function. IfSome function (IsSoundFunction (bounds_of home.now))) }
     ensures written { IfOk result (AreAccessors home.now property.now.name (Reads home.now.source.now.names.now (number_at home.now.source.now.names.now property.now.kind)) property.now.read) }
 {
@@ -125,7 +120,7 @@ fn load_writer(
     home: &Home<'_>,
     lists: &mut FunctionLists,
     property: &PexProperty,
-) -> Result<Option<LoadedFunction>, Refusal>
+) -> Judged<Option<LoadedFunction>>
     ensures sound { IfOk result (λ function. IfSome function (IsSoundFunction (bounds_of home.now))) }
     ensures written { IfOk result (AreAccessors home.now property.now.name (Writes home.now.set.now.types home.now.source.now.names.now (number_at home.now.source.now.names.now property.now.kind)) property.now.write) }
 {
@@ -145,17 +140,14 @@ fn load_accessor(
     function: &PexFunction,
     purpose: u8,
     is_right: bool,
-) -> Result<LoadedFunction, Refusal>
+) -> Judged<LoadedFunction>
     ensures sound { IfOk result (IsSoundFunction (bounds_of home.now)) }
     ensures right { OnOk result (IsTrue is_right) }
     ensures accessor { IfOk result (IsAccessor home.now property.now.name function.now) }
 {
-    if has_too_many_slots(function) {
-        return Err(Refusal::of(VerifyRule::TooMany));
-    }
-    if !is_right || function.bits & KIND_BITS != 0 {
-        return Err(Refusal::of(VerifyRule::BadPropertyBits));
-    }
+    check(!has_too_many_slots(function), VerifyRule::TooMany)?;
+    check(is_right, VerifyRule::BadPropertyBits)?;
+    check(function.bits & KIND_BITS == 0, VerifyRule::BadPropertyBits)?;
     let names = home.source.names;
     let object = names.number(home.object.name);
     let name = names.number(property.name);

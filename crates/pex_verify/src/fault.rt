@@ -1,8 +1,9 @@
-ghost use Rattle.std.specs.Prelude.{◌≡◌};
+ghost use Rattle.std.specs.Prelude.{◌≡◌, IsTrue, OnOk};
 ghost use Rattle.pex_verify.specs.declared.fault.VerifyFault.TheVariants.{OutOfMemory as NoMemoryToVerify};
 ghost use Rattle.pex_verify.specs.declared.fault.Refusal.TheVariants.{OutOfMemory as NoMemory};
 
 use papy_base::{OutOfMemory, Text};
+use pex_set::Made;
 use std::alloc::{AllocError, AllocFailed, Global};
 use thiserror::Error;
 
@@ -96,14 +97,29 @@ impl Refusal {
     }
 
     /// The same at the instruction of this number.
-    pub(crate) fn at(self, place: u16) -> Refusal {
+    pub(crate) fn at(self, place: usize) -> Refusal {
+        let at = Some(place.min(usize::from(u16::MAX)) as u16);
         match self {
-            Refusal::Broken { rule, .. } => Refusal::Broken {
-                at: Some(place),
-                rule,
-            },
+            Refusal::Broken { rule, .. } => Refusal::Broken { at, rule },
             Refusal::OutOfMemory => Refusal::OutOfMemory,
         }
+    }
+}
+
+/// What keeps the rules, or why it is refused.
+pub(crate) type Judged<T> = Result<T, Refusal>;
+
+/// What is valid, or the first fault in it.
+pub(crate) type Valid<T> = Result<T, VerifyFault>;
+
+/// The rule is broken unless this holds.
+pub(crate) fn check(holds: bool, rule: VerifyRule) -> Judged<()>
+    ensures { OnOk result (IsTrue holds) }
+{
+    if holds {
+        Ok(())
+    } else {
+        Err(Refusal::of(rule))
     }
 }
 
@@ -141,30 +157,20 @@ pub(crate) struct Site<'a> {
 impl<'a> Site<'a> {
     /// The fault of a rule that the object itself breaks.
     pub(crate) fn fault(&self, alloc: Global, rule: VerifyRule) -> VerifyFault {
-        match self.broken(alloc, None, None, rule) {
-            Ok(fault) => fault,
-            Err(OutOfMemory) => VerifyFault::OutOfMemory,
-        }
+        let fault = self.broken(alloc, None, Refusal::of(rule));
+        fault.unwrap_or(VerifyFault::OutOfMemory)
     }
 
     /// The fault of a refusal in the member of this name.
     pub(crate) fn fault_in(&self, alloc: Global, member: &[u8], refusal: Refusal) -> VerifyFault {
-        let Refusal::Broken { at, rule } = refusal else {
-            return VerifyFault::OutOfMemory;
-        };
-        match self.broken(alloc, Some(member), at, rule) {
-            Ok(fault) => fault,
-            Err(OutOfMemory) => VerifyFault::OutOfMemory,
-        }
+        let fault = self.broken(alloc, Some(member), refusal);
+        fault.unwrap_or(VerifyFault::OutOfMemory)
     }
 
-    fn broken(
-        &self,
-        alloc: Global,
-        member: Option<&[u8]>,
-        at: Option<u16>,
-        rule: VerifyRule,
-    ) -> Result<VerifyFault, OutOfMemory> {
+    fn broken(&self, alloc: Global, member: Option<&[u8]>, refusal: Refusal) -> Made<VerifyFault> {
+        let Refusal::Broken { at, rule } = refusal else {
+            return Ok(VerifyFault::OutOfMemory);
+        };
         let member = match member {
             Some(member) => Some(Text::try_from_bytes(alloc, member)?),
             None => None,

@@ -9,18 +9,16 @@ ghost use Rattle.pex_verify.specs.Places.{bounds_of};
 ghost use Rattle.pex_verify.specs.Types.{IsTypeAmong, IsValueTypeAmong};
 ghost use Rattle.pex_verify.specs.Soundness.{IsSoundFunction, AreSoundInstructions};
 
-use crate::fault::{Refusal, VerifyRule};
-use crate::instruction::{judge_instruction, load_instruction};
-use crate::lines::lines_of;
+use crate::fault::{Judged, Refusal, VerifyRule};
+use crate::instruction::{Operands, judge_instruction, load_instruction};
 use crate::loaded::{LoadedFunction, LoadedInstruction};
-use crate::named_list::NamedList;
-use crate::operands::Operands;
-use crate::scope::{FunctionScope, Home};
-use crate::signature::{GLOBAL, NATIVE};
-use crate::sources::SetFile;
+use crate::scope::{FunctionScope, Home, NamedList};
+use crate::scripts::{GLOBAL, NATIVE};
+use crate::sources::{SetFile, lines_of};
 use crate::value_type::ValueType;
 use core_tree::CoreType;
-use papy_base::{Name, OutOfMemory};
+use papy_base::Name;
+use pex_set::Made;
 use pex_values::{Instruction, PexFunction};
 use std::alloc::Global;
 
@@ -36,10 +34,13 @@ pub(crate) struct FunctionLists {
 
 impl FunctionLists {
     /// Empty lists, in a set with so many names.
-    pub(crate) fn new(alloc: Global, names: usize) -> Result<FunctionLists, OutOfMemory> {
+    pub(crate) fn new(alloc: Global, names: usize) -> Made<FunctionLists> {
         Ok(FunctionLists {
             slots: NamedList::new(alloc, names)?,
-            operands: Operands::new(alloc),
+            operands: Operands {
+                fixed: Vec::new(alloc),
+                more: Vec::new(alloc),
+            },
         })
     }
 }
@@ -59,7 +60,7 @@ pub(crate) fn load_function(
     name: u16,
     function: &PexFunction,
     lines: &[u16],
-) -> Result<LoadedFunction, Refusal>
+) -> Judged<LoadedFunction>
     ensures sound { IfOk result (IsSoundFunction (bounds_of home.now)) }
     ensures written { IfOk result (IsWritten (site_of home.now) (record { numbers = source.now.names.now; titles = source.now.titles.now; name = name; function = function.now })) }
 {
@@ -93,7 +94,7 @@ pub(crate) fn load_function(
 }
 
 /// The type of a type name that must mean one, none for `None`.
-pub(crate) fn known_type(declared: ValueType) -> Result<Option<CoreType>, Refusal>
+pub(crate) fn known_type(declared: ValueType) -> Judged<Option<CoreType>>
     ensures known { IfOk result (λ found. of_result found ≡ declared) }
     ensures among { (count : ℕ) → IsValueTypeAmong count declared → IfOk result (λ found. IfSome found (IsTypeAmong count)) }
 {
@@ -110,7 +111,7 @@ fn load_parameters(
     source: &SetFile<'_>,
     slots: &mut NamedList<ValueType>,
     pairs: &[(u16, u16)],
-) -> Result<Vec<(Name, CoreType)>, Refusal>
+) -> Judged<Vec<(Name, CoreType)>>
     ensures count { IfOk result (λ parameters. vec_len slots.new.list ≡ vec_len slots.old.list + vec_len parameters) }
     ensures typed { IfOk result (λ parameters. All (λ p. IsTypeAmong (vec_len home.now.set.now.heads) p.1) parameters.items) }
     ensures slots { IfOk result (λ parameters. slots.new.list.items ≡ slots.old.list.items ++ map parameter_type parameters.items) }
@@ -118,27 +119,13 @@ fn load_parameters(
 {
     let mut parameters = Vec::with_capacity(home.alloc, pairs.len())?;
     for pair in pairs {
-        parameters.push(load_parameter(home, source, slots, *pair)?)?;
+        let declared = home.set.value_type(source.names.number(pair.1));
+        let Some(kind) = judged_slot(source, slots, *pair, declared)? else {
+            return Err(Refusal::of(VerifyRule::OperandType));
+        };
+        parameters.push((source.title(home.alloc, pair.0)?, kind))?;
     }
     Ok(parameters)
-}
-
-fn load_parameter(
-    home: &Home<'_>,
-    source: &SetFile<'_>,
-    slots: &mut NamedList<ValueType>,
-    pair: (u16, u16),
-) -> Result<(Name, CoreType), Refusal>
-    ensures count { OnOk result (vec_len slots.new.list ≡ vec_len slots.old.list + 1) }
-    ensures slots { IfOk result (λ p. slots.new.list.items ≡ slots.old.list.items ++ parameter_type p ∷ []) }
-    ensures kind { IfOk result (λ p. parameter_type p ≡ value_meaning home.now.set.now.types (kind_at source.now.names.now pair)) }
-    ensures typed { IfOk result (λ p. IsTypeAmong (vec_len home.now.set.now.heads) p.1) }
-{
-    let declared = home.set.value_type(source.names.number(pair.1));
-    match judged_slot(source, slots, pair, declared)? {
-        Some(found) => Ok((source.title(home.alloc, pair.0)?, found)),
-        None => Err(Refusal::of(VerifyRule::OperandType)),
-    }
 }
 
 fn load_locals(
@@ -146,7 +133,7 @@ fn load_locals(
     source: &SetFile<'_>,
     slots: &mut NamedList<ValueType>,
     pairs: &[(u16, u16)],
-) -> Result<Vec<(Name, Option<CoreType>)>, Refusal>
+) -> Judged<Vec<(Name, Option<CoreType>)>>
     ensures count { IfOk result (λ locals. vec_len slots.new.list ≡ vec_len slots.old.list + vec_len locals) }
     ensures typed { IfOk result (λ locals. All (λ l. IfSome l.1 (IsTypeAmong (vec_len home.now.set.now.heads))) locals.items) }
     ensures slots { IfOk result (λ locals. slots.new.list.items ≡ slots.old.list.items ++ map local_type locals.items) }
@@ -154,25 +141,11 @@ fn load_locals(
 {
     let mut locals = Vec::with_capacity(home.alloc, pairs.len())?;
     for pair in pairs {
-        locals.push(load_local(home, source, slots, *pair)?)?;
+        let declared = home.set.result_type(source.names.number(pair.1));
+        let kind = judged_slot(source, slots, *pair, declared)?;
+        locals.push((source.title(home.alloc, pair.0)?, kind))?;
     }
     Ok(locals)
-}
-
-fn load_local(
-    home: &Home<'_>,
-    source: &SetFile<'_>,
-    slots: &mut NamedList<ValueType>,
-    pair: (u16, u16),
-) -> Result<(Name, Option<CoreType>), Refusal>
-    ensures count { OnOk result (vec_len slots.new.list ≡ vec_len slots.old.list + 1) }
-    ensures slots { IfOk result (λ l. slots.new.list.items ≡ slots.old.list.items ++ local_type l ∷ []) }
-    ensures kind { IfOk result (λ l. local_type l ≡ result_meaning home.now.set.now.types (kind_at source.now.names.now pair)) }
-    ensures typed { IfOk result (λ l. IfSome l.1 (IsTypeAmong (vec_len home.now.set.now.heads))) }
-{
-    let declared = home.set.result_type(source.names.number(pair.1));
-    let found = judged_slot(source, slots, pair, declared)?;
-    Ok((source.title(home.alloc, pair.0)?, found))
 }
 
 // Adds a parameter or local of this type, unless it breaks a rule: V2, V5, then V7.
@@ -181,7 +154,7 @@ fn judged_slot(
     slots: &mut NamedList<ValueType>,
     pair: (u16, u16),
     declared: ValueType,
-) -> Result<Option<CoreType>, Refusal>
+) -> Judged<Option<CoreType>>
     ensures count { OnOk result (vec_len slots.new.list ≡ vec_len slots.old.list + 1) }
     ensures slots { OnOk result (slots.new.list.items ≡ slots.old.list.items ++ declared ∷ []) }
     ensures known { IfOk result (λ found. of_result found ≡ declared) }
@@ -201,7 +174,7 @@ fn load_code(
     scope: &FunctionScope<'_>,
     code: &[Instruction],
     operands: &mut Operands,
-) -> Result<Vec<LoadedInstruction>, Refusal>
+) -> Judged<Vec<LoadedInstruction>>
     ensures sound { IfOk result (λ loaded. AreSoundInstructions (bounds_of scope.now.home.now) (vec_len scope.now.slots.now.list) (vec_len loaded) loaded.items) }
     ensures typed { IfOk result (λ loaded. AreTypedIn scope.now loaded.items) }
 {
@@ -213,7 +186,7 @@ fn load_code(
     for (place, instruction) in code.iter().enumerate() {
         match load_instruction(scope, place, code.len(), instruction, operands) {
             Ok(found) => loaded.push_reserved(found),
-            Err(refusal) => return Err(refusal.at(place.min(usize::from(u16::MAX)) as u16)),
+            Err(refusal) => return Err(refusal.at(place)),
         }
     }
     Ok(loaded)
@@ -223,10 +196,10 @@ fn judge_code(
     scope: &FunctionScope<'_>,
     code: &[Instruction],
     operands: &mut Operands,
-) -> Result<(), Refusal> {
+) -> Judged<()> {
     for (place, instruction) in code.iter().enumerate() {
         if let Err(refusal) = judge_instruction(scope, place, code.len(), instruction, operands) {
-            return Err(refusal.at(place.min(usize::from(u16::MAX)) as u16));
+            return Err(refusal.at(place));
         }
     }
     Ok(())

@@ -1,22 +1,100 @@
-// One instruction.
-ghost use Rattle.std.specs.Prelude.{◌≡◌, ◌<◌, ◌≤◌, ◌+ℤ◌, ℕ, pos, length, vec_len, All, IfOk, OnOk, IfSome, Some, option_copied};
+// One instruction, with its operands resolved.
+ghost use Rattle.std.specs.Prelude.{◌≡◌, vec_len, IfOk, OnOk, ◌<◌, ◌≤◌, ◌+ℤ◌, ℕ, pos, length, All, IfSome, Some, option_copied};
+ghost use Rattle.pex_verify.specs.Found.{AreTold, IsTold, Allows};
+ghost use Rattle.pex_verify.specs.Uses.{use_at as use_in, action_of as action_by, uses_by};
+ghost use Rattle.pex_verify.specs.Soundness.{IsResolved, AreResolved, IsSoundInstruction, Leads, LeadsBy};
+ghost use Rattle.pex_values.specs.declared.values.Datum.TheVariants.{Word};
 ghost use Rattle.pex_verify.specs.Accepted.{HasInstance, OperandsFit};
-ghost use Rattle.pex_verify.specs.Found.{Allows};
 ghost use Rattle.pex_verify.specs.Judged.{IsJudged, IsTypedIn};
 ghost use Rattle.pex_verify.specs.Places.{bounds_of, IsFoundAmong};
 ghost use Rattle.pex_verify.specs.declared.action.Use.TheVariants.{Read};
-ghost use Rattle.pex_verify.specs.Uses.{action_of as action_by, uses_by};
-ghost use Rattle.pex_verify.specs.Soundness.{IsResolved, AreResolved, IsSoundInstruction, Leads, LeadsBy};
 
-use crate::action::{Action, action_of, uses_of};
-use crate::fault::{Refusal, VerifyRule};
+use crate::action::{Action, Use, action_of, uses_of};
+use crate::fault::{Judged, Refusal, VerifyRule, check};
 use crate::loaded::{LoadedInstruction, MethodPlace, Operand};
-use crate::lookup::{Lookup, look_up, name_at};
 use crate::members::method_place;
-use crate::operand_types::operands_fit;
-use crate::operands::{Operands, has_float, has_long_text, resolve_all};
+use crate::operand_rules::{Lookup, look_up, name_at, operands_fit};
 use crate::scope::FunctionScope;
+use papy_base::{TEXT_LIMIT, Text};
 use pex_values::{Datum, Instruction};
+
+/// The operands that an instruction's opcode always has, and the arguments of a call behind them. One value serves all
+/// instructions that are judged, one after the other.
+#[derive(Drop)]
+pub(crate) struct Operands {
+    pub(crate) fixed: Vec<Operand>,
+    pub(crate) more: Vec<Operand>,
+}
+
+// Puts operands that are used so in place of those of the list. Those behind the last use are read.
+fn resolve_all(
+    scope: &FunctionScope<'_>,
+    uses: &[Use],
+    data: &[Datum],
+    operands: &mut Vec<Operand>,
+) -> Judged<()>
+    ensures resolved { OnOk result (AreResolved (vec_len scope.now.slots.now.list) (vec_len scope.now.home.now.variables.now.list) uses.now operands.new.items) }
+    ensures told { OnOk result (AreTold scope.now uses.now «data».now operands.new.items) }
+{
+    operands.clear();
+    operands.reserve_exact(data.len())?;
+    for (place, datum) in data.iter().enumerate() {
+        operands.push(resolve(scope, use_at(uses, place), *datum)?)?;
+    }
+    Ok(())
+}
+
+fn use_at(uses: &[Use], place: usize) -> Use
+    ensures { result ≡ use_in uses.now place }
+{
+    uses.get(place).copied().unwrap_or(Use::Read)
+}
+
+fn resolve(scope: &FunctionScope<'_>, purpose: Use, datum: Datum) -> Judged<Operand>
+    ensures resolved { IfOk result (IsResolved (vec_len scope.now.slots.now.list) (vec_len scope.now.home.now.variables.now.list) purpose) }
+    ensures told { IfOk result (IsTold scope.now purpose datum) }
+{
+    match datum {
+        Datum::NoneValue => Ok(Operand::NoneValue),
+        Datum::Word(reference) => resolve_word(scope, purpose, reference),
+        Datum::Quoted(reference) => {
+            let text = scope.source.text(reference);
+            Ok(Operand::Quoted(Text::try_from_bytes(scope.home.alloc, text)?))
+        }
+        Datum::Int(number) => Ok(Operand::Int(number)),
+        Datum::Float(_) => Err(Refusal::of(VerifyRule::FloatValue)),
+        Datum::Bool(byte) => Ok(Operand::Bool(byte != 0)),
+    }
+}
+
+fn resolve_word(scope: &FunctionScope<'_>, purpose: Use, reference: u16) -> Judged<Operand>
+    ensures resolved { IfOk result (IsResolved (vec_len scope.now.slots.now.list) (vec_len scope.now.home.now.variables.now.list) purpose) }
+    ensures told { IfOk result (IsTold scope.now purpose (Word reference)) }
+{
+    match purpose {
+        Use::Read | Use::Write => {
+            let meaning = scope.meaning(scope.source.names.number(reference));
+            meaning.ok_or(Refusal::of(VerifyRule::UnknownVariable))
+        }
+        Use::Name | Use::Number => {
+            Ok(Operand::Word(scope.source.title(scope.home.alloc, reference)?))
+        }
+    }
+}
+
+// Whether one of these values is a float.
+fn has_float(values: &[Datum]) -> bool {
+    values.iter().any(|datum| matches!(datum, Datum::Float(_)))
+}
+
+// Whether one of these operands is a text of over 1,024 bytes.
+fn has_long_text(operands: &[Operand]) -> bool {
+    operands.iter().any(|operand| is_long_text(operand))
+}
+
+fn is_long_text(operand: &Operand) -> bool {
+    matches!(operand, Operand::Quoted(text) if text.as_bytes().len() > TEXT_LIMIT)
+}
 
 /// What an instruction leads to and looks up.
 #[derive(Clone, Copy)]
@@ -36,7 +114,7 @@ pub(crate) fn load_instruction(
     count: usize,
     instruction: &Instruction,
     operands: &mut Operands,
-) -> Result<LoadedInstruction, Refusal>
+) -> Judged<LoadedInstruction>
     ensures sound { IfOk result (IsSoundInstruction (bounds_of scope.now.home.now) (vec_len scope.now.slots.now.list) count place) }
     ensures typed { IfOk result (IsTypedIn scope.now) }
 {
@@ -60,7 +138,7 @@ pub(crate) fn judge_instruction(
     count: usize,
     instruction: &Instruction,
     operands: &mut Operands,
-) -> Result<Link, Refusal>
+) -> Judged<Link>
     ensures fixed { OnOk result (AreResolved (vec_len scope.now.slots.now.list) (vec_len scope.now.home.now.variables.now.list) (uses_by (action_by instruction.now.opcode)) operands.new.fixed.items) }
     ensures more { OnOk result (All (IsResolved (vec_len scope.now.slots.now.list) (vec_len scope.now.home.now.variables.now.list) Read) operands.new.more.items) }
     ensures jump { IfOk result (λ link. Leads (action_by instruction.now.opcode) place count operands.new.fixed.items link.jump) }
@@ -78,9 +156,8 @@ pub(crate) fn judge_instruction(
         return Err(Refusal::of(rule));
     }
     let jump = jump_of(action, fixed, place, count)?;
-    if has_long_text(fixed) || has_long_text(more) {
-        return Err(Refusal::of(VerifyRule::TextTooLong));
-    }
+    check(!has_long_text(fixed), VerifyRule::TextTooLong)?;
+    check(!has_long_text(more), VerifyRule::TextTooLong)?;
     Ok(Link {
         jump,
         name: looked_up_name(scope, action, data),
@@ -89,19 +166,22 @@ pub(crate) fn judge_instruction(
 }
 
 // What the instruction does, where neither that nor an operand has to do with floats.
-fn judged_action(instruction: &Instruction) -> Result<Action, Refusal>
+fn judged_action(instruction: &Instruction) -> Judged<Action>
     ensures { IfOk result (λ action. action_by instruction.now.opcode ≡ Some action) }
 {
-    match action_of(instruction.opcode) {
-        Some(Action::Float) => Err(Refusal::of(VerifyRule::FloatOpcode)),
-        Some(action) => {
-            if has_float(instruction.fixed.as_slice()) || has_float(instruction.more.as_slice()) {
-                return Err(Refusal::of(VerifyRule::FloatValue));
-            }
-            Ok(action)
-        }
-        None => Err(Refusal::of(VerifyRule::OperandType)),
-    }
+    let Some(action) = action_of(instruction.opcode) else {
+        return Err(Refusal::of(VerifyRule::OperandType));
+    };
+    check(action != Action::Float, VerifyRule::FloatOpcode)?;
+    check(
+        !has_float(instruction.fixed.as_slice()),
+        VerifyRule::FloatValue,
+    )?;
+    check(
+        !has_float(instruction.more.as_slice()),
+        VerifyRule::FloatValue,
+    )?;
+    Ok(action)
 }
 
 // The lowest rule of V6, V7, V9 and V10 that the operands break, where this was looked up by them.
@@ -127,12 +207,7 @@ fn broken_rule(
 }
 
 // Where a jump leads. Its offset counts from its own place.
-fn jump_of(
-    action: Action,
-    fixed: &[Operand],
-    place: usize,
-    count: usize,
-) -> Result<Option<u16>, Refusal>
+fn jump_of(action: Action, fixed: &[Operand], place: usize, count: usize) -> Judged<Option<u16>>
     ensures { IfOk result (Leads (Some action) place count fixed.now) }
 {
     match action {
@@ -142,7 +217,7 @@ fn jump_of(
     }
 }
 
-fn jump_by(place: usize, offset: Option<&Operand>, count: usize) -> Result<Option<u16>, Refusal>
+fn jump_by(place: usize, offset: Option<&Operand>, count: usize) -> Judged<Option<u16>>
     ensures { IfOk result (LeadsBy place count (option_copied offset.entry)) }
 {
     let Some(Operand::Int(offset)) = offset else {

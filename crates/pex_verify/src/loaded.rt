@@ -2,10 +2,10 @@
 ghost use Rattle.std.specs.Prelude.{◌≡◌, ◌<◌, length, vec_len, slice_index_or, All};
 ghost use Rattle.pex_verify.specs.Files.{IsFile};
 
-use crate::members::MemberTable;
+use crate::members::{MemberTable, method_place};
 use core_tree::{CoreType, Outline};
-use papy_base::{Name, OutOfMemory, Text};
-use pex_set::{EMPTY_NAME, NameTable};
+use papy_base::{Name, Text};
+use pex_set::{EMPTY_NAME, Made, NameTable};
 use pex_values::Pex;
 use std::alloc::Global;
 use std::marker::Model;
@@ -152,7 +152,7 @@ impl Loaded {
     }
 
     /// The number of a name, with the case of A to Z ignored, none where no file has the name.
-    pub fn name_number(&self, alloc: Global, name: &[u8]) -> Result<Option<usize>, OutOfMemory> {
+    pub fn name_number(&self, alloc: Global, name: &[u8]) -> Made<Option<usize>> {
         self.table.find(alloc, name)
     }
 
@@ -165,12 +165,20 @@ impl Loaded {
         state: Option<usize>,
         name: usize,
     ) -> Option<MethodPlace> {
-        self.members
-            .find_method(script, state.unwrap_or(EMPTY_NAME), name)
+        let script = usize::from(script);
+        let state = state.unwrap_or(EMPTY_NAME);
+        match self.members.in_state(script, state, name) {
+            Some(found) => method_place(found),
+            None => method_place(self.members.in_state(script, EMPTY_NAME, name)?),
+        }
     }
 
     /// The property whose name has this number, from the script upward.
     pub fn find_property(&self, script: u16, name: usize) -> Option<PropertyPlace> {
-        self.members.find_property(script, name)
+        let found = self.members.property(usize::from(script), name)?;
+        Some(PropertyPlace {
+            script: u16::try_from(found.object).ok()?,
+            place: found.place,
+        })
     }
 }

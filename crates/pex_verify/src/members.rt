@@ -7,11 +7,9 @@ ghost use Rattle.pex_set.specs.Lineage.{AreAmong, AreRooted};
 ghost use Rattle.pex_set.specs.Ranks.{is_below, span_at, IsDescentOf};
 ghost use Rattle.pex_verify.specs.Tables.{Inherits};
 
-use crate::loaded::{MethodPlace, PropertyPlace};
-use crate::scripts::{PropertyHead, ScriptHead};
-use crate::signature::Signature;
-use papy_base::OutOfMemory;
-use pex_set::{Descent, EMPTY_NAME, FileNames, Inherited, MemberPlace, OwnMembers};
+use crate::loaded::MethodPlace;
+use crate::scripts::{PropertyHead, ScriptHead, Signature};
+use pex_set::{Descent, EMPTY_NAME, FileNames, Inherited, Made, MemberPlace, OwnMembers};
 use pex_values::{PexFunction, PexObject, PexState};
 use std::alloc::Global;
 
@@ -25,7 +23,7 @@ pub(crate) struct MemberLists {
 
 impl MemberLists {
     /// No members of scripts with these parents.
-    pub(crate) fn new(alloc: Global, parents: &[Option<usize>]) -> Result<MemberLists, OutOfMemory>
+    pub(crate) fn new(alloc: Global, parents: &[Option<usize>]) -> Made<MemberLists>
         ensures methods { IfOk result (λ lists. lists.methods ≡ []) }
         ensures properties { IfOk result (λ lists. lists.properties ≡ []) }
         ensures count { IfOk result (λ lists. length lists.descent ≡ length parents.now) }
@@ -45,19 +43,15 @@ impl MemberLists {
         names: &FileNames,
         object: &PexObject,
         head: &ScriptHead,
-    ) -> Result<(), OutOfMemory>
+    ) -> Made<()>
         ensures { OnOk result (self.new ≡ with_script self.old number names.now object.now head.now) }
     {
         self.add_properties(number, head.properties.as_slice())?;
         self.add_functions(number, head.empty_state, head.functions.as_slice())?;
-        self.add_named_states(number, names, object.states.as_slice())
+        self.add_states(number, names, object.states.as_slice())
     }
 
-    fn add_properties(
-        &mut self,
-        object: usize,
-        properties: &[PropertyHead],
-    ) -> Result<(), OutOfMemory>
+    fn add_properties(&mut self, object: usize, properties: &[PropertyHead]) -> Made<()>
         ensures { OnOk result (self.new ≡ with_properties self.old (properties_of (owner_in self.old object) properties.now)) }
     {
         for (place, property) in properties.iter().enumerate() {
@@ -74,12 +68,7 @@ impl MemberLists {
     }
 
     // The functions of the empty state.
-    fn add_functions(
-        &mut self,
-        object: usize,
-        state: usize,
-        functions: &[Signature],
-    ) -> Result<(), OutOfMemory>
+    fn add_functions(&mut self, object: usize, state: usize, functions: &[Signature]) -> Made<()>
         ensures { OnOk result (self.new ≡ with_methods self.old (functions_of (owner_in self.old object) state functions.now)) }
     {
         for (place, function) in functions.iter().enumerate() {
@@ -89,12 +78,7 @@ impl MemberLists {
     }
 
     // The functions of the states that have a name.
-    fn add_named_states(
-        &mut self,
-        object: usize,
-        names: &FileNames,
-        states: &[PexState],
-    ) -> Result<(), OutOfMemory>
+    fn add_states(&mut self, object: usize, names: &FileNames, states: &[PexState]) -> Made<()>
         ensures { OnOk result (self.new ≡ with_methods self.old (methods_of_states (owner_in self.old object) names.now 0 states.now)) }
     {
         for (place, state) in states.iter().enumerate() {
@@ -109,7 +93,7 @@ impl MemberLists {
         names: &FileNames,
         place: usize,
         state: &PexState,
-    ) -> Result<(), OutOfMemory>
+    ) -> Made<()>
         ensures { OnOk result (self.new ≡ with_methods self.old (methods_of_state (owner_in self.old object) names.now place state.now)) }
     {
         let name = names.number(state.name);
@@ -126,7 +110,7 @@ impl MemberLists {
         names: &FileNames,
         state: (usize, usize),
         functions: &[(u16, PexFunction)],
-    ) -> Result<(), OutOfMemory>
+    ) -> Made<()>
         ensures { OnOk result (self.new ≡ with_methods self.old (methods_in (owner_in self.old object) names.now state.0 state.1 functions.now)) }
     {
         for (place, function) in functions.iter().enumerate() {
@@ -142,7 +126,7 @@ impl MemberLists {
         state: usize,
         place: usize,
         names: (usize, usize),
-    ) -> Result<(), OutOfMemory>
+    ) -> Made<()>
         ensures { OnOk result (self.new ≡ with_methods self.old (member_of (owner_in self.old object) state names place ∷ [])) }
     {
         let member = MemberPlace {
@@ -154,7 +138,7 @@ impl MemberLists {
     }
 
     /// What each script has from itself upward.
-    pub(crate) fn inherited(self, alloc: Global) -> Result<MemberTable, OutOfMemory>
+    pub(crate) fn inherited(self, alloc: Global) -> Made<MemberTable>
         ensures descent { IfOk result (λ table. table.descent ≡ self.descent) }
         ensures methods { IfOk result (λ table. Inherits self.methods table.methods) }
         ensures properties { IfOk result (λ table. Inherits self.properties table.properties) }
@@ -178,34 +162,11 @@ pub(crate) struct MemberTable {
 }
 
 impl MemberTable {
-    /// A method by the number of its name: in this state from the script upward, then in the empty state.
-    pub(crate) fn find_method(
-        &self,
-        script: u16,
-        state: usize,
-        name: usize,
-    ) -> Option<MethodPlace> {
-        let script = usize::from(script);
-        match self.in_state(script, state, name) {
-            Some(found) => method_place(found),
-            None => method_place(self.in_state(script, EMPTY_NAME, name)?),
-        }
-    }
-
     /// The nearest method of the name in states of this name, from the script upward.
     pub(crate) fn in_state(&self, script: usize, state: usize, name: usize) -> Option<MemberPlace>
         ensures { result ≡ found_in self.now.methods (state, name) (span_at self.now.descent script).start }
     {
         self.methods.find((state, name), self.rank(script))
-    }
-
-    /// A property by the number of its name, from the script upward.
-    pub(crate) fn find_property(&self, script: u16, name: usize) -> Option<PropertyPlace> {
-        let found = self.property(usize::from(script), name)?;
-        Some(PropertyPlace {
-            script: u16::try_from(found.object).ok()?,
-            place: found.place,
-        })
     }
 
     /// The nearest property of the name, from the script upward.

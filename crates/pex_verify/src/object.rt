@@ -1,8 +1,8 @@
-// One object.
-ghost use Rattle.std.specs.Prelude.{◌≡◌, ◌==◌, ◌++◌, ℕ, List, Some, None, true, nat_eq, if◌then◌else◌, map, vec_len, All, IfOk, IsTrue, OnOk, option_copied};
+// One object: its variables, its properties and its states.
+ghost use Rattle.std.specs.Prelude.{◌≡◌, ◌==◌, ◌++◌, ℕ, List, Some, None, true, nat_eq, if◌then◌else◌, map, vec_len, All, IfOk, IsTrue, OnOk, option_copied, [], ◌∷◌};
 ghost use Rattle.pex_verify.specs.Found.{function_found, parent_of};
 ghost use Rattle.pex_verify.specs.Rules.{AreDistinct, EachReplaces, Overrides, Replaces, Varies, state_numbers};
-ghost use Rattle.pex_verify.specs.declared.signature.Signature.{Signature};
+ghost use Rattle.pex_verify.specs.declared.scripts.Signature.{Signature};
 ghost use Rattle.pex_verify.specs.Soundness.{IsSoundFunction, AreSoundFunctions, IsSoundState, IsSoundProperty, AreTyped};
 ghost use Rattle.pex_verify.specs.Objects.{IsSoundObject};
 ghost use Rattle.pex_verify.specs.Sites.{site_of};
@@ -13,25 +13,29 @@ ghost use Rattle.pex_verify.specs.Matching.{Written, IsWritten, AreWritten};
 ghost use Rattle.std.specs.HashMap.{get};
 ghost use Rattle.std.specs.List.{list_any};
 ghost use Rattle.pex_verify.specs.States.{is_empty_state, own_written, written_member, member_in, lacking_written, WrittenState, state_written, state_functions, added_state, states_written, IsState, AreStates};
+ghost use Rattle.pex_verify.specs.Variables.{variable_type, type_of_variable};
 
 use crate::accessors::load_property;
-use crate::fault::{Refusal, VerifyFault, VerifyRule};
-use crate::function::{FunctionLists, has_too_many_slots, load_function};
-use crate::lines::{FileLines, OF_STATE};
+use crate::fault::{Judged, Refusal, Valid, VerifyRule, check};
+use crate::function::{FunctionLists, has_too_many_slots, known_type, load_function};
 use crate::loaded::{LoadedFunction, LoadedProperty, LoadedScript};
-use crate::named_list::NamedList;
 use crate::outlining::outline_script;
-use crate::scope::Home;
-use crate::scripts::ScriptSet;
-use crate::signature::{KIND_BITS, Signature};
-use crate::sources::{DefaultMembers, SetFile};
-use crate::variables::load_variables;
-use core_tree::{OutlineScript, OutlineVariable};
-use papy_base::{Name, OutOfMemory};
-use pex_set::EMPTY_NAME;
-use pex_values::{PexFunction, PexObject, PexState};
+use crate::scope::{Home, NamedList};
+use crate::scripts::{KIND_BITS, ScriptSet, Signature};
+use crate::sources::{DefaultMembers, FileLines, OF_STATE, SetFile};
+use crate::value_type::ValueType;
+use core_tree::{CoreType, OutlineScript, OutlineVariable, Value};
+use papy_base::{Name, TEXT_LIMIT, Text};
+use pex_set::{EMPTY_NAME, Made};
+use pex_values::{Datum, PexFunction, PexObject, PexState, PexVariable};
 use std::alloc::Global;
 use std::collections::HashMap;
+
+// The functions of a state.
+type Functions = Vec<LoadedFunction>;
+
+// A state by its name.
+type State = (Name, Functions);
 
 /// How many bytes the name of an object and that of its auto state may have.
 const NAME_LIMIT: usize = 255;
@@ -56,7 +60,7 @@ pub(crate) struct ObjectLists {
 
 impl ObjectLists {
     /// Empty lists, in a set with so many names.
-    pub(crate) fn new(alloc: Global, names: usize) -> Result<ObjectLists, OutOfMemory> {
+    pub(crate) fn new(alloc: Global, names: usize) -> Made<ObjectLists> {
         Ok(ObjectLists {
             variables: NamedList::new(alloc, names)?,
             functions: FunctionLists::new(alloc, names)?,
@@ -80,18 +84,12 @@ pub(crate) fn load_object(
     source: &SetFile<'_>,
     lines: &FileLines<'_>,
     object: &PexObject,
-) -> Result<LoadedObject, VerifyFault>
+) -> Valid<LoadedObject>
     ensures sound { IfOk result (IsSoundObject (vec_len loader.now.set.now.heads)) }
     ensures object { IfOk result (λ loaded. IsWholeObject (judged_by loader.now) here (placed source.now object.now) loaded.script loaded.outline) }
 {
     judge_names(loader.alloc, source, object)?;
-    load_variables(
-        loader.alloc,
-        loader.set,
-        source,
-        object,
-        &mut lists.variables,
-    )?;
+    load_variables(loader, source, object, &mut lists.variables)?;
     let home = Home {
         alloc: loader.alloc,
         set: loader.set,
@@ -108,7 +106,7 @@ pub(crate) fn load_object(
 }
 
 // The object's script and outline, once its variables were judged.
-fn load_script(home: &Home<'_>, lists: &mut FunctionLists) -> Result<LoadedObject, VerifyFault>
+fn load_script(home: &Home<'_>, lists: &mut FunctionLists) -> Valid<LoadedObject>
     requires { AreTyped (vec_len home.now.set.now.heads) home.now.variables.now.list.items }
     ensures sound { IfOk result (IsSoundObject (vec_len home.now.set.now.heads)) }
     ensures object { IfOk result (λ loaded. IsObjectOf (judged_in home.now) home.now.here (placed_at home.now) loaded.script loaded.outline) }
@@ -122,7 +120,7 @@ fn load_script(home: &Home<'_>, lists: &mut FunctionLists) -> Result<LoadedObjec
 }
 
 // V12 of the names of the object and of its auto state.
-fn judge_names(alloc: Global, source: &SetFile<'_>, object: &PexObject) -> Result<(), VerifyFault> {
+fn judge_names(alloc: Global, source: &SetFile<'_>, object: &PexObject) -> Valid<()> {
     let name = source.text(object.name);
     let auto_state = source.text(object.auto_state);
     if name.len() > NAME_LIMIT || auto_state.len() > NAME_LIMIT {
@@ -131,10 +129,81 @@ fn judge_names(alloc: Global, source: &SetFile<'_>, object: &PexObject) -> Resul
     Ok(())
 }
 
-fn load_properties(
-    home: &Home<'_>,
-    lists: &mut FunctionLists,
-) -> Result<Vec<LoadedProperty>, VerifyFault>
+// Puts the variables of an object, in their order, in place of those of the list.
+fn load_variables(
+    loader: &Loader<'_>,
+    source: &SetFile<'_>,
+    object: &PexObject,
+    variables: &mut NamedList<OutlineVariable>,
+) -> Valid<()>
+    ensures typed { OnOk result (AreTyped (vec_len loader.now.set.now.heads) variables.new.list.items) }
+    ensures kinds { OnOk result (map variable_type variables.new.list.items ≡ map (type_of_variable loader.now.set.now.types source.now.names.now) object.now.variables.items) }
+{
+    variables.clear();
+    for variable in &object.variables {
+        if let Err(refusal) = load_variable(loader, source, variables, variable) {
+            let site = source.site(object);
+            return Err(site.fault_in(loader.alloc, source.text(variable.name), refusal));
+        }
+    }
+    Ok(())
+}
+
+// Adds a variable, unless it breaks a rule: V2, V5, V7, then V12.
+fn load_variable(
+    loader: &Loader<'_>,
+    source: &SetFile<'_>,
+    variables: &mut NamedList<OutlineVariable>,
+    variable: &PexVariable,
+) -> Judged<()>
+    ensures typed { AreTyped (vec_len loader.now.set.now.heads) variables.old.list.items → OnOk result (AreTyped (vec_len loader.now.set.now.heads) variables.new.list.items) }
+    ensures kinds { OnOk result (map variable_type variables.new.list.items ≡ map variable_type variables.old.list.items ++ type_of_variable loader.now.set.now.types source.now.names.now variable.now ∷ []) }
+{
+    let name = source.names.number(variable.name);
+    let declared = loader.set.value_type(source.names.number(variable.kind));
+    let is_float = declared == ValueType::Float || matches!(variable.value, Datum::Float(_));
+    check(!is_float, VerifyRule::FloatValue)?;
+    check(variables.place(name).is_none(), VerifyRule::DuplicateName)?;
+    let Some(kind) = known_type(declared)? else {
+        return Err(Refusal::of(VerifyRule::OperandType));
+    };
+    let value = start_value(loader.alloc, source, kind, variable.value)?;
+    let title = source.title(loader.alloc, variable.name)?;
+    let variable = OutlineVariable {
+        name: title,
+        kind,
+        value,
+    };
+    variables.add(name, variable)?;
+    Ok(())
+}
+
+// The value at the start: V7 where it isn't of the type, and V12 where a text is too long.
+fn start_value(alloc: Global, source: &SetFile<'_>, kind: CoreType, datum: Datum) -> Judged<Value> {
+    match (kind, datum) {
+        (_, Datum::NoneValue) => Ok(default_value(alloc, kind)?),
+        (CoreType::Int, Datum::Int(number)) => Ok(Value::Int(number)),
+        (CoreType::Bool, Datum::Bool(byte)) => Ok(Value::Bool(byte != 0)),
+        (CoreType::Text, Datum::Quoted(reference)) => {
+            let text = source.text(reference);
+            check(text.len() <= TEXT_LIMIT, VerifyRule::TextTooLong)?;
+            Ok(Value::Text(Text::try_from_bytes(alloc, text)?))
+        }
+        _ => Err(Refusal::of(VerifyRule::OperandType)),
+    }
+}
+
+// The value that a variable of the type has where the file gives none.
+fn default_value(alloc: Global, kind: CoreType) -> Made<Value> {
+    Ok(match kind {
+        CoreType::Int => Value::Int(0),
+        CoreType::Bool => Value::Bool(false),
+        CoreType::Text => Value::Text(Text::try_from_bytes(alloc, &[])?),
+        _ => Value::NoneValue,
+    })
+}
+
+fn load_properties(home: &Home<'_>, lists: &mut FunctionLists) -> Valid<Vec<LoadedProperty>>
     ensures sound { IfOk result (λ properties. All (IsSoundProperty (bounds_of home.now)) properties.items) }
     ensures written { IfOk result (λ properties. AreProperties home.now properties.items) }
 {
@@ -142,7 +211,7 @@ fn load_properties(
     for (place, property) in home.object.properties.iter().enumerate() {
         match load_property(home, lists, place, property) {
             Ok(loaded) => properties.push(loaded)?,
-            Err(refusal) => return Err(home.fault_in(property.name, refusal)),
+            Err(refusal) => return Err(home.fault_in(home.source.text(property.name), refusal)),
         }
     }
     Ok(properties)
@@ -150,10 +219,7 @@ fn load_properties(
 
 // The members that a script without parent lacks stand last in its empty state, or in a last one that is
 // added for them.
-fn load_states(
-    home: &Home<'_>,
-    lists: &mut FunctionLists,
-) -> Result<Vec<(Name, Vec<LoadedFunction>)>, VerifyFault>
+fn load_states(home: &Home<'_>, lists: &mut FunctionLists) -> Valid<Vec<State>>
     ensures sound { IfOk result (λ states. All (λ state. IsSoundState (bounds_of home.now) state.1.items) states.items) }
     ensures written { IfOk result (λ states. AreStates (site_of home.now) (states_written home.now home.now.object.now.states.items) states.items) }
     ensures distinct { OnOk result (AreDistinct (state_numbers home.now)) }
@@ -163,18 +229,19 @@ fn load_states(
     let mut states = Vec::with_capacity(home.alloc, home.object.states.len())?;
     for state in &home.object.states {
         if !note(&mut seen, home.source.names.number(state.name))? {
-            return Err(home.fault_in(state.name, Refusal::of(VerifyRule::DuplicateName)));
+            let refusal = Refusal::of(VerifyRule::DuplicateName);
+            return Err(home.fault_in(home.source.text(state.name), refusal));
         }
         states.push(load_state(home, lists, state)?)?;
     }
     if has_empty_state(home) {
         return Ok(states);
     }
-    with_members(home, lists, states)
+    completed(home, lists, states)
 }
 
 // Notes a number, and tells whether it is new.
-fn note(seen: &mut HashMap<usize, ()>, number: usize) -> Result<bool, OutOfMemory>
+fn note(seen: &mut HashMap<usize, ()>, number: usize) -> Made<bool>
     ensures new { IfOk result (λ is_new. is_new ≡ true → get nat_eq seen.old number ≡ None) }
     ensures noted { OnOk result ((other : ℕ) → get nat_eq seen.new other ≡ (if number == other then Some tt else get nat_eq seen.old other)) }
 {
@@ -191,17 +258,18 @@ fn has_empty_state(home: &Home<'_>) -> bool
 }
 
 // These states, none of which is the empty one, and an empty state of the members that the script lacks.
-fn with_members(
+fn completed(
     home: &Home<'_>,
     lists: &mut FunctionLists,
-    mut states: Vec<(Name, Vec<LoadedFunction>)>,
-) -> Result<Vec<(Name, Vec<LoadedFunction>)>, VerifyFault>
+    mut states: Vec<State>,
+) -> Valid<Vec<State>>
     requires { All (λ state. IsSoundState (bounds_of home.now) state.1.items) states.items }
     ensures sound { IfOk result (λ states. All (λ state. IsSoundState (bounds_of home.now) state.1.items) states.items) }
     ensures written { (before : List WrittenState) → AreStates (site_of home.now) before states.items
         → IfOk result (λ states. AreStates (site_of home.now) (before ++ added_state (lacking_written home.now)) states.items) }
 {
-    let added = lacking_members(home, lists)?;
+    let mut added = Vec::new(home.alloc);
+    add_members(home, lists, &mut added)?;
     if added.is_empty() {
         return Ok(states);
     }
@@ -209,23 +277,7 @@ fn with_members(
     Ok(states)
 }
 
-fn lacking_members(
-    home: &Home<'_>,
-    lists: &mut FunctionLists,
-) -> Result<Vec<LoadedFunction>, VerifyFault>
-    ensures sound { IfOk result (λ added. IsSoundState (bounds_of home.now) added.items) }
-    ensures written { IfOk result (λ added. AreWritten (site_of home.now) (lacking_written home.now) added.items) }
-{
-    let mut added = Vec::new(home.alloc);
-    add_members(home, lists, &mut added)?;
-    Ok(added)
-}
-
-fn load_state(
-    home: &Home<'_>,
-    lists: &mut FunctionLists,
-    state: &PexState,
-) -> Result<(Name, Vec<LoadedFunction>), VerifyFault>
+fn load_state(home: &Home<'_>, lists: &mut FunctionLists, state: &PexState) -> Valid<State>
     ensures sound { IfOk result (λ loaded. IsSoundState (bounds_of home.now) loaded.1.items) }
     ensures written { IfOk result (IsState (site_of home.now) (state_written home.now state.now)) }
     ensures replaces { OnOk result (EachReplaces home.now state.now) }
@@ -235,11 +287,7 @@ fn load_state(
 }
 
 // The functions of a state, and behind those of the empty state the members that the script lacks.
-fn all_functions(
-    home: &Home<'_>,
-    lists: &mut FunctionLists,
-    state: &PexState,
-) -> Result<Vec<LoadedFunction>, VerifyFault>
+fn all_functions(home: &Home<'_>, lists: &mut FunctionLists, state: &PexState) -> Valid<Functions>
     ensures sound { IfOk result (λ functions. IsSoundState (bounds_of home.now) functions.items) }
     ensures written { IfOk result (λ functions. AreWritten (site_of home.now) (state_functions home.now state.now) functions.items) }
     ensures replaces { OnOk result (EachReplaces home.now state.now) }
@@ -252,11 +300,7 @@ fn all_functions(
     Ok(functions)
 }
 
-fn load_functions(
-    home: &Home<'_>,
-    lists: &mut FunctionLists,
-    state: &PexState,
-) -> Result<Vec<LoadedFunction>, VerifyFault>
+fn load_functions(home: &Home<'_>, lists: &mut FunctionLists, state: &PexState) -> Valid<Functions>
     ensures sound { IfOk result (λ functions. AreSoundFunctions (bounds_of home.now) functions.items) }
     ensures written { IfOk result (λ functions. AreWritten (site_of home.now) (map (own_written home.now) state.now.functions.items) functions.items) }
     ensures replaces { OnOk result (EachReplaces home.now state.now) }
@@ -267,7 +311,7 @@ fn load_functions(
         let is_new = note(&mut seen, home.source.names.number(*name))?;
         match load_state_function(home, lists, state.name, *name, function, is_new) {
             Ok(loaded) => functions.push(loaded)?,
-            Err(refusal) => return Err(home.fault_in(*name, refusal)),
+            Err(refusal) => return Err(home.fault_in(home.source.text(*name), refusal)),
         }
     }
     Ok(functions)
@@ -281,21 +325,16 @@ fn load_state_function(
     name: u16,
     function: &PexFunction,
     is_new: bool,
-) -> Result<LoadedFunction, Refusal>
+) -> Judged<LoadedFunction>
     ensures sound { IfOk result (IsSoundFunction (bounds_of home.now)) }
     ensures written { IfOk result (IsWritten (site_of home.now) (own_written home.now (name, function.now))) }
     ensures replaces { OnOk result (Replaces home.now state (name, function.now)) }
     ensures new { OnOk result (IsTrue is_new) }
 {
-    if !is_new {
-        return Err(Refusal::of(VerifyRule::DuplicateName));
-    }
-    if !replaces_alike(home, state, name, function) {
-        return Err(Refusal::of(VerifyRule::SignatureDiffers));
-    }
-    if has_too_many_slots(function) {
-        return Err(Refusal::of(VerifyRule::TooMany));
-    }
+    check(is_new, VerifyRule::DuplicateName)?;
+    let is_alike = replaces_alike(home, state, name, function);
+    check(is_alike, VerifyRule::SignatureDiffers)?;
+    check(!has_too_many_slots(function), VerifyRule::TooMany)?;
     let names = home.source.names;
     let object = names.number(home.object.name);
     let lines = home
@@ -356,18 +395,11 @@ fn overridden<'a>(home: &Home<'a>, name: usize) -> Option<&'a Signature>
 fn inherited_function(set: &ScriptSet, script: usize, name: usize) -> Option<&Signature>
     ensures { option_copied result ≡ function_found set.now script name }
 {
-    match set.find_function(script, name) {
-        Some(found) => Some(found.signature),
-        None => None,
-    }
+    Some(set.find_function(script, name)?.signature)
 }
 
 // Adds those of the four members that the script lacks. They are judged like all other functions.
-fn add_members(
-    home: &Home<'_>,
-    lists: &mut FunctionLists,
-    functions: &mut Vec<LoadedFunction>,
-) -> Result<(), VerifyFault>
+fn add_members(home: &Home<'_>, lists: &mut FunctionLists, functions: &mut Functions) -> Valid<()>
     ensures sound { AreSoundFunctions (bounds_of home.now) functions.old.items
         → OnOk result (AreSoundFunctions (bounds_of home.now) functions.new.items) }
     ensures written { (before : List Written) → AreWritten (site_of home.now) before functions.old.items
@@ -384,8 +416,8 @@ fn add_member(
     home: &Home<'_>,
     lists: &mut FunctionLists,
     place: usize,
-    functions: &mut Vec<LoadedFunction>,
-) -> Result<(), VerifyFault>
+    functions: &mut Functions,
+) -> Valid<()>
     ensures sound { AreSoundFunctions (bounds_of home.now) functions.old.items
         → OnOk result (AreSoundFunctions (bounds_of home.now) functions.new.items) }
     ensures written { (before : List Written) → AreWritten (site_of home.now) before functions.old.items
@@ -402,16 +434,11 @@ fn load_member(
     home: &Home<'_>,
     lists: &mut FunctionLists,
     member: &(u16, PexFunction),
-) -> Result<LoadedFunction, VerifyFault>
+) -> Valid<LoadedFunction>
     ensures sound { IfOk result (IsSoundFunction (bounds_of home.now)) }
     ensures written { IfOk result (IsWritten (site_of home.now) (written_member home.now member.now)) }
 {
     let source = home.members.source;
-    match load_function(home, source, lists, member.0, &member.1, &[]) {
-        Ok(loaded) => Ok(loaded),
-        Err(refusal) => {
-            let site = home.source.site(home.object);
-            Err(site.fault_in(home.alloc, source.text(member.0), refusal))
-        }
-    }
+    let loaded = load_function(home, source, lists, member.0, &member.1, &[]);
+    loaded.map_err(|refusal| home.fault_in(source.text(member.0), refusal))
 }

@@ -10,14 +10,12 @@ use crate::loaded::{LoadedFunction, LoadedProperty, LoadedScript};
 use crate::scope::Home;
 use crate::sources::SetFile;
 use core_tree::{CoreType, OutlineFunction, OutlineProperty, OutlineScript, OutlineVariable};
-use papy_base::{Name, OutOfMemory};
+use papy_base::Name;
+use pex_set::Made;
 use std::alloc::Global;
 
 /// A script's name, parent, auto state, variables, auto properties and functions of the empty state.
-pub(crate) fn outline_script(
-    home: &Home<'_>,
-    script: &LoadedScript,
-) -> Result<OutlineScript, OutOfMemory>
+pub(crate) fn outline_script(home: &Home<'_>, script: &LoadedScript) -> Made<OutlineScript>
     requires sound { IsSoundScript (bounds_of home.now) script.now }
     requires typed { AreTyped (vec_len home.now.set.now.heads) home.now.variables.now.list.items }
     ensures count { IfOk result (λ outline. vec_len outline.variables ≡ vec_len home.now.variables.now.list) }
@@ -35,18 +33,14 @@ pub(crate) fn outline_script(
     })
 }
 
-fn name_unless_empty(
-    alloc: Global,
-    source: &SetFile<'_>,
-    reference: u16,
-) -> Result<Option<Name>, OutOfMemory> {
+fn name_unless_empty(alloc: Global, source: &SetFile<'_>, reference: u16) -> Made<Option<Name>> {
     if source.text(reference).is_empty() {
         return Ok(None);
     }
     Ok(Some(source.title(alloc, reference)?))
 }
 
-fn outline_variables(home: &Home<'_>) -> Result<Vec<OutlineVariable>, OutOfMemory>
+fn outline_variables(home: &Home<'_>) -> Made<Vec<OutlineVariable>>
     requires { AreTyped (vec_len home.now.set.now.heads) home.now.variables.now.list.items }
     ensures count { IfOk result (λ found. vec_len found ≡ vec_len home.now.variables.now.list) }
     ensures typed { IfOk result (λ found. AreTyped (vec_len home.now.set.now.heads) found.items) }
@@ -65,10 +59,7 @@ fn outline_variables(home: &Home<'_>) -> Result<Vec<OutlineVariable>, OutOfMemor
     Ok(found)
 }
 
-fn outline_properties(
-    home: &Home<'_>,
-    properties: &[LoadedProperty],
-) -> Result<Vec<OutlineProperty>, OutOfMemory>
+fn outline_properties(home: &Home<'_>, properties: &[LoadedProperty]) -> Made<Vec<OutlineProperty>>
     requires { All (IsSoundProperty (bounds_of home.now)) properties.now }
     ensures { IfOk result (λ found. All (IsOutlineProperty (bounds_of home.now)) found.items) }
 {
@@ -100,10 +91,7 @@ fn empty_state<'a>(home: &Home<'_>, script: &'a LoadedScript) -> &'a [LoadedFunc
     &[]
 }
 
-fn outline_functions(
-    home: &Home<'_>,
-    functions: &[LoadedFunction],
-) -> Result<Vec<OutlineFunction>, OutOfMemory>
+fn outline_functions(home: &Home<'_>, functions: &[LoadedFunction]) -> Made<Vec<OutlineFunction>>
     requires { AreSoundFunctions (bounds_of home.now) functions.now }
     ensures sound { IfOk result (λ found. All (IsOutlineFunction (vec_len home.now.set.now.heads)) found.items) }
     ensures shapes { IfOk result (λ found. map function_shape found.items ≡ map loaded_shape functions.now) }
@@ -115,10 +103,7 @@ fn outline_functions(
     Ok(found)
 }
 
-fn outline_function(
-    home: &Home<'_>,
-    function: &LoadedFunction,
-) -> Result<OutlineFunction, OutOfMemory>
+fn outline_function(home: &Home<'_>, function: &LoadedFunction) -> Made<OutlineFunction>
     requires { IsSoundFunction (bounds_of home.now) function.now }
     ensures sound { IfOk result (IsOutlineFunction (vec_len home.now.set.now.heads)) }
     ensures shape { IfOk result (λ outline. function_shape outline ≡ loaded_shape function.now) }
@@ -132,10 +117,7 @@ fn outline_function(
     })
 }
 
-fn outline_parameters(
-    home: &Home<'_>,
-    function: &LoadedFunction,
-) -> Result<Vec<CoreType>, OutOfMemory>
+fn outline_parameters(home: &Home<'_>, function: &LoadedFunction) -> Made<Vec<CoreType>>
     requires { IsSoundFunction (bounds_of home.now) function.now }
     ensures sound { IfOk result (λ parameters. All (IsTypeAmong (vec_len home.now.set.now.heads)) parameters.items) }
     ensures kinds { IfOk result (λ parameters. parameters.items ≡ map (λ p. p.1) function.now.parameters.items) }

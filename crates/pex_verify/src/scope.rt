@@ -1,19 +1,73 @@
-// What is seen where code stands.
-ghost use Rattle.std.specs.Prelude.{◌≡◌, vec_len, IfSome, IsTrue, slice_get, slice_index_or};
+// What is seen where code stands, and the lists in which its names are looked up.
+ghost use Rattle.std.specs.Prelude.{◌≡◌, ◌<◌, [], ◌∷◌, ◌++◌, vec_len, IfOk, OnOk, IfSome, IsTrue, slice_get, slice_index_or};
 ghost use Rattle.pex_verify.specs.Judgement.{IsFor, IsSeenIn, Takes, TakesCast, stored_by, type_by, variable_type};
 ghost use Rattle.pex_verify.specs.Soundness.{IsIdentifier};
 ghost use Rattle.pex_verify.specs.declared.value_type.ValueType.TheVariants.{Unknown};
 
 use crate::fault::{Refusal, VerifyFault};
-use crate::lines::FileLines;
 use crate::loaded::Operand;
-use crate::named_list::NamedList;
 use crate::scripts::ScriptSet;
-use crate::sources::{DefaultMembers, SetFile};
+use crate::sources::{DefaultMembers, FileLines, SetFile};
 use crate::value_type::{BOOL, INT, TEXT, ValueType};
 use core_tree::{CoreType, OutlineVariable};
+use pex_set::Made;
 use pex_values::PexObject;
 use std::alloc::Global;
+
+/// The parameters and locals of a function, or the variables of a script, and the place of the first one of each name.
+/// The next list takes no time to begin.
+#[derive(Drop)]
+pub(crate) struct NamedList<T> {
+    pub(crate) list: Vec<T>,
+    // By the number of the name: the number of the list that had it last, and its place there.
+    places: Vec<(usize, u16)>,
+    // The number of the list, which isn't 0.
+    number: usize,
+}
+
+impl<T: Drop> NamedList<T> {
+    /// An empty list, for so many names.
+    pub(crate) fn new(alloc: Global, names: usize) -> Made<NamedList<T>>
+        ensures { IfOk result (λ named. named.list.items ≡ []) }
+    {
+        Ok(NamedList {
+            list: Vec::new(alloc),
+            places: vec![in alloc; (0, 0); names]?,
+            number: 1,
+        })
+    }
+
+    /// Begins the next list, which is empty.
+    pub(crate) fn clear(&mut self)
+        ensures { self.new.list.items ≡ [] }
+    {
+        self.list.clear();
+        self.number = self.number.saturating_add(1);
+    }
+
+    /// Adds an item of a new name behind the others. Only the first 65,536 can be named.
+    pub(crate) fn add(&mut self, name: usize, item: T) -> Made<()>
+        ensures { OnOk result (self.new.list.items ≡ self.old.list.items ++ item ∷ []) }
+    {
+        if let (Ok(place), Some(entry)) = (
+            u16::try_from(self.list.len()),
+            self.places.get_mut(name),
+        ) {
+            *entry = (self.number, place);
+        }
+        self.list.push(item)?;
+        Ok(())
+    }
+
+    /// The place of the item of this name.
+    pub(crate) fn place(&self, name: usize) -> Option<u16>
+        ensures { IfSome result (λ n. n < vec_len self.now.list) }
+    {
+        let (list, place) = *self.places.get(name)?;
+        let is_here = list == self.number && usize::from(place) < self.list.len();
+        is_here.then_some(place)
+    }
+}
 
 /// The script in which code stands.
 #[derive(Clone, Copy)]
@@ -34,9 +88,10 @@ pub(crate) struct Home<'a> {
 
 impl Home<'_> {
     /// The fault of a refusal in the object's member of this name.
-    pub(crate) fn fault_in(&self, member: u16, refusal: Refusal) -> VerifyFault {
-        let site = self.source.site(self.object);
-        site.fault_in(self.alloc, self.source.text(member), refusal)
+    pub(crate) fn fault_in(&self, member: &[u8], refusal: Refusal) -> VerifyFault {
+        self.source
+            .site(self.object)
+            .fault_in(self.alloc, member, refusal)
     }
 }
 
@@ -98,10 +153,8 @@ impl FunctionScope<'_> {
     fn slot_type(&self, place: u16) -> ValueType
         ensures { result ≡ slice_index_or self.now.slots.now.list.items place Unknown }
     {
-        match self.slots.list.get(usize::from(place)) {
-            Some(found) => *found,
-            None => ValueType::Unknown,
-        }
+        let found = self.slots.list.get(usize::from(place));
+        found.copied().unwrap_or(ValueType::Unknown)
     }
 
     fn variable_type(&self, place: u16) -> ValueType

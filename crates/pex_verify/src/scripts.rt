@@ -1,10 +1,10 @@
 // The scripts of a set, as other scripts see them.
-ghost use Rattle.std.specs.Prelude.{◌≡◌, ◌+◌, ◌<◌, ℕ, List, ◌++◌, Option, Some, length, map, slice_get, true, vec_len, IfOk, IfSome, IsTrue, OnOk};
+ghost use Rattle.std.specs.Prelude.{◌≡◌, map, IsTrue, IfOk, ◌+◌, ◌<◌, ℕ, List, ◌++◌, Option, Some, length, slice_get, true, vec_len, IfSome, OnOk};
+ghost use Rattle.pex_verify.specs.Signatures.{number_at, kind_at, has_bit, declared_of, declared_by, AreAlike};
 ghost use Rattle.pex_verify.specs.Fitting.{CastsIn, FitsIn};
 ghost use Rattle.pex_verify.specs.Types.{IsValueTypeAmong};
 ghost use Rattle.pex_verify.specs.Meanings.{result_meaning, value_meaning};
 ghost use Rattle.pex_verify.specs.Sources.{object_count};
-ghost use Rattle.pex_verify.specs.Signatures.{number_at, declared_of, declared_by};
 ghost use Rattle.pex_verify.specs.Heads.{Placed, placed_in, placed_objects, Members, members_of, member_at, parent_at, property_by, empty_state_of, functions_of_state, lacking_in, IsHeadOf, AreHeads};
 ghost use Rattle.pex_verify.specs.Parents.{parent_in, parent_among};
 ghost use Rattle.pex_verify.specs.Tables.{no_members, all_members, IsTable};
@@ -14,15 +14,82 @@ ghost use Rattle.pex_set.specs.declared.descent.Span.{Span};
 ghost use Rattle.pex_values.specs.declared.values.PexObject.{PexObject};
 
 use crate::members::{MemberLists, MemberTable};
-use crate::signature::Signature;
 use crate::sources::{DefaultMembers, SetFile};
-use crate::type_names::TypeNames;
-use crate::value_type::ValueType;
+use crate::value_type::{TypeNames, ValueType};
 use core_tree::CoreType;
-use papy_base::OutOfMemory;
-use pex_set::{EMPTY_NAME, FileNames, LIBRARY_COUNT, MemberPlace, NameTable, Objects};
+use pex_set::{EMPTY_NAME, FileNames, LIBRARY_COUNT, Made, MemberPlace, NameTable, Objects};
 use pex_values::{PexFunction, PexObject, PexProperty, PexState};
 use std::alloc::Global;
+
+/// The bits of a function that count: 1 is global, 2 is native.
+pub(crate) const GLOBAL: u8 = 1;
+
+pub(crate) const NATIVE: u8 = 2;
+
+pub(crate) const KIND_BITS: u8 = GLOBAL | NATIVE;
+
+/// A function without its code. Names of types are numbers of names: two are one type where they are the
+/// same with case ignored.
+#[derive(Drop)]
+pub(crate) struct Signature {
+    pub(crate) name: usize,
+    pub(crate) answer: usize,
+    pub(crate) parameters: Vec<usize>,
+    pub(crate) bits: u8,
+}
+
+impl Signature {
+    fn of(alloc: Global, names: &FileNames, name: u16, function: &PexFunction) -> Made<Signature>
+        ensures { IfOk result (λ signature. declared_of signature ≡ declared_by names.now (name, function.now)) }
+    {
+        Ok(Signature {
+            name: names.number(name),
+            answer: names.number(function.result),
+            parameters: kinds_of(alloc, names, function.parameters.as_slice())?,
+            bits: function.bits & KIND_BITS,
+        })
+    }
+
+    pub(crate) fn is_global(&self) -> bool
+        ensures { result ≡ has_bit self.now.bits 1 }
+    {
+        self.bits & GLOBAL != 0
+    }
+
+    /// Whether the result, the parameter types and what kind of function it is are those of the function.
+    pub(crate) fn is_of(&self, names: &FileNames, function: &PexFunction) -> bool
+        ensures { IsTrue result → AreAlike (declared_of self.now) (declared_by names.now (0, function.now)) }
+    {
+        self.answer == names.number(function.result)
+            && self.bits == function.bits & KIND_BITS
+            && self.has_parameters(names, function.parameters.as_slice())
+    }
+
+    fn has_parameters(&self, names: &FileNames, parameters: &[(u16, u16)]) -> bool
+        ensures { IsTrue result → self.now.parameters.items ≡ map (kind_at names.now) parameters.now }
+    {
+        if self.parameters.len() != parameters.len() {
+            return false;
+        }
+        for (place, other) in parameters.iter().enumerate() {
+            if self.parameters[place] != names.number(other.1) {
+                return false;
+            }
+        }
+        true
+    }
+}
+
+// The numbers of the types of these parameters.
+fn kinds_of(alloc: Global, names: &FileNames, parameters: &[(u16, u16)]) -> Made<Vec<usize>>
+    ensures { IfOk result (λ kinds. kinds.items ≡ map (kind_at names.now) parameters.now) }
+{
+    let mut kinds = Vec::with_capacity(alloc, parameters.len())?;
+    for parameter in parameters {
+        kinds.push(names.number(parameter.1))?;
+    }
+    Ok(kinds)
+}
 
 /// A property as other scripts see it. Bits 1 and 2 say whether it can be read and written.
 #[derive(Clone, Copy, PartialEq, Eq)]
@@ -76,7 +143,7 @@ impl ScriptHead {
         names: &FileNames,
         object: &PexObject,
         parent: Option<usize>,
-    ) -> Result<ScriptHead, OutOfMemory>
+    ) -> Made<ScriptHead>
         ensures { (members : Members) → IfOk result (IsHeadOf members parent names.now object.now) }
     {
         let empty_state = empty_state_place(names, object);
@@ -91,7 +158,7 @@ impl ScriptHead {
     }
 
     /// Adds those of the four members that the script doesn't have.
-    fn complete(&mut self, alloc: Global, members: &DefaultMembers<'_>) -> Result<(), OutOfMemory>
+    fn complete(&mut self, alloc: Global, members: &DefaultMembers<'_>) -> Made<()>
         ensures { (above : Option ℕ) (numbers : List ℕ) (object : PexObject) → number_at numbers object.parent ≡ empty_name
             → IsHeadOf (members_of members.now) above numbers object self.old
             → OnOk result (IsHeadOf (members_of members.now) above numbers object self.new) }
@@ -104,7 +171,7 @@ impl ScriptHead {
     }
 
     // Adds the member at this place, if the script doesn't have it.
-    fn add_lacking(&mut self, place: usize, signature: Signature) -> Result<(), OutOfMemory>
+    fn add_lacking(&mut self, place: usize, signature: Signature) -> Made<()>
         ensures { (members : Members) (above : Option ℕ) (numbers : List ℕ) (object : PexObject)
             → number_at numbers object.parent ≡ empty_name
             → member_at members place ≡ Some (declared_of signature)
@@ -139,7 +206,7 @@ fn property_heads(
     alloc: Global,
     names: &FileNames,
     properties: &[PexProperty],
-) -> Result<Vec<PropertyHead>, OutOfMemory>
+) -> Made<Vec<PropertyHead>>
     ensures { IfOk result (λ heads. heads.items ≡ map (property_by names.now) properties.now) }
 {
     let mut heads = Vec::with_capacity(alloc, properties.len())?;
@@ -158,7 +225,7 @@ pub(crate) fn signatures(
     alloc: Global,
     names: &FileNames,
     functions: &[(u16, PexFunction)],
-) -> Result<Vec<Signature>, OutOfMemory>
+) -> Made<Vec<Signature>>
     ensures { IfOk result (λ found. map declared_of found.items ≡ map (declared_by names.now) functions.now) }
 {
     let mut found = Vec::with_capacity(alloc, functions.len())?;
@@ -172,10 +239,7 @@ pub(crate) fn signatures(
 fn parent_of(parents: &[Option<usize>], number: usize) -> Option<usize>
     ensures { result ≡ parent_at parents.now number }
 {
-    match parents.get(number) {
-        Some(parent) => *parent,
-        None => None,
-    }
+    *parents.get(number)?
 }
 
 // What the object of this number offers.
@@ -186,7 +250,7 @@ fn whole_head(
     object: &PexObject,
     parents: &[Option<usize>],
     members: &DefaultMembers<'_>,
-) -> Result<ScriptHead, OutOfMemory>
+) -> Made<ScriptHead>
     ensures { IfOk result (IsHeadOf (members_of members.now) (parent_at parents.now number) names.now object.now) }
 {
     let mut head = ScriptHead::of(alloc, names, object, parent_of(parents, number))?;
@@ -203,7 +267,7 @@ fn signatures_at(
     names: &FileNames,
     states: &[PexState],
     place: usize,
-) -> Result<Vec<Signature>, OutOfMemory>
+) -> Made<Vec<Signature>>
     ensures { IfOk result (λ found. map declared_of found.items ≡ map (declared_by names.now) (functions_of_state (slice_get states.now place))) }
 {
     match states.get(place) {
@@ -220,7 +284,7 @@ fn add_heads(
     parents: &[Option<usize>],
     members: &DefaultMembers<'_>,
     source: &SetFile<'_>,
-) -> Result<(), OutOfMemory>
+) -> Made<()>
     ensures count { OnOk result (vec_len heads.new ≡ vec_len heads.old + vec_len source.now.pex.now.objects) }
     ensures heads { (before : List Placed) → AreHeads (members_of members.now) parents.now before heads.old.items
         → OnOk result (AreHeads (members_of members.now) parents.now (before ++ placed_in source.now) heads.new.items) }
@@ -244,7 +308,7 @@ fn all_heads(
     parents: &[Option<usize>],
     members: &DefaultMembers<'_>,
     sources: &[SetFile<'_>],
-) -> Result<Vec<ScriptHead>, OutOfMemory>
+) -> Made<Vec<ScriptHead>>
     ensures count { IfOk result (λ heads. vec_len heads ≡ object_count sources.now) }
     ensures heads { IfOk result (λ heads. AreHeads (members_of members.now) parents.now (placed_objects sources.now) heads.items) }
     ensures lists { (descent : List Span) → lists.old ≡ no_members descent
@@ -277,7 +341,7 @@ impl ScriptSet {
         sources: &[SetFile<'_>],
         objects: Objects,
         parents: &[Option<usize>],
-    ) -> Result<ScriptSet, OutOfMemory>
+    ) -> Made<ScriptSet>
         requires { length objects ≡ object_count sources.now }
         ensures count { IfOk result (λ scripts. vec_len scripts.heads ≡ object_count sources.now) }
         ensures objects { IfOk result (λ scripts. scripts.objects ≡ objects) }
@@ -316,11 +380,8 @@ impl ScriptSet {
         ensures { result ≡ found.property_found self.now script name }
     {
         let found = self.table.property(script, name)?;
-        self.heads
-            .get(found.object)?
-            .properties
-            .get(found.place)
-            .copied()
+        let head = self.heads.get(found.object)?;
+        head.properties.get(found.place).copied()
     }
 
     /// The place of the script's own first property of this name.
@@ -328,11 +389,7 @@ impl ScriptSet {
         ensures { result ≡ rules.first_property_of self.now script name }
     {
         let found = self.table.property(script, name)?;
-        if found.object == script {
-            Some(found.place)
-        } else {
-            None
-        }
+        (found.object == script).then_some(found.place)
     }
 
     /// The places of the members that the script lacks.

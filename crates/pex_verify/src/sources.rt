@@ -1,15 +1,16 @@
-// The values of a set, with the numbers of their names.
-ghost use Rattle.std.specs.Prelude.{◌≡◌, ◌+◌, ◌<◌, ℕ, List, ◌∷◌, length, map, sum_by, All, IfOk, OnOk};
+// The files of a set, with the numbers of their names and the source lines of their functions.
+ghost use Rattle.std.specs.Prelude.{◌≡◌, ◌+◌, ◌<◌, ℕ, List, ◌∷◌, length, map, sum_by, All, IfOk, OnOk, vec_len};
 ghost use Rattle.pex_set.specs.Names.{IsGrown};
 ghost use Rattle.pex_verify.specs.Signatures.{title_at};
 ghost use Rattle.pex_verify.specs.Heads.{placed_objects, AreNumbered};
 ghost use Rattle.pex_verify.specs.Sources.{object_count, objects_in, objects_of, AreStrings, AreNamed, HaveParts, IsNamed};
 
 use crate::fault::Site;
-use papy_base::{Name, OutOfMemory, Text};
-use pex_set::{FileNames, NameTable, Objects, text_at};
+use papy_base::{Name, Text};
+use pex_set::{FileNames, Made, NameTable, Objects, text_at};
 use pex_values::{Pex, PexFunction, PexObject};
 use std::alloc::Global;
+use std::collections::HashMap;
 
 /// One file of a set.
 #[derive(Clone, Copy)]
@@ -29,7 +30,7 @@ impl<'a> SetFile<'a> {
     }
 
     /// The string at this reference as a name.
-    pub(crate) fn title(&self, alloc: Global, reference: u16) -> Result<Name, OutOfMemory>
+    pub(crate) fn title(&self, alloc: Global, reference: u16) -> Made<Name>
         ensures { IfOk result (λ name. name ≡ title_at self.now.titles.now reference) }
     {
         match self.titles.get(usize::from(reference)) {
@@ -63,30 +64,17 @@ pub(crate) struct FileStrings {
 
 impl FileStrings {
     /// These strings, of which the table then has the numbers.
-    pub(crate) fn of(
-        alloc: Global,
-        table: &mut NameTable,
-        strings: &[Text],
-    ) -> Result<FileStrings, OutOfMemory>
+    pub(crate) fn of(alloc: Global, table: &mut NameTable, strings: &[Text]) -> Made<FileStrings>
         ensures strings { IfOk result (AreStrings table.new strings.now) }
         ensures grows { OnOk result (IsGrown table.old table.new) }
     {
-        Ok(FileStrings {
-            names: FileNames::of_strings(alloc, table, strings)?,
-            titles: titles_of(alloc, strings)?,
-        })
+        let names = FileNames::of_strings(alloc, table, strings)?;
+        let mut titles = Vec::with_capacity(alloc, strings.len())?;
+        for string in strings {
+            titles.push(Name::from_bytes(alloc, string.as_bytes())?)?;
+        }
+        Ok(FileStrings { names, titles })
     }
-}
-
-// These strings as names.
-fn titles_of(alloc: Global, strings: &[Text]) -> Result<Vec<Name>, OutOfMemory>
-    ensures { IfOk result (λ titles. titles.items ≡ strings.now) }
-{
-    let mut titles = Vec::with_capacity(alloc, strings.len())?;
-    for string in strings {
-        titles.push(Name::from_bytes(alloc, string.as_bytes())?)?;
-    }
-    Ok(titles)
 }
 
 /// The strings of these files, in their order.
@@ -94,7 +82,7 @@ pub(crate) fn strings_of_files(
     alloc: Global,
     table: &mut NameTable,
     files: &[Pex],
-) -> Result<Vec<FileStrings>, OutOfMemory>
+) -> Made<Vec<FileStrings>>
     ensures strings { IfOk result (λ strings. AreNamed table.new files.now strings.items) }
     ensures grows { OnOk result (IsGrown table.old table.new) }
 {
@@ -125,7 +113,7 @@ pub(crate) fn all_sources<'a>(
     prelude: SetFile<'a>,
     files: &'a [Pex],
     strings: &'a [FileStrings],
-) -> Result<Vec<SetFile<'a>>, OutOfMemory>
+) -> Made<Vec<SetFile<'a>>>
     requires few { length files.now < 65536 }
     requires strings { length strings.now ≡ length files.now }
     ensures count { IfOk result (λ sources. object_count sources.items ≡ objects_in prelude.entry + sum_by objects_of files.now) }
@@ -142,7 +130,7 @@ pub(crate) fn all_sources<'a>(
 }
 
 /// The objects of these files.
-pub(crate) fn objects_of(alloc: Global, sources: &[SetFile<'_>]) -> Result<Objects, OutOfMemory>
+pub(crate) fn objects_of(alloc: Global, sources: &[SetFile<'_>]) -> Made<Objects>
     ensures count { IfOk result (λ objects. length objects ≡ object_count sources.now) }
     ensures numbered { IfOk result (AreNumbered (placed_objects sources.now)) }
 {
@@ -151,4 +139,51 @@ pub(crate) fn objects_of(alloc: Global, sources: &[SetFile<'_>]) -> Result<Objec
         objects.add_file(source.names, source.pex)?;
     }
     Ok(objects)
+}
+
+/// What kind of function a debug entry speaks of.
+pub(crate) const OF_STATE: u8 = 0;
+
+pub(crate) const OF_READ: u8 = 1;
+
+pub(crate) const OF_WRITE: u8 = 2;
+
+/// The lines of a file's debug entries: those of the first one for each kind, object, state and function.
+#[derive(Drop)]
+pub(crate) struct FileLines<'a> {
+    lines: HashMap<(u8, (usize, usize, usize)), &'a [u16]>,
+}
+
+impl<'a> FileLines<'a> {
+    pub(crate) fn of(alloc: Global, names: &FileNames, pex: &'a Pex) -> Made<FileLines<'a>> {
+        let mut lines = HashMap::new(alloc);
+        if let Some(debug) = &pex.debug {
+            for entry in &debug.functions {
+                let object = names.number(entry.object);
+                let state = names.number(entry.state);
+                let key = (entry.kind, (object, state, names.number(entry.function)));
+                lines.entry(key)?.or_insert(entry.lines.as_slice());
+            }
+        }
+        Ok(FileLines { lines })
+    }
+
+    /// The lines of a function, of which each name is given by its number. There are none where no entry
+    /// speaks of it.
+    pub(crate) fn find(&self, kind: u8, object: usize, state: usize, function: usize) -> &'a [u16] {
+        match self.lines.get(&(kind, (object, state, function))) {
+            Some(lines) => *lines,
+            None => &[],
+        }
+    }
+}
+
+/// One line for each of so many instructions: the lines that were found, and 0 past them.
+pub(crate) fn lines_of(alloc: Global, found: &[u16], count: usize) -> Made<Vec<u16>>
+    ensures { IfOk result (λ lines. vec_len lines ≡ count) }
+{
+    let mut lines = Vec::with_capacity(alloc, count)?;
+    lines.extend_from_slice(&found[..found.len().min(count)])?;
+    lines.resize(count, 0)?;
+    Ok(lines)
 }

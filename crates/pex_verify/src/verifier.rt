@@ -1,10 +1,10 @@
 // Sets of files, in the order in which their rules are judged.
-ghost use Rattle.std.specs.Prelude.{◌≡◌, ◌+◌, ◌<◌, ℕ, List, [], ◌∷◌, ◌++◌, Some, length, vec_len, All, IfOk, OnOk};
+ghost use Rattle.std.specs.Prelude.{◌≡◌, ◌+◌, ◌<◌, ℕ, List, [], ◌∷◌, ◌++◌, Some, length, vec_len, All, IfOk, OnOk, false, None};
 ghost use Rattle.pex_verify.specs.Files.{IsFile};
 ghost use Rattle.pex_verify.specs.Sources.{object_count, script_count};
 ghost use Rattle.pex_verify.specs.Sets.{AreSoundOutlines, AreSoundScripts};
 ghost use Rattle.pex_verify.specs.Heads.{Placed, placed, placed_in, placed_objects, members_of, AreNumbered, AreHeads};
-ghost use Rattle.pex_set.specs.Lineage.{AreRooted};
+ghost use Rattle.pex_set.specs.Lineage.{AreRooted, AreAmong};
 ghost use Rattle.pex_set.specs.Names.{empty_name, number_in};
 ghost use Rattle.pex_set.specs.Objects.{parents_in};
 ghost use Rattle.pex_set.specs.Plain.{HasNoProperties};
@@ -14,18 +14,17 @@ ghost use Rattle.pex_verify.specs.Types.{IsValueTypeAmong};
 ghost use Rattle.pex_verify.specs.Loading.{judged_by, AreObjects, IsLoadedSet};
 ghost use Rattle.pex_verify.specs.Whole.{IsJudged};
 
-use crate::fault::{VerifyFault, VerifyRule};
-use crate::lines::FileLines;
+use crate::fault::{Site, Valid, VerifyRule};
 use crate::loaded::{Loaded, LoadedScript};
 use crate::members::MemberTable;
 use crate::object::{Loader, ObjectLists, load_object};
-use crate::object_rules::{SCRIPT_LIMIT, judge_objects};
 use crate::scripts::ScriptSet;
 use crate::sources::{
-    DefaultMembers, FileStrings, SetFile, all_sources, objects_of, source_of, strings_of_files,
+    DefaultMembers, FileLines, FileStrings, SetFile, all_sources, objects_of, source_of,
+    strings_of_files,
 };
 use core_tree::{Outline, OutlineScript};
-use pex_set::{NameTable, Prelude};
+use pex_set::{EMPTY_NAME, LIBRARY_COUNT, NameTable, Objects, Prelude, on_circles, text_at};
 use pex_values::{Pex, PexObject};
 use std::alloc::Global;
 
@@ -36,14 +35,14 @@ use std::alloc::Global;
 /// names, parents and numbers of all objects. Then, by file and object: the object, its variables, its
 /// properties, each before the functions that read and write it, and its states, each before its functions;
 /// and in a function the function itself, its result, its parameters, its locals and its instructions.
-pub fn verify(alloc: Global, files: Vec<Pex>) -> Result<Loaded, VerifyFault>
+pub fn verify(alloc: Global, files: Vec<Pex>) -> Valid<Loaded>
     requires few { vec_len files < 65536 }
     requires valid { All IsFile files.items }
     ensures files { IfOk result (λ loaded. loaded.files ≡ files.items) }
     ensures count { IfOk result (λ loaded. length loaded.scripts ≡ script_count files.items) }
 {
     let mut table = NameTable::new(alloc)?;
-    let tables = load_tables(alloc, &mut table, files.as_slice(), true)?;
+    let tables = load_all(alloc, &mut table, files.as_slice(), true)?;
     Ok(Loaded {
         outline: Outline {
             scripts: tables.parts.outlines,
@@ -58,13 +57,13 @@ pub fn verify(alloc: Global, files: Vec<Pex>) -> Result<Loaded, VerifyFault>
 /// The outline of the set of these files, of which no code is kept. Each has the shape and the size of a file.
 ///
 /// `Broken` comes where a rule is broken, with the place and the rule that `verify` gives.
-pub fn judge(alloc: Global, files: &[Pex]) -> Result<Outline, VerifyFault>
+pub fn judge(alloc: Global, files: &[Pex]) -> Valid<Outline>
     requires few { length files.now < 65536 }
     requires valid { All IsFile files.now }
     ensures { IfOk result (λ outline. AreSoundOutlines (script_count files.now) outline.scripts.items) }
 {
     let mut table = NameTable::new(alloc)?;
-    let tables = load_tables(alloc, &mut table, files, false)?;
+    let tables = load_all(alloc, &mut table, files, false)?;
     Ok(Outline {
         scripts: tables.parts.outlines,
     })
@@ -85,12 +84,7 @@ struct Tables {
 }
 
 // All scripts of these files, behind those of the prelude. Their code is empty unless it is to be kept.
-fn load_tables(
-    alloc: Global,
-    table: &mut NameTable,
-    files: &[Pex],
-    keeps_code: bool,
-) -> Result<Tables, VerifyFault>
+fn load_all(alloc: Global, table: &mut NameTable, files: &[Pex], keeps_code: bool) -> Valid<Tables>
     requires few { length files.now < 65536 }
     requires valid { All IsFile files.now }
     ensures count { IfOk result (λ tables. vec_len tables.parts.scripts ≡ script_count files.now) }
@@ -108,7 +102,7 @@ fn load_behind(
     prelude: &Prelude,
     files: &[Pex],
     keeps_code: bool,
-) -> Result<Tables, VerifyFault>
+) -> Valid<Tables>
     requires few { length files.now < 65536 }
     requires valid { All IsFile files.now }
     requires prelude { vec_len prelude.now.file.objects ≡ 6 }
@@ -121,19 +115,12 @@ fn load_behind(
     let strings = strings_of_files(alloc, table, files)?;
     // No fault lies in the prelude, so its number is never told.
     let first = source_of(0, &prelude.file, &prelude_strings);
-    let sources = all_sources(alloc, first, files, strings.as_slice())?;
+    let all = all_sources(alloc, first, files, strings.as_slice())?;
     let members = DefaultMembers {
         list: prelude.members.as_slice(),
         source: &first,
     };
-    load_set(
-        alloc,
-        table,
-        files,
-        &members,
-        sources.as_slice(),
-        keeps_code,
-    )
+    load_set(alloc, table, files, &members, all.as_slice(), keeps_code)
 }
 
 // The scripts of these files, the first of which is the prelude.
@@ -144,7 +131,7 @@ fn load_set(
     members: &DefaultMembers<'_>,
     sources: &[SetFile<'_>],
     keeps_code: bool,
-) -> Result<Tables, VerifyFault>
+) -> Valid<Tables>
     ensures count { IfOk result (λ tables. vec_len tables.parts.scripts ≡ object_count sources.now) }
     ensures sound { IfOk result (λ tables. AreSoundScripts (vec_len tables.parts.scripts) tables.parts.outlines.items tables.parts.scripts.items) }
     ensures loaded { IfOk result (λ tables. IsLoadedSet members.now sources.now tables.parts.scripts.items tables.parts.outlines.items tables.members) }
@@ -172,7 +159,7 @@ fn judged_scripts(
     files: &[Pex],
     members: &DefaultMembers<'_>,
     sources: &[SetFile<'_>],
-) -> Result<ScriptSet, VerifyFault>
+) -> Valid<ScriptSet>
     ensures count { IfOk result (λ scripts. vec_len scripts.heads ≡ object_count sources.now) }
     ensures numbered { IfOk result (λ scripts. AreNumbered (placed_objects sources.now) scripts.objects) }
     ensures heads { IfOk result (λ scripts. AreHeads (members_of members.now) (parents_in scripts.objects) (placed_objects sources.now) scripts.heads.items) }
@@ -186,12 +173,80 @@ fn judged_scripts(
     Ok(ScriptSet::of(alloc, table, members, sources, objects, parents.as_slice())?)
 }
 
+// How many scripts a set may have: the prelude's 6, and 4,096 of the files.
+const SCRIPT_LIMIT: usize = 4102;
+
+// Judges the objects in order of file and object. Those of the prelude break no rule.
+fn judge_objects(
+    alloc: Global,
+    files: &[Pex],
+    objects: &Objects,
+    parents: &[Option<usize>],
+) -> Valid<()>
+    ensures { AreAmong parents.now → OnOk result (AreRooted parents.now) }
+{
+    let is_above_itself = on_circles(alloc, parents)?;
+    for (number, circle) in is_above_itself.iter().enumerate() {
+        if let Some(rule) = object_rule(objects, number, *circle) {
+            return Err(object_site(files, objects, number).fault(alloc, rule));
+        }
+    }
+    Ok(())
+}
+
+// The lowest rule that the object breaks.
+fn object_rule(objects: &Objects, number: usize, is_above_itself: bool) -> Option<VerifyRule>
+    ensures { result ≡ None → is_above_itself ≡ false }
+{
+    if lacks_parent(objects, number) {
+        Some(VerifyRule::UnknownParent)
+    } else if is_above_itself {
+        Some(VerifyRule::ParentCycle)
+    } else if has_earlier_name(objects, number) {
+        Some(VerifyRule::DuplicateName)
+    } else if number >= SCRIPT_LIMIT {
+        Some(VerifyRule::TooMany)
+    } else {
+        None
+    }
+}
+
+// Whether the object names a parent that it can't have: none of the set, or a library.
+fn lacks_parent(objects: &Objects, number: usize) -> bool {
+    let Some(head) = objects.head(number) else {
+        return false;
+    };
+    let parent = objects.first_named(head.parent);
+    head.parent != EMPTY_NAME && parent.is_none_or(|parent| parent < LIBRARY_COUNT)
+}
+
+// Whether an earlier object has the same name.
+fn has_earlier_name(objects: &Objects, number: usize) -> bool {
+    let head = objects.head(number);
+    head.is_some_and(|head| objects.first_named(head.name) != Some(number))
+}
+
+// The prelude is the first of the files that heads number.
+fn object_site<'a>(files: &'a [Pex], objects: &Objects, number: usize) -> Site<'a> {
+    let Some(head) = objects.head(number) else {
+        return Site {
+            file: 0,
+            object: &[],
+        };
+    };
+    let file = head.file.saturating_sub(1);
+    let object: &[u8] = match files.get(file) {
+        Some(pex) => text_at(pex.strings.as_slice(), head.title),
+        None => &[],
+    };
+    Site {
+        file: file.min(usize::from(u16::MAX)) as u16,
+        object,
+    }
+}
+
 // Loads the objects of all files.
-fn load_files(
-    loader: &Loader<'_>,
-    lists: &mut ObjectLists,
-    sources: &[SetFile<'_>],
-) -> Result<Parts, VerifyFault>
+fn load_files(loader: &Loader<'_>, lists: &mut ObjectLists, sources: &[SetFile<'_>]) -> Valid<Parts>
     ensures count { IfOk result (λ parts. vec_len parts.scripts ≡ object_count sources.now) }
     ensures sound { IfOk result (λ parts. AreSoundScripts (vec_len loader.now.set.now.heads) parts.outlines.items parts.scripts.items) }
     ensures objects { IfOk result (λ parts. AreObjects (judged_by loader.now) (placed_objects sources.now) parts.scripts.items parts.outlines.items) }
@@ -212,7 +267,7 @@ fn load_file(
     lists: &mut ObjectLists,
     source: &SetFile<'_>,
     parts: &mut Parts,
-) -> Result<(), VerifyFault>
+) -> Valid<()>
     ensures count { OnOk result (vec_len parts.new.scripts ≡ vec_len parts.old.scripts + vec_len source.now.pex.now.objects) }
     ensures objects { (before : List Placed) → AreObjects (judged_by loader.now) before parts.old.scripts.items parts.old.outlines.items
         → OnOk result (AreObjects (judged_by loader.now) (before ++ placed_in source.now) parts.new.scripts.items parts.new.outlines.items) }
@@ -234,7 +289,7 @@ fn load_next(
     lines: &FileLines<'_>,
     object: &PexObject,
     parts: &mut Parts,
-) -> Result<(), VerifyFault>
+) -> Valid<()>
     ensures count { OnOk result (vec_len parts.new.scripts ≡ vec_len parts.old.scripts + 1) }
     ensures objects { (before : List Placed) → AreObjects (judged_by loader.now) before parts.old.scripts.items parts.old.outlines.items
         → OnOk result (AreObjects (judged_by loader.now) (before ++ placed source.now object.now ∷ []) parts.new.scripts.items parts.new.outlines.items) }

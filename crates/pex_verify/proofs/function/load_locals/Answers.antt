@@ -1,4 +1,4 @@
-use Rattle.std.proofs.Common.{ℕ, ◌<◌, Option, IfSome, length, get_or, refl, vec_len, arith}
+use Rattle.std.proofs.Common.{◌≡◌, ℕ, ◌<◌, [], ◌∷◌, ◌++◌, Option, IfSome, length, get_or, refl, sym, ap, ◌∙◌, vec_len, arith}
 use Rattle.core_tree.specs.declared.core_type.CoreType.{CoreType}
 use Rattle.papy_base.specs.declared.name.Name.{Name}
 use Rattle.pex_verify.specs.declared.value_type.ValueType.{ValueType}
@@ -18,10 +18,16 @@ loop-pair-preserved c =
     let before = c.loop-pair.invariant in
     let old = c.loop-pair.locals.items in
     let new = c.push.new.self.items in
-    let found = c.in_ok-load_local.field-0 in
-    let ensured = c.in_ok-load_local.ensures in
+    let found : Name × Option CoreType = (c.in_ok-title.field-0, c.in_ok-kind.kind) in
+    let declared = c.result_type-declared.result in
+    let slot = c.in_ok-kind.ensures in
+    let was = c.loop-pair.slots.list.items in
+    let known : local_type found ≡ declared = slot.known in
+    let typed : IsTyped found = slot.typed count c.result_type-declared.ensures.among in
+    let adds : c.judged_slot.new.slots.list.items ≡ was ++ local_type found ∷ [] = slot.slots ∙ ap (λ (kind : ValueType). was ++ kind ∷ []) (sym known) in
+    let meant = known ∙ c.result_type-declared.ensures.meaning ∙ ap (result_meaning c.args.home.now.set.now.types) c.number.ensures in
     let pairs = c.args.pairs.now in
     let i = c.loop-pair.pair-index in
     let within : i < length pairs = omega arith in
-    let slots = behind_next local_type c.args.slots.now.list.items c.loop-pair.slots.list.items c.load_local.new.slots.list.items old new found ensured.slots c.in_ok-push.ensures.items before.2 in
-    (omega (arith, before.0, ensured.count, c.in_ok-push.ensures.len), all_grown IsTyped old new found c.in_ok-push.ensures.items before.1 ensured.typed, slots, map_next local_type means old new pairs i found (get_or pairs i (0, 0)) (0, 0) c.in_ok-push.ensures.items within refl before.3 ensured.kind)
+    let slots = behind_next local_type c.args.slots.now.list.items was c.judged_slot.new.slots.list.items old new found adds c.in_ok-push.ensures.items before.2 in
+    (omega (arith, before.0, slot.count, c.in_ok-push.ensures.len), all_grown IsTyped old new found c.in_ok-push.ensures.items before.1 typed, slots, map_next local_type means old new pairs i found (get_or pairs i (0, 0)) (0, 0) c.in_ok-push.ensures.items within refl before.3 meant)

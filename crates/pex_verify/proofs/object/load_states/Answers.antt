@@ -63,7 +63,7 @@ returns-clause-distinct c =
     let distinct : AreDistinct (state_numbers home) = λ a b less within.
     let below : b < i = omega arith in
     c.loop-state.invariant.4 a b less below in
-    IfOk-weaker c.with_members.result _ (λ states. AreDistinct (state_numbers home)) (λ states sound. distinct) c.with_members.ensures.sound
+    IfOk-weaker c.completed.result _ (λ states. AreDistinct (state_numbers home)) (λ states sound. distinct) c.completed.ensures.sound
 
 pub returns-clause-replaces : goal.returns-clause-replaces
 returns-clause-replaces c =
@@ -74,4 +74,4 @@ returns-clause-replaces c =
     let replaces : All (EachReplaces home) all = λ k d within.
     let below : k < i = omega arith in
     c.loop-state.invariant.2 k d below in
-    IfOk-weaker c.with_members.result _ (λ states. All (EachReplaces home) all) (λ states sound. replaces) c.with_members.ensures.sound
+    IfOk-weaker c.completed.result _ (λ states. All (EachReplaces home) all) (λ states sound. replaces) c.completed.ensures.sound

@@ -2,7 +2,7 @@ use Rattle.std.proofs.Common.{◌≡◌, ℕ, ◌+◌, ◌<◌, [], ◌∷◌, l
 use Rattle.pex_set.specs.Names.{empty_name}
 use Rattle.pex_set.specs.declared.inherited.OwnMember.{OwnMember}
 use Rattle.pex_verify.specs.declared.members.MemberLists.{MemberLists}
-use Rattle.pex_verify.specs.declared.signature.Signature.{Signature}
+use Rattle.pex_verify.specs.declared.scripts.Signature.{Signature}
 use Rattle.pex_verify.specs.Members.{Owner, owner_in, member_of, with_places, with_methods}
 use Rattle.pex_verify.proofs.MemberLists.{methods_more, with_places-next}
 use Rattle.pex_verify.proofs.members.MemberLists.add_functions.Goals as goal
