@@ -26,8 +26,9 @@ returns-clause-sound c =
     let bounds = bounds_of c.args.home.now in
     let IsSound : Name × Vec LoadedFunction Global → Type 0 = λ state. IsSoundState bounds state.1.items in
     let none : AreSoundFunctions bounds [] = search rules in
-    let functions = c.in_ok-add_members.ensures.sound (subst (λ (l : List LoadedFunction). AreSoundFunctions bounds l) (sym c.new-added.ensures.items) none) in
-    all_grown IsSound c.args.states.items c.push.new.self.items (c.in_ok-from_bytes.field-0, c.add_members.new.functions) c.in_ok-push.ensures.items c.requires functions
+    let functions : AreSoundFunctions bounds c.add_members.new.functions.items = c.in_ok-add_members.ensures.sound (subst (λ (l : List LoadedFunction). AreSoundFunctions bounds l) (sym c.new-added.ensures.items) none) in
+    let state : IsSoundState bounds c.add_members.new.functions.items = record { each = functions } in
+    all_grown IsSound c.args.states.items c.push.new.self.items (c.in_ok-from_bytes.field-0, c.add_members.new.functions) c.in_ok-push.ensures.items c.requires state
 
 pub returns-clause-written : goal.returns-clause-written
 returns-clause-written c = λ before given.
