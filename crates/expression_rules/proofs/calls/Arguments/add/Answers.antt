@@ -1,6 +1,6 @@
 use Rattle.std.proofs.Common.{rules, ◌≡◌, refl}
 use Rattle.expression_rules.proofs.ArgumentLemmas.{arguments-more}
-use Rattle.expression_rules.proofs.arguments.Arguments.add.Goals as goal
+use Rattle.expression_rules.proofs.calls.Arguments.add.Goals as goal
 
 pub returns : goal.returns
 returns c = λ b count so_far here.

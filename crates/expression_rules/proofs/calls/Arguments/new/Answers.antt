@@ -1,6 +1,6 @@
 use Rattle.std.proofs.Common.{◌≡◌, arith, length}
 use Rattle.expression_rules.proofs.ArgumentLemmas.{arguments-none}
-use Rattle.expression_rules.proofs.arguments.Arguments.new.Goals as goal
+use Rattle.expression_rules.proofs.calls.Arguments.new.Goals as goal
 
 pub returns : goal.returns
 returns c = λ b.

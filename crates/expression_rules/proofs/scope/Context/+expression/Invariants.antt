@@ -2,7 +2,7 @@
 use Rattle.std.proofs.Common.{◌+◌, ◌*◌, length, vec_len}
 use Rattle.std.specs.Prelude.{option_to_list}
 use Rattle.expression_rules.specs.Ranges.{TypedInRange, GivenInRange, ContextInRange, bounds_of}
-use Rattle.expression_rules.proofs.context.Context.+expression.Given as goal
+use Rattle.expression_rules.proofs.scope.Context.+expression.Given as goal
 
 abbrev pub decreases-expression : goal.decreases-expression
 decreases-expression l = 4 * l.depth

@@ -1,5 +1,5 @@
 use Rattle.expression_rules.specs.Ranges.{bounds_of}
-use Rattle.expression_rules.proofs.context.Context.change.Goals as goal
+use Rattle.expression_rules.proofs.scope.Context.change.Goals as goal
 
 pub returns-in-Some : goal.returns-in-Some
 returns-in-Some c = λ target value.
@@ -11,4 +11,4 @@ pub returns : goal.returns
 returns c = λ target value.
     let b = bounds_of c.args.self.now in
     let kind = c.in-Some-kind.ensures b target in
-    c.changed.ensures b target kind (c.in_ok-right.ensures b kind value)
+    c.changed.ensures b target kind (rw c.into_inner.ensures (c.in_ok-right.ensures b kind value))

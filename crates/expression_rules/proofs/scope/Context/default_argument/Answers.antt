@@ -1,5 +1,5 @@
 use Rattle.expression_rules.specs.Ranges.{bounds_of}
-use Rattle.expression_rules.proofs.context.Context.default_argument.Goals as goal
+use Rattle.expression_rules.proofs.scope.Context.default_argument.Goals as goal
 
 pub returns-then-default_fits : goal.returns-then-default_fits
 returns-then-default_fits c = λ known.

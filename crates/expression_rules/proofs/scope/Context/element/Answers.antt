@@ -1,6 +1,6 @@
 use Rattle.core_tree.proofs.Views.{expression_views}
 use Rattle.expression_rules.specs.Ranges.{bounds_of}
-use Rattle.expression_rules.proofs.context.Context.element.Goals as goal
+use Rattle.expression_rules.proofs.scope.Context.element.Goals as goal
 
 pub returns-in-Some : goal.returns-in-Some
 returns-in-Some c = λ of at.

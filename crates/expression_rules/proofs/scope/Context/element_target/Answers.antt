@@ -1,5 +1,5 @@
 use Rattle.expression_rules.specs.Ranges.{bounds_of}
-use Rattle.expression_rules.proofs.context.Context.element_target.Goals as goal
+use Rattle.expression_rules.proofs.scope.Context.element_target.Goals as goal
 
 pub returns-in-Some : goal.returns-in-Some
 returns-in-Some c = λ known.

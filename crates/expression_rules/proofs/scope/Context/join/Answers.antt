@@ -1,6 +1,6 @@
 use Rattle.core_tree.proofs.Views.{expression_views}
 use Rattle.expression_rules.specs.Ranges.{bounds_of}
-use Rattle.expression_rules.proofs.context.Context.join.Goals as goal
+use Rattle.expression_rules.proofs.scope.Context.join.Goals as goal
 
 pub returns : goal.returns
 returns c = λ left right.

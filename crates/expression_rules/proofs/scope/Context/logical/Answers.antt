@@ -1,6 +1,6 @@
 use Rattle.core_tree.proofs.Views.{expression_views}
 use Rattle.expression_rules.specs.Ranges.{bounds_of}
-use Rattle.expression_rules.proofs.context.Context.logical.Goals as goal
+use Rattle.expression_rules.proofs.scope.Context.logical.Goals as goal
 
 pub returns-then-eq : goal.returns-then-eq
 returns-then-eq c = λ left right.

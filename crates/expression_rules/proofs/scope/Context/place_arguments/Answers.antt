@@ -1,7 +1,7 @@
 use Rattle.std.proofs.Common.{Some, ℕ, subst}
 use Rattle.std.proofs.lemmas.List.Elements.{All-pop}
 use Rattle.expression_rules.specs.Ranges.{ArgumentsInRange, TypedInRange, bounds_of}
-use Rattle.expression_rules.proofs.context.Context.place_arguments.Goals as goal
+use Rattle.expression_rules.proofs.scope.Context.place_arguments.Goals as goal
 
 pub given-init : goal.given-init
 given-init c = λ given known.

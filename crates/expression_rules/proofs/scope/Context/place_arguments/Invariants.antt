@@ -1,7 +1,7 @@
 -- The arguments that are left, and those that were placed, are in range; each turn takes one.
 use Rattle.std.proofs.Common.{vec_len}
 use Rattle.expression_rules.specs.Ranges.{GivenInRange, ParametersInRange, ArgumentsInRange, bounds_of, parameter_count}
-use Rattle.expression_rules.proofs.context.Context.place_arguments.Given as goal
+use Rattle.expression_rules.proofs.scope.Context.place_arguments.Given as goal
 
 abbrev pub invariant-given : goal.invariant-given
 invariant-given l =

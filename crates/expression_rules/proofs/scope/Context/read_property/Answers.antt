@@ -1,5 +1,5 @@
 use Rattle.core_tree.proofs.Views.{expression_views}
-use Rattle.expression_rules.proofs.context.Context.read_property.Goals as goal
+use Rattle.expression_rules.proofs.scope.Context.read_property.Goals as goal
 
 pub returns-in-Some-own_variable : goal.returns-in-Some-own_variable
 returns-in-Some-own_variable c = λ of. c.known.ensures (simp expression_views c.in-Some-own_variable.ensures) c.in-Some.ensures

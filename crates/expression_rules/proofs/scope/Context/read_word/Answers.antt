@@ -1,7 +1,7 @@
 use Rattle.std.proofs.Common.{subst}
 use Rattle.core_tree.proofs.Views.{expression_views}
 use Rattle.expression_rules.specs.Ranges.{ResolvedInRange, bounds_of}
-use Rattle.expression_rules.proofs.context.Context.read_word.Goals as goal
+use Rattle.expression_rules.proofs.scope.Context.read_word.Goals as goal
 
 pub returns-in-Local : goal.returns-in-Local
 returns-in-Local c = λ known.

@@ -1,4 +1,4 @@
-use Rattle.expression_rules.proofs.context.Context.result_of.Goals as goal
+use Rattle.expression_rules.proofs.scope.Context.result_of.Goals as goal
 
 pub returns-in-Some : goal.returns-in-Some
 returns-in-Some c =

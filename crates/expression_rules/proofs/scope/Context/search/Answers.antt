@@ -1,5 +1,5 @@
 use Rattle.core_tree.proofs.Views.{expression_views}
-use Rattle.expression_rules.proofs.context.Context.search.Goals as goal
+use Rattle.expression_rules.proofs.scope.Context.search.Goals as goal
 
 pub returns-then-backward : goal.returns-then-backward
 returns-then-backward c = λ array value start.
