@@ -1,7 +1,7 @@
 use Rattle.std.proofs.Common.{◌≡◌, arith, length}
 use Rattle.type_rules.proofs.MemberRanges.{keeps-further, keeps-work, properties-in_range, states-in_range}
 use Rattle.type_rules.specs.Ranges.{variables_of}
-use Rattle.type_rules.proofs.scripts.judge_members.Goals as goal
+use Rattle.type_rules.proofs.elaboration.judge_members.Goals as goal
 
 pub returns-clause-in_range : goal.returns-clause-in_range
 returns-clause-in_range c = λ r.

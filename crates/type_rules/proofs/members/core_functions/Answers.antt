@@ -5,7 +5,7 @@ use Rattle.type_rules.proofs.Heads.{heads-next}
 use Rattle.type_rules.proofs.MemberRanges.{function-kept, keeps-further, keeps-work}
 use Rattle.type_rules.specs.Heads.{core_function_head, function_head}
 use Rattle.type_rules.specs.Ranges.{CoreFunctionInRange, set_of}
-use Rattle.type_rules.proofs.functions.core_functions.Goals as goal
+use Rattle.type_rules.proofs.members.core_functions.Goals as goal
 
 pub loop-function-preserved : goal.loop-function-preserved
 loop-function-preserved c =

@@ -3,7 +3,7 @@ use Rattle.std.proofs.Common.{◌≡◌, length, map, take, vec_len, vec_capacit
 use Rattle.std.specs.List.{All}
 use Rattle.type_rules.specs.Heads.{core_function_head, function_head}
 use Rattle.type_rules.specs.Ranges.{CoreFunctionInRange, KeepsScript, WorkInRange, set_of}
-use Rattle.type_rules.proofs.functions.core_functions.Given as goal
+use Rattle.type_rules.proofs.members.core_functions.Given as goal
 
 abbrev pub invariant-loop-function : goal.invariant-loop-function
 invariant-loop-function l = record {

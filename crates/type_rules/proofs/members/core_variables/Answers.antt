@@ -8,7 +8,7 @@ use Rattle.type_rules.proofs.MemberRanges.{keeps-further}
 use Rattle.type_rules.proofs.VariableHeads.{heads-declared, source_head}
 use Rattle.type_rules.specs.Variables.{core_variable_head}
 use Rattle.type_rules.specs.Ranges.{functions_of, set_of}
-use Rattle.type_rules.proofs.variables.core_variables.Goals as goal
+use Rattle.type_rules.proofs.members.core_variables.Goals as goal
 
 pub loop-source-preserved : goal.loop-source-preserved
 loop-source-preserved c =

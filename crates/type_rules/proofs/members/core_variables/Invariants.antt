@@ -5,7 +5,7 @@ use Rattle.core_tree.specs.InRange.{VariableInRange}
 use Rattle.type_rules.specs.Ranges.{KeepsScript, functions_of, set_of}
 use Rattle.type_rules.specs.Variables.{core_variable_head}
 use Rattle.type_rules.proofs.VariableHeads.{source_head}
-use Rattle.type_rules.proofs.variables.core_variables.Given as goal
+use Rattle.type_rules.proofs.members.core_variables.Given as goal
 
 abbrev pub invariant-loop-source : goal.invariant-loop-source
 invariant-loop-source l = record {

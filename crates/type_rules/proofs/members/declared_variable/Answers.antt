@@ -1,6 +1,6 @@
 use Rattle.type_rules.proofs.Types.{known-in_range}
 use Rattle.type_rules.specs.Ranges.{functions_of}
-use Rattle.type_rules.proofs.variables.declared_variable.Goals as goal
+use Rattle.type_rules.proofs.members.declared_variable.Goals as goal
 
 pub returns-clause-in_range : goal.returns-clause-in_range
 returns-clause-in_range c =

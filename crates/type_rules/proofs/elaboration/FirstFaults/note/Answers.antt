@@ -1,5 +1,5 @@
 use Rattle.std.proofs.Common.{arith}
-use Rattle.type_rules.proofs.first_faults.FirstFaults.note.Goals as goal
+use Rattle.type_rules.proofs.elaboration.FirstFaults.note.Goals as goal
 
 pub returns-clause-too_large_below : goal.returns-clause-too_large_below
 returns-clause-too_large_below c = λ count within before.
