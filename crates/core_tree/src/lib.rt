@@ -6,6 +6,7 @@ mod core_type;
 mod expression;
 mod operator;
 mod outline;
+mod outlining;
 mod scene;
 mod scene_tree;
 mod script;
@@ -16,6 +17,7 @@ pub use core_type::CoreType;
 pub use expression::{Core, FunctionPlace};
 pub use operator::{Arith, Order};
 pub use outline::{Outline, OutlineFunction, OutlineProperty, OutlineScript, OutlineVariable};
+pub use outlining::outline_of;
 pub use scene::{BoundCall, BoundInstance, BoundNative, Scene};
 pub use scene_tree::{Binding, SceneCall, SceneInstance, SceneTree, SceneValue, TurnOrder};
 pub use script::{
