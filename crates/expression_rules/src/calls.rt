@@ -137,7 +137,11 @@ impl Arguments {
     fn complete(self) -> Option<Arguments>
         ensures { (b : Bounds) (count : ℕ) → ArgumentsInRange b count self → IfSome result (CompleteInRange b count) }
     {
-        (self.cores.len() == self.filled.len()).then_some(self)
+        if self.cores.len() == self.filled.len() {
+            Some(self)
+        } else {
+            None
+        }
     }
 }
 

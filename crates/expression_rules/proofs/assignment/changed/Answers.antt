@@ -13,5 +13,5 @@ returns-in-Element c = λ b target kind right.
     let here = subst (TargetInRange b) c.in-Element.is target in
     simp statement_views (rw c.into_inner-array.ensures here.0, rw c.into_inner-at.ensures here.1, kind, right)
 
-pub returns-in-other : goal.returns-in-other
-returns-in-other c = λ b target kind right. simp statement_views (tt, (right, tt))
+pub returns-in_default : goal.returns-in_default
+returns-in_default c = λ b target kind right. simp statement_views (tt, (right, tt))
