@@ -81,12 +81,26 @@ fn judge_script(catalog: &Catalog<'_>, number: u16) -> Result<JudgedScript>
 {
     let script = catalog.set.script(number);
     let layout = Layout::new(catalog.alloc, script)?;
-    let judged = judge_members(Work::new(catalog, &layout, number), script);
+    let judged = judge_layout(catalog, &layout, number, script);
     let (members, faults) = judged?;
     Ok(JudgedScript {
         script: core_script(catalog, number, members)?,
         faults,
     })
+}
+
+fn judge_layout(
+    catalog: &Catalog<'_>,
+    layout: &Layout<'_>,
+    number: u16,
+    script: &Script,
+) -> Result<(Members, ScriptFaults)>
+    ensures variables { IfOk result (λ judged. map core_variable_head judged.0.variables.items ≡ map (variable_head catalog.now.set.now) (map declaration layout.now.sources.items)) }
+    ensures properties { IfOk result (λ judged. map core_property_head judged.0.properties.items ≡ property_heads catalog.now.set.now script.now) }
+    ensures states { IfOk result (λ judged. map core_state_head judged.0.states.items ≡ state_heads catalog.now.set.now script.now) }
+    ensures in_range { number < length catalog.now.set.now → IfOk result (λ judged. MembersInRange (signatures catalog.now.set.now) judged.0) }
+{
+    judge_members(Work::new(catalog, layout, number), script)
 }
 
 fn judge_members(mut work: Work<'_>, script: &Script) -> Result<(Members, ScriptFaults)>
@@ -176,16 +190,24 @@ fn earlier(found: Option<TypeFault>, now: Option<TypeFault>) -> Option<TypeFault
     ensures first { result ≡ earlier found now }
     ensures below { (count : ℕ) → HasFaultBelow count found → HasFaultBelow count now → HasFaultBelow count result }
 {
-    found.or(now)
+    match found {
+        Some(fault) => Some(fault),
+        None => now,
+    }
 }
 
 fn broken_in(file: u16, broken: Option<(u16, TypeRule)>) -> Option<TypeFault>
     ensures broken { result ≡ broken_in file broken }
     ensures below { (count : ℕ) → file + 6 < count → HasFaultBelow count result }
 {
-    let (line, rule) = broken?;
-    let line = u32::from(line);
-    Some(TypeFault::Broken { file, line, rule })
+    match broken {
+        Some((line, rule)) => Some(TypeFault::Broken {
+            file,
+            line: u32::from(line),
+            rule,
+        }),
+        None => None,
+    }
 }
 
 fn too_large_in(file: u16, too_large: Option<u16>) -> Option<TypeFault>

@@ -205,12 +205,18 @@ impl Accessors {
         ensures read { self.new.read ≡ (if str_eq_ignore_ascii_case made.name (codes "Get") then Some made else self.old.read) }
         ensures write { self.new.write ≡ (if str_eq_ignore_ascii_case made.name (codes "Get") then self.old.write else Some made) }
     {
-        if made.name.as_bytes().eq_ignore_ascii_case(b"Get") {
+        if is_get(&made.name) {
             self.read = Some(made);
         } else {
             self.write = Some(made);
         }
     }
+}
+
+fn is_get(name: &Name) -> bool
+    ensures { result ≡ str_eq_ignore_ascii_case name.now (codes "Get") }
+{
+    name.as_bytes().eq_ignore_ascii_case(b"Get")
 }
 
 fn full_access(work: &mut Work<'_>, functions: &[Function]) -> Result<CoreAccess>
@@ -342,5 +348,8 @@ pub(crate) fn initial_value(alloc: Global, kind: Option<CoreType>) -> Result<Val
 pub(crate) fn known(kind: Option<CoreType>) -> CoreType
     ensures { result ≡ known kind }
 {
-    kind.unwrap_or(CoreType::Int)
+    match kind {
+        Some(kind) => kind,
+        None => CoreType::Int,
+    }
 }
