@@ -11,11 +11,9 @@ pub(crate) trait Declared {
 
     ghost line_of: { Self → ℕ };
 
-    fn name(&self) -> &Name
-        ensures { result.now ≡ name_of self.now };
-
-    fn line(&self) -> u16
-        ensures { result ≡ line_of self.now };
+    fn declaration(&self) -> (&Name, u16)
+        ensures name { result.0.now ≡ name_of self.now }
+        ensures line { result.1 ≡ line_of self.now };
 }
 
 impl Declared for Variable {
@@ -23,12 +21,8 @@ impl Declared for Variable {
 
     ghost line_of = { λ variable. variable.line };
 
-    fn name(&self) -> &Name {
-        &self.name
-    }
-
-    fn line(&self) -> u16 {
-        self.line
+    fn declaration(&self) -> (&Name, u16) {
+        (&self.name, self.line)
     }
 }
 
@@ -37,12 +31,8 @@ impl Declared for Property {
 
     ghost line_of = { λ property. property.line };
 
-    fn name(&self) -> &Name {
-        &self.name
-    }
-
-    fn line(&self) -> u16 {
-        self.line
+    fn declaration(&self) -> (&Name, u16) {
+        (&self.name, self.line)
     }
 }
 
@@ -51,12 +41,8 @@ impl Declared for Function {
 
     ghost line_of = { λ function. function.line };
 
-    fn name(&self) -> &Name {
-        &self.heading.name
-    }
-
-    fn line(&self) -> u16 {
-        self.line
+    fn declaration(&self) -> (&Name, u16) {
+        (&self.heading.name, self.line)
     }
 }
 
@@ -65,12 +51,8 @@ impl Declared for State {
 
     ghost line_of = { λ state. state.line };
 
-    fn name(&self) -> &Name {
-        &self.name
-    }
-
-    fn line(&self) -> u16 {
-        self.line
+    fn declaration(&self) -> (&Name, u16) {
+        (&self.name, self.line)
     }
 }
 
@@ -79,11 +61,7 @@ impl Declared for SourceFile {
 
     ghost line_of = { λ file. file.script.line };
 
-    fn name(&self) -> &Name {
-        &self.script.name
-    }
-
-    fn line(&self) -> u16 {
-        self.script.line
+    fn declaration(&self) -> (&Name, u16) {
+        (&self.script.name, self.script.line)
     }
 }

@@ -19,12 +19,6 @@ pub(crate) struct Earliest {
 }
 
 impl Earliest {
-    pub(crate) fn none() -> Earliest
-        ensures { result.found ≡ None }
-    {
-        Earliest { found: None }
-    }
-
     /// Notes whether the thing of this line breaks the rule.
     pub(crate) fn note(&mut self, is_broken: bool, line: u16, rule: LinkRule)
         ensures among { FindsAmong (line ∷ []) self.old self.new }
@@ -42,14 +36,8 @@ fn first_of(found: Option<Found>, line: u16, rule: LinkRule) -> Found
     ensures { IsFirst found line rule result }
 {
     match found {
-        Some(known) => {
-            if comes_before(line, rule, known) {
-                Found { line, rule }
-            } else {
-                known
-            }
-        }
-        None => Found { line, rule },
+        Some(known) if !comes_before(line, rule, known) => known,
+        _ => Found { line, rule },
     }
 }
 

@@ -4,7 +4,7 @@ ghost use Rattle.papy_base.specs.Case.{folded, SameIgnoringCase};
 ghost use Rattle.script_linker.specs.Lookup.{HasFewMembers, HasSmallScript, Nearest, parents_of, own_function};
 ghost use Rattle.script_linker.specs.declared.set.SourceFile.{SourceFile};
 ghost use Rattle.script_linker.specs.Found.{FindsAmong};
-ghost use Rattle.script_parser.specs.Lines.{accessors, function_line, lines_with, own_lines, property_line, property_lines, state_lines, variable_line};
+ghost use Rattle.script_parser.specs.Lines.{accessors, function_line, own_lines, property_line, property_lines, state_lines, variable_line};
 ghost use Rattle.script_linker.specs.Link.{declared_lines};
 ghost use Rattle.script_linker.specs.Rules.{IsBelow};
 ghost use Rattle.script_linker.specs.Table.{number_in};
@@ -31,30 +31,9 @@ const MEMBER_LIMIT: usize = 65_536;
 /// How many different words, texts and documentation texts a file has at most.
 const WORD_LIMIT: u32 = 20_000;
 
-/// The first broken rule of N6 to N12, in order of file, line and rule, with the number of its script.
-/// Of each script the first `declared` functions are its own, and the rest generated.
-pub(crate) fn first_member_fault(
-    alloc: Global,
-    scripts: &Scripts,
-    declared: &[usize],
-) -> Result<Option<(usize, Found)>, OutOfMemory>
-    requires { length declared.now + 6 ≡ length scripts.now }
-    ensures file { IfOk result (λ fault. IfSome fault (λ f. (6 ≤ f.0) × (f.0 < length scripts.now))) }
-    ensures line { IfOk result (λ fault. IfSome fault
-        (λ f. (file : SourceFile) → Contains (declared_lines declared.now (f.0 - 6) (slice_index_or scripts.now f.0 file).script) f.1.line)) }
-    ensures few { IfOk result (λ fault. IfNone fault
-        ((n : ℕ) (file : SourceFile) → 6 ≤ n → n < length scripts.now → HasSmallScript (slice_index_or scripts.now n file))) }
-{
-    for number in PRELUDE_COUNT..scripts.count() {
-        let count = declared[number - PRELUDE_COUNT];
-        if let Some(found) = member_fault(alloc, scripts, number, count)? {
-            return Ok(Some((number, found)));
-        }
-    }
-    Ok(None)
-}
-
-fn member_fault(
+/// The first broken rule of N6 to N12 in the script of this number, whose first `declared` functions
+/// are its own, and the rest generated.
+pub(crate) fn member_fault(
     alloc: Global,
     scripts: &Scripts,
     number: usize,
@@ -68,9 +47,16 @@ fn member_fault(
         ((file : SourceFile) → HasSmallScript (slice_index_or scripts.now number file))) }
 {
     let script = &scripts.file(number).script;
-    let functions = first_functions(script.functions.as_slice(), declared);
-    let mut first = Earliest::none();
-    judge_script(alloc, scripts, number, script, functions, &mut first)?;
+    let own = first_functions(script.functions.as_slice(), declared);
+    let mut first = Earliest { found: None };
+    let passes_limit = passes_limit(number - PRELUDE_COUNT, script);
+    first.note(passes_limit, script.line, LinkRule::Limit);
+    judge_fields(alloc, script, &mut first)?;
+    judge_list(alloc, own, &mut first)?;
+    judge_replacing(scripts, number, own, &mut first);
+    judge_states(alloc, scripts, number, script.states.as_slice(), &mut first)?;
+    let properties = script.properties.as_slice();
+    judge_properties(alloc, scripts, number, properties, &mut first)?;
     Ok(found_or_limit(first.found, script))
 }
 
@@ -82,28 +68,6 @@ fn first_functions(functions: &[Function], count: usize) -> &[Function]
     } else {
         functions
     }
-}
-
-// The script of this number with these functions as its own.
-fn judge_script(
-    alloc: Global,
-    scripts: &Scripts,
-    number: usize,
-    script: &Script,
-    functions: &[Function],
-    first: &mut Earliest,
-) -> Result<(), OutOfMemory>
-    requires start { 6 ≤ number }
-    requires script { number < length scripts.now }
-    ensures { OnOk result (FindsAmong (lines_with functions.now script.now) first.old first.new) }
-{
-    let passes_limit = passes_limit(number - PRELUDE_COUNT, script);
-    first.note(passes_limit, script.line, LinkRule::Limit);
-    judge_fields(alloc, script, first)?;
-    judge_list(alloc, functions, first)?;
-    judge_replacing(scripts, number, functions, first);
-    judge_states(alloc, scripts, number, script.states.as_slice(), first)?;
-    judge_properties(alloc, scripts, number, script.properties.as_slice(), first)
 }
 
 // N12, where the script breaks no other rule: so many functions or properties have too many names, or
@@ -138,21 +102,12 @@ fn judge_list(
     let mut lines = NameTable::new(alloc);
     lines.note_lines(alloc, functions)?;
     for function in functions {
-        judge_function(&lines, function, first);
+        let is_taken = repeats(&lines, function) || has_reserved_name(function);
+        first.note(is_taken, function.line, LinkRule::DuplicateMember);
+        let is_late = has_late_parameter(function.heading.parameters.as_slice());
+        first.note(is_late, function.line, LinkRule::DefaultOrder);
     }
     Ok(())
-}
-
-// `lines` has the least line of each name in the function's list.
-fn judge_function(lines: &NameTable, function: &Function, first: &mut Earliest)
-    ensures { FindsAmong (function.now.line ∷ []) first.old first.new }
-{
-    let repeats = repeats(lines, function);
-    first.note(repeats, function.line, LinkRule::DuplicateMember);
-    let is_reserved = has_reserved_name(function);
-    first.note(is_reserved, function.line, LinkRule::DuplicateMember);
-    let is_late = has_late_parameter(function.heading.parameters.as_slice());
-    first.note(is_late, function.line, LinkRule::DefaultOrder);
 }
 
 fn judge_replacing(scripts: &Scripts, number: usize, functions: &[Function], first: &mut Earliest)
@@ -181,8 +136,8 @@ fn judge_names<T: Declared>(lines: &NameTable, items: &[T], first: &mut Earliest
     ensures { FindsAmong (map T.line_of items.now) first.old first.new }
 {
     for item in items {
-        let repeats = repeats(lines, item);
-        first.note(repeats, item.line(), LinkRule::DuplicateMember);
+        let (_, line) = item.declaration();
+        first.note(repeats(lines, item), line, LinkRule::DuplicateMember);
     }
 }
 
@@ -249,14 +204,12 @@ fn judge_properties(
 fn judge_form(alloc: Global, property: &Property, first: &mut Earliest) -> Result<(), OutOfMemory>
     ensures { OnOk result (FindsAmong (map function_line (accessors property.now.form)) first.old first.new) }
 {
-    match &property.form {
-        PropertyForm::Full(functions) => {
-            judge_list(alloc, functions.as_slice(), first)?;
-            judge_accessors(&property.kind, functions.as_slice(), first);
-            Ok(())
-        }
-        PropertyForm::Auto(_) | PropertyForm::ReadOnly(_) => Ok(()),
-    }
+    let PropertyForm::Full(functions) = &property.form else {
+        return Ok(());
+    };
+    judge_list(alloc, functions.as_slice(), first)?;
+    judge_accessors(&property.kind, functions.as_slice(), first);
+    Ok(())
 }
 
 fn judge_accessors(kind: &TypeName, functions: &[Function], first: &mut Earliest)
@@ -272,7 +225,8 @@ fn judge_accessors(kind: &TypeName, functions: &[Function], first: &mut Earliest
 fn repeats<T: Declared>(lines: &NameTable, item: &T) -> bool
     ensures { IsTrue result ↔ IsBelow (T.line_of item.now) (number_in lines.now (folded (T.name_of item.now))) }
 {
-    is_below(lines.find(item.name()), usize::from(item.line()))
+    let (name, line) = item.declaration();
+    is_below(lines.find(name), usize::from(line))
 }
 
 // N6: whether a function has the name of one that every script has.
@@ -316,13 +270,11 @@ fn differs_from_replaced(scripts: &Scripts, number: usize, function: &Function) 
 fn differs_from_nearest(scripts: &Scripts, from: usize, function: &Function) -> bool
     requires { from < length scripts.now }
 {
-    match scripts.nearest_function(from, &function.heading.name) {
-        Some((script, place)) => {
-            let replaced = &scripts.file(script).script.functions[place];
-            !same_signature(&replaced.heading, &function.heading)
-        }
-        None => false,
-    }
+    let Some((script, place)) = scripts.nearest_function(from, &function.heading.name) else {
+        return false;
+    };
+    let replaced = &scripts.file(script).script.functions[place];
+    !same_signature(&replaced.heading, &function.heading)
 }
 
 fn is_state_event(function: &Function) -> bool {

@@ -33,7 +33,8 @@ impl NameTable {
     {
         let mut table = NameTable::new(alloc);
         for (place, item) in items.iter().enumerate() {
-            table.note(alloc, item.name(), place)?;
+            let (name, _) = item.declaration();
+            table.note(alloc, name, place)?;
         }
         Ok(table)
     }
@@ -45,7 +46,8 @@ impl NameTable {
         items: &[T],
     ) -> Result<(), OutOfMemory> {
         for item in items {
-            self.note(alloc, item.name(), usize::from(item.line()))?;
+            let (name, line) = item.declaration();
+            self.note(alloc, name, usize::from(line))?;
         }
         Ok(())
     }

@@ -8,4 +8,4 @@ loop-function-init c = FindsAmong-nothing _ _
 pub loop-function-preserved : goal.loop-function-preserved
 loop-function-preserved c =
     let one = AreAmong-item function_line c.args.functions.now c.loop-function.function-index c.function-item.result c.loop-function-test.true c.function-item.is in
-    FindsAmong-then one c.loop-function.invariant c.judge_function.ensures
+    FindsAmong-then one (FindsAmong-then one c.loop-function.invariant c.note.ensures.among) c.note-in-loop-function.ensures.among

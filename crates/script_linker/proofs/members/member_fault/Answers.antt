@@ -1,15 +1,22 @@
-use Rattle.std.proofs.Common.{ap, ◌∙◌, subst, take, Contains, IfSome}
+use Rattle.std.proofs.Common.{ap, refl, ◌∙◌, subst, take, Contains, IfSome}
 use Rattle.script_parser.specs.Lines.{lines_with, own_lines}
-use Rattle.script_linker.proofs.FoundLemmas.{limit_on}
+use Rattle.script_linker.proofs.FoundLemmas.{FindsAmong-nothing, FindsAmong-then, limit_on, of_script, of_fields, of_functions, of_states, of_properties}
 use Rattle.script_linker.proofs.LinkLemmas.{IfSome-at}
 use Rattle.script_linker.proofs.members.member_fault.Goals as goal
 
 pub returns-clause-line : goal.returns-clause-line
 returns-clause-line c =
     let file = c.file.result.now in
-    let functions = c.first_functions-functions.result.now in
+    let script = file.script in
+    let own = c.first_functions-own.result.now in
     let found = c.found_or_limit.result in
-    let on = limit_on functions file.script c.none-first.ensures c.in_ok-judge_script.ensures found c.found_or_limit.ensures.found in
-    let same = c.first_functions-functions.ensures ∙ ap (take c.args.declared) c.as_slice.ensures.value in
-    let own = subst (λ own. IfSome found (λ one. Contains (lines_with own file.script) one.line)) same on in
-    IfSome-at (own_lines c.args.declared) c.args.scripts.now c.args.number file c.requires.script c.file.ensures found own
+    let limit = FindsAmong-then (of_script own script) (FindsAmong-nothing _ _) c.note.ensures.among in
+    let fields = FindsAmong-then (of_fields own script) limit c.in_ok-judge_fields.ensures in
+    let listed = FindsAmong-then (of_functions own script) fields c.in_ok-judge_list.ensures in
+    let compared = FindsAmong-then (of_functions own script) listed c.judge_replacing.ensures in
+    let states = FindsAmong-then (of_states own script) compared (rw c.as_slice-2.ensures.value at c.in_ok-judge_states.ensures) in
+    let all = FindsAmong-then (of_properties own script) states (rw c.as_slice-properties.ensures.value at c.in_ok-judge_properties.ensures) in
+    let on = limit_on own script refl all found c.found_or_limit.ensures.found in
+    let same = c.first_functions-own.ensures ∙ ap (take c.args.declared) c.as_slice.ensures.value in
+    let first = subst (λ functions. IfSome found (λ one. Contains (lines_with functions script) one.line)) same on in
+    IfSome-at (own_lines c.args.declared) c.args.scripts.now c.args.number file c.requires.script c.file.ensures found first

@@ -4,7 +4,7 @@ use Rattle.std.proofs.lemmas.List.{get_or_default}
 use Rattle.papy_base.specs.Case.{folded}
 use Rattle.script_parser.specs.Lines.{import_line}
 use Rattle.script_linker.specs.Table.{number_in}
-use Rattle.script_linker.proofs.FoundLemmas.{AreAmong-item, FindsAmong-nothing, FindsAmong-then, IsSome-from, unbroken}
+use Rattle.script_linker.proofs.FoundLemmas.{AreAmong-item, FindsAmong-nothing, FindsAmong-then, IsSome-unless, unbroken}
 use Rattle.script_linker.proofs.script_rules.judge_imports.Goals as goal
 
 pub loop-import-init : goal.loop-import-init
@@ -23,8 +23,8 @@ loop-import-preserved c =
           ⊎_elim
           (λ (l : k < index). c.loop-import.invariant.known (c.note.ensures.among.stays none) k d l)
           (λ (g : index ≤ k).
-          let is_known = unbroken c.is_unknown_script-is_unknown.result c.note.new.self.found c.note.ensures.noted none in
-          let here = IsSome-from (number_in names (folded import.1)) (λ nowhere. is_known (c.is_unknown_script-is_unknown.ensures.1 nowhere)) in
+          let is_known = unbroken c.is_none-is_unknown.result c.note.new.self.found c.note.ensures.noted none in
+          let here = IsSome-unless (number_in names (folded import.1)) c.is_none-is_unknown.result c.is_none-is_unknown.ensures c.find.ensures is_known in
           let same : index ≡ k = omega arith in
           let at : import ≡ get_or imports k d = c.import-item.is ∙ get_or_default imports index import d c.loop-import-test.true ∙ ap (λ n. get_or imports n d) same in
           subst (λ i. IsSome (number_in names (folded i.1))) at here)
