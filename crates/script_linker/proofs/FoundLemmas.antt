@@ -5,8 +5,8 @@ use Rattle.std.proofs.lemmas.List.{get_or-map, length-map}
 use Rattle.std.proofs.lemmas.List.Elements.{Contains-append_left, Contains-append_right, Contains-append_cases}
 use Rattle.script_parser.specs.declared.script.Function.{Function}
 use Rattle.script_parser.specs.declared.script.Script.{Script}
-use Rattle.script_linker.specs.declared.earliest.Earliest.{Earliest}
-use Rattle.script_linker.specs.declared.earliest.Found.{Found}
+use Rattle.script_linker.specs.declared.rules.Earliest.{Earliest}
+use Rattle.script_linker.specs.declared.rules.Found.{Found}
 use Rattle.script_linker.specs.Found.{FindsAmong}
 use Rattle.script_parser.specs.Lines.{function_line, heading_lines, lines_with, property_line, property_lines, state_lines, variable_line}
 

@@ -7,14 +7,11 @@ ghost use Rattle.script_linker.specs.Table.{IsPlaceTable};
 ghost use Rattle.script_parser.specs.Lines.{heading_lines};
 ghost use Rattle.script_linker.specs.Link.{AreFilesOf, AreResolved, IsFaultOf, IsFaultOn, declared_lines, function_count};
 
-use crate::earliest::Found;
 use crate::fault::{LinkFault, LinkRule};
-use crate::generated::add_generated;
-use crate::members::member_fault;
 use crate::name_table::NameTable;
 use crate::parents::{first_unranked, parent_numbers, peel, ranks};
-use crate::prelude::{PRELUDE_COUNT, prelude_files};
-use crate::script_rules::script_fault;
+use crate::prelude::{PRELUDE_COUNT, add_generated, prelude_files};
+use crate::rules::{Found, member_fault, script_fault};
 use crate::scripts::Scripts;
 use crate::set::{ScriptSet, SourceFile};
 use papy_base::OutOfMemory;
