@@ -1,7 +1,7 @@
 -- Which members a script is given, one after the other.
-use Rattle.std.proofs.Common.{ℕ, suc, codes, ◌≡◌, ◌+◌, ◌<◌, ◌≤◌, Bool, true, false, List, [], ◌∷◌, ◌++◌, cond, map, All, length, take, drop, get_or, set, Option, Some, None, filter, is_some, sym, ap, subst, ◌∙◌, ⊎_elim, refl, arith}
+use Rattle.std.proofs.Common.{ℕ, suc, codes, ◌≡◌, ◌+◌, ◌<◌, ◌≤◌, Bool, true, false, List, [], ◌∷◌, ◌++◌, cond, map, length, take, drop, get_or, set, Option, Some, None, filter, is_some, sym, ap, subst, ◌∙◌, ⊎_elim, refl, arith}
 use Rattle.std.proofs.lemmas.List.{get_or_default, get_or-set_same, get_or-set_other, take-append-le, take_all, take_more}
-use Rattle.std.proofs.lemmas.List.Elements.{filter-append, All-cons}
+use Rattle.std.proofs.lemmas.List.Elements.{filter-append}
 use Rattle.std.proofs.lemmas.Bool.{cases_lt}
 use Rattle.std.proofs.Math.Seq.{drop-append_seam, drop-length}
 use Rattle.script_parser.specs.declared.script.Function.{Function}

@@ -1,4 +1,4 @@
-use Rattle.std.proofs.Common.{◌≡◌, sym, ◌∙◌, ap, IfSome, ◌<◌, length, subst}
+use Rattle.std.proofs.Common.{sym, ◌∙◌, ap, IfSome, ◌<◌, length, subst}
 use Rattle.papy_base.specs.Case.{folded}
 use Rattle.script_linker.specs.Lookup.{here, further, nowhere}
 use Rattle.script_linker.specs.Table.{number_in}
