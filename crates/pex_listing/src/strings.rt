@@ -15,7 +15,7 @@ const LONGEST_WORD: usize = 64;
 /// Where the strings of a file stand, and which references are spelled by them.
 #[derive(Drop)]
 pub(crate) struct Strings {
-    /// The first place of each string.
+    /// The first place of each string that is a word.
     first: IndexMap<Vec<u8>, usize>,
     /// For each string, whether a reference to it is spelled by it: it is a word of at most 64 bytes, and the first
     /// of its bytes.
@@ -39,16 +39,16 @@ impl Strings {
         let mut spelled = Vec::new(alloc);
         for (place, text) in strings.iter().enumerate() {
             let bytes = text.as_bytes();
-            let is_first = !first.contains_key(bytes);
+            let is_first = is_word(bytes) && !first.contains_key(bytes);
             if is_first {
                 first.insert(bytes.to_vec(alloc)?, place)?;
             }
-            spelled.push(is_first && bytes.len() <= LONGEST_WORD && is_word(bytes))?;
+            spelled.push(is_first && bytes.len() <= LONGEST_WORD)?;
         }
         Ok(Strings { first, spelled })
     }
 
-    /// The first place of a string of these bytes.
+    /// The first place of a string of these bytes, which are a word.
     pub(crate) fn place_of(&self, bytes: &[u8]) -> Option<u16> {
         u16::try_from(*self.first.get(bytes)?).ok()
     }
