@@ -3,7 +3,7 @@
 ghost use Rattle.std.specs.Prelude.{◌≡◌, length, vec_len, IfOk, IfSome};
 ghost use Rattle.pex_values.specs.Shape.{IsReference};
 
-use crate::faults::{LineFault, ListingRule, Read};
+use crate::faults::{BAD_NAME, Read};
 use indexmap::IndexMap;
 use papy_base::{OutOfMemory, Text};
 use std::alloc::Global;
@@ -58,7 +58,7 @@ impl Strings {
         requires { IfSome found (IsReference (vec_len self.now.spelled)) }
         ensures { IfOk result (IsReference (vec_len self.now.spelled)) }
     {
-        found.ok_or(LineFault::Broken(ListingRule::BadName))
+        found.ok_or(BAD_NAME)
     }
 }
 
