@@ -11,7 +11,7 @@ use Rattle.std.proofs.lemmas.Option.{slice_get_within}
 use Rattle.core_tree.specs.declared.expression.Core.{Core}
 use Rattle.core_tree.specs.InRange.{Bounds}
 use Rattle.expression_rules.specs.Ranges.{ArgumentsInRange, CompleteInRange, CoreInRange}
-use Rattle.expression_rules.specs.declared.arguments.Arguments.{Arguments}
+use Rattle.expression_rules.specs.declared.calls.Arguments.{Arguments}
 
 marked-stays : (marks : List Bool) (i place : ℕ) → slice_get marks place ≡ Some true → slice_get (set marks i true) place ≡ Some true
 marked-stays [] i place is = is

@@ -11,7 +11,7 @@ use Rattle.type_scope.specs.declared.catalog.Callee.{Callee}
 use Rattle.type_scope.specs.Scope.{IsCallee}
 use Rattle.type_scope.specs.Types.{signature_of, signatures}
 use Rattle.expression_rules.specs.Ranges.{CoreInRange, CompleteInRange, heading_count}
-use Rattle.expression_rules.specs.declared.arguments.Arguments.{Arguments}
+use Rattle.expression_rules.specs.declared.calls.Arguments.{Arguments}
 
 expressions-all : (b : Bounds) (cores : List Core) → All (CoreInRange b) cores → ExpressionsInRange b (expressions (map expression_of cores))
 expressions-all b [] all = tt

@@ -6,8 +6,8 @@ use Rattle.core_tree.specs.declared.value.Value.{Value}
 use Rattle.core_tree.specs.declared.value.Value.TheVariants as values
 use Rattle.line_parser.specs.declared.tree.Constant.{Constant}
 use Rattle.line_parser.specs.declared.tree.Constant.TheVariants as constants
-use Rattle.type_scope.specs.declared.kind.Kind.{Kind}
-use Rattle.type_scope.specs.declared.kind.Kind.TheVariants as kinds
+use Rattle.type_scope.specs.declared.catalog.Kind.{Kind}
+use Rattle.type_scope.specs.declared.catalog.Kind.TheVariants as kinds
 
 -- the value of a variable that has none written
 abbrev pub default_value : CoreType → Value

@@ -1,8 +1,8 @@
 -- Which values convert to which types.
 use Rattle.std.specs.Prelude.{Bool, true, false}
 use Rattle.core_tree.specs.declared.core_type.CoreType.TheVariants as types
-use Rattle.type_scope.specs.declared.kind.Kind.{Kind}
-use Rattle.type_scope.specs.declared.kind.Kind.TheVariants as kinds
+use Rattle.type_scope.specs.declared.catalog.Kind.{Kind}
+use Rattle.type_scope.specs.declared.catalog.Kind.TheVariants as kinds
 
 -- the values that convert to a text by themselves
 abbrev pub prints : Kind → Bool

@@ -6,8 +6,8 @@ use Rattle.core_tree.specs.declared.operator.Arith.{Arith}
 use Rattle.core_tree.specs.declared.operator.Arith.TheVariants as operations
 use Rattle.script_lexer.specs.declared.sign.Sign.{Sign}
 use Rattle.script_lexer.specs.declared.sign.Sign.TheVariants as signs
-use Rattle.type_scope.specs.declared.kind.Kind.{Kind}
-use Rattle.type_scope.specs.declared.kind.Kind.TheVariants as kinds
+use Rattle.type_scope.specs.declared.catalog.Kind.{Kind}
+use Rattle.type_scope.specs.declared.catalog.Kind.TheVariants as kinds
 use Rattle.expression_rules.specs.Conversions.{prints}
 
 -- on two whole numbers

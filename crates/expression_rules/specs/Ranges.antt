@@ -8,18 +8,18 @@ use Rattle.core_tree.specs.Tree.{expression_of, statement_of}
 use Rattle.line_parser.specs.declared.tree.Heading.{Heading}
 use Rattle.type_scope.specs.Scope.{KindInRange}
 use Rattle.type_scope.specs.Types.{signatures}
-use Rattle.expression_rules.specs.declared.arguments.Given.{Given}
-use Rattle.expression_rules.specs.declared.arguments.Arguments.{Arguments}
+use Rattle.expression_rules.specs.declared.calls.Given.{Given}
+use Rattle.expression_rules.specs.declared.calls.Arguments.{Arguments}
 use Rattle.expression_rules.specs.declared.assignment.Target.{Target}
 use Rattle.expression_rules.specs.declared.assignment.Target.TheVariants as targets
 use Rattle.expression_rules.specs.declared.calls.CallForm.{CallForm}
 use Rattle.expression_rules.specs.declared.calls.CallForm.TheVariants as calls
-use Rattle.expression_rules.specs.declared.context.Context.{Context}
-use Rattle.expression_rules.specs.declared.context.Typed.{Typed}
-use Rattle.expression_rules.specs.declared.parameters.Parameters.{Parameters}
-use Rattle.expression_rules.specs.declared.parameters.Parameters.TheVariants as parameters
-use Rattle.expression_rules.specs.declared.words.Resolved.{Resolved}
-use Rattle.expression_rules.specs.declared.words.Resolved.TheVariants as words
+use Rattle.expression_rules.specs.declared.scope.Context.{Context}
+use Rattle.expression_rules.specs.declared.scope.Typed.{Typed}
+use Rattle.expression_rules.specs.declared.calls.Parameters.{Parameters}
+use Rattle.expression_rules.specs.declared.calls.Parameters.TheVariants as parameters
+use Rattle.expression_rules.specs.declared.names.Resolved.{Resolved}
+use Rattle.expression_rules.specs.declared.names.Resolved.TheVariants as words
 
 abbrev pub CoreInRange : Bounds → Core → Type 0
 CoreInRange b core = ExpressionInRange b (expression_of core)
@@ -91,6 +91,7 @@ abbrev pub TargetInRange : Bounds → Target → Type 0
 TargetInRange b (targets.Local number kind) = (number < b.locals) × ResultInRange b.functions kind
 TargetInRange b (targets.Field number kind) = (number < b.variables) × ResultInRange b.functions kind
 TargetInRange b targets.State = Unit {0}
+TargetInRange b targets.Broken = Unit {0}
 TargetInRange b (targets.Property of name kind) = CoreInRange b of.value × ResultInRange b.functions kind
 TargetInRange b (targets.Element array at kind) =
     CoreInRange b array.value × CoreInRange b at.value × TypeInRange b.functions kind

@@ -4,12 +4,10 @@ ghost use Rattle.core_tree.specs.InRange.{Bounds, ResultInRange, TypeInRange};
 ghost use Rattle.expression_rules.specs.Operations.{sign_of_change};
 ghost use Rattle.expression_rules.specs.Ranges.{CoreInRange, FormInRange, TypedInRange, TargetInRange, ContextInRange, bounds_of};
 
-use crate::context::{Context, Result, Typed};
-use crate::members::Access;
-use crate::notes::Notes;
+use crate::names::{Access, Resolved};
 use crate::operators::operand_type;
-use crate::rule::TypeRule;
-use crate::words::Resolved;
+use crate::rule::{Notes, TypeRule};
+use crate::scope::{Context, Result, Typed};
 use core_tree::{Arith, Core, CoreStatement, CoreType, Value};
 use line_parser::Expr;
 use papy_base::Name;
@@ -17,17 +15,19 @@ use script_lexer::Sign;
 use script_linker::PropertyRef;
 use type_scope::Kind;
 
-/// What is assigned to, with its type where that is known.
+// What is assigned to, with its type where that is known.
 #[derive(Drop)]
-pub(crate) enum Target<'t> {
+enum Target {
     Local(u16, Option<CoreType>),
     Field(u16, Option<CoreType>),
     State,
-    Property(Box<Core>, &'t Name, Option<CoreType>),
+    Property(Box<Core>, Name, Option<CoreType>),
     Element(Box<Core>, Box<Core>, CoreType),
+    // A rule is broken in it.
+    Broken,
 }
 
-impl Target<'_> {
+impl Target {
     fn kind(&self) -> Option<CoreType>
         ensures { (b : Bounds) → TargetInRange b self.now → ResultInRange b.functions result }
     {
@@ -37,6 +37,7 @@ impl Target<'_> {
             Target::State => Some(CoreType::Text),
             Target::Property(_, _, kind) => *kind,
             Target::Element(_, _, kind) => Some(*kind),
+            Target::Broken => None,
         }
     }
 
@@ -55,7 +56,7 @@ impl Target<'_> {
 
 impl Context<'_> {
     /// An assignment, also one such as `+=`.
-    pub(crate) fn assign(
+    pub fn assign(
         &self,
         notes: &mut Notes,
         target: &Expr,
@@ -72,148 +73,98 @@ impl Context<'_> {
         };
         let target = self.target(notes, target, access)?;
         let right = self.value(notes, right)?;
-        match (target, change) {
-            (None, _) => Ok(no_form()),
-            (Some(target), None) => self.store(notes, target, right),
-            (Some(target), Some(sign)) => self.change(notes, target, sign, right),
+        match change {
+            Some(sign) => self.change(notes, target, sign, right),
+            None => self.store(notes, target, right),
         }
     }
 
-    // What is assigned to, none where a rule is broken in it.
-    fn target<'t>(
-        &self,
-        notes: &mut Notes,
-        target: &'t Expr,
-        access: Access,
-    ) -> Result<Option<Target<'t>>>
-        ensures { ContextInRange self.now → IfOk result (λ found. IfSome found (TargetInRange (bounds_of self.now))) }
+    // What is assigned to.
+    fn target(&self, notes: &mut Notes, target: &Expr, access: Access) -> Result<Target>
+        ensures { ContextInRange self.now → IfOk result (TargetInRange (bounds_of self.now)) }
     {
         match target {
             Expr::Word(name) => self.word_target(notes, name, access),
-            Expr::Member { of, name } => self.member_target(notes, of, name, access),
+            Expr::Member { of, name } => {
+                let of: &Expr = of;
+                if let Expr::Word(word) = of
+                    && self.resolve(word).is_none()
+                {
+                    let _ = self.member_of_word(notes, word)?;
+                    return Ok(Target::Broken);
+                }
+                let of = self.value(notes, of)?;
+                match self.property_of(notes, of.kind, name) {
+                    Some(at) => self.property_target(notes, of.core, at, name, access),
+                    None => Ok(Target::Broken),
+                }
+            }
             Expr::Index { of, at } => self.element_target(notes, of, at),
             other => {
                 let _ = self.any(notes, other)?;
                 self.fault(notes, TypeRule::NotAssignable);
-                Ok(None)
+                Ok(Target::Broken)
             }
         }
     }
 
-    fn word_target<'t>(
-        &self,
-        notes: &mut Notes,
-        name: &'t Name,
-        access: Access,
-    ) -> Result<Option<Target<'t>>>
-        ensures { ContextInRange self.now → IfOk result (λ found. IfSome found (TargetInRange (bounds_of self.now))) }
+    fn word_target(&self, notes: &mut Notes, name: &Name, access: Access) -> Result<Target>
+        ensures { ContextInRange self.now → IfOk result (TargetInRange (bounds_of self.now)) }
     {
         match self.resolve(name) {
             None => {
                 self.fault(notes, TypeRule::UnknownName);
-                Ok(None)
+                Ok(Target::Broken)
             }
-            Some(Resolved::Local(number, kind)) => Ok(Some(Target::Local(number, kind))),
-            Some(Resolved::State) => Ok(Some(Target::State)),
+            Some(Resolved::Local(number, kind)) => Ok(Target::Local(number, kind)),
+            Some(Resolved::State) => Ok(Target::State),
             Some(Resolved::Field(number, kind)) => {
                 self.needs_instance(notes);
-                Ok(Some(Target::Field(number, kind)))
+                Ok(Target::Field(number, kind))
             }
             Some(Resolved::Property(at)) => {
                 self.needs_instance(notes);
-                let own = self.own_instance()?;
-                Ok(Some(self.property_target(notes, own, at, name, access)))
+                self.property_target(notes, self.own_instance()?, at, name, access)
             }
         }
     }
 
-    fn member_target<'t>(
-        &self,
-        notes: &mut Notes,
-        of: &Expr,
-        name: &'t Name,
-        access: Access,
-    ) -> Result<Option<Target<'t>>>
-        ensures { ContextInRange self.now → IfOk result (λ found. IfSome found (TargetInRange (bounds_of self.now))) }
-    {
-        if let Expr::Word(word) = of
-            && self.resolve(word).is_none()
-        {
-            let _ = self.member_of_word(notes, word)?;
-            return Ok(None);
-        }
-        let of = self.value(notes, of)?;
-        match self.property_of(notes, of.kind, name) {
-            Some(at) => Ok(Some(self.property_target(notes, of.core, at, name, access))),
-            None => Ok(None),
-        }
-    }
-
-    fn property_target<'t>(
+    fn property_target(
         &self,
         notes: &mut Notes,
         of: Box<Core>,
         at: PropertyRef,
-        name: &'t Name,
+        name: &Name,
         access: Access,
-    ) -> Target<'t>
-        ensures { CoreInRange (bounds_of self.now) of.value → TargetInRange (bounds_of self.now) result }
+    ) -> Result<Target>
+        ensures { CoreInRange (bounds_of self.now) of.value → IfOk result (TargetInRange (bounds_of self.now)) }
     {
-        let kind = self.property_type(notes, at, access);
-        match self.own_variable(&of, at) {
-            Some(number) => Target::Field(number, kind),
-            None => Target::Property(of, name, kind),
+        let kind = self.kind_for(notes, at, access);
+        if let Some(number) = self.own_variable(&of, at) {
+            return Ok(Target::Field(number, kind));
         }
+        let name = name.try_clone(self.catalog.alloc)?;
+        Ok(Target::Property(of, name, kind))
     }
 
-    fn element_target<'t>(
-        &self,
-        notes: &mut Notes,
-        of: &Expr,
-        at: &Expr,
-    ) -> Result<Option<Target<'t>>>
-        ensures { ContextInRange self.now → IfOk result (λ found. IfSome found (TargetInRange (bounds_of self.now))) }
+    fn element_target(&self, notes: &mut Notes, of: &Expr, at: &Expr) -> Result<Target>
+        ensures { ContextInRange self.now → IfOk result (TargetInRange (bounds_of self.now)) }
     {
         let array = self.value(notes, of)?;
         let index = self.value(notes, at)?;
         let place = self.convert(notes, index, Some(CoreType::Int))?;
         match self.indexed(notes, array.kind) {
-            Some(element) => Ok(Some(Target::Element(array.core, place, element))),
-            None => Ok(None),
+            Some(element) => Ok(Target::Element(array.core, place, element)),
+            None => Ok(Target::Broken),
         }
     }
 
     // `=`
-    fn store(&self, notes: &mut Notes, target: Target<'_>, value: Typed) -> Result<CoreStatement>
-        ensures { TargetInRange (bounds_of self.now) target.entry → TypedInRange (bounds_of self.now) value → IfOk result (FormInRange (bounds_of self.now)) }
+    fn store(&self, notes: &mut Notes, target: Target, value: Typed) -> Result<CoreStatement>
+        ensures { TargetInRange (bounds_of self.now) target → TypedInRange (bounds_of self.now) value → IfOk result (FormInRange (bounds_of self.now)) }
     {
-        let value = self.convert(notes, value, target.kind())?;
-        self.stored(target, value)
-    }
-
-    // The assignment of a value of the target's type.
-    fn stored(&self, target: Target<'_>, value: Box<Core>) -> Result<CoreStatement>
-        ensures { (b : Bounds) → TargetInRange b target.entry → CoreInRange b value.value → IfOk result (FormInRange b) }
-    {
-        match target {
-            Target::Local(number, _) => {
-                Ok(CoreStatement::SetLocal(number, Box::into_inner(value)))
-            }
-            Target::Field(number, _) => {
-                Ok(CoreStatement::SetField(number, Box::into_inner(value)))
-            }
-            Target::State => Ok(CoreStatement::SetState(Box::into_inner(value))),
-            Target::Property(of, name, _) => {
-                let name = name.try_clone(self.catalog.alloc)?;
-                let of = Box::into_inner(of);
-                Ok(CoreStatement::SetProp(of, name, Box::into_inner(value)))
-            }
-            Target::Element(array, at, _) => {
-                let array = Box::into_inner(array);
-                let at = Box::into_inner(at);
-                Ok(CoreStatement::SetElement(array, at, Box::into_inner(value)))
-            }
-        }
+        let core = self.convert(notes, value, target.kind())?;
+        Ok(stored(target, Box::into_inner(core)))
     }
 
     // An assignment such as `+=`. A local, a variable or the state gets the new value, and a property or an
@@ -222,15 +173,15 @@ impl Context<'_> {
     fn change(
         &self,
         notes: &mut Notes,
-        target: Target<'_>,
+        target: Target,
         sign: Sign,
         value: Typed,
     ) -> Result<CoreStatement>
-        ensures { TargetInRange (bounds_of self.now) target.entry → TypedInRange (bounds_of self.now) value → IfOk result (FormInRange (bounds_of self.now)) }
+        ensures { TargetInRange (bounds_of self.now) target → TypedInRange (bounds_of self.now) value → IfOk result (FormInRange (bounds_of self.now)) }
     {
         if let Some(old) = target.variable() {
             let old = self.typed(old, Kind::from_type(target.kind()))?;
-            let new = self.arithmetic(notes, sign, old, value)?;
+            let new = self.binary(notes, sign, old, value)?;
             return self.store(notes, target, new);
         }
         let Some(kind) = target.kind() else {
@@ -244,32 +195,43 @@ impl Context<'_> {
             return Ok(no_form());
         }
         let right = self.convert(notes, value, Some(kind))?;
-        self.changed(target, kind, operation, right)
+        Ok(changed(target, kind, operation, Box::into_inner(right)))
     }
+}
 
-    // The change of a property or an element.
-    fn changed(
-        &self,
-        target: Target<'_>,
-        kind: CoreType,
-        operation: Arith,
-        right: Box<Core>,
-    ) -> Result<CoreStatement>
-        ensures { (b : Bounds) → TargetInRange b target.entry → TypeInRange b.functions kind → CoreInRange b right.value → IfOk result (FormInRange b) }
-    {
-        let right = Box::into_inner(right);
-        match target {
-            Target::Property(of, name, _) => {
-                let name = name.try_clone(self.catalog.alloc)?;
-                let of = Box::into_inner(of);
-                Ok(CoreStatement::ChangeProp(of, name, kind, operation, right))
-            }
-            Target::Element(array, at, _) => {
-                let array = Box::into_inner(array);
-                let at = Box::into_inner(at);
-                Ok(CoreStatement::ChangeElement(array, at, kind, operation, right))
-            }
-            _ => Ok(CoreStatement::Plain(right)),
+// The assignment of a value of the target's type.
+fn stored(target: Target, value: Core) -> CoreStatement
+    ensures { (b : Bounds) → TargetInRange b target → CoreInRange b value → FormInRange b result }
+{
+    match target {
+        Target::Local(number, _) => CoreStatement::SetLocal(number, value),
+        Target::Field(number, _) => CoreStatement::SetField(number, value),
+        Target::State => CoreStatement::SetState(value),
+        Target::Property(of, name, _) => CoreStatement::SetProp(Box::into_inner(of), name, value),
+        Target::Element(array, at, _) => {
+            let array = Box::into_inner(array);
+            CoreStatement::SetElement(array, Box::into_inner(at), value)
+        }
+        Target::Broken => CoreStatement::Plain(value),
+    }
+}
+
+// The change of a property or an element.
+fn changed(target: Target, kind: CoreType, operation: Arith, right: Core) -> CoreStatement
+    ensures { (b : Bounds) → TargetInRange b target → TypeInRange b.functions kind → CoreInRange b right → FormInRange b result }
+{
+    match target {
+        Target::Property(of, name, _) => {
+            CoreStatement::ChangeProp(Box::into_inner(of), name, kind, operation, right)
+        }
+        Target::Element(array, at, _) => {
+            let array = Box::into_inner(array);
+            let at = Box::into_inner(at);
+            CoreStatement::ChangeElement(array, at, kind, operation, right)
+        }
+        other => {
+            drop(other);
+            CoreStatement::Plain(right)
         }
     }
 }

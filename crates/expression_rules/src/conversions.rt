@@ -1,43 +1,86 @@
-// Which types convert to which, and the conversions that are written out.
+// Constants, which types convert to which, and the conversions that are written out.
 ghost use Rattle.std.specs.Prelude.{◌≡◌, IfOk};
-ghost use Rattle.core_tree.specs.InRange.{Bounds, Signatures, ResultInRange};
+ghost use Rattle.core_tree.specs.InRange.{Bounds, LiteralInRange, Signatures, ResultInRange};
 ghost use Rattle.type_scope.specs.Scope.{KindInRange};
+ghost use Rattle.expression_rules.specs.Constants.{default_value, constant_value, constant_kind};
 ghost use Rattle.expression_rules.specs.Conversions.{prints};
 ghost use Rattle.expression_rules.specs.Ranges.{CoreInRange, TypedInRange, bounds_of};
 
-use crate::context::{Context, Result, Typed};
-use crate::notes::Notes;
-use crate::rule::TypeRule;
-use core_tree::{Core, CoreType};
-use line_parser::TypeName;
+use crate::rule::{Notes, TypeRule};
+use crate::scope::{Context, Result, Typed};
+use core_tree::{Core, CoreType, Value};
+use line_parser::{Constant, TypeName};
+use papy_base::Text;
+use std::alloc::Global;
 use type_scope::{Catalog, Kind};
+
+/// The value at the start of a variable of this type: 0, False, the empty text or None.
+pub fn default_of(alloc: Global, kind: CoreType) -> Result<Value>
+    ensures { IfOk result (λ value. value ≡ default_value kind) }
+{
+    Ok(match kind {
+        CoreType::Int => Value::Int(0),
+        CoreType::Bool => Value::Bool(false),
+        CoreType::Text => Value::Text(Text::try_from_bytes(alloc, b"")?),
+        _ => Value::NoneValue,
+    })
+}
+
+/// A constant's value.
+pub fn value_of(alloc: Global, constant: &Constant) -> Result<Value>
+    ensures value { IfOk result (λ value. value ≡ constant_value constant.now) }
+    ensures in_range { IfOk result LiteralInRange }
+{
+    Ok(match constant {
+        Constant::Int(number) => Value::Int(*number),
+        Constant::Bool(truth) => Value::Bool(*truth),
+        Constant::Quoted(text) => Value::Text(text.try_clone(alloc)?),
+        Constant::NoneValue => Value::NoneValue,
+    })
+}
+
+/// What is known of a constant's type.
+pub fn kind_of(constant: &Constant) -> Kind
+    ensures kind { result ≡ constant_kind constant.now }
+    ensures in_range { (functions : Signatures) → KindInRange functions result }
+{
+    match constant {
+        Constant::Int(_) => Kind::Of(CoreType::Int),
+        Constant::Bool(_) => Kind::Of(CoreType::Bool),
+        Constant::Quoted(_) => Kind::Of(CoreType::Text),
+        Constant::NoneValue => Kind::NoneLiteral,
+    }
+}
+
+/// Whether a parameter's default converts by itself to the parameter's type. Where that isn't known no
+/// default breaks a rule.
+pub fn default_fits(catalog: &Catalog<'_>, constant: &Constant, kind: Option<CoreType>) -> bool {
+    match kind {
+        Some(to) => converts(catalog, kind_of(constant), to),
+        None => true,
+    }
+}
 
 impl Context<'_> {
     /// The tree of a value as this type: the value's own where it has the type, else with a `Cast`.
-    pub(crate) fn convert(
-        &self,
-        notes: &mut Notes,
-        value: Typed,
-        to: Option<CoreType>,
-    ) -> Result<Box<Core>>
-        ensures { (b : Bounds) → ResultInRange b.functions to → TypedInRange b value → IfOk result (λ core. CoreInRange b core.value) }
+    pub fn convert(&self, notes: &mut Notes, of: Typed, to: Option<CoreType>) -> Result<Box<Core>>
+        ensures { (b : Bounds) → ResultInRange b.functions to → TypedInRange b of → IfOk result (λ core. CoreInRange b core.value) }
     {
         let Some(to) = to else {
-            return Ok(value.core);
+            return Ok(of.core);
         };
-        if value.is_unknown() || value.kind == Kind::Of(to) {
-            return Ok(value.core);
+        if of.kind == Kind::Unknown || of.kind == Kind::Of(to) {
+            return Ok(of.core);
         }
-        if !converts(self.catalog, value.kind, to) {
+        if !converts(self.catalog, of.kind, to) {
             self.fault(notes, TypeRule::NoConversion);
-            return Ok(value.core);
+            return Ok(of.core);
         }
-        let core = Box::new(self.catalog.alloc, Core::Cast(to, value.core))?;
-        Ok(core)
+        Ok(Box::new(self.catalog.alloc, Core::Cast(to, of.core))?)
     }
 
     /// `as`
-    pub(crate) fn cast(&self, notes: &mut Notes, of: Typed, to: &TypeName) -> Result<Typed>
+    pub fn cast(&self, notes: &mut Notes, of: Typed, to: &TypeName) -> Result<Typed>
         ensures { TypedInRange (bounds_of self.now) of → IfOk result (TypedInRange (bounds_of self.now)) }
     {
         let Some(to) = self.kind_named(notes, to) else {
@@ -50,39 +93,26 @@ impl Context<'_> {
     }
 }
 
-/// Whether a value converts to the type by itself. A type that isn't known breaks no rule.
-pub(crate) fn converts(catalog: &Catalog<'_>, kind: Kind, to: CoreType) -> bool {
-    match kind {
-        Kind::Of(from) => type_converts(catalog, from, to),
-        Kind::NoneLiteral => to != CoreType::Int,
-        Kind::Nothing => false,
-        Kind::Unknown => true,
-    }
-}
-
-fn type_converts(catalog: &Catalog<'_>, from: CoreType, to: CoreType) -> bool {
-    if from == to {
-        return true;
-    }
-    match (from, to) {
-        (_, CoreType::Bool) => true,
-        (_, CoreType::Text) => prints(Kind::Of(from)),
-        (CoreType::Script(child), CoreType::Script(parent)) => catalog.is_child(child, parent),
+// Whether a value converts to the type by itself. A type that isn't known breaks no rule.
+fn converts(catalog: &Catalog<'_>, kind: Kind, to: CoreType) -> bool {
+    match (kind, to) {
+        (Kind::Unknown, _) | (Kind::Of(_), CoreType::Bool) => true,
+        (Kind::NoneLiteral, _) => to != CoreType::Int,
+        (Kind::Of(from), _) if from == to => true,
+        (Kind::Of(_), CoreType::Text) => prints(kind),
+        (Kind::Of(CoreType::Script(from)), CoreType::Script(to)) => catalog.is_child(from, to),
         _ => false,
     }
 }
 
 // Whether `as` gives the type of such a value.
 fn casts(catalog: &Catalog<'_>, kind: Kind, to: CoreType) -> bool {
-    if converts(catalog, kind, to) {
-        return true;
-    }
     match (kind, to) {
         (Kind::Of(CoreType::Bool | CoreType::Text), CoreType::Int) => true,
-        (Kind::Of(CoreType::Script(parent)), CoreType::Script(child)) => {
-            catalog.is_child(child, parent)
+        (Kind::Of(CoreType::Script(from)), CoreType::Script(to)) => {
+            catalog.is_child(from, to) || catalog.is_child(to, from)
         }
-        _ => false,
+        _ => converts(catalog, kind, to),
     }
 }
 
@@ -91,8 +121,7 @@ pub(crate) fn prints(kind: Kind) -> bool
     ensures { result ≡ prints kind }
 {
     match kind {
-        Kind::NoneLiteral => true,
-        Kind::Of(CoreType::Int | CoreType::Bool | CoreType::Text) => true,
+        Kind::NoneLiteral | Kind::Of(CoreType::Int | CoreType::Bool | CoreType::Text) => true,
         Kind::Of(CoreType::Script(_)) => true,
         _ => false,
     }
@@ -133,8 +162,5 @@ fn meets(catalog: &Catalog<'_>, left: Kind, right: Kind, to: CoreType) -> bool {
 }
 
 fn converts_to(catalog: &Catalog<'_>, kind: Kind, to: Kind) -> bool {
-    match to {
-        Kind::Of(to) => converts(catalog, kind, to),
-        _ => false,
-    }
+    matches!(to, Kind::Of(to) if converts(catalog, kind, to))
 }

@@ -3,10 +3,9 @@ ghost use Rattle.std.specs.Prelude.{◌<◌, IfOk, IfSome};
 ghost use Rattle.line_parser.specs.declared.tree.Expr.{size-Expr as size_of};
 ghost use Rattle.expression_rules.specs.Ranges.{TypedInRange, GivenInRange, ContextInRange, bounds_of};
 
-use crate::arguments::Given;
-use crate::context::{Context, Result, Typed};
-use crate::notes::Notes;
-use crate::rule::TypeRule;
+use crate::calls::{Call, Given};
+use crate::rule::{Notes, TypeRule};
+use crate::scope::{Context, Result, Typed};
 use core_tree::{CoreType, Value};
 use line_parser::{Argument, Expr};
 use papy_base::{Name, OutOfMemory};
@@ -19,14 +18,14 @@ const DEPTH_LIMIT: u16 = 512;
 
 impl Context<'_> {
     /// An expression. Its kind is `Nothing` where it calls a function without result.
-    pub(crate) fn any(&self, notes: &mut Notes, tree: &Expr) -> Result<Typed>
+    pub fn any(&self, notes: &mut Notes, tree: &Expr) -> Result<Typed>
         ensures { ContextInRange self.now → IfOk result (TypedInRange (bounds_of self.now)) }
     {
         self.expression(notes, tree, DEPTH_LIMIT)
     }
 
     /// An expression whose value is needed. `NoValue` is broken where it has none.
-    pub(crate) fn value(&self, notes: &mut Notes, tree: &Expr) -> Result<Typed>
+    pub fn value(&self, notes: &mut Notes, tree: &Expr) -> Result<Typed>
         ensures { ContextInRange self.now → IfOk result (TypedInRange (bounds_of self.now)) }
     {
         let value = self.any(notes, tree)?;
@@ -90,11 +89,11 @@ impl Context<'_> {
             Expr::Word(name) => self.word(notes, name, step, depth),
             Expr::Call { name, arguments } => {
                 let given = self.given(notes, arguments.as_slice(), depth)?;
-                self.plain_call(notes, name, given)
+                self.plain_call(notes, Call { name, given })
             }
             Expr::ParentCall { name, arguments } => {
                 let given = self.given(notes, arguments.as_slice(), depth)?;
-                self.parent_call(notes, name, given)
+                self.parent_call(notes, Call { name, given })
             }
             Expr::NewArray { element, count } => self.new_array(notes, element, *count),
             // The others begin with another expression.
@@ -107,27 +106,27 @@ impl Context<'_> {
     fn word(
         &self,
         notes: &mut Notes,
-        name: &Name,
+        word: &Name,
         step: &mut Option<&Expr>,
         depth: u16,
     ) -> Result<Typed>
         ensures { ContextInRange self.now → IfOk result (TypedInRange (bounds_of self.now)) }
     {
-        if let Some(resolved) = self.resolve(name) {
-            return self.read_word(notes, resolved, name);
+        if let Some(resolved) = self.resolve(word) {
+            return self.read_word(notes, resolved, word);
         }
         match step.take() {
             Some(
                 Expr::MemberCall {
-                    name: function,
+                    name,
                     arguments,
                     ..
                 },
             ) => {
                 let given = self.given(notes, arguments.as_slice(), depth)?;
-                self.script_call(notes, name, function, given)
+                self.script_call(notes, word, Call { name, given })
             }
-            Some(Expr::Member { .. } | Expr::Length { .. }) => self.member_of_word(notes, name),
+            Some(Expr::Member { .. } | Expr::Length { .. }) => self.member_of_word(notes, word),
             _ => self.broken(notes, TypeRule::UnknownName),
         }
     }
@@ -147,7 +146,7 @@ impl Context<'_> {
                 ..
             } => {
                 let given = self.given(notes, arguments.as_slice(), depth)?;
-                self.member_call(notes, of, name, given)
+                self.member_call(notes, of, Call { name, given })
             }
             Expr::Index { at, .. } => {
                 let at = self.expression(notes, at, depth)?;

@@ -1,12 +1,11 @@
 // The operators on one and two values.
 ghost use Rattle.std.specs.Prelude.{◌≡◌, IfOk};
-ghost use Rattle.expression_rules.specs.Operations.{whole_operation, operation_with_text, operation_of, operand_type};
+ghost use Rattle.expression_rules.specs.Operations.{whole_operation, operation_of, operand_type};
 ghost use Rattle.expression_rules.specs.Ranges.{TypedInRange, bounds_of};
 
-use crate::context::{Context, Result, Typed};
 use crate::conversions::{common_type, prints};
-use crate::notes::Notes;
-use crate::rule::TypeRule;
+use crate::rule::{Notes, TypeRule};
+use crate::scope::{Context, Result, Typed};
 use core_tree::{Arith, Core, CoreType, Order};
 use script_lexer::Sign;
 use type_scope::Kind;
@@ -15,10 +14,10 @@ const INT: Kind = Kind::Of(CoreType::Int);
 
 impl Context<'_> {
     /// `-of` or `!of`
-    pub(crate) fn unary(&self, notes: &mut Notes, sign: Sign, of: Typed) -> Result<Typed>
+    pub fn unary(&self, notes: &mut Notes, sign: Sign, of: Typed) -> Result<Typed>
         ensures { TypedInRange (bounds_of self.now) of → IfOk result (TypedInRange (bounds_of self.now)) }
     {
-        if of.is_unknown() {
+        if of.kind == Kind::Unknown {
             return self.unknown();
         }
         if sign == Sign::Not {
@@ -32,16 +31,10 @@ impl Context<'_> {
     }
 
     /// A sign between two values.
-    pub(crate) fn binary(
-        &self,
-        notes: &mut Notes,
-        sign: Sign,
-        left: Typed,
-        right: Typed,
-    ) -> Result<Typed>
+    pub fn binary(&self, notes: &mut Notes, sign: Sign, left: Typed, right: Typed) -> Result<Typed>
         ensures { TypedInRange (bounds_of self.now) left → TypedInRange (bounds_of self.now) right → IfOk result (TypedInRange (bounds_of self.now)) }
     {
-        if left.is_unknown() || right.is_unknown() {
+        if left.kind == Kind::Unknown || right.kind == Kind::Unknown {
             return self.unknown();
         }
         match sign {
@@ -93,14 +86,8 @@ impl Context<'_> {
         self.known(Core::Order(order, left.core, right.core), CoreType::Bool)
     }
 
-    /// Arithmetic on whole numbers, or two texts joined.
-    pub(crate) fn arithmetic(
-        &self,
-        notes: &mut Notes,
-        sign: Sign,
-        left: Typed,
-        right: Typed,
-    ) -> Result<Typed>
+    // Arithmetic on whole numbers, or two texts joined.
+    fn arithmetic(&self, notes: &mut Notes, sign: Sign, left: Typed, right: Typed) -> Result<Typed>
         ensures { TypedInRange (bounds_of self.now) left → TypedInRange (bounds_of self.now) right → IfOk result (TypedInRange (bounds_of self.now)) }
     {
         match self.operation(notes, sign, left.kind, right.kind) {
@@ -121,13 +108,7 @@ impl Context<'_> {
     }
 
     /// What a sign does with values of these types. `Operand` is broken where it does nothing with them.
-    pub(crate) fn operation(
-        &self,
-        notes: &mut Notes,
-        sign: Sign,
-        left: Kind,
-        right: Kind,
-    ) -> Option<Arith>
+    pub fn operation(&self, notes: &mut Notes, sign: Sign, left: Kind, right: Kind) -> Option<Arith>
         ensures { result ≡ operation_of sign left right }
     {
         let found = operation_of(sign, left, right);
@@ -154,20 +135,9 @@ fn operation_of(sign: Sign, left: Kind, right: Kind) -> Option<Arith>
     match (left, right) {
         (Kind::Of(CoreType::Int), Kind::Of(CoreType::Int)) => whole_operation(sign),
         (Kind::Of(CoreType::Text), other) | (other, Kind::Of(CoreType::Text)) => {
-            joining(sign, other)
+            (sign == Sign::Plus && prints(other)).then_some(Arith::Join)
         }
         _ => None,
-    }
-}
-
-// `+` on a text and a value of the other type.
-fn joining(sign: Sign, other: Kind) -> Option<Arith>
-    ensures { result ≡ operation_with_text sign other }
-{
-    if sign == Sign::Plus && prints(other) {
-        Some(Arith::Join)
-    } else {
-        None
     }
 }
 

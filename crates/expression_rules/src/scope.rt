@@ -1,19 +1,132 @@
-// One function while its lines are judged.
-ghost use Rattle.std.specs.Prelude.{◌≡◌, ◌<◌, ◌++◌, ◌∷◌, [], IfNone, IfOk, IfSome, IsSome, OnOk, min, vec_len};
-ghost use Rattle.core_tree.specs.InRange.{ResultInRange};
+// One function while its lines are judged, and values of which larger expressions are made.
+ghost use Rattle.std.specs.Prelude.{◌≡◌, ◌<◌, ◌++◌, ◌∷◌, [], IfNone, IfOk, IfSome, IsSome, IsTrue, OnOk, min, vec_len};
+ghost use Rattle.core_tree.specs.InRange.{TypeInRange, ResultInRange, LiteralInRange};
+ghost use Rattle.type_scope.specs.Scope.{KindInRange};
 ghost use Rattle.type_scope.specs.Types.{signatures, type_named};
-ghost use Rattle.expression_rules.specs.Ranges.{CoreInRange, FormInRange};
+ghost use Rattle.expression_rules.specs.Ranges.{CoreInRange, FormInRange, TypedInRange, bounds_of};
 ghost use Rattle.expression_rules.specs.Rules.{IsFirst};
 ghost use Rattle.expression_rules.specs.Scopes.{Keeps, ScopeInRange, scope_bounds};
 
-use crate::context::Context;
-use crate::notes::Notes;
-use crate::rule::TypeRule;
-use core_tree::{Core, CoreStatement, CoreType};
+use crate::rule::{Notes, TypeRule};
+use core_tree::{Core, CoreStatement, CoreType, Value};
 use line_parser::{Expr, TypeName};
 use papy_base::{Name, OutOfMemory};
 use script_lexer::Sign;
-use type_scope::{Catalog, Layout, Locals};
+use type_scope::{Catalog, Kind, Layout, Locals};
+
+/// What is found, unless there is no memory for it.
+pub(crate) type Result<T> = std::result::Result<T, OutOfMemory>;
+
+/// An expression's tree, and what is known of its type.
+///
+/// Where a rule is broken the tree is some tree, which nobody uses.
+#[derive(Drop)]
+pub(crate) struct Typed {
+    pub(crate) core: Box<Core>,
+    pub(crate) kind: Kind,
+}
+
+/// What is seen where an expression stands.
+#[derive(Clone, Copy)]
+pub(crate) struct Context<'s> {
+    pub(crate) catalog: &'s Catalog<'s>,
+    /// The variables of the function's script.
+    pub(crate) layout: &'s Layout<'s>,
+    /// The number of the function's script.
+    pub(crate) script: u16,
+    pub(crate) is_global: bool,
+    pub(crate) line: u16,
+    /// The function's parameters and locals.
+    pub(crate) locals: &'s Locals,
+}
+
+impl Context<'_> {
+    /// A tree of whose type this is known.
+    #[inline(always)]
+    pub fn typed(&self, core: Core, kind: Kind) -> Result<Typed>
+        ensures { CoreInRange (bounds_of self.now) core → KindInRange (bounds_of self.now).functions kind → IfOk result (TypedInRange (bounds_of self.now)) }
+    {
+        let core = Box::new(self.catalog.alloc, core)?;
+        Ok(Typed { core, kind })
+    }
+
+    /// A tree of this type.
+    #[inline(always)]
+    pub fn known(&self, core: Core, kind: CoreType) -> Result<Typed>
+        ensures { CoreInRange (bounds_of self.now) core → TypeInRange (bounds_of self.now).functions kind → IfOk result (TypedInRange (bounds_of self.now)) }
+    {
+        self.typed(core, Kind::Of(kind))
+    }
+
+    /// A literal.
+    #[inline(always)]
+    pub fn literal(&self, value: Value, kind: Kind) -> Result<Typed>
+        ensures { LiteralInRange value → KindInRange (bounds_of self.now).functions kind → IfOk result (TypedInRange (bounds_of self.now)) }
+    {
+        self.typed(Core::Lit(value), kind)
+    }
+
+    /// What stands for a value of which only the type is known, since a rule is broken.
+    pub fn without_tree(&self, kind: Kind) -> Result<Typed>
+        ensures { KindInRange (bounds_of self.now).functions kind → IfOk result (TypedInRange (bounds_of self.now)) }
+    {
+        self.literal(Value::NoneValue, kind)
+    }
+
+    /// What stands where something is unknown since a rule is broken.
+    pub fn unknown(&self) -> Result<Typed>
+        ensures { IfOk result (TypedInRange (bounds_of self.now)) }
+    {
+        self.without_tree(Kind::Unknown)
+    }
+
+    /// The same where this rule is broken.
+    pub fn broken(&self, notes: &mut Notes, rule: TypeRule) -> Result<Typed>
+        ensures noted { IsSome notes.new.first }
+        ensures least { IfSome notes.new.first (IsFirst notes.old.first self.now.line rule) }
+        ensures in_range { IfOk result (TypedInRange (bounds_of self.now)) }
+    {
+        self.fault(notes, rule);
+        self.unknown()
+    }
+
+    /// The frame's own instance.
+    pub fn own_instance(&self) -> Result<Box<Core>>
+        ensures { IfOk result (λ own. CoreInRange (bounds_of self.now) own.value) }
+    {
+        Ok(Box::new(self.catalog.alloc, Core::SelfValue)?)
+    }
+
+    /// Notes that a rule is broken.
+    pub fn fault(&self, notes: &mut Notes, rule: TypeRule)
+        ensures noted { IsSome notes.new.first }
+        ensures least { IfSome notes.new.first (IsFirst notes.old.first self.now.line rule) }
+    {
+        notes.note(self.line, rule);
+    }
+
+    /// Notes that something needs an instance, which a Global function has not.
+    pub fn needs_instance(&self, notes: &mut Notes)
+        ensures { IsTrue self.now.is_global → IsSome notes.new.first }
+    {
+        if self.is_global {
+            self.fault(notes, TypeRule::InstanceInGlobal);
+        }
+    }
+
+    /// The type of this name. `UnknownType` is broken where there is none.
+    pub fn kind_named(&self, notes: &mut Notes, name: &TypeName) -> Option<CoreType>
+        ensures found { result ≡ type_named self.now.catalog.now.set.now name.now }
+        ensures in_range { ResultInRange (signatures self.now.catalog.now.set.now) result }
+        ensures noted { IfNone result (IsSome notes.new.first) }
+    {
+        let found = self.catalog.type_of(name);
+        if found.is_none() {
+            self.fault(notes, TypeRule::UnknownType);
+        }
+        found
+    }
+}
 
 // What is seen in a scope.
 macro_rules! context_of {
@@ -100,7 +213,7 @@ impl<'a> Scope<'a> {
 
     /// Adds a parameter or a local, and gives its number. `DuplicateLocal` is broken where one of the name
     /// is seen. All that come after the 65,535th have its number.
-    pub fn new_local(&mut self, name: &Name, kind: Option<CoreType>) -> Result<u16, OutOfMemory>
+    pub fn new_local(&mut self, name: &Name, kind: Option<CoreType>) -> Result<u16>
         ensures number { IfOk result (λ number. number ≡ min (vec_len self.old.locals.kinds) 65535) }
         ensures added { OnOk result (self.new.locals.kinds.items ≡ self.old.locals.kinds.items ++ kind ∷ []) }
         ensures catalog { self.new.catalog ≡ self.old.catalog }
@@ -119,18 +232,17 @@ impl<'a> Scope<'a> {
     /// The tree of an expression, which may have no value.
     ///
     /// `OutOfMemory` is also the answer where the tree is deeper than any line's, here and below.
-    pub fn any(&mut self, tree: &Expr) -> Result<Core, OutOfMemory>
+    pub fn any(&mut self, tree: &Expr) -> Result<Core>
         ensures in_range { ScopeInRange self.old → IfOk result (CoreInRange (scope_bounds self.old)) }
         ensures kept { Keeps self.old self.new }
     {
-        let context = context_of!(self);
-        let typed = context.any(&mut self.notes, tree)?;
+        let typed = context_of!(self).any(&mut self.notes, tree)?;
         Ok(Box::into_inner(typed.core))
     }
 
     /// The tree of a value that is needed as this type. `NoValue` is broken where it has none, and
     /// `NoConversion` where it doesn't convert to the type by itself.
-    pub fn value_as(&mut self, tree: &Expr, to: Option<CoreType>) -> Result<Core, OutOfMemory>
+    pub fn value_as(&mut self, tree: &Expr, to: Option<CoreType>) -> Result<Core>
         ensures in_range { ScopeInRange self.old → ResultInRange (scope_bounds self.old).functions to → IfOk result (CoreInRange (scope_bounds self.old)) }
         ensures kept { Keeps self.old self.new }
     {
@@ -141,7 +253,7 @@ impl<'a> Scope<'a> {
     }
 
     /// The tree of a value that is needed as a Bool.
-    pub fn truth(&mut self, tree: &Expr) -> Result<Core, OutOfMemory>
+    pub fn truth(&mut self, tree: &Expr) -> Result<Core>
         ensures in_range { ScopeInRange self.old → IfOk result (CoreInRange (scope_bounds self.old)) }
         ensures kept { Keeps self.old self.new }
     {
@@ -149,16 +261,10 @@ impl<'a> Scope<'a> {
     }
 
     /// An assignment, also one such as `+=`.
-    pub fn assign(
-        &mut self,
-        target: &Expr,
-        sign: Sign,
-        value: &Expr,
-    ) -> Result<CoreStatement, OutOfMemory>
+    pub fn assign(&mut self, target: &Expr, sign: Sign, value: &Expr) -> Result<CoreStatement>
         ensures in_range { ScopeInRange self.old → IfOk result (FormInRange (scope_bounds self.old)) }
         ensures kept { Keeps self.old self.new }
     {
-        let context = context_of!(self);
-        context.assign(&mut self.notes, target, sign, value)
+        context_of!(self).assign(&mut self.notes, target, sign, value)
     }
 }

@@ -2,7 +2,7 @@
 use Rattle.std.specs.Prelude.{length, map, All}
 use Rattle.core_tree.specs.InRange.{PropertyInRange, Signatures, StateInRange, VariableInRange}
 use Rattle.core_tree.specs.Set.{property_of, state_of}
-use Rattle.type_rules.specs.declared.scripts.Members.{Members}
+use Rattle.type_rules.specs.declared.elaboration.Members.{Members}
 
 pub record MembersInRange (functions : Signatures) (members : Members) : Type 0 where
   pub variables : All (VariableInRange functions) members.variables.items

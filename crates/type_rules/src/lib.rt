@@ -4,13 +4,10 @@
 
 mod elaboration;
 mod fault;
-mod first_faults;
 mod functions;
 mod members;
-mod scripts;
 mod sizes;
 mod statements;
-mod variables;
 mod work;
 
 pub use elaboration::elaborate;

@@ -72,22 +72,17 @@ pub(crate) fn function_size(function: &CoreFunction) -> u32 {
     slots.saturating_add(block_size(function.body.as_slice(), BLOCK_LIMIT))
 }
 
+// The size of a block. Statements never pass the limit of blocks.
 #[cycle(lines)]
 fn block_size(lines: &[CoreLine], depth: u8) -> u32 {
+    let Some(inner) = depth.checked_sub(1) else {
+        return u32::MAX;
+    };
     let mut size: u32 = 0;
     for line in lines {
-        size = size.saturating_add(statement_size(&line.form, depth));
+        size = size.saturating_add(statement_size(&line.form, inner));
     }
     size
-}
-
-// The size of a block inside another one. Statements never pass the limit of blocks.
-#[cycle(lines)]
-fn inner_size(lines: &[CoreLine], depth: u8) -> u32 {
-    match depth.checked_sub(1) {
-        Some(inner) => block_size(lines, inner),
-        None => u32::MAX,
-    }
 }
 
 #[cycle(lines)]
@@ -106,10 +101,10 @@ fn statement_size(statement: &CoreStatement, depth: u8) -> u32 {
         }
         CoreStatement::If(tests, otherwise) => {
             let tests = branches_size(tests.as_slice(), depth);
-            tests.saturating_add(inner_size(otherwise.as_slice(), depth))
+            tests.saturating_add(block_size(otherwise.as_slice(), depth))
         }
         CoreStatement::While(test, body, _) => {
-            size_of(test).saturating_add(inner_size(body.as_slice(), depth))
+            size_of(test).saturating_add(block_size(body.as_slice(), depth))
         }
     };
     parts.saturating_add(1)
@@ -119,7 +114,7 @@ fn statement_size(statement: &CoreStatement, depth: u8) -> u32 {
 fn branches_size(branches: &[(u16, Core, Vec<CoreLine>)], depth: u8) -> u32 {
     let mut size: u32 = 0;
     for (_, test, body) in branches {
-        size = sum_of(size, size_of(test), inner_size(body.as_slice(), depth));
+        size = sum_of(size, size_of(test), block_size(body.as_slice(), depth));
     }
     size
 }

@@ -6,15 +6,16 @@ ghost use Rattle.expression_rules.specs.Ranges.{CoreInRange, FormInRange};
 ghost use Rattle.expression_rules.specs.Scopes.{Keeps, ScopeInRange, scope_bounds};
 ghost use Rattle.type_rules.specs.Ranges.{Grows, PromiseInRange};
 
-use crate::variables::initial_value;
+use crate::members::initial_value;
+use crate::work::Result;
 use core_tree::{Core, CoreLine, CoreStatement, CoreType};
 use expression_rules::{Scope, TypeRule};
 use line_parser::{Expr, TypeName};
 use papy_base::{Name, OutOfMemory};
 use script_parser::{Statement, StatementForm};
 
-/// The most `If` and `While` that stand inside each other.
-pub(crate) const BLOCK_LIMIT: u8 = 64;
+/// The most blocks that stand inside each other: the body of a function, and 64 `If` and `While` in it.
+pub(crate) const BLOCK_LIMIT: u8 = 65;
 
 /// What a function's Return gives.
 #[derive(Clone, Copy, PartialEq, Eq)]
@@ -24,31 +25,30 @@ pub(crate) enum Promise {
     Value(Option<CoreType>),
 }
 
-/// The statements in a row. At most `depth` blocks may stand inside each other in them. Their locals
-/// are seen up to their end.
+/// The statements in a row. At most `depth` blocks may stand inside each other, this one among them.
+/// Their locals are seen up to their end. Parsed statements never pass the limit of blocks.
 #[cycle(block)]
 pub(crate) fn core_block(
     scope: &mut Scope<'_>,
     statements: &[Statement],
     promise: Promise,
     depth: u8,
-) -> Result<Vec<CoreLine>, OutOfMemory>
+) -> Result<Vec<CoreLine>>
     ensures grows { OnOk result (Grows scope.old scope.new) }
     ensures in_range { ScopeInRange scope.old → PromiseInRange (scope_bounds scope.old).functions promise →
         IfOk result (λ lines. BlockInRange (scope_bounds scope.new) (block_of lines.items)) }
 {
+    let Some(inner) = depth.checked_sub(1) else {
+        return Err(OutOfMemory);
+    };
     let mark = scope.locals.mark();
     let mut found = Vec::with_capacity(scope.catalog.alloc, statements.len())?;
     for statement in statements {
         scope.line = statement.line;
-        // Without `?`, which would move the large statement once more.
-        match core_statement(scope, &statement.form, promise, depth) {
-            Ok(form) => found.push_reserved(CoreLine {
-                line: statement.line,
-                form,
-            }),
-            Err(fault) => return Err(fault),
-        }
+        found.push_reserved(CoreLine {
+            line: statement.line,
+            form: core_statement(scope, &statement.form, promise, inner)?,
+        });
     }
     scope.locals.close(mark);
     Ok(found)
@@ -60,7 +60,7 @@ fn core_statement(
     form: &StatementForm,
     promise: Promise,
     depth: u8,
-) -> Result<CoreStatement, OutOfMemory>
+) -> Result<CoreStatement>
     ensures grows { OnOk result (Grows scope.old scope.new) }
     ensures in_range { ScopeInRange scope.old → PromiseInRange (scope_bounds scope.old).functions promise →
         IfOk result (FormInRange (scope_bounds scope.new)) }
@@ -72,19 +72,12 @@ fn core_statement(
             sign,
             value,
         } => scope.assign(target, *sign, value),
-        StatementForm::Plain(tree) => {
-            let core = scope.any(tree)?;
-            Ok(CoreStatement::Plain(core))
-        }
+        StatementForm::Plain(tree) => Ok(CoreStatement::Plain(scope.any(tree)?)),
         StatementForm::Return(value) => return_statement(scope, value, promise),
         StatementForm::If { tests, otherwise } => {
-            if_statement(
-                scope,
-                tests.as_slice(),
-                otherwise.as_slice(),
-                promise,
-                depth,
-            )
+            let tests = branches(scope, tests.as_slice(), promise, depth)?;
+            let otherwise = core_block(scope, otherwise.as_slice(), promise, depth)?;
+            Ok(CoreStatement::If(tests, otherwise))
         }
         StatementForm::While {
             test,
@@ -92,44 +85,9 @@ fn core_statement(
             end_line,
         } => {
             let test = scope.truth(test)?;
-            let body = inner_block(scope, body.as_slice(), promise, depth)?;
+            let body = core_block(scope, body.as_slice(), promise, depth)?;
             Ok(CoreStatement::While(test, body, *end_line))
         }
-    }
-}
-
-#[cycle(block)]
-fn if_statement(
-    scope: &mut Scope<'_>,
-    tests: &[(u16, Expr, Vec<Statement>)],
-    otherwise: &[Statement],
-    promise: Promise,
-    depth: u8,
-) -> Result<CoreStatement, OutOfMemory>
-    ensures grows { OnOk result (Grows scope.old scope.new) }
-    ensures in_range { ScopeInRange scope.old → PromiseInRange (scope_bounds scope.old).functions promise →
-        IfOk result (FormInRange (scope_bounds scope.new)) }
-{
-    let tests = branches(scope, tests, promise, depth)?;
-    let otherwise = inner_block(scope, otherwise, promise, depth)?;
-    Ok(CoreStatement::If(tests, otherwise))
-}
-
-// The statements of a block inside another one. Parsed statements never pass the limit of blocks.
-#[cycle(block)]
-fn inner_block(
-    scope: &mut Scope<'_>,
-    statements: &[Statement],
-    promise: Promise,
-    depth: u8,
-) -> Result<Vec<CoreLine>, OutOfMemory>
-    ensures grows { OnOk result (Grows scope.old scope.new) }
-    ensures in_range { ScopeInRange scope.old → PromiseInRange (scope_bounds scope.old).functions promise →
-        IfOk result (λ lines. BlockInRange (scope_bounds scope.new) (block_of lines.items)) }
-{
-    match depth.checked_sub(1) {
-        Some(inner) => core_block(scope, statements, promise, inner),
-        None => Err(OutOfMemory),
     }
 }
 
@@ -140,7 +98,7 @@ fn branches(
     tests: &[(u16, Expr, Vec<Statement>)],
     promise: Promise,
     depth: u8,
-) -> Result<Vec<(u16, Core, Vec<CoreLine>)>, OutOfMemory>
+) -> Result<Vec<(u16, Core, Vec<CoreLine>)>>
     ensures grows { OnOk result (Grows scope.old scope.new) }
     ensures in_range { ScopeInRange scope.old → PromiseInRange (scope_bounds scope.old).functions promise →
         IfOk result (λ tests. BranchesInRange (scope_bounds scope.new) (branches_of tests.items)) }
@@ -149,7 +107,7 @@ fn branches(
     for (line, test, body) in tests {
         scope.line = *line;
         let test = scope.truth(test)?;
-        let body = inner_block(scope, body.as_slice(), promise, depth)?;
+        let body = core_block(scope, body.as_slice(), promise, depth)?;
         found.push_reserved((*line, test, body));
     }
     Ok(found)
@@ -161,7 +119,7 @@ fn definition(
     kind: &TypeName,
     name: &Name,
     value: &Option<Expr>,
-) -> Result<CoreStatement, OutOfMemory>
+) -> Result<CoreStatement>
     ensures grows { OnOk result (Grows scope.old scope.new) }
     ensures in_range { ScopeInRange scope.old → IfOk result (FormInRange (scope_bounds scope.new)) }
 {
@@ -172,20 +130,13 @@ fn definition(
 }
 
 // The value that is written, or where none is that of the type.
-fn local_value(
-    scope: &mut Scope<'_>,
-    value: &Option<Expr>,
-    kind: Option<CoreType>,
-) -> Result<Core, OutOfMemory>
+fn local_value(scope: &mut Scope<'_>, value: &Option<Expr>, kind: Option<CoreType>) -> Result<Core>
     ensures kept { Keeps scope.old scope.new }
     ensures in_range { ScopeInRange scope.old → ResultInRange (scope_bounds scope.old).functions kind → IfOk result (CoreInRange (scope_bounds scope.old)) }
 {
     match value {
         Some(tree) => scope.value_as(tree, kind),
-        None => {
-            let value = initial_value(scope.catalog.alloc, kind)?;
-            Ok(Core::Lit(value))
-        }
+        None => Ok(Core::Lit(initial_value(scope.catalog.alloc, kind)?)),
     }
 }
 
@@ -194,15 +145,14 @@ fn return_statement(
     scope: &mut Scope<'_>,
     value: &Option<Expr>,
     promise: Promise,
-) -> Result<CoreStatement, OutOfMemory>
+) -> Result<CoreStatement>
     ensures kept { Keeps scope.old scope.new }
     ensures in_range { ScopeInRange scope.old → PromiseInRange (scope_bounds scope.old).functions promise → IfOk result (FormInRange (scope_bounds scope.old)) }
 {
     match (value, promise) {
         (None, Promise::Nothing) => Ok(CoreStatement::Return(None)),
         (Some(tree), Promise::Value(kind)) => {
-            let value = scope.value_as(tree, kind)?;
-            Ok(CoreStatement::Return(Some(value)))
+            Ok(CoreStatement::Return(Some(scope.value_as(tree, kind)?)))
         }
         (None, Promise::Value(_)) => {
             scope.fault(TypeRule::ReturnValue);
@@ -210,8 +160,7 @@ fn return_statement(
         }
         (Some(tree), Promise::Nothing) => {
             scope.fault(TypeRule::ReturnValue);
-            let core = scope.any(tree)?;
-            Ok(CoreStatement::Return(Some(core)))
+            Ok(CoreStatement::Return(Some(scope.any(tree)?)))
         }
     }
 }

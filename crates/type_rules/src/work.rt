@@ -5,14 +5,17 @@ ghost use Rattle.expression_rules.specs.Rules.{IsFirst};
 ghost use Rattle.type_rules.specs.Ranges.{KeepsScript, functions_of, set_of};
 ghost use Rattle.type_scope.specs.Types.{type_named};
 
-use crate::first_faults::ScriptFaults;
+use crate::elaboration::ScriptFaults;
 use crate::sizes::Sizes;
 use core_tree::CoreType;
 use expression_rules::{Notes, Scope, TypeRule};
 use line_parser::TypeName;
-use std::alloc::Global;
+use papy_base::OutOfMemory;
 use std::mem;
 use type_scope::{Catalog, Layout};
+
+/// What is made, unless there is no memory for it.
+pub(crate) type Result<T> = std::result::Result<T, OutOfMemory>;
 
 /// A script while it is judged: what its names mean, and what was found so far.
 #[derive(Drop)]
@@ -38,10 +41,6 @@ impl<'a> Work<'a> {
             notes: Notes::new(catalog.alloc),
             sizes: Sizes::none(),
         }
-    }
-
-    pub(crate) fn alloc(&self) -> Global {
-        self.catalog.alloc
     }
 
     /// Notes that a rule is broken at this line.

@@ -5,8 +5,8 @@ use Rattle.papy_base.specs.Case.{SameIgnoringCase}
 use Rattle.script_linker.specs.declared.set.SourceFile.{SourceFile}
 use Rattle.type_scope.specs.Types.{signature_of, signatures}
 use Rattle.type_scope.specs.declared.catalog.Callee.{Callee}
-use Rattle.type_scope.specs.declared.kind.Kind.{Kind}
-use Rattle.type_scope.specs.declared.kind.Kind.TheVariants.{Of}
+use Rattle.type_scope.specs.declared.catalog.Kind.{Kind}
+use Rattle.type_scope.specs.declared.catalog.Kind.TheVariants.{Of}
 
 -- a type that is known is one of the set
 abbrev pub KindInRange : Signatures → Kind → Type 0

@@ -1,10 +1,10 @@
 // The scripts of a set by their names, and what names mean in them.
-ghost use Rattle.std.specs.Prelude.{◌≡◌, ◌<◌, ◌≤◌, length, IfNone, IfOk, IfSome, OnSome, option_and_then, option_map, slice_index_or};
+ghost use Rattle.std.specs.Prelude.{◌≡◌, ◌<◌, ◌≤◌, length, IfNone, IfOk, IfSome, OnSome, slice_index_or};
 ghost use Rattle.core_tree.specs.InRange.{Signatures, TypeInRange, ResultInRange};
 ghost use Rattle.script_linker.specs.Lookup.{parent_in, script_name, script_named};
 ghost use Rattle.script_linker.specs.Table.{IsPlaceTable};
-ghost use Rattle.type_scope.specs.Scope.{IsCallee};
-ghost use Rattle.type_scope.specs.Types.{array_of, element_named, plain_type, script_type, signatures, type_named};
+ghost use Rattle.type_scope.specs.Scope.{IsCallee, KindInRange};
+ghost use Rattle.type_scope.specs.Types.{array_of, element_named, plain_type, signatures, type_named};
 
 use crate::COMPARED_LIMIT;
 use core_tree::{CoreType, FunctionPlace};
@@ -16,6 +16,31 @@ use std::alloc::Global;
 
 // The first scripts of a set, Debug, Utility and Scene, are no types.
 const LIBRARY_COUNT: u16 = 3;
+
+/// What is known of the type of an expression.
+#[derive(Clone, Copy, PartialEq, Eq)]
+pub enum Kind {
+    /// It has this type.
+    Of(CoreType),
+    /// It is the literal None.
+    NoneLiteral,
+    /// It calls a function without result.
+    Nothing,
+    /// Its type isn't known, since a rule is broken.
+    Unknown,
+}
+
+impl Kind {
+    /// What is known where a type was looked up.
+    pub fn from_type(found: Option<CoreType>) -> Kind
+        ensures { (functions : Signatures) → ResultInRange functions found → KindInRange functions result }
+    {
+        match found {
+            Some(found) => Kind::Of(found),
+            None => Kind::Unknown,
+        }
+    }
+}
 
 /// A function that a call means.
 #[derive(Clone, Copy)]
@@ -56,7 +81,10 @@ impl<'a> Catalog<'a> {
         ensures found { result ≡ script_named self.now.set.now name.now }
         ensures within { IfSome result (λ n. n < length self.now.set.now) }
     {
-        number_below(self.numbers.find(name), self.set.count())
+        match self.numbers.find(name) {
+            Some(number) if number < usize::from(self.set.count()) => Some(number as u16),
+            _ => None,
+        }
     }
 
     /// The script of this number.
@@ -77,10 +105,7 @@ impl<'a> Catalog<'a> {
         ensures parent { (file : SourceFile) → script < length self.now.set.now → result ≡ parent_in self.now.set.now (slice_index_or self.now.set.now script file) }
         ensures within { IfSome result (λ n. n < length self.now.set.now) }
     {
-        match &self.script(script)?.parent {
-            Some(name) => self.find_script(name),
-            None => None,
-        }
+        self.find_script(self.script(script)?.parent.as_ref()?)
     }
 
     /// The type that is written so, or none.
@@ -88,11 +113,11 @@ impl<'a> Catalog<'a> {
         ensures found { result ≡ type_named self.now.set.now name.now }
         ensures in_range { ResultInRange (signatures self.now.set.now) result }
     {
-        let element = self.element_type(&name.word);
+        let element = self.element_type(&name.word)?;
         if name.is_array {
-            array_type(element)
+            Some(array_of(element))
         } else {
-            element
+            Some(element)
         }
     }
 
@@ -101,9 +126,12 @@ impl<'a> Catalog<'a> {
         ensures found { result ≡ element_named self.now.set.now word.now }
         ensures in_range { ResultInRange (signatures self.now.set.now) result }
     {
-        match plain_type(word.as_bytes()) {
-            Some(found) => Some(found),
-            None => script_type(self.find_script(word)),
+        if let Some(found) = plain_type(word.as_bytes()) {
+            return Some(found);
+        }
+        match self.find_script(word) {
+            Some(script) if script >= LIBRARY_COUNT => Some(CoreType::Script(script)),
+            _ => None,
         }
     }
 
@@ -156,34 +184,15 @@ impl<'a> Catalog<'a> {
         ensures { IfSome result (IsCallee self.now.set.now name.now) }
     {
         for (_, import) in &self.script(script)?.imports {
-            if let Some(found) = self.import_global(import, name) {
+            if let Some(script) = self.find_script(import)
+                && let Some(found) = self.find_function(script, name)
+                && found.at.script == script
+                && found.heading.is_global
+            {
                 return Some(found);
             }
         }
         None
-    }
-
-    // The Global function of this name that the script of the other name has itself.
-    fn import_global(&self, import: &Name, name: &Name) -> Option<Callee<'a>>
-        ensures { IfSome result (IsCallee self.now.set.now name.now) }
-    {
-        let script = self.find_script(import)?;
-        let found = self.find_function(script, name)?;
-        if found.at.script == script && found.heading.is_global {
-            Some(found)
-        } else {
-            None
-        }
-    }
-}
-
-fn number_below(number: Option<usize>, count: u16) -> Option<u16>
-    ensures same { IfSome number (λ n. n < count) → result ≡ number }
-    ensures below { IfSome result (λ n. n < count) }
-{
-    match number {
-        Some(number) if number < usize::from(count) => Some(number as u16),
-        _ => None,
     }
 }
 
@@ -200,26 +209,6 @@ fn plain_type(word: &[u8]) -> Option<CoreType>
         Some(CoreType::Text)
     } else {
         None
-    }
-}
-
-fn script_type(script: Option<u16>) -> Option<CoreType>
-    ensures found { result ≡ option_and_then script_type script }
-    ensures in_range { (functions : Signatures) → IfSome script (λ n. n < length functions) → ResultInRange functions result }
-{
-    match script {
-        Some(script) if script >= LIBRARY_COUNT => Some(CoreType::Script(script)),
-        _ => None,
-    }
-}
-
-fn array_type(element: Option<CoreType>) -> Option<CoreType>
-    ensures found { result ≡ option_map array_of element }
-    ensures in_range { (functions : Signatures) → ResultInRange functions element → ResultInRange functions result }
-{
-    match element {
-        Some(element) => Some(array_of(element)),
-        None => None,
     }
 }
 

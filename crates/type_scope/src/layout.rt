@@ -9,9 +9,6 @@ use script_linker::NameTable;
 use script_parser::{Property, PropertyForm, Script, Variable};
 use std::alloc::Global;
 
-// The numbers of a script's variables have 16 bits.
-const VARIABLE_LIMIT: usize = 65_536;
-
 /// What declares a variable: a line of its own, or an Auto property, with its place among the
 /// script's properties.
 #[derive(Clone, Copy)]
@@ -21,8 +18,8 @@ pub enum Source<'a> {
 }
 
 impl<'a> Source<'a> {
-    /// The name of the variable's type.
-    pub fn kind(&self) -> &'a TypeName {
+    // The name of the variable's type.
+    fn kind(&self) -> &'a TypeName {
         match *self {
             Source::Declared(variable) => &variable.kind,
             Source::Auto(property, _) => &property.kind,
@@ -67,8 +64,8 @@ impl<'a> Layout<'a> {
             match *source {
                 Source::Declared(variable) => declared.note(alloc, &variable.name, number)?,
                 Source::Auto(_, place) => {
-                    if place < autos.len() && number < VARIABLE_LIMIT {
-                        autos[place] = Some(number as u16);
+                    if place < autos.len() {
+                        autos[place] = u16::try_from(number).ok();
                     }
                 }
             }
@@ -90,11 +87,8 @@ impl<'a> Layout<'a> {
             let mut sources = self.sources.iter();
             sources.position(|source| source.declares(name))?
         };
-        if number < self.sources.len() && number < VARIABLE_LIMIT {
-            Some((number as u16, self.sources[number].kind()))
-        } else {
-            None
-        }
+        let source = self.sources.get(number)?;
+        Some((u16::try_from(number).ok()?, source.kind()))
     }
 
     /// The variable of the property at this place, where the property is Auto.
@@ -145,8 +139,5 @@ fn add_auto_sources<'a>(
 fn is_auto(form: &PropertyForm) -> bool
     ensures { result ≡ is_auto form.now }
 {
-    match form {
-        PropertyForm::Auto(_) => true,
-        PropertyForm::ReadOnly(_) | PropertyForm::Full(_) => false,
-    }
+    matches!(form, PropertyForm::Auto(_))
 }

@@ -3,12 +3,10 @@
 #![tactic(auto)]
 
 mod catalog;
-mod kind;
 mod layout;
 mod locals;
 
-pub use catalog::{Callee, Catalog, array_of, element_of};
-pub use kind::Kind;
+pub use catalog::{Callee, Catalog, Kind, array_of, element_of};
 pub use layout::{Layout, Source};
 pub use locals::{Local, Locals};
 

@@ -44,7 +44,9 @@ impl Locals {
     pub fn find(&self, name: &Name) -> Option<Local>
         ensures { IfSome result (λ local. slice_get self.now.kinds.items local.number ≡ Some local.kind) }
     {
-        self.local(self.number_of(name)?)
+        let number = self.number_of(name)?;
+        let kind = *self.kinds.get(number)?;
+        Some(Local { number, kind })
     }
 
     /// Adds a local, which is seen from now on, and gives its number.
@@ -55,8 +57,8 @@ impl Locals {
         let number = self.kinds.len();
         self.kinds.push(kind)?;
         if self.seen.len() >= COMPARED_LIMIT {
-            self.further
-                .insert(name.folded().to_vec(self.alloc)?, number)?;
+            let folded = name.folded().to_vec(self.alloc)?;
+            self.further.insert(folded, number)?;
         }
         self.seen.push((name.try_clone(self.alloc)?, number))?;
         Ok(number)
@@ -88,7 +90,9 @@ impl Locals {
             return Some(number);
         }
         let compared = self.seen.len().min(COMPARED_LIMIT);
-        number_among(&self.seen[..compared], name)
+        let mut latest = self.seen[..compared].iter().rev();
+        let (_, number) = latest.find(|(other, _)| other.same(name))?;
+        Some(*number)
     }
 
     // Few functions have so many names: the search is kept out of the common one's frame.
@@ -96,26 +100,4 @@ impl Locals {
     fn further_number(&self, name: &Name) -> Option<usize> {
         self.further.get(name.folded()).copied()
     }
-
-    fn local(&self, number: usize) -> Option<Local>
-        ensures { IfSome result (λ local. slice_get self.now.kinds.items local.number ≡ Some local.kind) }
-    {
-        if number < self.kinds.len() {
-            Some(Local {
-                number,
-                kind: self.kinds[number],
-            })
-        } else {
-            None
-        }
-    }
-}
-
-fn number_among(seen: &[(Name, usize)], name: &Name) -> Option<usize> {
-    for (other, number) in seen.iter().rev() {
-        if other.same(name) {
-            return Some(*number);
-        }
-    }
-    None
 }

@@ -29,8 +29,8 @@ loop-function-preserved c =
     let P : Option CoreFunction → Type 0 = λ f. AccessorInRange (functions_of entry) (variables_of entry) (function_of_option f) in
     record {
       kept = keeps-further entry before c.core_function.new.work so_far.kept judged.kept;
-      getter = rw c.with_accessor-found.ensures.read (getter-next set functions n function made found.read within c.function-item.is head so_far.getter);
-      setter = rw c.with_accessor-found.ensures.write (setter-next set functions n function made found.write within c.function-item.is head so_far.setter);
-      read = λ r. rw c.with_accessor-found.ensures.read (picked test (Some made) found.read P (there r) (so_far.read r));
-      write = λ r. rw c.with_accessor-found.ensures.write (picked test found.write (Some made) P (so_far.write r) (there r));
+      getter = rw c.add.ensures.read (getter-next set functions n function made found.read within c.function-item.is head so_far.getter);
+      setter = rw c.add.ensures.write (setter-next set functions n function made found.write within c.function-item.is head so_far.setter);
+      read = λ r. rw c.add.ensures.read (picked test (Some made) found.read P (there r) (so_far.read r));
+      write = λ r. rw c.add.ensures.write (picked test found.write (Some made) P (so_far.write r) (there r));
     }

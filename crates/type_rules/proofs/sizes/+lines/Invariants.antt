@@ -3,13 +3,10 @@ use Rattle.std.proofs.Common.{◌+◌, ◌*◌}
 use Rattle.type_rules.proofs.sizes.+lines.Given as goal
 
 abbrev pub decreases-block_size : goal.decreases-block_size
-decreases-block_size l = 4 * l.depth + 3
+decreases-block_size l = 3 * l.depth
 
 abbrev pub decreases-statement_size : goal.decreases-statement_size
-decreases-statement_size l = 4 * l.depth + 2
+decreases-statement_size l = 3 * l.depth + 2
 
 abbrev pub decreases-branches_size : goal.decreases-branches_size
-decreases-branches_size l = 4 * l.depth + 1
-
-abbrev pub decreases-inner_size : goal.decreases-inner_size
-decreases-inner_size l = 4 * l.depth + 0
+decreases-branches_size l = 3 * l.depth + 1

@@ -12,7 +12,7 @@ branches-loop-line-preserved t c =
     let s = c.loop-line.scope in
     let lined = record s { line = c.loop-line-item.result.0 } in
     let tested = c.truth.new.self in
-    let after = c.inner_block.new.scope in
+    let after = c.core_block.new.scope in
     let so_far = c.loop-line.invariant in
     let kept = c.in_ok-test.ensures.kept in
     let inner = c.in_ok-body.ensures.grows in
@@ -36,40 +36,40 @@ core_block-loop-statement-preserved t c =
     let s = c.loop-statement.scope in
     let after = c.core_statement.new.scope in
     let so_far = c.loop-statement.invariant in
-    let grows = from_line s c.statement-item.result.line after c.in-Ok.ensures.grows in
+    let grows = from_line s c.statement-item.result.line after c.in_ok-core_statement.ensures.grows in
     record {
       grows = grows-further entry s after so_far.grows grows;
       lines = λ r p.
           let lines = grown-block s after grows (block_of c.loop-statement.found.items) (so_far.lines r p) in
-          let form = c.in-Ok.ensures.in_range (at_line s c.statement-item.result.line (so_far.grows.in_range r)) (grown-promise entry s so_far.grows c.args.promise p) in
+          let form = c.in_ok-core_statement.ensures.in_range (at_line s c.statement-item.result.line (so_far.grows.in_range r)) (grown-promise entry s so_far.grows c.args.promise p) in
           rw c.push_reserved.ensures.items (block_of-push (scope_bounds after) c.loop-statement.found.items _ lines (simp statement_views form));
       count = rw (c.push_reserved.ensures.len, so_far.count) refl;
       room = c.push_reserved.ensures.capacity ∙ so_far.room;
     }
 
-pub core_statement-returns-in_ok-core-in-Plain-clause-in_range : goal.core_statement-returns-in_ok-core-in-Plain-clause-in_range
-core_statement-returns-in_ok-core-in-Plain-clause-in_range t c = λ r p.
-    let core = c.in_ok-core-in-Plain.ensures.in_range r in
-    let tree = kept-expression c.args.scope.now c.any.new.self c.in_ok-core-in-Plain.ensures.kept (expression_of c.in_ok-core-in-Plain.core) core in
+pub core_statement-returns-in_ok-any-in-Plain-clause-in_range : goal.core_statement-returns-in_ok-any-in-Plain-clause-in_range
+core_statement-returns-in_ok-any-in-Plain-clause-in_range t c = λ r p.
+    let core = c.in_ok-any-in-Plain.ensures.in_range r in
+    let tree = kept-expression c.args.scope.now c.any.new.self c.in_ok-any-in-Plain.ensures.kept (expression_of c.in_ok-any-in-Plain.field-0) core in
     simp statement_views (tt, (tree, tt))
 
 pub core_statement-returns-in_ok-body-in-While-clause-in_range : goal.core_statement-returns-in_ok-body-in-While-clause-in_range
 core_statement-returns-in_ok-body-in-While-clause-in_range t c = λ r p.
     let before = c.args.scope.now in
     let tested = c.truth.new.self in
-    let after = c.inner_block.new.scope in
+    let after = c.core_block-in-While.new.scope in
     let kept = c.in_ok-test-in-While.ensures.kept in
     let grows = grows-further before tested after (keeps-grows before tested kept) c.in_ok-body-in-While.ensures.grows in
     let test = grown-expression before after grows (expression_of c.in_ok-test-in-While.test) (c.in_ok-test-in-While.ensures.in_range r) in
     let body = c.in_ok-body-in-While.ensures.in_range (keeps-in_range before tested kept r) (kept-promise before tested kept c.args.promise p) in
     simp statement_views (test, body)
 
-pub if_statement-returns-clause-in_range : goal.if_statement-returns-clause-in_range
-if_statement-returns-clause-in_range t c = λ r p.
+pub core_statement-returns-in_ok-otherwise-in-If-clause-in_range : goal.core_statement-returns-in_ok-otherwise-in-If-clause-in_range
+core_statement-returns-in_ok-otherwise-in-If-clause-in_range t c = λ r p.
     let before = c.args.scope.now in
     let tested = c.branches.new.scope in
-    let after = c.inner_block.new.scope in
-    let first = c.in_ok-tests.ensures.grows in
-    let tests = grown-branches tested after c.in_ok-otherwise.ensures.grows (branches_of c.in_ok-tests.tests.items) (c.in_ok-tests.ensures.in_range r p) in
-    let otherwise = c.in_ok-otherwise.ensures.in_range (first.in_range r) (grown-promise before tested first c.args.promise p) in
+    let after = c.core_block.new.scope in
+    let first = c.in_ok-tests-in-If.ensures.grows in
+    let tests = grown-branches tested after c.in_ok-otherwise-in-If.ensures.grows (branches_of c.in_ok-tests-in-If.tests.items) (c.in_ok-tests-in-If.ensures.in_range r p) in
+    let otherwise = c.in_ok-otherwise-in-If.ensures.in_range (first.in_range r) (grown-promise before tested first c.args.promise p) in
     simp statement_views (tests, otherwise)

@@ -7,19 +7,13 @@ use Rattle.type_rules.specs.Ranges.{Grows, PromiseInRange}
 use Rattle.type_rules.proofs.statements.+block.Given as goal
 
 abbrev pub decreases-core_block : goal.decreases-core_block
-decreases-core_block l = 5 * l.depth + 4
+decreases-core_block l = 3 * l.depth
 
 abbrev pub decreases-core_statement : goal.decreases-core_statement
-decreases-core_statement l = 5 * l.depth + 3
-
-abbrev pub decreases-if_statement : goal.decreases-if_statement
-decreases-if_statement l = 5 * l.depth + 2
+decreases-core_statement l = 3 * l.depth + 2
 
 abbrev pub decreases-branches : goal.decreases-branches
-decreases-branches l = 5 * l.depth + 1
-
-abbrev pub decreases-inner_block : goal.decreases-inner_block
-decreases-inner_block l = 5 * l.depth + 0
+decreases-branches l = 3 * l.depth + 1
 
 abbrev pub invariant-core_block-loop-statement : goal.invariant-core_block-loop-statement
 invariant-core_block-loop-statement l = record {

@@ -1,5 +1,0 @@
-use Rattle.core_tree.proofs.Views.{expression_views}
-use Rattle.expression_rules.proofs.context.Context.literal.Goals as goal
-
-pub returns : goal.returns
-returns c = λ value kind. c.typed.ensures (simp expression_views value) kind

@@ -1,5 +1,0 @@
-use Rattle.core_tree.proofs.Views.{expression_views}
-use Rattle.expression_rules.proofs.context.Context.own_instance.Goals as goal
-
-pub returns : goal.returns
-returns c = rw c.in_ok-own.ensures.ok (simp expression_views tt)

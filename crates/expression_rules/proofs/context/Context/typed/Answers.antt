@@ -1,4 +1,0 @@
-use Rattle.expression_rules.proofs.context.Context.typed.Goals as goal
-
-pub returns : goal.returns
-returns c = λ core kind. record { core = rw c.in_ok-core.ensures.ok core; kind = kind }

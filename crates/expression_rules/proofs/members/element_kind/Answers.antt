@@ -1,6 +1,0 @@
-use Rattle.std.proofs.Common.{subst}
-use Rattle.type_scope.specs.Scope.{KindInRange}
-use Rattle.expression_rules.proofs.members.element_kind.Goals as goal
-
-pub returns-in-Of : goal.returns-in-Of
-returns-in-Of c = λ functions known. c.element_of.ensures functions (subst (KindInRange functions) c.in-Of.is known)

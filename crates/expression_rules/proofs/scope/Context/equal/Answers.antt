@@ -1,0 +1,9 @@
+use Rattle.core_tree.proofs.Views.{expression_views}
+use Rattle.expression_rules.specs.Ranges.{bounds_of}
+use Rattle.expression_rules.proofs.scope.Context.equal.Goals as goal
+
+pub returns : goal.returns
+returns c = λ left right.
+    let b = bounds_of c.args.self.now in
+    let to = c.common_type-to.ensures b.functions left.kind right.kind in
+    c.known.ensures (simp expression_views (tt, (c.in_ok-left.ensures b to left, (c.in_ok-right.ensures b to right, tt)))) tt

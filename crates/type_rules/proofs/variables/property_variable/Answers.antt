@@ -1,7 +1,0 @@
-use Rattle.type_rules.proofs.Types.{known-in_range}
-use Rattle.type_rules.specs.Ranges.{functions_of}
-use Rattle.type_rules.proofs.variables.property_variable.Goals as goal
-
-pub returns-clause-in_range : goal.returns-clause-in_range
-returns-clause-in_range c =
-    (rw c.known.ensures (known-in_range (functions_of c.args.work.now) c.kind_at-kind.result c.kind_at-kind.ensures.in_range), c.in_ok-property_value.ensures.in_range)
