@@ -1,12 +1,12 @@
 -- What several searches for a broken rule find, one after another.
-use Rattle.std.proofs.Common.{ℕ, zero, suc, ◌≡◌, ◌<◌, ◌⊎◌, List, [], ◌∷◌, ◌++◌, length, map, get_or, Contains, Option, Some, None, IfNone, IfSome, IsSome, IsTrue, Bool, true≢false, inr, inl, ⊎_elim, refl, sym, ap, subst, ◌∙◌, arith}
+use Rattle.std.proofs.Common.{ℕ, zero, suc, ◌≡◌, ◌<◌, ◌⊎◌, List, [], ◌∷◌, ◌++◌, length, map, get_or, Contains, Option, Some, None, IfNone, IfSome, IsSome, IsTrue, is_some, not, Bool, true, false, true≢false, inr, inl, ⊎_elim, refl, sym, ap, subst, ◌∙◌, arith}
 use Rattle.std.specs.List.{flat_map}
 use Rattle.std.proofs.lemmas.List.{get_or-map, length-map}
 use Rattle.std.proofs.lemmas.List.Elements.{Contains-append_left, Contains-append_right, Contains-append_cases}
 use Rattle.script_parser.specs.declared.script.Function.{Function}
 use Rattle.script_parser.specs.declared.script.Script.{Script}
-use Rattle.script_linker.specs.declared.earliest.Earliest.{Earliest}
-use Rattle.script_linker.specs.declared.earliest.Found.{Found}
+use Rattle.script_linker.specs.declared.rules.Earliest.{Earliest}
+use Rattle.script_linker.specs.declared.rules.Found.{Found}
 use Rattle.script_linker.specs.Found.{FindsAmong}
 use Rattle.script_parser.specs.Lines.{function_line, heading_lines, lines_with, property_line, property_lines, state_lines, variable_line}
 
@@ -157,9 +157,10 @@ pub unbroken : (is_broken : Bool) (found : Option Found) → (IsTrue is_broken �
 unbroken is_broken (Some one) noted none = cc
 unbroken is_broken None noted none = λ broken. true≢false (sym (noted broken))
 
-pub IsSome-from : {X : Type 0} (o : Option X) → ¬ (o ≡ None) → IsSome o
-IsSome-from None is_some = absurd (is_some refl)
-IsSome-from (Some x) is_some = refl
+-- what was looked up is there, unless r says that nothing was found
+pub IsSome-unless : {X : Type 0} {found : Option X} (named : Option X) (r : Bool) → is_some found ≡ not r → found ≡ named → ¬ IsTrue r → IsSome named
+IsSome-unless named true says same is_known = absurd (is_known refl)
+IsSome-unless named false says same is_known = subst IsSome same says
 
 pub IfNone-from : {X : Type 0} (o : Option X) (P : Type 0) → (o ≡ None → P) → IfNone o P
 IfNone-from None P holds = holds refl

@@ -1,7 +1,7 @@
 -- Which members a script is given, one after the other.
-use Rattle.std.proofs.Common.{ℕ, suc, codes, ◌≡◌, ◌+◌, ◌<◌, ◌≤◌, Bool, true, false, List, [], ◌∷◌, ◌++◌, cond, map, All, length, take, drop, get_or, set, Option, Some, None, filter, is_some, sym, ap, subst, ◌∙◌, ⊎_elim, refl, arith}
-use Rattle.std.proofs.lemmas.List.{get_or_default, get_or-set_same, get_or-set_other, take-append-le, take_all}
-use Rattle.std.proofs.lemmas.List.Elements.{filter-append, All-cons}
+use Rattle.std.proofs.Common.{ℕ, suc, codes, ◌≡◌, ◌+◌, ◌<◌, ◌≤◌, Bool, true, false, List, [], ◌∷◌, ◌++◌, cond, map, length, take, drop, get_or, set, Option, Some, None, filter, is_some, sym, ap, subst, ◌∙◌, ⊎_elim, refl, arith}
+use Rattle.std.proofs.lemmas.List.{get_or_default, get_or-set_same, get_or-set_other, take-append-le, take_all, take_more}
+use Rattle.std.proofs.lemmas.List.Elements.{filter-append}
 use Rattle.std.proofs.lemmas.Bool.{cases_lt}
 use Rattle.std.proofs.Math.Seq.{drop-append_seam, drop-length}
 use Rattle.script_parser.specs.declared.script.Function.{Function}
@@ -135,6 +135,7 @@ StartsWithPrelude-standard files are =
       parents = ap (map script_parent) whole ∙ Pairwise-map IsStandard row_parent script_parent (λ row file is. is.parent) standard_scripts files are;
     }
 
-pub All-three : {X : Type 0} (P : X → Type 0) (a b c : X) → P a → P b → P c → All P (a ∷ b ∷ c ∷ [])
-All-three P a b c first second third =
-    All-cons P a (b ∷ c ∷ []) first (All-cons P b (c ∷ []) second (All-cons P c [] third (λ n d l. absurd (omega arith))))
+-- behind the first things stands the next one
+pub Pairwise-more : {X Y : Type 0} (R : X → Y → Type 0) (xs : List X) (ys : List Y) (n : ℕ) (x : X) (y : Y) → n < length xs → Pairwise R (take n xs) ys → R (get_or xs n x) y → Pairwise R (take (n + 1) xs) (ys ++ y ∷ [])
+Pairwise-more R xs ys n x y lt front one =
+    subst (λ first. Pairwise R first (ys ++ y ∷ [])) (sym (take_more xs n x lt)) (Pairwise-append R (take n xs) ys (get_or xs n x ∷ []) (y ∷ []) front (one, tt))

@@ -4,7 +4,7 @@ use Rattle.std.proofs.lemmas.List.{get_or-drop, get_or-map, get_or_default, get_
 use Rattle.std.proofs.lemmas.Bool.{cases_eq, cases_lt}
 use Rattle.script_parser.specs.declared.script.Script.{Script}
 use Rattle.script_linker.specs.declared.set.SourceFile.{SourceFile}
-use Rattle.script_linker.specs.declared.earliest.Found.{Found}
+use Rattle.script_linker.specs.declared.rules.Found.{Found}
 use Rattle.script_linker.specs.declared.fault.LinkRule.{LinkRule}
 use Rattle.script_linker.specs.declared.fault.LinkFault.{LinkFault}
 use Rattle.script_linker.specs.declared.fault.LinkFault.TheVariants.{Broken, OutOfMemory}

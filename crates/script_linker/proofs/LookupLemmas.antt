@@ -5,7 +5,7 @@ use Rattle.std.proofs.lemmas.List.{get_or_default, get_or_past}
 use Rattle.std.proofs.lemmas.Bool.{cases_lt}
 use Rattle.std.proofs.lemmas.Option.{slice_get-get_or, slice_get_cases}
 use Rattle.papy_base.specs.Case.{folded}
-use Rattle.script_linker.specs.Table.{place_of}
+use Rattle.script_linker.specs.Table.{number_in, place_of}
 use Rattle.script_linker.proofs.TableLemmas.{position-below}
 use Rattle.script_linker.specs.declared.name_table.NameTable.{NameTable}
 use Rattle.script_linker.specs.declared.set.SourceFile.{SourceFile}
@@ -35,6 +35,24 @@ module _ {files now : List SourceFile} {functions properties : List NameTable} {
   parent_within n (Some p) lt is =
       rw length-parents at (index.within n p (ap (λ ps. get_or ps n None) parents-now ∙ parent_read n (Some p) lt is))
 
+  -- what a script's table has for a name is the place of its own function
+  pub own_function-read : (name : List ℕ) (n : ℕ) (table : NameTable) → n < length now → number_in (get_or functions n table) (folded name) ≡ own_function now name n
+  own_function-read name n table lt =
+      let l : n < length files = subst (λ xs. n < length xs) (sym same) lt in
+      ⊎_elim
+      (λ some. index.function_tables n some.0 table l (folded name) ∙ sym (ap (λ o. option_and_then (λ f. place_of function_name f.script.functions.items (folded name)) o) (slice_get-get_or files n some.0 l)) ∙ ap (λ xs. own_function xs name n) same)
+      (λ none. absurd (omega (arith, none.0, l)))
+      (slice_get_cases files n).1
+
+  -- what a script's table has for a name is the place of its own property
+  pub own_property-read : (name : List ℕ) (n : ℕ) (table : NameTable) → n < length now → number_in (get_or properties n table) (folded name) ≡ own_property now name n
+  own_property-read name n table lt =
+      let l : n < length files = subst (λ xs. n < length xs) (sym same) lt in
+      ⊎_elim
+      (λ some. index.property_tables n some.0 table l (folded name) ∙ sym (ap (λ o. option_and_then (λ f. place_of property_name f.script.properties.items (folded name)) o) (slice_get-get_or files n some.0 l)) ∙ ap (λ xs. own_property xs name n) same)
+      (λ none. absurd (omega (arith, none.0, l)))
+      (slice_get_cases files n).1
+
 -- the script above n is below or at a, where n itself is not a
 pub StandsAbove-step : {parents : List (Option ℕ)} {n a : ℕ} (p : ℕ) → parent_at parents n ≡ Some p → n ≢ a → StandsAbove parents n a → StandsAbove parents p a
 StandsAbove-step p e ne (itself n) = absurd (ne refl)
@@ -60,14 +78,14 @@ HasNoCircle-from_ranks parents ranks rises = λ n p is up.
     omega (arith, StandsAbove-rank ranks rises up)
 
 -- the place that a script's own function was found at is one of its functions
-pub own_function-below : (files : List SourceFile) (name : List ℕ) (n k : ℕ) (file : SourceFile) → n < length files → own_function files name n ≡ Some k → k < length (get_or files n file).script.functions.items
+own_function-below : (files : List SourceFile) (name : List ℕ) (n k : ℕ) (file : SourceFile) → n < length files → own_function files name n ≡ Some k → k < length (get_or files n file).script.functions.items
 own_function-below files name n k file lt is =
     let found = get_or files n file in
     let at : place_of function_name found.script.functions.items (folded name) ≡ Some k = sym (ap (λ o. option_and_then (λ f. place_of function_name f.script.functions.items (folded name)) o) (slice_get-get_or files n file lt)) ∙ is in
     subst (λ o. IfSome o (λ p. p < length found.script.functions.items)) at (position-below _ found.script.functions.items)
 
 -- the same of properties
-pub own_property-below : (files : List SourceFile) (name : List ℕ) (n k : ℕ) (file : SourceFile) → n < length files → own_property files name n ≡ Some k → k < length (get_or files n file).script.properties.items
+own_property-below : (files : List SourceFile) (name : List ℕ) (n k : ℕ) (file : SourceFile) → n < length files → own_property files name n ≡ Some k → k < length (get_or files n file).script.properties.items
 own_property-below files name n k file lt is =
     let found = get_or files n file in
     let at : place_of property_name found.script.properties.items (folded name) ≡ Some k = sym (ap (λ o. option_and_then (λ f. place_of property_name f.script.properties.items (folded name)) o) (slice_get-get_or files n file lt)) ∙ is in
@@ -185,3 +203,31 @@ Nearest-none None true says at = (λ _. at, λ _. refl)
 Nearest-none None false says at = cc
 Nearest-none (Some x) true says at = cc
 Nearest-none (Some x) false says at = (λ y. cc, λ none. let same = Nearest-unique at none in cc)
+
+-- what a look-up finds is the own thing of the script where it was found
+Nearest-own : {parents : List (Option ℕ)} {own : ℕ → Option ℕ} {n : ℕ} {found : Option (ℕ × ℕ)} → Nearest parents own n found → IfSome found (λ f. own f.0 ≡ Some f.1)
+Nearest-own (here n place is) = is
+Nearest-own (further n p found is at up) = Nearest-own up
+Nearest-own (nowhere n is at) = tt
+
+pub Nearest-function : (files : List SourceFile) (name : List ℕ) {n : ℕ} (found : Option (ℕ × ℕ)) → Nearest (parents_of files) (own_function files name) n found → IfSome found (IsFunctionOf files)
+Nearest-function files name None at = tt
+Nearest-function files name (Some (m, k)) at =
+    let is : own_function files name m ≡ Some k = Nearest-own at in
+    ⊎_elim
+    (λ some. (some.1, λ file. own_function-below files name m k file some.1 is))
+    (λ none.
+    let nothing : own_function files name m ≡ None = ap (λ o. option_and_then (λ f. place_of function_name f.script.functions.items (folded name)) o) none.1 in
+    cc)
+    (slice_get_cases files m).1
+
+pub Nearest-property : (files : List SourceFile) (name : List ℕ) {n : ℕ} (found : Option (ℕ × ℕ)) → Nearest (parents_of files) (own_property files name) n found → IfSome found (IsPropertyOf files)
+Nearest-property files name None at = tt
+Nearest-property files name (Some (m, k)) at =
+    let is : own_property files name m ≡ Some k = Nearest-own at in
+    ⊎_elim
+    (λ some. (some.1, λ file. own_property-below files name m k file some.1 is))
+    (λ none.
+    let nothing : own_property files name m ≡ None = ap (λ o. option_and_then (λ f. place_of property_name f.script.properties.items (folded name)) o) none.1 in
+    cc)
+    (slice_get_cases files m).1

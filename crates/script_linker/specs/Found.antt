@@ -1,7 +1,7 @@
 -- Where a search for the first broken rule of a file finds one.
 use Rattle.std.specs.Prelude.{◌≡◌, ◌<◌, ℕ, ◌⊎◌, List, Contains, Option, Some, None}
-use Rattle.script_linker.specs.declared.earliest.Earliest.{Earliest}
-use Rattle.script_linker.specs.declared.earliest.Found.{Found}
+use Rattle.script_linker.specs.declared.rules.Earliest.{Earliest}
+use Rattle.script_linker.specs.declared.rules.Found.{Found}
 use Rattle.script_linker.specs.declared.fault.LinkRule.{LinkRule}
 use Rattle.script_linker.specs.Rules.{rule_number}
 

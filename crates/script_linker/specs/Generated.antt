@@ -167,6 +167,11 @@ pub record IsStatement (act : Act) (statement : Statement) : Type 0 where
   pub line : statement.line ≡ 0
   pub form : Does act statement.form
 
+-- a native function has no statements
+abbrev pub is_native_body : Body → Bool
+is_native_body bodies.Native = true
+is_native_body (bodies.Lines lines) = false
+
 abbrev pub IsBody : Option (List Act) → Body → Type 0
 IsBody None bodies.Native = Unit {0}
 IsBody None (bodies.Lines lines) = ⊥

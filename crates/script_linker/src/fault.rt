@@ -9,7 +9,7 @@ use thiserror::Error;
 #[derive(Clone, Copy, Debug, PartialEq, Eq, PartialOrd, Ord)]
 pub enum LinkRule {
     /// N1: an earlier file has the script's name.
-    DuplicateScript,
+    DuplicateScript = 1,
     /// N2: the script's name is one of the prelude's six.
     PreludeName,
     /// N3: the parent is no script of the set, or is Debug, Utility or Scene.
@@ -39,20 +39,7 @@ impl LinkRule {
     pub(crate) fn number(self) -> u8
         ensures { result ≡ rule_number self }
     {
-        match self {
-            LinkRule::DuplicateScript => 1,
-            LinkRule::PreludeName => 2,
-            LinkRule::UnknownParent => 3,
-            LinkRule::ExtendsCycle => 4,
-            LinkRule::UnknownImport => 5,
-            LinkRule::DuplicateMember => 6,
-            LinkRule::TwoAutoStates => 7,
-            LinkRule::StateFunctionAlone => 8,
-            LinkRule::SignatureDiffers => 9,
-            LinkRule::PropertyInParent => 10,
-            LinkRule::DefaultOrder => 11,
-            LinkRule::Limit => 12,
-        }
+        self as u8
     }
 }
 

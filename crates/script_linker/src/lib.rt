@@ -2,17 +2,12 @@
 //! a set, by the Papyrus language reference (Creation Kit wiki) with the choices of this project.
 #![tactic(auto)]
 
-mod declared;
-mod earliest;
 mod fault;
-mod generated;
 mod linker;
-mod members;
 mod name_table;
 mod parents;
-mod parts;
 mod prelude;
-mod script_rules;
+mod rules;
 mod scripts;
 mod set;
 mod signatures;

@@ -7,14 +7,11 @@ ghost use Rattle.script_linker.specs.Table.{IsPlaceTable};
 ghost use Rattle.script_parser.specs.Lines.{heading_lines};
 ghost use Rattle.script_linker.specs.Link.{AreFilesOf, AreResolved, IsFaultOf, IsFaultOn, declared_lines, function_count};
 
-use crate::earliest::Found;
 use crate::fault::{LinkFault, LinkRule};
-use crate::generated::add_generated;
-use crate::members::first_member_fault;
 use crate::name_table::NameTable;
-use crate::parents::{Peeled, first_unranked, parent_numbers, peel, ranks};
-use crate::prelude::{PRELUDE_COUNT, prelude_files};
-use crate::script_rules::{Survey, first_script_fault};
+use crate::parents::{first_unranked, parent_numbers, peel, ranks};
+use crate::prelude::{PRELUDE_COUNT, add_generated, prelude_files};
+use crate::rules::{Found, member_fault, script_fault};
 use crate::scripts::Scripts;
 use crate::set::{ScriptSet, SourceFile};
 use papy_base::OutOfMemory;
@@ -82,7 +79,8 @@ fn link_set(
     let parent_list = parents.as_slice();
     let peeled = peel(alloc, parent_list)?;
     let ranks = ranks(alloc, parent_list, peeled.order.as_slice())?;
-    judge_scripts(alloc, files.as_slice(), &names, parent_list, &peeled)?;
+    let children = peeled.children.as_slice();
+    judge_scripts(alloc, files.as_slice(), &names, parent_list, children)?;
     let rank_list = ranks.as_slice();
     refuse_circle(files.as_slice(), rank_list)?;
     let scripts = Scripts::new(alloc, files, parents, ranks)?;
@@ -90,34 +88,30 @@ fn link_set(
     Ok(ScriptSet { scripts })
 }
 
+// N1 to N5, in order of file, line and rule.
 fn judge_scripts(
     alloc: Global,
     files: &[SourceFile],
     names: &NameTable,
     parents: &[Option<usize>],
-    peeled: &Peeled,
+    children: &[usize],
 ) -> Result<(), LinkFault>
     requires start { 6 ≤ length files.now }
     requires count { length files.now < 65536 }
     requires parents { length parents.now ≡ length files.now }
-    requires children { vec_len peeled.now.children ≡ length files.now }
+    requires children { length children.now ≡ length files.now }
     requires names { IsPlaceTable script_name files.now names.now }
     requires parents_of { parents.now ≡ parents_of files.now }
     ensures resolved { OnOk result (AreResolved files.now) }
     ensures broken { IfErr result (IsFaultOn (λ file. heading_lines) files.now) }
 {
     let file_names = NameTable::of_places(alloc, &files[PRELUDE_COUNT..])?;
-    let survey = Survey {
-        files,
-        names,
-        file_names: &file_names,
-        parents,
-        peeled,
-    };
-    match first_script_fault(&survey) {
-        Some((number, found)) => Err(fault(number, found)),
-        None => Ok(()),
+    for number in PRELUDE_COUNT..files.len() {
+        if let Some(found) = script_fault(files, names, &file_names, parents, children, number) {
+            return Err(fault(number, found));
+        }
     }
+    Ok(())
 }
 
 // Refuses scripts without a rank. They stand on a circle or below one, so the rules of scripts have
@@ -139,6 +133,8 @@ fn refuse_circle(files: &[SourceFile], ranks: &[usize]) -> Result<(), LinkFault>
     }
 }
 
+// N6 to N12, in order of file, line and rule. Of each script the first `declared` functions are its
+// own, and the rest generated.
 fn judge_members(alloc: Global, scripts: &Scripts, declared: &[usize]) -> Result<(), LinkFault>
     requires count { length scripts.now < 65536 }
     requires declared { length declared.now + 6 ≡ length scripts.now }
@@ -146,10 +142,13 @@ fn judge_members(alloc: Global, scripts: &Scripts, declared: &[usize]) -> Result
         ((n : ℕ) (file : SourceFile) → 6 ≤ n → n < length scripts.now → HasSmallScript (slice_index_or scripts.now n file)) }
     ensures broken { IfErr result (IsFaultOn (declared_lines declared.now) scripts.now) }
 {
-    match first_member_fault(alloc, scripts, declared)? {
-        Some((number, found)) => Err(fault(number, found)),
-        None => Ok(()),
+    for number in PRELUDE_COUNT..scripts.count() {
+        let own = declared[number - PRELUDE_COUNT];
+        if let Some(found) = member_fault(alloc, scripts, number, own)? {
+            return Err(fault(number, found));
+        }
     }
+    Ok(())
 }
 
 fn fault(number: usize, found: Found) -> LinkFault

@@ -1,12 +1,74 @@
-// Names looked up with the case of A to Z ignored.
+// Names looked up with the case of A to Z ignored, and the things of a script that have one.
 ghost use Rattle.std.specs.Prelude.{◌≡◌, ℕ, List, IfOk, OnOk};
 ghost use Rattle.papy_base.specs.Case.{folded};
 ghost use Rattle.script_linker.specs.Table.{number_in, least_of, Sets, Notes, IsPlaceTable};
 
-use crate::declared::Declared;
+use crate::set::SourceFile;
 use papy_base::{Name, OutOfMemory};
+use script_parser::{Function, Property, State, Variable};
 use std::alloc::Global;
 use std::collections::HashMap;
+
+/// A thing with a name of its own that a line of a script declares.
+pub(crate) trait Declared {
+    ghost name_of: { Self → List ℕ };
+
+    ghost line_of: { Self → ℕ };
+
+    fn declaration(&self) -> (&Name, u16)
+        ensures name { result.0.now ≡ name_of self.now }
+        ensures line { result.1 ≡ line_of self.now };
+}
+
+impl Declared for Variable {
+    ghost name_of = { λ variable. variable.name };
+
+    ghost line_of = { λ variable. variable.line };
+
+    fn declaration(&self) -> (&Name, u16) {
+        (&self.name, self.line)
+    }
+}
+
+impl Declared for Property {
+    ghost name_of = { λ property. property.name };
+
+    ghost line_of = { λ property. property.line };
+
+    fn declaration(&self) -> (&Name, u16) {
+        (&self.name, self.line)
+    }
+}
+
+impl Declared for Function {
+    ghost name_of = { λ function. function.heading.name };
+
+    ghost line_of = { λ function. function.line };
+
+    fn declaration(&self) -> (&Name, u16) {
+        (&self.heading.name, self.line)
+    }
+}
+
+impl Declared for State {
+    ghost name_of = { λ state. state.name };
+
+    ghost line_of = { λ state. state.line };
+
+    fn declaration(&self) -> (&Name, u16) {
+        (&self.name, self.line)
+    }
+}
+
+impl Declared for SourceFile {
+    ghost name_of = { λ file. file.script.name };
+
+    ghost line_of = { λ file. file.script.line };
+
+    fn declaration(&self) -> (&Name, u16) {
+        (&self.script.name, self.script.line)
+    }
+}
 
 /// The least number that was noted for each name.
 #[derive(Drop)]
@@ -33,7 +95,8 @@ impl NameTable {
     {
         let mut table = NameTable::new(alloc);
         for (place, item) in items.iter().enumerate() {
-            table.note(alloc, item.name(), place)?;
+            let (name, _) = item.declaration();
+            table.note(alloc, name, place)?;
         }
         Ok(table)
     }
@@ -45,7 +108,8 @@ impl NameTable {
         items: &[T],
     ) -> Result<(), OutOfMemory> {
         for item in items {
-            self.note(alloc, item.name(), usize::from(item.line()))?;
+            let (name, line) = item.declaration();
+            self.note(alloc, name, usize::from(line))?;
         }
         Ok(())
     }

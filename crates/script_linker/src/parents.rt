@@ -31,10 +31,7 @@ pub(crate) fn parent_numbers(
 fn number_of(names: &NameTable, name: &Option<Name>) -> Option<usize>
     ensures { result ≡ option_and_then (λ n. number_in names.now (folded n)) name.now }
 {
-    match name {
-        Some(name) => names.find(name),
-        None => None,
-    }
+    name.as_ref().and_then(|name| names.find(name))
 }
 
 /// What is left of a set once scripts without children were taken out again and again.

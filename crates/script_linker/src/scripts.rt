@@ -1,5 +1,8 @@
 // Scripts with their parents and the tables of their members, whether or not they break a rule.
-ghost use Rattle.std.specs.Prelude.{◌≡◌, ℕ, ◌<◌, ◌↔◌, List, length, IfOk, IfSome, IsTrue, slice_index_or};
+ghost use Rattle.std.specs.Prelude.{◌≡◌, ℕ, ◌<◌, ◌↔◌, List, Option, length, IfOk, IfSome, IsTrue, slice_index_or};
+ghost use Rattle.papy_base.specs.Case.{folded};
+ghost use Rattle.script_linker.specs.Table.{number_in};
+ghost use Rattle.script_linker.specs.declared.name_table.NameTable.{NameTable};
 ghost use Rattle.script_linker.specs.Index.{HasFunctionTables, HasPropertyTables, Rises};
 ghost use Rattle.script_linker.specs.Lookup.{parents_of, parent_at, IsWithin, Nearest, StandsAbove, HasNoCircle, own_function, own_property, IsFunctionOf, IsPropertyOf};
 
@@ -49,8 +52,7 @@ impl Scripts {
         requires ranks { Rises parents.items ranks.items }
         ensures { IfOk result (λ scripts. scripts ≡ files.items) }
     {
-        let functions = function_tables(alloc, files.as_slice())?;
-        let properties = property_tables(alloc, files.as_slice())?;
+        let (functions, properties) = tables(alloc, files.as_slice())?;
         Ok(Scripts {
             files,
             functions,
@@ -88,16 +90,7 @@ impl Scripts {
         ensures nearest { Nearest (parents_of self.now) (own_function self.now name.now) script result }
         ensures within { IfSome result (IsFunctionOf self.now) }
     {
-        let mut here = script;
-        'upward: loop {
-            if let Some(place) = self.own_function(here, name) {
-                return Some((here, place));
-            }
-            match self.parents[here] {
-                Some(parent) => here = parent,
-                None => return None,
-            }
-        }
+        self.nearest(self.functions.as_slice(), script, name)
     }
 
     /// The same of properties.
@@ -106,16 +99,7 @@ impl Scripts {
         ensures nearest { Nearest (parents_of self.now) (own_property self.now name.now) script result }
         ensures within { IfSome result (IsPropertyOf self.now) }
     {
-        let mut here = script;
-        'upward: loop {
-            if let Some(place) = self.own_property(here, name) {
-                return Some((here, place));
-            }
-            match self.parents[here] {
-                Some(parent) => here = parent,
-                None => return None,
-            }
-        }
+        self.nearest(self.properties.as_slice(), script, name)
     }
 
     /// Whether the parent is the script itself or stands above it.
@@ -136,41 +120,43 @@ impl Scripts {
         }
     }
 
-    // The place of the script's own function of this name.
-    fn own_function(&self, number: usize, name: &Name) -> Option<usize>
-        requires { number < length self.now }
-        ensures { result ≡ own_function self.now name.now number }
+    // The script and the place that its table has, from the script upward, for this name. Each script
+    // has `own` in its table.
+    fn nearest(&self, tables: &[NameTable], script: usize, name: &Name) -> Option<(usize, usize)>
+        ghost own: { ℕ → Option ℕ }
+        requires script { script < length self.now }
+        requires count { length tables.now ≡ length self.now }
+        requires tables { (n : ℕ) (table : NameTable) → n < length self.now → number_in (slice_index_or tables.now n table) (folded name.now) ≡ own n }
+        ensures { Nearest (parents_of self.now) own script result }
     {
-        self.functions[number].find(name)
-    }
-
-    // The place of the script's own property of this name.
-    fn own_property(&self, number: usize, name: &Name) -> Option<usize>
-        requires { number < length self.now }
-        ensures { result ≡ own_property self.now name.now number }
-    {
-        self.properties[number].find(name)
+        let mut here = script;
+        'upward: loop {
+            if let Some(place) = tables[here].find(name) {
+                return Some((here, place));
+            }
+            match self.parents[here] {
+                Some(parent) => here = parent,
+                None => return None,
+            }
+        }
     }
 }
 
-fn function_tables(alloc: Global, files: &[SourceFile]) -> Result<Vec<NameTable>, OutOfMemory>
-    ensures count { IfOk result (λ tables. length tables.items ≡ length files.now) }
-    ensures tables { IfOk result (λ tables. HasFunctionTables files.now tables.items) }
+// The tables of each file's functions, and those of its properties.
+fn tables(
+    alloc: Global,
+    files: &[SourceFile],
+) -> Result<(Vec<NameTable>, Vec<NameTable>), OutOfMemory>
+    ensures function_count { IfOk result (λ tables. length tables.0.items ≡ length files.now) }
+    ensures property_count { IfOk result (λ tables. length tables.1.items ≡ length files.now) }
+    ensures functions { IfOk result (λ tables. HasFunctionTables files.now tables.0.items) }
+    ensures properties { IfOk result (λ tables. HasPropertyTables files.now tables.1.items) }
 {
-    let mut tables = Vec::with_capacity(alloc, files.len())?;
+    let mut functions = Vec::with_capacity(alloc, files.len())?;
+    let mut properties = Vec::with_capacity(alloc, files.len())?;
     for file in files {
-        tables.push(NameTable::of_places(alloc, file.script.functions.as_slice())?)?;
+        functions.push(NameTable::of_places(alloc, file.script.functions.as_slice())?)?;
+        properties.push(NameTable::of_places(alloc, file.script.properties.as_slice())?)?;
     }
-    Ok(tables)
-}
-
-fn property_tables(alloc: Global, files: &[SourceFile]) -> Result<Vec<NameTable>, OutOfMemory>
-    ensures count { IfOk result (λ tables. length tables.items ≡ length files.now) }
-    ensures tables { IfOk result (λ tables. HasPropertyTables files.now tables.items) }
-{
-    let mut tables = Vec::with_capacity(alloc, files.len())?;
-    for file in files {
-        tables.push(NameTable::of_places(alloc, file.script.properties.as_slice())?)?;
-    }
-    Ok(tables)
+    Ok((functions, properties))
 }

@@ -70,8 +70,7 @@ impl ScriptSet {
         requires { n < length self.now }
         ensures { (file : SourceFile) → result.now ≡ (slice_index_or self.now n file).script }
     {
-        let file = self.scripts.file(usize::from(n));
-        &file.script
+        &self.scripts.file(usize::from(n)).script
     }
 
     /// The name of the script's file, which is empty for a script of the prelude.
@@ -79,8 +78,7 @@ impl ScriptSet {
         requires { n < length self.now }
         ensures { (file : SourceFile) → result.now ≡ (slice_index_or self.now n file).name }
     {
-        let file = self.scripts.file(usize::from(n));
-        &file.name
+        &self.scripts.file(usize::from(n)).name
     }
 
     /// The nearest function of this name in the empty states, from the script upward.
@@ -88,13 +86,11 @@ impl ScriptSet {
         requires { script < length self.now }
         ensures { Nearest (parents_of self.now) (own_function self.now name.now) script (option_map function_pair result) }
     {
-        match self.scripts.nearest_function(usize::from(script), name) {
-            Some((script, place)) => Some(FunctionRef {
-                script: script as u16,
-                place: place as u16,
-            }),
-            None => None,
-        }
+        let (script, place) = self.scripts.nearest_function(usize::from(script), name)?;
+        Some(FunctionRef {
+            script: script as u16,
+            place: place as u16,
+        })
     }
 
     /// The nearest property of this name, from the script upward.
@@ -102,13 +98,11 @@ impl ScriptSet {
         requires { script < length self.now }
         ensures { Nearest (parents_of self.now) (own_property self.now name.now) script (option_map property_pair result) }
     {
-        match self.scripts.nearest_property(usize::from(script), name) {
-            Some((script, place)) => Some(PropertyRef {
-                script: script as u16,
-                place: place as u16,
-            }),
-            None => None,
-        }
+        let (script, place) = self.scripts.nearest_property(usize::from(script), name)?;
+        Some(PropertyRef {
+            script: script as u16,
+            place: place as u16,
+        })
     }
 
     /// Whether the parent is the script itself or stands above it.

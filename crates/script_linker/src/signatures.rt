@@ -75,19 +75,13 @@ fn is_set(heading: &Heading, kind: &TypeName) -> bool
 fn has_type(found: &Option<TypeName>, kind: &TypeName) -> bool
     ensures { IsTrue result ↔ HasType found.now kind.now }
 {
-    match found {
-        Some(found) => same_type(found, kind),
-        None => false,
-    }
+    found.as_ref().is_some_and(|found| same_type(found, kind))
 }
 
 fn takes_one(parameters: &[Parameter], kind: &TypeName) -> bool
     ensures { IsTrue result ↔ TakesOne parameters.now kind.now }
 {
-    match parameters {
-        [only] => same_type(&only.kind, kind),
-        _ => false,
-    }
+    matches!(parameters, [only] if same_type(&only.kind, kind))
 }
 
 /// Whether the name is this word, with the case ignored.
@@ -110,15 +104,11 @@ pub(crate) fn has_late_parameter(parameters: &[Parameter]) -> bool
 fn first_default(parameters: &[Parameter]) -> Option<usize>
     ensures { result ≡ position has_default parameters.now }
 {
-    parameters
-        .iter()
-        .position(|parameter| parameter.default.is_some())
+    parameters.iter().position(|one| one.default.is_some())
 }
 
 fn lacks_default(parameters: &[Parameter]) -> bool
     ensures { result ≡ list_any has_no_default parameters.now }
 {
-    parameters
-        .iter()
-        .any(|parameter| parameter.default.is_none())
+    parameters.iter().any(|one| one.default.is_none())
 }

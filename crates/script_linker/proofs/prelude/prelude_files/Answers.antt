@@ -1,19 +1,12 @@
-use Rattle.std.proofs.Common.{◌++◌, sym, subst}
-use Rattle.script_linker.specs.Generated.{AreStandard, IsStandard, libraries, standard_scripts, types}
-use Rattle.script_linker.specs.Lookup.{StartsWithPrelude}
-use Rattle.script_linker.proofs.GeneratedLemmas.{Pairwise-append, StartsWithPrelude-standard}
+use Rattle.std.proofs.Common.{◌+◌, [], All, take, sym, subst, arith}
+use Rattle.std.proofs.lemmas.List.Elements.{All-push}
+use Rattle.script_linker.specs.Generated.{AreStandard, IsStandard, standard_child, standard_scripts}
+use Rattle.script_linker.specs.Lookup.{HasSmallScript}
+use Rattle.script_linker.proofs.GeneratedLemmas.{Pairwise-more}
 use Rattle.script_linker.proofs.prelude.prelude_files.Goals as goal
 
-pub returns-clause-start : goal.returns-clause-start
-returns-clause-start c =
-    let first = c.in_ok-files.files.items in
-    let rest = c.in_ok-types.types.items in
-    let both : AreStandard standard_scripts (first ++ rest) = Pairwise-append IsStandard libraries first types rest c.in_ok-files.ensures.standard c.in_ok-types.ensures.standard in
-    subst StartsWithPrelude (sym c.in_ok-append.ensures.items) (StartsWithPrelude-standard (first ++ rest) both)
-
-pub returns-clause-standard : goal.returns-clause-standard
-returns-clause-standard c =
-    let first = c.in_ok-files.files.items in
-    let rest = c.in_ok-types.types.items in
-    let both : AreStandard standard_scripts (first ++ rest) = Pairwise-append IsStandard libraries first types rest c.in_ok-files.ensures.standard c.in_ok-types.ensures.standard in
-    subst (AreStandard standard_scripts) (sym c.in_ok-append.ensures.items) both
+pub loop-number-preserved : goal.loop-number-preserved
+loop-number-preserved c = record {
+  few = subst (All HasSmallScript) (sym c.in_ok-push.ensures.items) (All-push HasSmallScript c.loop-number.files.items _ c.loop-number.invariant.few c.in_ok-prelude_file.ensures.few);
+  standard = subst (AreStandard (take (c.loop-number.number + 1) standard_scripts)) (sym c.in_ok-push.ensures.items) (Pairwise-more IsStandard standard_scripts c.loop-number.files.items c.loop-number.number (standard_child []) _ (omega arith) c.loop-number.invariant.standard (c.in_ok-prelude_file.ensures.standard (standard_child [])));
+}

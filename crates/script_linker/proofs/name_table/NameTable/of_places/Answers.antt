@@ -14,5 +14,5 @@ loop-place-preserved g c =
     let new = c.note.new.self in
     let grown = take_more items place item c.loop-place-test.true ∙ ap (λ x. take place items ++ x ∷ []) (sym c.index-items-place.is) in
     let count : length (take place items) ≡ place = simp length-take (omega arith) in
-    let noted = subst (λ n. Notes old new (name_of item) n) (sym count) (subst (λ n. Notes old new n place) c.name.ensures c.in_ok-note.ensures) in
+    let noted = subst (λ n. Notes old new (name_of item) n) (sym count) (subst (λ n. Notes old new n place) c.declaration.ensures.name c.in_ok-note.ensures) in
     subst (λ xs. IsPlaceTable name_of xs new) (sym grown) (IsPlaceTable-push name_of (take place items) item old new c.loop-place.invariant noted)

@@ -1,6 +1,0 @@
-use Rattle.std.proofs.Common.{map}
-use Rattle.script_linker.specs.Found.{FindsAmong}
-use Rattle.script_linker.proofs.members.judge_names.Given as goal
-
-abbrev pub invariant-loop-item : goal.invariant-loop-item
-invariant-loop-item g l = FindsAmong (map g.T.Declared.line_of l.items) l.initial.first l.first

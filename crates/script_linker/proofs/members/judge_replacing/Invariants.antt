@@ -1,7 +1,0 @@
-use Rattle.std.proofs.Common.{map}
-use Rattle.script_linker.specs.Found.{FindsAmong}
-use Rattle.script_parser.specs.Lines.{function_line}
-use Rattle.script_linker.proofs.members.judge_replacing.Given as goal
-
-abbrev pub invariant-loop-function : goal.invariant-loop-function
-invariant-loop-function l = FindsAmong (map function_line l.functions) l.initial.first l.first
