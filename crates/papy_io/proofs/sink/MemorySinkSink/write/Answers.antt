@@ -1,5 +1,5 @@
 use Rattle.std.proofs.Common.{refl}
-use Rattle.papy_io.proofs.memory_sink.MemorySinkSink.write.Goals as goal
+use Rattle.papy_io.proofs.sink.MemorySinkSink.write.Goals as goal
 
 pub returns-then-is_listed-clause-failed : goal.returns-then-is_listed-clause-failed
 returns-then-is_listed-clause-failed c =
