@@ -1,6 +1,6 @@
 use Rattle.std.proofs.Common.{◌≡◌, ◌≤◌, length}
 use Rattle.instance_store.specs.Arrays.{last_equal}
-use Rattle.instance_store.proofs.search.last_equal.Given as goal
+use Rattle.instance_store.proofs.values.last_equal.Given as goal
 
 abbrev pub invariant-loop-end : goal.invariant-loop-end
 invariant-loop-end l = record {
