@@ -1,6 +1,6 @@
 use Rattle.std.proofs.Common.{arith}
 use Rattle.lock_queue.proofs.OrderLemmas.{seen_linked, seen_is, pushed, IsLinked-walk, last_within}
-use Rattle.lock_queue.proofs.order.Order.push.Goals as goal
+use Rattle.lock_queue.proofs.queues.Order.push.Goals as goal
 
 pub relink-requires : goal.relink-requires
 relink-requires c =

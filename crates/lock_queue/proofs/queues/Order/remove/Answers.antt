@@ -1,7 +1,7 @@
 use Rattle.std.proofs.Common.{arith, sym, ◌∙◌}
 use Rattle.lock_queue.proofs.LinkLemmas.{below_has}
 use Rattle.lock_queue.proofs.OrderLemmas.{seen_linked, seen_is, removed, IsLinked-walk, before_within, after_within, read_before, read_after}
-use Rattle.lock_queue.proofs.order.Order.remove.Goals as goal
+use Rattle.lock_queue.proofs.queues.Order.remove.Goals as goal
 
 pub index-before-requires : goal.index-before-requires
 index-before-requires c =

@@ -1,7 +1,7 @@
 use Rattle.std.proofs.Common.{arith, ◌∙◌}
 use Rattle.lock_queue.proofs.LinkLemmas.{below_has}
 use Rattle.lock_queue.proofs.OrderLemmas.{seen_linked, next_is, read_after}
-use Rattle.lock_queue.proofs.order.Order.next.Goals as goal
+use Rattle.lock_queue.proofs.queues.Order.next.Goals as goal
 
 pub index-requires : goal.index-requires
 index-requires c =
