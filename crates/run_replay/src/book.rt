@@ -3,7 +3,7 @@
 ghost use Rattle.std.specs.Prelude.{◌≡◌, ◌≤◌, OnOk, true, length, slice_set};
 ghost use Rattle.std.specs.List.{prefix_len};
 ghost use Rattle.run_replay.specs.Lines.{LineFits};
-ghost use Rattle.run_replay.specs.Book.{Standing, start, place_of, is_due, is_between, is_free, holds, waits, is_waiting, is_first, is_other, since_of, without_stack, nobody_due, nobody_holds, is_ready, before_run, after_run, between_turns, in_turn, just_ran, acts, begins, wakes, arrives, is_settled, stage_after, may_stand, move_may_stand, is_allowed, move_is_allowed, joined, settled_at, moved, after};
+ghost use Rattle.run_replay.specs.Book.{Standing, start, place_of, is_due, is_between, is_free, holds, waits, is_first, is_other, since_of, without_stack, nobody_due, nobody_holds, is_ready, before_run, after_run, between_turns, in_turn, just_ran, acts, begins, wakes, arrives, is_settled, stage_after, may_stand, move_may_stand, is_allowed, move_is_allowed, joined, settled_at, moved, after};
 
 use crate::lock_move::LockMove;
 use crate::reader::Line;
@@ -60,12 +60,6 @@ fn waits(place: Option<Place>, instance: u16) -> bool
     ensures { result ≡ waits instance place }
 {
     matches!(place, Some(Place::Waits(awaited)) if awaited == instance)
-}
-
-fn is_waiting(place: Option<Place>) -> bool
-    ensures { result ≡ is_waiting place }
-{
-    matches!(place, Some(Place::Waits(_)))
 }
 
 /// A stack that waits for an instance.
@@ -314,7 +308,7 @@ impl Book {
         ensures { result ≡ is_settled self.now self.now.stage }
     {
         match self.stage {
-            Stage::Ran(stack) => !is_waiting(self.place_of(stack)),
+            Stage::Ran(stack) => !matches!(self.place_of(stack), Some(Place::Waits(_))),
             Stage::Left(stack) => !is_between(self.place_of(stack)),
             _ => true,
         }
