@@ -1,19 +1,18 @@
 //! Journals, checked.
 
 ghost use Rattle.std.specs.Prelude.{◌≡◌, ◌+◌, ◌<◌, ◌≤◌, ◌++◌, ◌∷◌, ◌^◌, ℕ, length, map, slice_index, List, MatchOption, OnOk, IfOk, IfErr};
-ghost use Rattle.run_replay.specs.Book.{Standing, start, IsLegal};
+ghost use Rattle.run_replay.specs.Book.{Standing, start, FirstBreak, IsLegal};
 ghost use Rattle.run_replay.specs.Journal.{StepAnswer, ReadAnswer, JournalFaultIs, IsRefused};
 ghost use Rattle.run_replay.specs.Discipline.{OneHolder, InOrder, LetsGo};
 ghost use Rattle.run_replay.specs.Lines.{JournalLine, Lacks};
 ghost use Rattle.run_replay.specs.Outline.{AreLines, turns_in, names_in};
 ghost use Rattle.run_replay.specs.Waiting.{waited};
 ghost use Rattle.run_replay.specs.declared.fault.JournalFault.TheVariants as faults;
-ghost use Rattle.run_replay.specs.declared.fault.JournalRule.TheVariants as rules;
+ghost use Rattle.run_replay.specs.declared.fault.JournalRule.{JournalRule};
 
 use crate::book::Book;
 use crate::fault::{JournalFault, JournalRule};
-use crate::number::len_before;
-use crate::reader::line_of;
+use crate::reader::{len_before, line_of};
 use crate::waits::Waits;
 use std::alloc::Global;
 
@@ -28,9 +27,7 @@ fn cut_line(bytes: &[u8]) -> Option<(&[u8], &[u8])>
     if at == bytes.len() {
         return None;
     }
-    let (text, rest) = bytes.split_at(at);
-    let (_, behind) = rest.split_at(1);
-    Some((text, behind))
+    Some((&bytes[..at], &bytes[at + 1..]))
 }
 
 // Goes past the next line, which has this number. Gives what stands behind it.
@@ -44,32 +41,23 @@ fn step<'a>(
     requires room { (i : ℕ) → slice_index book.old.waited i < 2 ^ 63 }
     ensures { StepAnswer book.old book.new number rest.now result }
 {
-    let Some((text, behind)) = cut_line(rest) else {
-        return Err(bad_line(number));
-    };
-    let Some(line) = line_of(text) else {
-        return Err(bad_line(number));
-    };
+    let bad_line = broken(number, JournalRule::BadLine);
+    let (text, behind) = cut_line(rest).ok_or(bad_line)?;
+    let line = line_of(text).ok_or(bad_line)?;
     if !book.may_stand(line) {
-        return Err(bad_line(number));
+        return Err(bad_line);
     }
     if !book.is_allowed(line) {
-        return Err(JournalFault::Broken {
-            line: number,
-            rule: JournalRule::BadMove,
-        });
+        return Err(broken(number, JournalRule::BadMove));
     }
     book.apply(alloc, line)?;
     Ok(behind)
 }
 
-fn bad_line(number: u32) -> JournalFault
-    ensures { result ≡ faults.Broken number rules.BadLine }
+fn broken(line: u32, rule: JournalRule) -> JournalFault
+    ensures { result ≡ faults.Broken line rule }
 {
-    JournalFault::Broken {
-        line: number,
-        rule: JournalRule::BadLine,
-    }
+    JournalFault::Broken { line, rule }
 }
 
 // Goes past all lines, of which the last must be the journal's end.
@@ -83,14 +71,11 @@ fn read_all(alloc: Global, book: &mut Book, bytes: &[u8]) -> Result<(), JournalF
     let mut rest = bytes;
     let mut number: u32 = 1;
     while !rest.is_empty() {
-        match step(alloc, book, number, rest) {
-            Ok(behind) => rest = behind,
-            Err(fault) => return Err(fault),
-        }
+        rest = step(alloc, book, number, rest)?;
         number += 1;
     }
     if !book.has_ended() {
-        return Err(bad_line(number));
+        return Err(broken(number, JournalRule::BadLine));
     }
     Ok(())
 }
@@ -123,11 +108,14 @@ pub fn check_journal(alloc: Global, bytes: &[u8]) -> Result<Waits, JournalFault>
     ensures lets_go { OnOk result ((lines : List JournalLine) → AreLines bytes.now lines → LetsGo lines) }
 {
     if bytes.len() > JOURNAL_LIMIT {
-        return Err(bad_line(0));
+        return Err(broken(0, JournalRule::BadLine));
     }
     let mut book = Book::new(alloc);
-    match read_all(alloc, &mut book, bytes) {
-        Ok(()) => Ok(book.into_waits()),
-        Err(fault) => Err(fault),
-    }
+    read_all(alloc, &mut book, bytes)?;
+    Ok(book.into_waits())
 }
+
+/// A journal that isn't legal has one first line that breaks a rule, and that line breaks one rule first.
+pub fn one_break()
+    ensures { (bytes : List ℕ) (m n : ℕ) (q r : JournalRule) → FirstBreak bytes m q → FirstBreak bytes n r → (m ≡ n) × (q ≡ r) }
+{}
