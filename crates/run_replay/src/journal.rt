@@ -9,6 +9,7 @@ ghost use Rattle.run_replay.specs.Outline.{AreLines, turns_in, names_in};
 ghost use Rattle.run_replay.specs.Waiting.{waited};
 ghost use Rattle.run_replay.specs.declared.fault.JournalFault.TheVariants as faults;
 ghost use Rattle.run_replay.specs.declared.fault.JournalRule.{JournalRule};
+ghost use Rattle.run_replay.specs.declared.fault.JournalRule.TheVariants as rules;
 
 use crate::book::Book;
 use crate::fault::{JournalFault, JournalRule};
@@ -27,7 +28,9 @@ fn cut_line(bytes: &[u8]) -> Option<(&[u8], &[u8])>
     if at == bytes.len() {
         return None;
     }
-    Some((&bytes[..at], &bytes[at + 1..]))
+    let (text, rest) = bytes.split_at(at);
+    let (_, behind) = rest.split_at(1);
+    Some((text, behind))
 }
 
 // Goes past the next line, which has this number. Gives what stands behind it.
@@ -41,23 +44,32 @@ fn step<'a>(
     requires room { (i : ℕ) → slice_index book.old.waited i < 2 ^ 63 }
     ensures { StepAnswer book.old book.new number rest.now result }
 {
-    let bad_line = broken(number, JournalRule::BadLine);
-    let (text, behind) = cut_line(rest).ok_or(bad_line)?;
-    let line = line_of(text).ok_or(bad_line)?;
+    let Some((text, behind)) = cut_line(rest) else {
+        return Err(bad_line(number));
+    };
+    let Some(line) = line_of(text) else {
+        return Err(bad_line(number));
+    };
     if !book.may_stand(line) {
-        return Err(bad_line);
+        return Err(bad_line(number));
     }
     if !book.is_allowed(line) {
-        return Err(broken(number, JournalRule::BadMove));
+        return Err(JournalFault::Broken {
+            line: number,
+            rule: JournalRule::BadMove,
+        });
     }
     book.apply(alloc, line)?;
     Ok(behind)
 }
 
-fn broken(line: u32, rule: JournalRule) -> JournalFault
-    ensures { result ≡ faults.Broken line rule }
+fn bad_line(number: u32) -> JournalFault
+    ensures { result ≡ faults.Broken number rules.BadLine }
 {
-    JournalFault::Broken { line, rule }
+    JournalFault::Broken {
+        line: number,
+        rule: JournalRule::BadLine,
+    }
 }
 
 // Goes past all lines, of which the last must be the journal's end.
@@ -71,11 +83,14 @@ fn read_all(alloc: Global, book: &mut Book, bytes: &[u8]) -> Result<(), JournalF
     let mut rest = bytes;
     let mut number: u32 = 1;
     while !rest.is_empty() {
-        rest = step(alloc, book, number, rest)?;
+        match step(alloc, book, number, rest) {
+            Ok(behind) => rest = behind,
+            Err(fault) => return Err(fault),
+        }
         number += 1;
     }
     if !book.has_ended() {
-        return Err(broken(number, JournalRule::BadLine));
+        return Err(bad_line(number));
     }
     Ok(())
 }
@@ -108,11 +123,13 @@ pub fn check_journal(alloc: Global, bytes: &[u8]) -> Result<Waits, JournalFault>
     ensures lets_go { OnOk result ((lines : List JournalLine) → AreLines bytes.now lines → LetsGo lines) }
 {
     if bytes.len() > JOURNAL_LIMIT {
-        return Err(broken(0, JournalRule::BadLine));
+        return Err(bad_line(0));
     }
     let mut book = Book::new(alloc);
-    read_all(alloc, &mut book, bytes)?;
-    Ok(book.into_waits())
+    match read_all(alloc, &mut book, bytes) {
+        Ok(()) => Ok(book.into_waits()),
+        Err(fault) => Err(fault),
+    }
 }
 
 /// A journal that isn't legal has one first line that breaks a rule, and that line breaks one rule first.
