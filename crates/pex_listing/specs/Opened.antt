@@ -1,5 +1,5 @@
 -- What an open line and the text behind it are.
-use Rattle.std.specs.Prelude.{◌≡◌, ℕ, List, [], ◌∷◌, ◌++◌, Unit, ⊥, Option, Some, None, IfSome, IsTrue, unwrap_or, option_map}
+use Rattle.std.specs.Prelude.{◌≡◌, ℕ, List, [], ◌∷◌, ◌++◌, Option, Some, None, IfSome, IsTrue, unwrap_or, option_map}
 use Rattle.pex_listing.specs.declared.listing.FirstWord.{FirstWord}
 use Rattle.pex_listing.specs.declared.listing.FirstWord.TheVariants as word
 use Rattle.pex_listing.specs.declared.listing.Listing.{Listing}

@@ -113,17 +113,24 @@ pub(crate) struct Quoted {
     pub is_canonical: bool,
 }
 
+/// What stands between the quotes at both ends.
+fn between_quotes(field: &[u8]) -> Option<&[u8]>
+    ensures { IfSome result (λ inner. field.now ≡ 34 ∷ inner.now ++ 34 ∷ []) }
+{
+    match field {
+        [b'"', inner @ .., b'"'] => Some(inner),
+        _ => None,
+    }
+}
+
 /// The string that a field in quotes spells. It has at most 65,535 bytes.
 pub(crate) fn unquote(alloc: Global, field: &[u8]) -> Read<Quoted>
     ensures short { IfOk result (λ q. length q.text < 2 ^ 16) }
     ensures canonical { IfOk result (λ q. IsTrue q.is_canonical → field.now ≡ quoted q.text) }
 {
-    let [b'"', inner @ .., b'"'] = field else {
-        return Err(BAD_LINE);
-    };
-    let mut rest = inner;
     let mut bytes = Vec::new(alloc);
     let mut is_canonical = true;
+    let mut rest = between_quotes(field).ok_or(BAD_LINE)?;
     while !rest.is_empty() {
         let (byte, is_spelled_so, behind) = first_byte(rest).ok_or(BAD_LINE)?;
         if bytes.len() >= LONGEST {

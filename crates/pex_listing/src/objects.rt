@@ -145,7 +145,6 @@ fn read_function(
 ) -> Read<PexFunction>
     ensures holds { IfOk result (HoldsFunction (vec_len names.now.spelled)) }
     ensures room { IfOk result (λ f. room.new.left + length (spell.function (plain_function f)) ≤ room.old.left + 15) }
-    ensures known { OnOk result (IsTrue is_known) }
 {
     let result = listing.reference(names)?;
     let doc = listing.reference(names)?;

@@ -26,7 +26,7 @@ returns c =
     let got = rw c.in_ok-fixed-2.ensures.ok_part at c.in_ok-fixed.ensures.values in
     let count = rw c.in_ok-fixed-2.ensures.ok_part at c.in_ok-fixed.ensures.count in
     let rest = rw c.in_ok-more-2.ensures.ok_part at c.in_ok-more.ensures.values in
-    let i : Instruction = record { opcode = c.opcode.opcode; fixed = c.in_ok-fixed-2.fixed; more = c.in_ok-more-2.more } in
+    let i : Instruction = record { opcode = c.args.listing.now.opcode; fixed = c.in_ok-fixed-2.fixed; more = c.in_ok-more-2.more } in
     record {
       holds = (
         record {
