@@ -1,11 +1,9 @@
 -- Lines that are read one after another.
 use Rattle.std.proofs.Common.{◌≡◌, ℕ, ◌&&◌, not, cond, Bool, true, List, [], ◌∷◌, ◌++◌, refl, sym, subst, ap, ◌∙◌, append_assoc, append-nil}
-use Rattle.std.specs.Prelude.{Option, Some, None, IfSome, IsTrue, codes}
+use Rattle.std.specs.Prelude.{Option, Some, IfSome, IsTrue, codes}
 use Rattle.std.specs.List.{flat_map}
 use Rattle.std.specs.Fmt.{decimal}
 use Rattle.std.proofs.lemmas.List.{flat_map_more}
-use Rattle.pex_listing.specs.declared.first_word.FirstWord.{FirstWord}
-use Rattle.pex_listing.specs.declared.first_word.FirstWord.TheVariants as word
 use Rattle.pex_listing.specs.declared.listing.Listing.{Listing}
 use Rattle.std.proofs.lemmas.Bool.{and_parts, not-true, cond-false}
 use Rattle.pex_values.specs.Plain.{PlainPex}
@@ -41,24 +39,18 @@ takes_line word fields old last new is_word left same opened text opens =
     }
 
 -- a line with a string
-pub takes_string : (first_word : FirstWord) (text : List ℕ) (old last new : Listing) → old.first_word ≡ first_word → TakesField (quoted text) old last → fields_left last ≡ [] → IsTrue last.is_canonical → Opens last.rest.now new → IfSome (word_of first_word) (λ word. TakesLines (string_line word text) old new)
-takes_string first_word text old last new is_first_word field none canonical opened = by_word (word_of first_word) refl
-  where
-    left : fields_left old ≡ 32 ∷ quoted text
-    left = field.taken canonical ∙ (ap (λ f. 32 ∷ quoted text ++ f) none ∙ append-nil (32 ∷ quoted text))
-
-    by_word : (o : Option (List ℕ)) → word_of first_word ≡ o → IfSome o (λ word. TakesLines (string_line word text) old new)
-    by_word None e = tt
-    by_word (Some word) e =
-        subst (λ lines. TakesLines lines old new) (sym (append_assoc word (32 ∷ quoted text) (10 ∷ [])))
-        (takes_line word (32 ∷ quoted text) old last new (ap word_of is_first_word ∙ e) left field.rest opened)
+pub takes_string : (word text : List ℕ) (old last new : Listing) → word_of old.first_word ≡ Some word → TakesField (quoted text) old last → fields_left last ≡ [] → IsTrue last.is_canonical → Opens last.rest.now new → TakesLines (string_line word text) old new
+takes_string word text old last new is_word field none canonical opened =
+    let left : fields_left old ≡ 32 ∷ quoted text = field.taken canonical ∙ (ap (λ f. 32 ∷ quoted text ++ f) none ∙ append-nil (32 ∷ quoted text)) in
+    subst (λ lines. TakesLines lines old new) (sym (append_assoc word (32 ∷ quoted text) (10 ∷ [])))
+    (takes_line word (32 ∷ quoted text) old last new is_word left field.rest opened)
 
 -- the first line
-pub takes_version : (minor time : ℕ) (old between last new : Listing) → old.first_word ≡ word.Pex → TakesField (decimal minor) old between → TakesField (decimal time) between last → fields_left last ≡ [] → IsTrue last.is_canonical → Opens last.rest.now new → TakesLines (first_line minor time) old new
+pub takes_version : (minor time : ℕ) (old between last new : Listing) → word_of old.first_word ≡ Some (codes "pex") → TakesField (decimal minor) old between → TakesField (decimal time) between last → fields_left last ≡ [] → IsTrue last.is_canonical → Opens last.rest.now new → TakesLines (first_line minor time) old new
 takes_version minor time old between last new is_first_word first second none canonical opened =
     let behind : fields_left between ≡ 32 ∷ decimal time = second.taken canonical ∙ (ap (λ f. 32 ∷ decimal time ++ f) none ∙ append-nil (32 ∷ decimal time)) in
     let left : fields_left old ≡ 32 ∷ decimal minor ++ 32 ∷ decimal time = first.taken (second.canonical canonical) ∙ ap (λ f. 32 ∷ decimal minor ++ f) behind in
-    let lines = takes_line (codes "pex") (32 ∷ decimal minor ++ 32 ∷ decimal time) old last new (ap word_of is_first_word) left (second.rest ∙ first.rest) opened in
+    let lines = takes_line (codes "pex") (32 ∷ decimal minor ++ 32 ∷ decimal time) old last new is_first_word left (second.rest ∙ first.rest) opened in
     subst (λ lines. TakesLines lines old new) (ap (λ t. codes "pex " ++ t) (append_assoc (decimal minor) (32 ∷ decimal time) (10 ∷ []))) lines
 
 -- a number without sign

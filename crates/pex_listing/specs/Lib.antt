@@ -3,4 +3,3 @@ pub mod Lines
 pub mod Opened
 pub mod Showing
 pub mod Reading
-pub mod Headings

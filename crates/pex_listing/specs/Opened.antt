@@ -1,38 +1,27 @@
 -- What an open line and the text behind it are.
-use Rattle.std.specs.Prelude.{◌≡◌, ℕ, List, [], ◌∷◌, ◌++◌, codes, Option, Some, None, IfSome, IsTrue, unwrap_or, option_map}
-use Rattle.pex_listing.specs.declared.first_word.FirstWord.{FirstWord}
-use Rattle.pex_listing.specs.declared.first_word.FirstWord.TheVariants as word
+use Rattle.std.specs.Prelude.{◌≡◌, ℕ, List, [], ◌∷◌, ◌++◌, Option, Some, None, IfSome, IsTrue, unwrap_or, option_map}
+use Rattle.pex_listing.specs.declared.listing.FirstWord.{FirstWord}
+use Rattle.pex_listing.specs.declared.listing.FirstWord.TheVariants as word
 use Rattle.pex_listing.specs.declared.listing.Listing.{Listing}
 
--- how a first word that stands for one word is spelled
+-- a first word that is no opcode's name
 abbrev pub word_of : FirstWord → Option (List ℕ)
-word_of word.Pex = Some (codes "pex")
-word_of word.Source = Some (codes "source")
-word_of word.User = Some (codes "user")
-word_of word.Machine = Some (codes "machine")
-word_of word.String = Some (codes "string")
-word_of word.NoDebug = Some (codes "nodebug")
-word_of word.Debug = Some (codes "debug")
-word_of word.Lines = Some (codes "lines")
-word_of word.Flag = Some (codes "flag")
-word_of word.Object = Some (codes "object")
-word_of word.Variable = Some (codes "variable")
-word_of word.Property = Some (codes "property")
-word_of word.Read = Some (codes "read")
-word_of word.Write = Some (codes "write")
-word_of word.State = Some (codes "state")
-word_of word.Function = Some (codes "function")
-word_of word.Parameter = Some (codes "param")
-word_of word.Local = Some (codes "local")
+word_of (word.Word spelled) = Some spelled.now
 word_of word.Opcode = None
-word_of word.Unknown = None
 word_of word.End = None
+
+-- the two are the same word, both an opcode's name, or both the end
+abbrev pub SameWord : FirstWord → FirstWord → Type 0
+SameWord (word.Word spelled) (word.Word other) = spelled.now ≡ other.now
+SameWord word.Opcode word.Opcode = Unit {0}
+SameWord word.End word.End = Unit {0}
+SameWord _ _ = ⊥
 
 -- the fields of the open line that weren't read yet, each behind its space
 abbrev pub fields_left : Listing → List ℕ
 fields_left l = unwrap_or (option_map (λ fields. 32 ∷ fields.now) l.fields) []
 
--- the text begins with the open line, of which no field was read, where that has one of the fixed words
+-- the text begins with the open line, of which no field was read, where that is no instruction
 abbrev pub Opens : List ℕ → Listing → Type 0
 Opens text l = IfSome (word_of l.first_word) (λ word. text ≡ word ++ (fields_left l ++ 10 ∷ l.rest.now))
 

@@ -1,5 +1,5 @@
 -- What reading a part of a listing gives.
-use Rattle.std.specs.Prelude.{◌≡◌, ℕ, ◌+◌, ◌<◌, ◌≤◌, ◌^◌, Bool, true, false, List, length, Option, Some, None, is_some, IfSome, option_map}
+use Rattle.std.specs.Prelude.{◌≡◌, ℕ, ◌+◌, ◌<◌, ◌≤◌, ◌^◌, Bool, true, false, List, [], length, Option, Some, None, is_some, IfSome, option_map}
 use Rattle.std.specs.List.{flat_map, AllByRecursion}
 use Rattle.pex_values.specs.declared.debug.PexDebug.{PexDebug}
 use Rattle.pex_values.specs.declared.debug.PexLines.{PexLines}
@@ -31,6 +31,18 @@ pub record ReadsData (strings old new : ℕ) (values : List Datum) : Type 0 wher
   pub each : AllByRecursion (IsShapedDatum strings) values
   pub few : new + length values ≤ old
   pub room : new + length (flat_map datum values) ≤ old
+
+-- the bytes of the number of the values that follow, where some may follow
+abbrev pub more_bytes : Bool → ℕ
+more_bytes true = 5
+more_bytes false = 0
+
+-- the values that follow, of which there are none where none may follow; their bytes and those of their number were taken from the room
+pub record ReadsMore (strings : ℕ) (may_follow : Bool) (old new : ℕ) (values : List Datum) : Type 0 where
+  pub each : AllByRecursion (IsShapedDatum strings) values
+  pub few : new + length values ≤ old
+  pub none : may_follow ≡ false → values ≡ []
+  pub room : new + more_bytes may_follow + length (flat_map datum values) ≤ old
 
 -- which parts may stand in a value with so many strings
 

@@ -59,6 +59,9 @@ pub enum ListingFault {
     OutOfMemory,
 }
 
+/// What is read of lines, or why one can't stand where it does.
+pub(crate) type Read<T> = Result<T, LineFault>;
+
 /// Why a line can't stand where it does.
 #[derive(Clone, Copy)]
 pub(crate) enum LineFault {
@@ -67,6 +70,10 @@ pub(crate) enum LineFault {
     /// No memory was found.
     OutOfMemory,
 }
+
+pub(crate) const BAD_LINE: LineFault = LineFault::Broken(ListingRule::BadLine);
+
+pub(crate) const BAD_NAME: LineFault = LineFault::Broken(ListingRule::BadName);
 
 impl LineFault {
     /// The fault of the whole listing, where this is the line.
@@ -82,14 +89,6 @@ impl From<OutOfMemory> for LineFault {
     ghost from_gives = { λ _ fault. fault ≡ line.OutOfMemory };
 
     fn from(_error: OutOfMemory) -> LineFault {
-        LineFault::OutOfMemory
-    }
-}
-
-impl From<AllocError> for LineFault {
-    ghost from_gives = { λ _ fault. fault ≡ line.OutOfMemory };
-
-    fn from(_error: AllocError) -> LineFault {
         LineFault::OutOfMemory
     }
 }

@@ -3,20 +3,12 @@
 
 mod assembling;
 mod faults;
-mod first_word;
-mod functions;
-mod instructions;
+mod fields;
 mod item;
 mod listing;
-mod names;
-mod numbers;
 mod objects;
-mod parts;
-mod quoted;
-mod room;
 mod showing;
 mod strings;
-mod tables;
 
 pub use assembling::assemble;
 pub use faults::{ListingFault, ListingRule, ShowFault};

@@ -5,19 +5,37 @@ ghost use Rattle.std.specs.Fmt.{decimal};
 ghost use Rattle.pex_values.specs.Shape.{IsReference};
 ghost use Rattle.pex_listing.specs.Lines.{quoted};
 ghost use Rattle.pex_listing.specs.Numbers.{has_leading_zero};
-ghost use Rattle.pex_listing.specs.Opened.{Opens, TakesField, fields_left};
+ghost use Rattle.pex_listing.specs.Opened.{Opens, TakesField, SameWord, fields_left, word_of};
 
-use crate::faults::{LineFault, ListingRule};
-use crate::first_word::{FirstWord, first_word_of, opcode_of};
-use crate::names::is_word;
-use crate::numbers::{has_leading_zero, hex_number, is_digits, is_upper, magnitude};
-use crate::quoted::unquote;
-use crate::strings::Strings;
+use crate::faults::{BAD_LINE, LineFault, ListingRule, Read};
+use crate::fields::{has_leading_zero, hex_number, is_digits, magnitude, unquote};
+use crate::strings::{Strings, is_word};
 use papy_base::Text;
-use pex_values::SizeForm;
+use pex_values::{OPCODES, SizeForm};
 use std::alloc::Global;
 
-const BAD_LINE: LineFault = LineFault::Broken(ListingRule::BadLine);
+/// What a line begins with.
+#[derive(Clone, Copy)]
+pub(crate) enum FirstWord<'a> {
+    /// A word that is no opcode's name.
+    Word(&'a [u8]),
+    /// An opcode's name.
+    Opcode,
+    /// No line is left that ends with LF.
+    End,
+}
+
+/// The opcode of this name.
+fn opcode_of(word: &[u8]) -> Option<u8>
+    ensures { IfSome result (λ code. code < 36) }
+{
+    for (code, opcode) in OPCODES.iter().enumerate() {
+        if opcode.name.as_bytes() == word {
+            return Some(code as u8);
+        }
+    }
+    None
+}
 
 /// What stands before the first such byte, and what follows it.
 fn cut(bytes: &[u8], byte: u8) -> Option<(&[u8], &[u8])>
@@ -57,16 +75,17 @@ fn is_canonical_number(is_negative: bool, digits: &[u8]) -> bool
 /// A listing with its open line, whose fields are read from the left.
 #[derive(Drop)]
 pub(crate) struct Listing<'a> {
-    alloc: Global,
-    first_word: FirstWord,
+    /// The allocator of what is read.
+    pub alloc: Global,
+    first_word: FirstWord<'a>,
     /// The opcode, where the first word is an opcode's name.
-    opcode: u8,
+    pub opcode: u8,
     /// The fields of the open line that weren't read yet. None behind the last one.
-    fields: Option<&'a [u8]>,
+    pub fields: Option<&'a [u8]>,
     /// Whether each field that was read is in its one spelling.
     is_canonical: bool,
     /// The number of the open line, from 1.
-    number: u32,
+    pub number: u32,
     /// What follows the open line.
     rest: &'a [u8],
 }
@@ -102,57 +121,46 @@ impl<'a> Listing<'a> {
         self.rest = rest;
         let (word, fields) = split_field(line);
         self.fields = fields;
-        self.first_word = first_word_of(word);
-        self.opcode = opcode_of(word).unwrap_or(0);
+        self.first_word = FirstWord::Word(word);
+        if let Some(opcode) = opcode_of(word) {
+            self.first_word = FirstWord::Opcode;
+            self.opcode = opcode;
+        }
     }
 
-    /// The allocator of what is read.
-    pub(crate) fn alloc(&self) -> Global {
-        self.alloc
-    }
-
-    pub(crate) fn number(&self) -> u32 {
-        self.number
-    }
-
-    /// Whether the open line begins with this word.
+    /// Whether the open line begins so.
     pub(crate) fn is_at(&self, first_word: FirstWord) -> bool
-        ensures { IsTrue result ↔ (self.now.first_word ≡ first_word) }
+        ensures { IsTrue result ↔ SameWord self.now.first_word first_word.entry }
     {
-        self.first_word == first_word
-    }
-
-    /// The opcode of an open instruction.
-    pub(crate) fn opcode(&self) -> u8 {
-        self.opcode
+        match (self.first_word, first_word) {
+            (FirstWord::Word(word), FirstWord::Word(other)) => word == other,
+            (FirstWord::Opcode, FirstWord::Opcode) | (FirstWord::End, FirstWord::End) => true,
+            _ => false,
+        }
     }
 
     /// A line with this word must come.
-    pub(crate) fn expect(&self, first_word: FirstWord) -> Result<(), LineFault>
-        ensures { IfOk result (λ _. self.now.first_word ≡ first_word) }
+    pub(crate) fn expect(&self, word: &[u8]) -> Read<()>
+        ensures { IfOk result (λ _. word_of self.now.first_word ≡ Some word.now) }
     {
-        if self.first_word == first_word {
-            return Ok(());
+        match self.first_word {
+            FirstWord::Word(found) if found == word => Ok(()),
+            FirstWord::End => Err(LineFault::Broken(ListingRule::End)),
+            _ => Err(BAD_LINE),
         }
-        if self.first_word == FirstWord::End {
-            return Err(LineFault::Broken(ListingRule::End));
-        }
-        Err(BAD_LINE)
     }
 
     /// No line may follow, also none without its LF.
-    pub(crate) fn end(&self) -> Result<(), LineFault> {
-        if self.first_word != FirstWord::End {
-            return Err(BAD_LINE);
+    pub(crate) fn end(&self) -> Read<()> {
+        match self.first_word {
+            FirstWord::End if self.rest.is_empty() => Ok(()),
+            FirstWord::End => Err(LineFault::Broken(ListingRule::End)),
+            _ => Err(BAD_LINE),
         }
-        if !self.rest.is_empty() {
-            return Err(LineFault::Broken(ListingRule::End));
-        }
-        Ok(())
     }
 
     /// The open line has no further field.
-    pub(crate) fn end_of_line(&self) -> Result<(), LineFault>
+    pub(crate) fn end_of_line(&self) -> Read<()>
         ensures { IfOk result (λ _. fields_left self.now ≡ []) }
     {
         match self.fields {
@@ -161,13 +169,8 @@ impl<'a> Listing<'a> {
         }
     }
 
-    /// Whether the open line has a further field.
-    pub(crate) fn has_field(&self) -> bool {
-        self.fields.is_some()
-    }
-
     /// Goes on to the next line. Every field of the open one was read, so now its spelling is judged.
-    pub(crate) fn next_line(&mut self) -> Result<(), LineFault>
+    pub(crate) fn next_line(&mut self) -> Read<()>
         ensures canonical { IfOk result (λ _. IsTrue self.old.is_canonical) }
         ensures opened { IfOk result (λ _. Opens self.old.rest.now self.new) }
     {
@@ -179,7 +182,7 @@ impl<'a> Listing<'a> {
     }
 
     /// The next field.
-    pub(crate) fn field(&mut self) -> Result<&'a [u8], LineFault>
+    pub(crate) fn field(&mut self) -> Read<&'a [u8]>
         ensures taken { IfOk result (λ field. fields_left self.old ≡ 32 ∷ field.now ++ fields_left self.new) }
         ensures first_word { self.new.first_word ≡ self.old.first_word }
         ensures canonical { self.new.is_canonical ≡ self.old.is_canonical }
@@ -202,7 +205,7 @@ impl<'a> Listing<'a> {
     }
 
     /// All that is left of the line, which is a string in quotes.
-    pub(crate) fn string(&mut self) -> Result<Text, LineFault>
+    pub(crate) fn string(&mut self) -> Read<Text>
         ensures short { IfOk result (λ text. length text < 2 ^ 16) }
         ensures taken { IfOk result (λ text. TakesField (quoted text) self.old self.new) }
         ensures last { IfOk result (λ _. fields_left self.new ≡ []) }
@@ -215,7 +218,7 @@ impl<'a> Listing<'a> {
     }
 
     /// A number without sign, or `-0`.
-    pub(crate) fn unsigned(&mut self, most: u64) -> Result<u64, LineFault>
+    pub(crate) fn unsigned(&mut self, most: u64) -> Read<u64>
         ensures within { IfOk result (λ n. n ≤ most) }
         ensures taken { IfOk result (λ n. TakesField (decimal n) self.old self.new) }
     {
@@ -232,26 +235,20 @@ impl<'a> Listing<'a> {
         Ok(number)
     }
 
-    pub(crate) fn unsigned_8(&mut self) -> Result<u8, LineFault>
+    pub(crate) fn unsigned_8(&mut self) -> Read<u8>
         ensures { IfOk result (λ n. TakesField (decimal n) self.old self.new) }
     {
         Ok(self.unsigned(0xFF)? as u8)
     }
 
-    pub(crate) fn unsigned_16(&mut self) -> Result<u16, LineFault>
-        ensures { IfOk result (λ n. TakesField (decimal n) self.old self.new) }
-    {
-        Ok(self.unsigned(0xFFFF)? as u16)
-    }
-
-    pub(crate) fn unsigned_32(&mut self) -> Result<u32, LineFault>
+    pub(crate) fn unsigned_32(&mut self) -> Read<u32>
         ensures { IfOk result (λ n. TakesField (decimal n) self.old self.new) }
     {
         Ok(self.unsigned(0xFFFF_FFFF)? as u32)
     }
 
     /// A number with a sign.
-    pub(crate) fn signed(&mut self) -> Result<i32, LineFault> {
+    pub(crate) fn signed(&mut self) -> Read<i32> {
         let field = self.field()?;
         let (digits, is_negative) = split_minus(field);
         if !is_digits(digits) {
@@ -263,53 +260,38 @@ impl<'a> Listing<'a> {
     }
 
     /// Eight hexadecimal digits.
-    pub(crate) fn hexadecimal(&mut self) -> Result<u32, LineFault> {
+    pub(crate) fn hexadecimal(&mut self) -> Read<u32> {
         let field = self.field()?;
         let number = hex_number(field).ok_or(BAD_LINE)?;
-        self.note(!field.iter().any(|digit| is_upper(*digit)));
+        self.note(!field.iter().any(|digit| digit.is_ascii_uppercase()));
         Ok(number)
     }
 
     /// A reference. None where there is no such string.
-    pub(crate) fn reference(&mut self, names: &Strings) -> Result<Option<u16>, LineFault>
+    pub(crate) fn reference(&mut self, names: &Strings) -> Read<Option<u16>>
         ensures { IfOk result (λ found. IfSome found (IsReference (vec_len names.now.spelled))) }
     {
         let field = self.field()?;
-        if let [b'#', digits @ ..] = field {
-            return self.index(names, digits);
-        }
-        if !is_word(field) {
-            return Err(BAD_LINE);
-        }
-        let Some(place) = names.place_of(field) else {
+        let (place, by_word, is_canonical) = match field {
+            [b'#', digits @ ..] if is_digits(digits) => {
+                let number = magnitude(digits).unwrap_or(u64::MAX);
+                (u16::try_from(number).ok(), false, !has_leading_zero(digits))
+            }
+            _ if is_word(field) => (names.place_of(field), true, true),
+            _ => return Err(BAD_LINE),
+        };
+        let Some(place) = place else {
             return Ok(None);
         };
         let Some(is_spelled) = names.spelled.get(place as usize) else {
             return Ok(None);
         };
-        self.note(*is_spelled);
-        Ok(Some(place))
-    }
-
-    /// A reference by its index.
-    fn index(&mut self, names: &Strings, digits: &[u8]) -> Result<Option<u16>, LineFault>
-        ensures { IfOk result (λ found. IfSome found (IsReference (vec_len names.now.spelled))) }
-    {
-        if !is_digits(digits) {
-            return Err(BAD_LINE);
-        }
-        let Some(place) = magnitude(digits).and_then(|number| u16::try_from(number).ok()) else {
-            return Ok(None);
-        };
-        let Some(is_spelled) = names.spelled.get(place as usize) else {
-            return Ok(None);
-        };
-        self.note(!*is_spelled && !has_leading_zero(digits));
+        self.note(is_canonical && *is_spelled == by_word);
         Ok(Some(place))
     }
 
     /// What the size field of an object counts.
-    pub(crate) fn size_form(&mut self) -> Result<SizeForm, LineFault> {
+    pub(crate) fn size_form(&mut self) -> Read<SizeForm> {
         match self.field()? {
             b"counted" => Ok(SizeForm::Counted),
             b"bare" => Ok(SizeForm::Bare),
@@ -321,15 +303,5 @@ impl<'a> Listing<'a> {
 /// The number of this sign and magnitude. None where it doesn't fit.
 fn with_sign(is_negative: bool, magnitude: u64) -> Option<i32> {
     let magnitude = i64::try_from(magnitude).ok()?;
-    if is_negative {
-        return i32::try_from(magnitude.checked_neg()?).ok();
-    }
-    i32::try_from(magnitude).ok()
-}
-
-/// What a reference that names a string gives. A line is refused where one names none.
-pub(crate) fn known<T: Drop>(found: Option<T>) -> Result<T, LineFault>
-    ensures { IfOk result (λ value. found ≡ Some value) }
-{
-    found.ok_or(LineFault::Broken(ListingRule::BadName))
+    i32::try_from(if is_negative { -magnitude } else { magnitude }).ok()
 }

@@ -20,7 +20,7 @@ returns c =
     let d = c.in_ok-debug.ensures in
     let fs = read_as (IsShapedFlag n) flag _ _ c.in_ok-user_flags.user_flags.items c.in_ok-user_flags.ensures in
     let os = viewed (IsShapedObject n) FitsObject object plain_object _ _ c.in_ok-objects.objects.items c.in_ok-objects.ensures in
-    let v : Pex = record { minor = c.in_ok-version.version.minor; time = c.in_ok-version.version.time; source = c.in_ok-source.source; user = c.in_ok-user.user; machine = c.in_ok-machine.machine; strings = c.in_ok-strings.strings; debug = c.in_ok-debug.debug; user_flags = c.in_ok-user_flags.user_flags; objects = c.in_ok-objects.objects } in
+    let v : Pex = record { minor = c.in_ok-version.version.0; time = c.in_ok-version.version.1; source = c.in_ok-source.source; user = c.in_ok-user.user; machine = c.in_ok-machine.machine; strings = c.in_ok-strings.strings; debug = c.in_ok-debug.debug; user_flags = c.in_ok-user_flags.user_flags; objects = c.in_ok-objects.objects } in
     record {
       shaped = record {
         minor = c.in_ok-version.ensures.shaped.0;

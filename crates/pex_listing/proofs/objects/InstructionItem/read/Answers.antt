@@ -1,0 +1,42 @@
+use Rattle.std.proofs.Common.{◌≡◌, ℕ, ◌+◌, Bool, true, false, List, [], length, Option, Some, refl, sym, ◌∙◌, ap, subst, arith, rules}
+use Rattle.std.specs.List.{flat_map}
+use Rattle.pex_values.specs.declared.values.Instruction.{Instruction}
+use Rattle.pex_values.specs.Opcodes.{operands_of}
+use Rattle.pex_values.specs.Plain.{PlainInstruction, plain_instruction}
+use Rattle.pex_values.specs.Shape.{AgreesWith}
+use Rattle.pex_values.specs.Spelling.{datum, instruction}
+use Rattle.pex_values.proofs.Sizes.{plain_size, counted_size}
+use Rattle.pex_listing.specs.Reading.{more_bytes}
+use Rattle.pex_listing.proofs.objects.InstructionItem.read.Goals as goal
+
+agrees : {X : Type 0} (n fixed : ℕ) (may_follow : Bool) (more : List X) → fixed ≡ n → (may_follow ≡ false → more ≡ []) → AgreesWith (Some (n, may_follow)) fixed (length more)
+agrees n fixed true more count none = count
+agrees n fixed false more count none = (count, ap length (none refl))
+
+size : (i : PlainInstruction) (n : ℕ) (may_follow : Bool) → operands_of i.opcode ≡ Some (n, may_follow) → (may_follow ≡ false → i.more ≡ [])
+    → length (instruction i) ≡ 1 + more_bytes may_follow + length (flat_map datum i.fixed) + length (flat_map datum i.more)
+size i n true is none = omega (arith, counted_size i n is)
+size i n false is none =
+    let nothing : length (flat_map datum i.more) ≡ 0 = ap (λ more. length (flat_map datum more)) (none refl) in
+    omega (arith, plain_size i n is, nothing)
+
+pub returns : goal.returns
+returns c =
+    let is = sym c.operand_count.ensures ∙ c.in-Some.is in
+    let got = rw c.in_ok-fixed-2.ensures.ok_part at c.in_ok-fixed.ensures.values in
+    let count = rw c.in_ok-fixed-2.ensures.ok_part at c.in_ok-fixed.ensures.count in
+    let rest = rw c.in_ok-more-2.ensures.ok_part at c.in_ok-more.ensures.values in
+    let i : Instruction = record { opcode = c.args.listing.now.opcode; fixed = c.in_ok-fixed-2.fixed; more = c.in_ok-more-2.more } in
+    record {
+      holds = (
+        record {
+          opcode = search rules;
+          operands = subst (λ (o : Option (ℕ × Bool)). AgreesWith o (length i.fixed.items) (length i.more.items)) (sym is) (agrees c.in-Some.count (length i.fixed.items) c.in-Some.may_follow i.more.items count rest.none);
+          fixed = got.each;
+          more = rest.each;
+        },
+        omega (arith, rest.few, c.in_ok-fixed.ensures.room, c.in_ok-spend.ensures, c.args.room.now.within),
+      );
+      room = omega (arith, size (plain_instruction i) c.in-Some.count c.in-Some.may_follow is rest.none, got.room, rest.room, c.in_ok-spend.ensures);
+      less = omega (arith, c.in_ok-fixed.ensures.room, c.in_ok-more.ensures.room, c.in_ok-spend.ensures);
+    }
