@@ -31,8 +31,6 @@ mod snapshot;
 mod sound;
 mod sound_bodies;
 mod sound_calls;
-mod sound_locks;
-mod sound_numbers;
 mod sound_stacks;
 mod sound_values;
 mod stack;
