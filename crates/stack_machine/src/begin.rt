@@ -78,6 +78,7 @@ fn start(
         instance: Some(call.instance),
         way: CallWay::Method(planned.name.unwrap_or(0)),
         arguments,
+        kept: None,
     });
     threads.start(alloc, first)
 }

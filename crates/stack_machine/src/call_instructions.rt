@@ -35,6 +35,7 @@ impl Executor<'_> {
             instance,
             way,
             arguments,
+            kept: None,
         }))
     }
 
@@ -72,11 +73,7 @@ impl Executor<'_> {
     ) -> Result<Vec<Value>, OutOfMemory> {
         match action {
             Action::GetProperty => Ok(Vec::new(self.turn.alloc)),
-            Action::SetProperty => {
-                let mut arguments = Vec::new(self.turn.alloc);
-                arguments.push(self.value(instruction, 2)?)?;
-                Ok(arguments)
-            }
+            Action::SetProperty => Ok(vec![in self.turn.alloc; self.value(instruction, 2)?]?),
             _ => self.arguments(instruction),
         }
     }

@@ -1,9 +1,15 @@
 //! The frames of stacks.
 
-ghost use Rattle.std.specs.Prelude.{◌≤◌};
+ghost use Rattle.std.specs.Prelude.{◌≡◌, ◌≤◌, IfOk, vec_len};
 
 use core_tree::Value;
+use machine_state::Way;
+use papy_base::OutOfMemory;
 use pex_verify::{MethodPlace, PropertyPlace};
+use std::alloc::Global;
+
+/// The most frames of one stack.
+pub const FRAME_LIMIT: usize = 128;
 
 /// How a call names its function. Names stand as their numbers.
 #[derive(Clone, Copy, PartialEq, Eq)]
@@ -28,6 +34,9 @@ pub struct Call {
     pub way: CallWay,
     /// By parameter.
     pub arguments: Vec<Value>,
+    /// How the call names its function where a restored machine began with it. One that a machine made itself is
+    /// spelled in the code or in the scene.
+    pub kept: Option<Way>,
 }
 
 /// Which body runs.
@@ -89,6 +98,33 @@ impl Frame {
         match self {
             Frame::Pending(call) => call.instance,
             Frame::Running(running) => running.instance,
+        }
+    }
+}
+
+/// The frames of one stack.
+#[derive(Drop)]
+pub struct Stack {
+    /// Innermost last.
+    pub frames: Vec<Frame>,
+}
+
+impl Stack {
+    /// A stack whose first call is this one.
+    pub fn starting(alloc: Global, first: Frame) -> Result<Stack, OutOfMemory>
+        ensures { IfOk result (λ stack. vec_len stack.frames ≡ 1) }
+    {
+        let mut frames = Vec::new(alloc);
+        frames.push(first)?;
+        Ok(Stack { frames })
+    }
+
+    /// Hands the innermost frame, which is a running one, the reply to its act.
+    pub fn reply(&mut self, value: Value)
+        ensures { vec_len self.new.frames ≡ vec_len self.old.frames }
+    {
+        if let Some(Frame::Running(running)) = self.frames.last_mut() {
+            running.reply = Some(value);
         }
     }
 }

@@ -33,14 +33,12 @@ mod sound_bodies;
 mod sound_calls;
 mod sound_stacks;
 mod sound_values;
-mod stack;
 mod status;
 mod store;
 mod threads;
 mod told_frames;
 mod told_store;
 mod told_threads;
-mod transfers;
 mod world;
 
 pub use lines::append_escaped;

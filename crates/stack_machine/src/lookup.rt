@@ -3,10 +3,10 @@
 use crate::frame::{Call, CallWay, FunctionPlace, Running};
 use crate::setting::Setting;
 use crate::store::default_of;
-use core_tree::Value;
 use papy_base::OutOfMemory;
-use pex_verify::{LoadedFunction, MethodPlace, PropertyPlace};
+use pex_verify::{MethodPlace, PropertyPlace};
 use std::alloc::Global;
+use std::mem;
 
 /// What a look-up finds.
 #[derive(Clone, Copy, PartialEq, Eq)]
@@ -35,11 +35,15 @@ pub fn look_up(
             find_method(setting, state, setting.parent_of(script)?, name)
         }
         CallWay::Get(name) => {
-            let at = find_property(setting, instance, name)?;
+            let at = setting
+                .loaded
+                .find_property(setting.script_of(instance?)?, name)?;
             Some(accessor(setting, at, FunctionPlace::Reader(at)))
         }
         CallWay::Set(name) => {
-            let at = find_property(setting, instance, name)?;
+            let at = setting
+                .loaded
+                .find_property(setting.script_of(instance?)?, name)?;
             Some(accessor(setting, at, FunctionPlace::Writer(at)))
         }
     }
@@ -54,12 +58,6 @@ fn find_method(setting: &Setting, state: Option<usize>, script: u16, name: usize
     Some(Found::Body(FunctionPlace::Method(at)))
 }
 
-fn find_property(setting: &Setting, instance: Option<u16>, name: usize) -> Option<PropertyPlace> {
-    setting
-        .loaded
-        .find_property(setting.script_of(instance?)?, name)
-}
-
 // The variable of an Auto property, or the body of another one.
 fn accessor(setting: &Setting, at: PropertyPlace, body: FunctionPlace) -> Found {
     let variable = setting.property(at).and_then(|property| property.variable);
@@ -72,16 +70,18 @@ fn accessor(setting: &Setting, at: PropertyPlace, body: FunctionPlace) -> Found 
     }
 }
 
-/// The frame of a body: its parameters are the arguments, and its locals have their defaults.
+/// The frame of a body: its parameters are the call's arguments, which are taken, and its locals have their defaults.
 pub fn open(
     alloc: Global,
     setting: &Setting,
-    call: Call,
+    call: &mut Call,
     body: FunctionPlace,
 ) -> Result<Running, OutOfMemory> {
-    let mut slots = call.arguments;
+    let mut slots = mem::replace(&mut call.arguments, Vec::new(alloc));
     if let Some(function) = setting.function(body) {
-        push_locals(alloc, &mut slots, function)?;
+        for (_, kind) in &function.locals {
+            slots.push(default_of(alloc, *kind)?)?;
+        }
     }
     Ok(Running {
         instance: call.instance,
@@ -90,15 +90,4 @@ pub fn open(
         slots,
         reply: None,
     })
-}
-
-fn push_locals(
-    alloc: Global,
-    slots: &mut Vec<Value>,
-    function: &LoadedFunction,
-) -> Result<(), OutOfMemory> {
-    for (_, kind) in &function.locals {
-        slots.push(default_of(alloc, *kind)?)?;
-    }
-    Ok(())
 }

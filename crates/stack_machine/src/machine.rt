@@ -288,8 +288,13 @@ impl Machine {
     ///
     /// `OutOfMemory` comes only of a text.
     pub fn property_at(&self, instance: u16, property: u32) -> Result<Value, OutOfMemory> {
-        match self.setting.property_place(instance, property) {
-            Some((script, variable)) => self.world.store.variable(instance, script, variable),
+        let store = &self.world.store;
+        if !store.has_instance(instance) {
+            return Ok(Value::NoneValue);
+        }
+        let upward = store.instances.scripts_of(instance);
+        match self.setting.property_place(upward, property) {
+            Some((script, variable)) => store.variable(instance, script, variable),
             None => Ok(Value::NoneValue),
         }
     }
@@ -367,7 +372,6 @@ fn initial_world(alloc: Global, loaded: &Loaded, scene: &Scene) -> Result<World,
         store,
         threads,
         last: None,
-        kept: Vec::new(alloc),
     })
 }
 

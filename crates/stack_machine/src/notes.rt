@@ -12,9 +12,6 @@ use run_replay::LockMove;
 pub trait Notes {
     ghost noted: { Self → Option (List LockMove) };
 
-    /// Whether moves are kept.
-    fn are_kept(&self) -> bool;
-
     /// Notes one more move.
     fn note(&mut self, moved: LockMove) -> Result<(), OutOfMemory>
         ensures added { OnOk result (Adds (moved ∷ []) (noted self.old) (noted self.new)) }
@@ -28,10 +25,6 @@ pub struct NoNotes;
 impl Notes for NoNotes {
     ghost noted = { λ _. None };
 
-    fn are_kept(&self) -> bool {
-        false
-    }
-
     fn note(&mut self, _moved: LockMove) -> Result<(), OutOfMemory> {
         Ok(())
     }
@@ -39,10 +32,6 @@ impl Notes for NoNotes {
 
 impl Notes for Vec<LockMove> {
     ghost noted = { λ moves. Some moves.items };
-
-    fn are_kept(&self) -> bool {
-        true
-    }
 
     fn note(&mut self, moved: LockMove) -> Result<(), OutOfMemory> {
         self.push(moved)?;

@@ -8,6 +8,7 @@ ghost use Rattle.stack_machine.specs.Settings.{function_of, is_above, method_at,
 use crate::frame::FunctionPlace;
 use crate::plan::Plan;
 use core_tree::{CoreType, Scene};
+use instance_store::ScriptVariables;
 use pex_verify::{Loaded, LoadedFunction, LoadedProperty, MethodPlace, Operand, PropertyPlace};
 
 /// What no turn changes.
@@ -69,11 +70,8 @@ impl Setting {
     pub fn parent_of(&self, script: u16) -> Option<u16>
         ensures { result ≡ parent_of (slice_get self.now.loaded.outline script) }
     {
-        self.loaded
-            .outline()
-            .scripts
-            .get(usize::from(script))?
-            .parent
+        let scripts = &self.loaded.outline().scripts;
+        scripts.get(usize::from(script))?.parent
     }
 
     /// The number of an instance's script.
@@ -124,6 +122,23 @@ impl Setting {
     }
 }
 
+impl Setting {
+    /// The script and the variable of the Auto property of this number of an instance with these scripts, which stand
+    /// upward. The properties of the root script come first.
+    pub fn property_place(&self, upward: &[ScriptVariables], property: u32) -> Option<(u16, u16)> {
+        let mut left = property as usize;
+        for variables in upward.iter().rev() {
+            let script = variables.script();
+            let found = self.loaded.outline().scripts.get(usize::from(script))?;
+            if let Some(property) = found.properties.get(left) {
+                return Some((script, property.variable));
+            }
+            left = left.saturating_sub(found.properties.len());
+        }
+        None
+    }
+}
+
 /// The type of a parameter or local, none where what is stored in it is dropped.
 #[inline(always)]
 pub fn slot_type(function: &LoadedFunction, number: usize) -> Option<CoreType>
@@ -135,39 +150,4 @@ pub fn slot_type(function: &LoadedFunction, number: usize) -> Option<CoreType>
     let local = number.checked_sub(function.parameters.len())?;
     let (_, kind) = function.locals.get(local)?;
     *kind
-}
-
-impl Setting {
-    /// The script and the variable of an instance's Auto property of this number, in the order of the report.
-    pub fn property_place(&self, instance: u16, property: u32) -> Option<(u16, u16)> {
-        let scripts = &self.loaded.outline().scripts;
-        let (mut script, property) = (self.script_of(instance)?, property as usize);
-        let mut above = self.properties_upward(script);
-        for _ in 0..scripts.len() {
-            let found = scripts.get(usize::from(script))?;
-            above = above.saturating_sub(found.properties.len());
-            if property >= above {
-                return Some((script, found.properties.get(property - above)?.variable));
-            }
-            script = found.parent?;
-        }
-        None
-    }
-
-    // How many Auto properties a script and those above it have.
-    fn properties_upward(&self, script: u16) -> usize {
-        let scripts = &self.loaded.outline().scripts;
-        let (mut count, mut next) = (0usize, Some(script));
-        for _ in 0..scripts.len() {
-            let Some(number) = next else {
-                break;
-            };
-            let Some(found) = scripts.get(usize::from(number)) else {
-                break;
-            };
-            count = count.saturating_add(found.properties.len());
-            next = found.parent;
-        }
-        count
-    }
 }

@@ -4,7 +4,7 @@ ghost use Rattle.std.specs.Prelude.{◌≡◌, ◌≤◌, length, true, vec_len}
 ghost use Rattle.stack_machine.specs.Plans.{calls_before};
 
 use crate::ascending::{pairs_ascend, sleepers_ascend, stacks_ascend};
-use crate::stack::FRAME_LIMIT;
+use crate::frame::FRAME_LIMIT;
 use crate::threads::ALL_FRAMES;
 use core_tree::{BoundCall, Scene};
 use machine_state::{FrameState, MachineState};
