@@ -8,6 +8,7 @@ use crate::operands::Executor;
 use crate::setting::Setting;
 use crate::store::Store;
 use core_tree::{CoreType, Value};
+use instance_store::Arrays;
 use papy_base::{OutOfMemory, Text, read_int, write_int};
 use pex_verify::LoadedInstruction;
 use std::alloc::Global;
@@ -76,7 +77,7 @@ pub fn text_of(
 {
     let mut bytes = Vec::new(alloc);
     if let Value::Array(array) = value {
-        append_array(&mut bytes, setting, store, *array)?;
+        append_array(&mut bytes, setting, &store.arrays, *array)?;
         return Text::try_from_bytes(alloc, bytes.as_slice());
     }
     append_plain(&mut bytes, setting, value)?;
@@ -113,12 +114,8 @@ fn append_instance(bytes: &mut Vec<u8>, setting: &Setting, instance: u16) -> Res
     let Some(bound) = setting.scene.instances.get(usize::from(instance)) else {
         return Ok(());
     };
-    let Some(script) = setting
-        .loaded
-        .outline()
-        .scripts
-        .get(usize::from(bound.script))
-    else {
+    let scripts = &setting.loaded.outline().scripts;
+    let Some(script) = scripts.get(usize::from(bound.script)) else {
         return Ok(());
     };
     append_named(bytes, script.name.as_bytes(), bound.name.as_bytes())
@@ -139,16 +136,17 @@ fn append_named(bytes: &mut Vec<u8>, script: &[u8], name: &[u8]) -> Result<(), O
 fn append_array(
     bytes: &mut Vec<u8>,
     setting: &Setting,
-    store: &Store,
+    arrays: &Arrays,
     array: u16,
 ) -> Result<(), OutOfMemory> {
-    let count = store.length_of(array);
     bytes.push(b'[')?;
-    for at in 0..count {
-        if at > 0 {
-            bytes.extend_from_slice(b", ")?;
+    if array < arrays.count() {
+        for (at, item) in arrays.items_of(array).iter().enumerate() {
+            if at > 0 {
+                bytes.extend_from_slice(b", ")?;
+            }
+            append_plain(bytes, setting, item)?;
         }
-        append_plain(bytes, setting, &store.element(array, at)?)?;
     }
     bytes.push(b']')?;
     Ok(())

@@ -6,7 +6,6 @@ ghost use Rattle.stack_machine.specs.declared.status.TurnFault.TheVariants.{OutO
 
 use papy_base::OutOfMemory;
 use papy_io::IoFault;
-use std::alloc::{AllocError, AllocFailed};
 use thiserror::Error;
 
 /// How a turn ended.
@@ -48,22 +47,6 @@ impl From<OutOfMemory> for TurnFault {
     ghost from_gives = { λ _ fault. fault ≡ TurnOutOfMemory };
 
     fn from(_error: OutOfMemory) -> TurnFault {
-        TurnFault::OutOfMemory
-    }
-}
-
-impl From<AllocError> for TurnFault {
-    ghost from_gives = { λ _ fault. fault ≡ TurnOutOfMemory };
-
-    fn from(_error: AllocError) -> TurnFault {
-        TurnFault::OutOfMemory
-    }
-}
-
-impl<T: Drop> From<AllocFailed<T>> for TurnFault {
-    ghost from_gives = { λ _ fault. fault ≡ TurnOutOfMemory };
-
-    fn from(_error: AllocFailed<T>) -> TurnFault {
         TurnFault::OutOfMemory
     }
 }
