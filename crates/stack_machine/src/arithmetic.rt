@@ -41,14 +41,8 @@ impl Executor<'_> {
         let left = self.number(instruction, 1)?;
         let right = self.number(instruction, 2)?;
         match compute(instruction.opcode, left, right) {
-            Some(number) => {
-                self.write(instruction, 0, Value::Int(number))?;
-                Ok(None)
-            }
-            None => {
-                self.write(instruction, 0, Value::Int(0))?;
-                Ok(Some(StackFault::DivideZero))
-            }
+            Some(number) => self.answer(instruction, 0, Value::Int(number), None),
+            None => self.answer(instruction, 0, Value::Int(0), Some(StackFault::DivideZero)),
         }
     }
 
@@ -109,14 +103,11 @@ impl Executor<'_> {
         ensures too_long { 1024 < length left.now + length right.now → IfOk result (λ fault. StoresAt self.old self.new instruction.now 0 (values.Text []) × (fault ≡ Some StackFault.TextTooLong)) }
     {
         match left.try_join(self.turn.alloc, right) {
-            Ok(text) => {
-                self.write(instruction, 0, Value::Text(text))?;
-                Ok(None)
-            }
+            Ok(text) => self.answer(instruction, 0, Value::Text(text), None),
             Err(JoinFault::TooLong) => {
                 let empty = Text::try_from_bytes(self.turn.alloc, &[])?;
-                self.write(instruction, 0, Value::Text(empty))?;
-                Ok(Some(StackFault::TextTooLong))
+                let fault = Some(StackFault::TextTooLong);
+                self.answer(instruction, 0, Value::Text(empty), fault)
             }
             Err(JoinFault::OutOfMemory) => Err(OutOfMemory),
         }

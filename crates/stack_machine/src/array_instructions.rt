@@ -30,13 +30,9 @@ impl Executor<'_> {
         };
         let store = &mut *self.store;
         match store.arrays.create(kind, size_of_array(instruction)) {
-            Ok(array) => {
-                self.write(instruction, 0, Value::Array(array))?;
-                Ok(None)
-            }
+            Ok(array) => self.answer(instruction, 0, Value::Array(array), None),
             Err(StoreFault::Fault(fault)) => {
-                self.write(instruction, 0, Value::NoneValue)?;
-                Ok(Some(fault))
+                self.answer(instruction, 0, Value::NoneValue, Some(fault))
             }
             Err(StoreFault::OutOfMemory) => Err(OutOfMemory),
         }
@@ -66,10 +62,7 @@ impl Executor<'_> {
         let at = self.number(instruction, 2)?;
         let store = &*self.store;
         match store.arrays.get_at(store.array_of(&value), at) {
-            Ok(value) => {
-                self.write(instruction, 0, value)?;
-                Ok(None)
-            }
+            Ok(value) => self.answer(instruction, 0, value, None),
             Err(StoreFault::Fault(fault)) => {
                 self.write_default(instruction, 0)?;
                 Ok(Some(fault))
@@ -124,14 +117,8 @@ impl Executor<'_> {
         ensures { IfOk result (StoresNumber self.old self.new instruction.now place answer) }
     {
         match answer {
-            Ok(number) => {
-                self.write(instruction, place, Value::Int(number))?;
-                Ok(None)
-            }
-            Err(fault) => {
-                self.write(instruction, place, Value::Int(0))?;
-                Ok(Some(fault))
-            }
+            Ok(number) => self.answer(instruction, place, Value::Int(number), None),
+            Err(fault) => self.answer(instruction, place, Value::Int(0), Some(fault)),
         }
     }
 }

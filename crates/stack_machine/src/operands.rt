@@ -11,7 +11,7 @@ use crate::coercions::{counts_as_true, number_of};
 use crate::setting::Setting;
 use crate::store::{Store, default_of};
 use core_tree::{CoreType, Value};
-use papy_base::OutOfMemory;
+use papy_base::{OutOfMemory, StackFault};
 use pex_verify::{LoadedFunction, LoadedInstruction, Operand};
 use std::alloc::Global;
 
@@ -180,6 +180,21 @@ impl Executor<'_> {
             Some(_) => self.keep(operand, value),
             None => Ok(()),
         }
+    }
+
+    /// Stores a value in a fixed operand, and gives the fault with which the instruction is done, if any.
+    pub fn answer(
+        &mut self,
+        instruction: &LoadedInstruction,
+        place: usize,
+        value: Value,
+        fault: Option<StackFault>,
+    ) -> Result<Option<StackFault>, OutOfMemory>
+        ensures stored { OnOk result (StoresAt self.old self.new instruction.now place value) }
+        ensures fault { IfOk result (λ answer. answer ≡ fault) }
+    {
+        self.write(instruction, place, value)?;
+        Ok(fault)
     }
 
     #[inline(always)]
