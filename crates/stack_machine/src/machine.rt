@@ -281,24 +281,6 @@ impl Machine {
         &self.setting.plan.no_state
     }
 
-    /// The value of an instance's Auto property of this number, where those of the root script come first, each
-    /// script's in order of declaration.
-    ///
-    /// # Errors
-    ///
-    /// `OutOfMemory` comes only of a text.
-    pub fn property_at(&self, instance: u16, property: u32) -> Result<Value, OutOfMemory> {
-        let store = &self.world.store;
-        if !store.has_instance(instance) {
-            return Ok(Value::NoneValue);
-        }
-        let upward = store.instances.scripts_of(instance);
-        match self.setting.property_place(upward, property) {
-            Some((script, variable)) => store.variable(instance, script, variable),
-            None => Ok(Value::NoneValue),
-        }
-    }
-
     /// The value of an instance's variable of this number, among the variables of this script. None where the
     /// instance has no such variable.
     ///

@@ -8,7 +8,6 @@ ghost use Rattle.stack_machine.specs.Settings.{function_of, is_above, method_at,
 use crate::frame::FunctionPlace;
 use crate::plan::Plan;
 use core_tree::{CoreType, Scene};
-use instance_store::ScriptVariables;
 use pex_verify::{Loaded, LoadedFunction, LoadedProperty, MethodPlace, Operand, PropertyPlace};
 
 /// What no turn changes.
@@ -119,23 +118,6 @@ impl Setting {
             Operand::Instance => Some(CoreType::Script(script)),
             _ => None,
         }
-    }
-}
-
-impl Setting {
-    /// The script and the variable of the Auto property of this number of an instance with these scripts, which stand
-    /// upward. The properties of the root script come first.
-    pub fn property_place(&self, upward: &[ScriptVariables], property: u32) -> Option<(u16, u16)> {
-        let mut left = property as usize;
-        for variables in upward.iter().rev() {
-            let script = variables.script();
-            let found = self.loaded.outline().scripts.get(usize::from(script))?;
-            if let Some(property) = found.properties.get(left) {
-                return Some((script, property.variable));
-            }
-            left = left.saturating_sub(found.properties.len());
-        }
-        None
     }
 }
 

@@ -6,6 +6,7 @@ ghost use Rattle.stack_machine.specs.declared.status.TurnFault.TheVariants.{OutO
 
 use papy_base::OutOfMemory;
 use papy_io::IoFault;
+use std::alloc::AllocError;
 use thiserror::Error;
 
 /// How a turn ended.
@@ -47,6 +48,14 @@ impl From<OutOfMemory> for TurnFault {
     ghost from_gives = { λ _ fault. fault ≡ TurnOutOfMemory };
 
     fn from(_error: OutOfMemory) -> TurnFault {
+        TurnFault::OutOfMemory
+    }
+}
+
+impl From<AllocError> for TurnFault {
+    ghost from_gives = { λ _ fault. fault ≡ TurnOutOfMemory };
+
+    fn from(_error: AllocError) -> TurnFault {
         TurnFault::OutOfMemory
     }
 }
