@@ -1,9 +1,10 @@
-//! Casts.
+//! What values count as, and what they are cast to.
 
 ghost use Rattle.std.specs.Prelude.{◌≡◌, ◌++◌, slice_get, IfOk, OnOk};
+ghost use Rattle.instance_store.specs.Values.{equals};
 ghost use Rattle.stack_machine.specs.Casts.{named, plain_text, text_of_bound, IsTextOf};
+ghost use Rattle.stack_machine.specs.Values.{is_true, number_in};
 
-use crate::coercions::{counts_as_true, number_of};
 use crate::operands::Executor;
 use crate::setting::Setting;
 use crate::store::Store;
@@ -12,6 +13,48 @@ use instance_store::Arrays;
 use papy_base::{OutOfMemory, Text, read_int, write_int};
 use pex_verify::LoadedInstruction;
 use std::alloc::Global;
+
+/// The number of an Int, 1 of True, and 0 of all else.
+pub fn number_of(value: &Value) -> i32
+    ensures { result ≡ number_in value.now }
+{
+    match value {
+        Value::Int(number) => *number,
+        Value::Bool(true) => 1,
+        _ => 0,
+    }
+}
+
+/// Whether a value counts as true: it is no 0, False, empty text or None.
+pub fn counts_as_true(value: &Value) -> bool
+    ensures { result ≡ is_true value.now }
+{
+    match value {
+        Value::NoneValue => false,
+        Value::Int(number) => *number != 0,
+        Value::Bool(truth) => *truth,
+        Value::Text(text) => !text.as_bytes().is_empty(),
+        Value::Instance(_) | Value::Array(_) => true,
+    }
+}
+
+/// Whether two values are equal: texts with the case of A to Z ignored, instances and arrays where they are
+/// the same one.
+pub fn are_equal(value: &Value, other: &Value) -> bool
+    ensures { result ≡ equals value.now other.now }
+{
+    match (value, other) {
+        (Value::NoneValue, Value::NoneValue) => true,
+        (Value::Int(left), Value::Int(right)) => left == right,
+        (Value::Bool(left), Value::Bool(right)) => left == right,
+        (Value::Text(left), Value::Text(right)) => {
+            left.as_bytes().eq_ignore_ascii_case(right.as_bytes())
+        },
+        (Value::Instance(left), Value::Instance(right)) => left == right,
+        (Value::Array(left), Value::Array(right)) => left == right,
+        _ => false,
+    }
+}
 
 impl Executor<'_> {
     /// cast: a result and a value.
@@ -28,20 +71,13 @@ impl Executor<'_> {
         match kind {
             CoreType::Bool => Ok(Value::Bool(counts_as_true(&value))),
             CoreType::Int => Ok(Value::Int(cast_to_number(&value))),
-            CoreType::Text => self.cast_to_text(value),
-            CoreType::Script(script) => Ok(self.cast_to_script(script, value)),
-            _ => Ok(value),
-        }
-    }
-
-    fn cast_to_text(&self, value: Value) -> Result<Value, OutOfMemory> {
-        match value {
-            Value::Text(text) => Ok(Value::Text(text)),
-            other => {
-                let text = text_of(self.turn.alloc, self.turn.setting, self.store, &other);
-                drop(other);
+            CoreType::Text => {
+                let text = text_of(self.turn.alloc, self.turn.setting, self.store, &value);
+                drop(value);
                 Ok(Value::Text(text?))
             }
+            CoreType::Script(script) => Ok(self.cast_to_script(script, value)),
+            _ => Ok(value),
         }
     }
 

@@ -1,6 +1,6 @@
 //! Which values fit which types in a state that is judged.
 
-use crate::array_instructions::element_type;
+use crate::instructions::element_type;
 use crate::sound::Judged;
 use core_tree::{CoreType, Value};
 use papy_base::TEXT_LIMIT;

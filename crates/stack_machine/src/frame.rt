@@ -1,12 +1,10 @@
 //! The frames of stacks.
 
-ghost use Rattle.std.specs.Prelude.{◌≡◌, ◌≤◌, IfOk, vec_len};
+ghost use Rattle.std.specs.Prelude.{◌≤◌};
 
 use core_tree::Value;
 use machine_state::Way;
-use papy_base::OutOfMemory;
 use pex_verify::{MethodPlace, PropertyPlace};
-use std::alloc::Global;
 
 /// The most frames of one stack.
 pub const FRAME_LIMIT: usize = 128;
@@ -107,24 +105,4 @@ impl Frame {
 pub struct Stack {
     /// Innermost last.
     pub frames: Vec<Frame>,
-}
-
-impl Stack {
-    /// A stack whose first call is this one.
-    pub fn starting(alloc: Global, first: Frame) -> Result<Stack, OutOfMemory>
-        ensures { IfOk result (λ stack. vec_len stack.frames ≡ 1) }
-    {
-        let mut frames = Vec::new(alloc);
-        frames.push(first)?;
-        Ok(Stack { frames })
-    }
-
-    /// Hands the innermost frame, which is a running one, the reply to its act.
-    pub fn reply(&mut self, value: Value)
-        ensures { vec_len self.new.frames ≡ vec_len self.old.frames }
-    {
-        if let Some(Frame::Running(running)) = self.frames.last_mut() {
-            running.reply = Some(value);
-        }
-    }
 }

@@ -6,12 +6,12 @@ ghost use Rattle.latent_natives.specs.Devices.{SameKinds};
 ghost use Rattle.stack_machine.specs.Machine.{CountsTurn};
 ghost use Rattle.stack_machine.specs.Written.{WritesLines};
 
-use crate::frame::{Call, Frame, Running, Stack};
-use crate::instruction::{Event, Step};
+use crate::frame::{Call, Frame, FunctionPlace, Running, Stack};
+use crate::instructions::{Event, Step};
 use crate::lines::fault_line;
-use crate::lookup::{Found, look_up, open};
 use crate::natives::{Performed, perform};
 use crate::operands::{Executor, Turn};
+use crate::setting::Found;
 use crate::status::TurnFault;
 use crate::store::{Store, default_of};
 use core_tree::Value;
@@ -19,6 +19,7 @@ use latent_natives::Device;
 use papy_base::{OutOfMemory, StackFault};
 use papy_io::Sink;
 use pex_verify::{LoadedInstruction, MethodPlace};
+use std::mem;
 
 /// What ended a run of a stack.
 #[derive(Drop)]
@@ -83,22 +84,39 @@ fn enter<S: Sink>(
         return Ok(None);
     };
     let state = store.state_number(call.instance);
-    match look_up(turn.setting, state, call.instance, call.way) {
+    match turn.setting.look_up(state, call.instance, call.way) {
         Some(Found::Body(body)) => {
-            let running = open(turn.alloc, turn.setting, call, body)?;
+            let running = open(turn, call, body)?;
             *frame = Frame::Running(running);
             Ok(None)
         }
         Some(Found::Native(native)) => {
-            let performed = perform(turn, native, call.arguments.as_slice(), sink, devices)?;
+            let performed = perform(turn, native, &call.arguments, sink, devices)?;
             Ok(Some(Ending::Returned(performed)))
         }
-        Some(Found::Variable { property, variable }) => {
+        Some(Found::Variable(property, variable)) => {
             let reply = set_or_get(store, call, property.script, variable)?;
             Ok(Some(returning(reply)))
         }
         None => Ok(Some(returning(Value::NoneValue))),
     }
+}
+
+// The frame of a body: its parameters are the call's arguments, which are taken, and its locals have their defaults.
+fn open(turn: &Turn<'_>, call: &mut Call, body: FunctionPlace) -> Result<Running, OutOfMemory> {
+    let mut slots = mem::replace(&mut call.arguments, Vec::new(turn.alloc));
+    if let Some(function) = turn.setting.function(body) {
+        for (_, kind) in &function.locals {
+            slots.push(default_of(turn.alloc, *kind)?)?;
+        }
+    }
+    Ok(Running {
+        instance: call.instance,
+        body,
+        place: 0,
+        slots,
+        reply: None,
+    })
 }
 
 // An Auto property: its variable is written, or read where the call has no argument.
@@ -139,7 +157,7 @@ fn run_frame<S: Sink>(
     let Some(function) = turn.setting.function(running.body) else {
         return Ok(Ending::Pass);
     };
-    let (place, reply) = (running.place, running.reply.take());
+    let reply = running.reply.take();
     let mut executor = Executor {
         turn,
         function,
@@ -148,25 +166,17 @@ fn run_frame<S: Sink>(
         script: running.body.script(),
         slots: &mut running.slots,
         has_room,
-        place,
+        place: running.place,
     };
-    take_reply(&mut executor, reply)?;
+    if let Some(reply) = reply {
+        if let Some(call) = function.code.get(executor.place) {
+            executor.give(call, reply)?;
+        }
+        executor.place = executor.place.saturating_add(1);
+    }
     let ending = run_body(&mut executor, sink, devices)?;
     running.place = executor.place;
     Ok(ending)
-}
-
-// Stores the reply that was awaited, and goes on behind the act that awaited it.
-fn take_reply(executor: &mut Executor<'_>, awaited: Option<Value>) -> Result<(), OutOfMemory> {
-    let Some(reply) = awaited else {
-        return Ok(());
-    };
-    let function = executor.function;
-    if let Some(call) = function.code.get(executor.place) {
-        executor.give(call, reply)?;
-    }
-    executor.place = executor.place.saturating_add(1);
-    Ok(())
 }
 
 // Runs a body up to the act that ends its turn, which a loop pass does only as the last that the turn may have.
@@ -286,14 +296,7 @@ fn leave<S: Sink>(
         Event::Called(call) => Ok(Some(Ending::Called(call))),
         Event::Returned(value) => Ok(Some(returning(value))),
         Event::Native { at, arguments } => {
-            let ending = run_native(
-                executor,
-                instruction,
-                at,
-                arguments.as_slice(),
-                sink,
-                devices,
-            );
+            let ending = run_native(executor, instruction, at, &arguments, sink, devices);
             drop(arguments);
             ending
         }

@@ -8,7 +8,7 @@ ghost use Rattle.machine_state.specs.Plain.{plain, plain_array, plain_device, pl
 ghost use Rattle.machine_state.specs.Savable.{AreSavableValues, FitsTwoBytes, IsElementType, IsNumbered, IsSavable, IsSavableArray, IsSavableDevice, IsSavableFrame, IsSavableInstance, IsSavablePlace, IsSavableStack, IsSavableValue, firsts, name_of};
 
 use crate::ascending::{pairs_ascend, sleepers_ascend, stacks_ascend};
-use crate::named::name_of;
+use crate::setting::name_of;
 use core_tree::{CoreType, DeviceKind, Value};
 use machine_state::{BodyPlace, FrameState, MachineState, Way};
 use papy_base::Text;

@@ -149,3 +149,14 @@ pub fn default_of(alloc: Global, kind: Option<CoreType>) -> Result<Value, OutOfM
         _ => Value::NoneValue,
     })
 }
+
+/// Copies of the values.
+pub fn copies(alloc: Global, values: &[Value]) -> Result<Vec<Value>, OutOfMemory>
+    ensures { IfOk result (λ copies. copies.items ≡ values.now) }
+{
+    let mut copies = Vec::with_capacity(alloc, values.len())?;
+    for value in values {
+        copies.push(value.try_clone(alloc)?)?;
+    }
+    Ok(copies)
+}

@@ -9,9 +9,8 @@ ghost use Rattle.stack_machine.specs.Moves.{AddsSome, AreWakes, Begins, Noted, T
 ghost use Rattle.stack_machine.specs.Threads.{GoesToWait, HasGrown, IsOn, IsSameSize, due_after, let_go, put_to_sleep, taken};
 
 use crate::frame::{Call, CallWay, FRAME_LIMIT, Frame, Stack};
+use crate::moves::{Notes, Place, note_any};
 use crate::natives::Performed;
-use crate::notes::{Notes, note_any};
-use crate::place::Place;
 use crate::run::Ending;
 use crate::status::Status;
 use core_tree::Value;
@@ -93,7 +92,8 @@ impl Threads {
         ensures moved { IfOk result (Begins self.old.started) }
     {
         let stack = self.count();
-        self.stacks.push(Stack::starting(alloc, first)?)?;
+        let frames = vec![in alloc; first]?;
+        self.stacks.push(Stack { frames })?;
         Ok(self.go_on(stack))
     }
 
@@ -110,8 +110,8 @@ impl Threads {
                 .is_some_and(|found| found.frames.len() < FRAME_LIMIT)
     }
 
-    /// Pushes a frame.
-    pub fn push(&mut self, stack: u16, frame: Frame) -> Result<(), OutOfMemory>
+    // Pushes a frame.
+    fn push(&mut self, stack: u16, frame: Frame) -> Result<(), OutOfMemory>
         ensures { IsSameSize self.old self.new }
     {
         let Some(found) = self.stacks.get_mut(usize::from(stack)) else {
@@ -125,8 +125,8 @@ impl Threads {
         Ok(())
     }
 
-    /// Takes the innermost frame away.
-    pub fn pop(&mut self, stack: u16) -> Option<Frame>
+    // Takes the innermost frame away.
+    fn pop(&mut self, stack: u16) -> Option<Frame>
         ensures { IsSameSize self.old self.new }
     {
         let found = self.stacks.get_mut(usize::from(stack))?;
@@ -137,12 +137,14 @@ impl Threads {
         frame
     }
 
-    /// Hands the innermost frame the reply to its act.
-    pub fn reply(&mut self, stack: u16, value: Value)
+    // Hands the innermost frame, which is a running one, the reply to its act.
+    fn reply(&mut self, stack: u16, value: Value)
         ensures { IsSameSize self.old self.new }
     {
         if let Some(found) = self.stacks.get_mut(usize::from(stack)) {
-            found.reply(value);
+            if let Some(Frame::Running(running)) = found.frames.last_mut() {
+                running.reply = Some(value);
+            }
         }
     }
 
@@ -478,8 +480,5 @@ fn stack_before(stack: u16) -> Option<u16>
     ensures start { start_after result ≡ stack }
     ensures below { ForSome result (λ before. before < stack) }
 {
-    if stack == 0 {
-        return None;
-    }
-    Some(stack - 1)
+    stack.checked_sub(1)
 }

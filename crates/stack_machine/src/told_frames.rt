@@ -2,10 +2,9 @@
 
 ghost use Rattle.std.specs.Prelude.{◌≡◌, ◌+◌, OnOk, vec_len};
 
-use crate::begin::copies;
 use crate::frame::{Call, CallWay, Frame, FunctionPlace, Running};
-use crate::named::name_of;
-use crate::setting::Setting;
+use crate::setting::{Setting, name_of};
+use crate::store::copies;
 use crate::threads::Threads;
 use machine_state::{BodyPlace, FrameState, Way};
 use papy_base::{OutOfMemory, Text};

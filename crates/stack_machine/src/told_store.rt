@@ -2,8 +2,7 @@
 
 ghost use Rattle.std.specs.Prelude.{◌<◌, length};
 
-use crate::begin::copies;
-use crate::store::Store;
+use crate::store::{Store, copies};
 use core_tree::{CoreType, DeviceKind, Value};
 use instance_store::{Arrays, Instances, ScriptVariables};
 use latent_natives::Device;

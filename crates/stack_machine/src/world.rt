@@ -1,23 +1,26 @@
 //! What turns change, and what a turn does.
 #![tactic(auto, using(crate::proofs::Sinks::sinks))]
 
-ghost use Rattle.std.specs.Prelude.{◌≡◌, ◌+◌, MatchResult, Ok, OnOk, map};
+ghost use Rattle.std.specs.Prelude.{◌≡◌, ◌<◌, ◌≤◌, ◌+◌, IfOk, IfSome, MatchResult, Ok, OnOk, length, map, vec_len};
+ghost use Rattle.std.specs.Option.{ForSome};
 ghost use Rattle.latent_natives.specs.Devices.{SameKinds};
+ghost use Rattle.stack_machine.specs.Choices.{chosen};
 ghost use Rattle.stack_machine.specs.Machine.{CountsTurn, HasStarted};
-ghost use Rattle.stack_machine.specs.Moves.{AddsSome, AreOfEnd, AreOfTurn, IsAct, Noted};
+ghost use Rattle.stack_machine.specs.Moves.{AddsSome, AreOfBeginning, AreOfEnd, AreOfTurn, AreStarts, Begins, IsAct, Noted};
 ghost use Rattle.stack_machine.specs.Plans.{HasBegun, calls_before};
-ghost use Rattle.stack_machine.specs.Threads.{IsSameSize};
+ghost use Rattle.stack_machine.specs.Threads.{HasGrown, IsSameSize};
 ghost use Rattle.stack_machine.specs.Written.{WritesLines};
 
-use crate::begin::{begin, choose};
-use crate::notes::{Notes, note_any};
+use crate::frame::{Call, CallWay, Frame};
+use crate::moves::{Notes, Place, moves_between, note_any};
 use crate::operands::Turn;
-use crate::place::{Place, moves_between};
-use crate::run::{Ending, run_innermost};
+use crate::plan::PlannedCall;
+use crate::run::run_innermost;
 use crate::setting::Setting;
 use crate::status::{TurnEnd, TurnFault};
-use crate::store::Store;
+use crate::store::{Store, copies};
 use crate::threads::Threads;
+use core_tree::{Scene, TurnOrder};
 use latent_natives::Device;
 use papy_base::OutOfMemory;
 use papy_io::Sink;
@@ -118,27 +121,97 @@ impl World {
         ensures kinds { SameKinds (map (λ d. device_state d) devices.old.items) (map (λ d. device_state d) devices.new.items) }
         ensures size { IsSameSize self.old.threads self.new.threads }
     {
-        let ending = self.run_frames(turn, sink, devices)?;
+        let has_room = self.threads.has_room(turn.stack);
+        let Some(stack) = self.threads.stack_mut(turn.stack) else {
+            return Ok(());
+        };
+        let ending = run_innermost(turn, &mut self.store, stack, has_room, sink, devices)?;
         self.threads.act(turn.stack, turn.number, ending)?;
         Ok(())
     }
+}
 
-    // Runs the innermost frame of the stack.
-    fn run_frames<S: Sink>(
-        &mut self,
-        turn: &Turn<'_>,
-        sink: &mut S,
-        devices: &mut Vec<Box<dyn Device>>,
-    ) -> Result<Ending, TurnFault>
-        ensures appended { WritesLines result (S.written sink.old) (S.written sink.new) }
-        ensures count { CountsTurn result (S.faults sink.old) (S.faults sink.new) }
-        ensures kinds { SameKinds (map (λ d. device_state d) devices.old.items) (map (λ d. device_state d) devices.new.items) }
-        ensures size { IsSameSize self.old.threads self.new.threads }
-    {
-        let has_room = self.threads.has_room(turn.stack);
-        let Some(stack) = self.threads.stack_mut(turn.stack) else {
-            return Ok(Ending::Pass);
-        };
-        run_innermost(turn, &mut self.store, stack, has_room, sink, devices)
+// Starts the stacks of the scene calls of this turn, then wakes the sleepers that are due.
+fn begin<N: Notes>(
+    alloc: Global,
+    setting: &Setting,
+    threads: &mut Threads,
+    turn: u32,
+    notes: &mut N,
+) -> Result<(), OutOfMemory>
+    requires { HasBegun setting.now.plan.calls.items setting.now.scene.calls.items threads.old turn }
+    ensures grown { HasGrown threads.old threads.new }
+    ensures started { OnOk result (threads.new.started ≡ calls_before (turn + 1) setting.now.scene.calls.items) }
+    ensures noted { MatchResult result (λ _. Noted (AreOfBeginning threads.old.started threads.new.started) (N.noted notes.old) (N.noted notes.new)) (λ _. AddsSome (N.noted notes.old) (N.noted notes.new)) }
+{
+    start_stacks(alloc, setting, threads, turn, notes)?;
+    threads.wake(turn, notes)
+}
+
+// Starts the stacks of the scene calls of this turn.
+fn start_stacks<N: Notes>(
+    alloc: Global,
+    setting: &Setting,
+    threads: &mut Threads,
+    turn: u32,
+    notes: &mut N,
+) -> Result<(), OutOfMemory>
+    requires { HasBegun setting.now.plan.calls.items setting.now.scene.calls.items threads.old turn }
+    ensures grown { HasGrown threads.old threads.new }
+    ensures started { OnOk result (threads.new.started ≡ calls_before (turn + 1) setting.now.scene.calls.items) }
+    ensures noted { MatchResult result (λ _. Noted (AreStarts threads.old.started threads.new.started) (N.noted notes.old) (N.noted notes.new)) (λ _. AddsSome (N.noted notes.old) (N.noted notes.new)) }
+{
+    let calls = setting.plan.calls.as_slice();
+    let first = usize::from(threads.count());
+    for planned in &calls[first..] {
+        if planned.turn > turn {
+            break;
+        }
+        let moved = start(alloc, setting, threads, *planned)?;
+        notes.note(moved)?;
+    }
+    Ok(())
+}
+
+// Starts the stack of a scene call.
+fn start(
+    alloc: Global,
+    setting: &Setting,
+    threads: &mut Threads,
+    planned: PlannedCall,
+) -> Result<LockMove, OutOfMemory>
+    requires room { threads.old.started < threads.old.room }
+    requires call { planned.number < vec_len setting.now.scene.calls }
+    ensures grown { HasGrown threads.old threads.new }
+    ensures by_one { OnOk result (threads.new.started ≡ threads.old.started + 1) }
+    ensures moved { IfOk result (Begins threads.old.started) }
+{
+    let call = &setting.scene.calls[planned.number];
+    let arguments = copies(alloc, &call.arguments)?;
+    let first = Frame::Pending(Call {
+        instance: Some(call.instance),
+        way: CallWay::Method(planned.name.unwrap_or(0)),
+        arguments,
+        kept: None,
+    });
+    threads.start(alloc, first)
+}
+
+// The stack that gets this turn, none where the turn is idle.
+fn choose(scene: &Scene, threads: &Threads, turn: u32, last: Option<u16>) -> Option<u16>
+    ensures within { IfSome result (λ stack. stack < threads.now.room) }
+    ensures started { IfSome result (λ stack. stack < threads.now.started) }
+    ensures chosen { ForSome last (λ stack. stack < threads.now.room) → result ≡ chosen scene.now.order threads.now turn last }
+{
+    match &scene.order {
+        TurnOrder::Round => threads.ready_after(last),
+        TurnOrder::List(stacks) => {
+            let stack = *stacks.get(turn as usize)?;
+            if stack < threads.count() && threads.is_ready(stack) {
+                Some(stack)
+            } else {
+                None
+            }
+        }
     }
 }
