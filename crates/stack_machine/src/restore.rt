@@ -9,7 +9,7 @@ use crate::machine::Machine;
 use crate::plan::Plan;
 use crate::restore_fault::RestoreFault;
 use crate::revived_store::revived_store;
-use crate::revived_threads::{kept_ways, revived_threads};
+use crate::revived_threads::revived_threads;
 use crate::setting::Setting;
 use crate::sound::is_sound;
 use crate::world::World;
@@ -106,15 +106,11 @@ fn revive(
 
 // Whether there are as many devices, of the same kinds in the same order.
 fn are_of_kinds(told: &[(DeviceKind, Vec<i32>, u64)], devices: &Vec<Box<dyn Device>>) -> bool {
-    if told.len() != devices.len() {
-        return false;
-    }
-    for (device, told) in devices.iter().zip(told) {
-        if device.kind() != told.0 {
-            return false;
-        }
-    }
-    true
+    told.len() == devices.len()
+        && devices
+            .iter()
+            .zip(told)
+            .all(|(device, told)| device.kind() == told.0)
 }
 
 fn revived_world(
@@ -128,7 +124,6 @@ fn revived_world(
     ensures room { IfOk result (λ world. world.threads.room ≡ vec_len setting.now.scene.calls) }
     ensures started { IfOk result (λ world. world.threads.started ≡ vec_len state.old.stacks) }
 {
-    let kept = kept_ways(alloc, &state.stacks)?;
     let store = revived_store(alloc, setting, state)?;
     let threads = revived_threads(alloc, setting, state)?;
     Ok(World {
@@ -136,7 +131,6 @@ fn revived_world(
         store,
         threads,
         last: state.last,
-        kept,
     })
 }
 

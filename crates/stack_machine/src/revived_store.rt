@@ -63,22 +63,13 @@ fn revived_instances(
     let mut instances = Vec::with_capacity(alloc, bound.len())?;
     for (place, instance) in bound.iter().enumerate() {
         if let Some(entry) = told.get_mut(place) {
+            let state = entry.0.try_clone(alloc)?;
             let outline = setting.loaded.outline();
-            instances.push(revived_instance(alloc, outline, instance.script, entry)?)?;
+            let scripts = revived_scripts(alloc, outline, instance.script, &mut entry.1)?;
+            instances.push(Instance::new(state, scripts))?;
         }
     }
     Ok(instances)
-}
-
-fn revived_instance(
-    alloc: Global,
-    outline: &Outline,
-    script: u16,
-    told: &mut (Text, Vec<Value>),
-) -> Result<Instance, OutOfMemory> {
-    let state = told.0.try_clone(alloc)?;
-    let scripts = revived_scripts(alloc, outline, script, &mut told.1)?;
-    Ok(Instance::new(state, scripts))
 }
 
 // The values of a script and of those above it, whose own values stand last.

@@ -7,29 +7,10 @@ use crate::frame::{Call, Frame, Running};
 use crate::setting::Setting;
 use crate::threads::Threads;
 use crate::told_frames::copy_of;
-use machine_state::{FrameState, MachineState, Way};
+use machine_state::{FrameState, MachineState};
 use papy_base::OutOfMemory;
 use std::alloc::Global;
 use std::mem;
-
-/// How the pending call of each stack names its function, none of a stack that has none.
-pub fn kept_ways(
-    alloc: Global,
-    stacks: &[Vec<FrameState>],
-) -> Result<Vec<Option<Way>>, OutOfMemory> {
-    let mut kept = Vec::with_capacity(alloc, stacks.len())?;
-    for frames in stacks {
-        kept.push(kept_way(alloc, frames.last())?)?;
-    }
-    Ok(kept)
-}
-
-fn kept_way(alloc: Global, innermost: Option<&FrameState>) -> Result<Option<Way>, OutOfMemory> {
-    match innermost {
-        Some(FrameState::ToEnter { way, .. }) => Ok(Some(copy_of(alloc, way)?)),
-        _ => Ok(None),
-    }
-}
 
 /// The stacks of the state, whose values are taken out of it.
 pub fn revived_threads(
@@ -95,11 +76,13 @@ fn revived_frame(
             way,
             arguments,
         } => {
-            let way = setting.way_named(alloc, way)?.ok_or(OutOfMemory)?;
+            let found = setting.way_named(alloc, way)?.ok_or(OutOfMemory)?;
+            let kept = Some(copy_of(alloc, way)?);
             Ok(Frame::Pending(Call {
                 instance: *instance,
-                way,
+                way: found,
                 arguments: mem::replace(arguments, Vec::new(alloc)),
+                kept,
             }))
         }
         FrameState::Running {

@@ -8,7 +8,7 @@ ghost use Rattle.machine_state.specs.Plain.{plain, plain_array, plain_device, pl
 ghost use Rattle.machine_state.specs.Savable.{AreSavableValues, FitsTwoBytes, IsElementType, IsNumbered, IsSavable, IsSavableArray, IsSavableDevice, IsSavableFrame, IsSavableInstance, IsSavablePlace, IsSavableStack, IsSavableValue, firsts, name_of};
 
 use crate::ascending::{pairs_ascend, sleepers_ascend, stacks_ascend};
-use crate::named::name_of;
+use crate::setting::name_of;
 use core_tree::{CoreType, DeviceKind, Value};
 use machine_state::{BodyPlace, FrameState, MachineState, Way};
 use papy_base::Text;
@@ -54,10 +54,7 @@ fn are_savable_lists(state: &MachineState) -> bool
 fn is_numbered(number: Option<u16>) -> bool
     ensures { result ≡ true → IsNumbered number }
 {
-    match number {
-        Some(number) => number < u16::MAX,
-        None => true,
-    }
+    number.is_none_or(|number| number < u16::MAX)
 }
 
 fn are_savable_instances(instances: &[(Text, Vec<Value>)]) -> bool
@@ -174,7 +171,7 @@ fn is_savable_frame(frame: &FrameState) -> bool
             arguments,
         } => {
             is_numbered(*instance)
-                && has_savable_name(way)
+                && name_of(way).as_bytes().len() < TWO_BYTES
                 && arguments.len() < TWO_BYTES
                 && are_savable_values(arguments)
         }
@@ -192,12 +189,6 @@ fn is_savable_frame(frame: &FrameState) -> bool
                 && is_savable_reply(reply)
         }
     }
-}
-
-fn has_savable_name(way: &Way) -> bool
-    ensures { result ≡ true → FitsTwoBytes (name_of way.now) }
-{
-    name_of(way).as_bytes().len() < TWO_BYTES
 }
 
 fn is_savable_place(at: &BodyPlace) -> bool

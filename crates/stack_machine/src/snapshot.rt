@@ -64,7 +64,7 @@ impl Machine {
         let teller = FrameTeller {
             alloc,
             setting: &self.setting,
-            world: &self.world,
+            threads,
         };
         teller.tell_stacks(&mut state.stacks)
     }

@@ -5,9 +5,7 @@ ghost use Rattle.std.specs.Prelude.{◌≡◌, ◌≤◌, true, IfOk, vec_len};
 ghost use Rattle.stack_machine.specs.Plans.{calls_before};
 
 use crate::setting::Setting;
-use crate::sound_locks::has_sound_locks;
-use crate::sound_numbers::has_sound_numbers;
-use crate::sound_stacks::has_sound_stacks;
+use crate::sound_stacks::{has_sound_locks, has_sound_numbers, has_sound_stacks};
 use crate::sound_values::has_sound_values;
 use machine_state::{FrameState, MachineState};
 use papy_base::OutOfMemory;

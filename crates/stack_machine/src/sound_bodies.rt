@@ -1,6 +1,6 @@
 //! Whether the running frames of a state stand in bodies of the set, and take what they wait for.
 
-use crate::call_instructions::{is_call, result_place};
+use crate::instructions::{is_call, result_place};
 use crate::sound::Judged;
 use core_tree::{CoreType, Value};
 use machine_state::{BodyPlace, FrameState};

@@ -1,7 +1,7 @@
 //! Whether the pending calls of a state find what they may enter.
 
 use crate::frame::CallWay;
-use crate::lookup::{Found, look_up};
+use crate::setting::Found;
 use crate::sound::Judged;
 use core_tree::{CoreType, Value};
 use machine_state::Way;
@@ -123,10 +123,10 @@ impl Judged<'_> {
         instance: Option<u16>,
         way: CallWay,
     ) -> Option<Callee<'_>> {
-        match look_up(self.setting, state, instance, way)? {
+        match self.setting.look_up(state, instance, way)? {
             Found::Body(body) => Some(Callee::Function(self.setting.function(body)?)),
             Found::Native(at) => Some(Callee::Function(self.setting.method(at)?)),
-            Found::Variable { property, .. } => auto_callee(self.setting.property(property)?, way),
+            Found::Variable(property, _) => auto_callee(self.setting.property(property)?, way),
         }
     }
 }

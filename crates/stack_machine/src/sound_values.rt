@@ -40,10 +40,7 @@ impl Judged<'_> {
         let scripts = &self.setting.loaded.outline().scripts;
         let (mut left, mut next) = (values, Some(script));
         for _ in 0..scripts.len() {
-            let Some(found) = next else {
-                break;
-            };
-            let Some(outline) = scripts.get(usize::from(found)) else {
+            let Some(outline) = next.and_then(|number| scripts.get(usize::from(number))) else {
                 break;
             };
             if left.len() < outline.variables.len() {

@@ -2,31 +2,29 @@
 
 ghost use Rattle.std.specs.Prelude.{◌≡◌, ◌+◌, OnOk, vec_len};
 
-use crate::begin::copies;
 use crate::frame::{Call, CallWay, Frame, FunctionPlace, Running};
-use crate::named::name_of;
-use crate::setting::Setting;
-use crate::world::World;
-use core_tree::Value;
+use crate::setting::{Setting, name_of};
+use crate::store::copies;
+use crate::threads::Threads;
 use machine_state::{BodyPlace, FrameState, Way};
 use papy_base::{OutOfMemory, Text};
 use pex_verify::{LoadedInstruction, MethodPlace, Operand};
 use std::alloc::Global;
 
-/// What tells frames of the stacks of a world.
+/// What tells frames of stacks.
 #[derive(Drop)]
 pub struct FrameTeller<'a> {
     pub alloc: Global,
     pub setting: &'a Setting,
-    pub world: &'a World,
+    pub threads: &'a Threads,
 }
 
 impl FrameTeller<'_> {
     /// Tells the frames of each stack that has started, outermost first.
     pub fn tell_stacks(&self, told: &mut Vec<Vec<FrameState>>) -> Result<(), OutOfMemory>
-        ensures { OnOk result (vec_len told.new ≡ vec_len told.old + self.now.world.now.threads.started) }
+        ensures { OnOk result (vec_len told.new ≡ vec_len told.old + self.now.threads.now.started) }
     {
-        for stack in 0..self.world.threads.count() {
+        for stack in 0..self.threads.count() {
             told.push(self.told_stack(stack)?)?;
         }
         Ok(())
@@ -34,24 +32,14 @@ impl FrameTeller<'_> {
 
     fn told_stack(&self, stack: u16) -> Result<Vec<FrameState>, OutOfMemory> {
         let mut told = Vec::new(self.alloc);
-        if let Some(found) = self.world.threads.stack(stack) {
-            self.tell_frames(stack, found.frames(), &mut told)?;
+        let mut below = None;
+        if let Some(found) = self.threads.stack(stack) {
+            for frame in &found.frames {
+                told.push(self.told_frame(stack, below, frame)?)?;
+                below = Some(frame);
+            }
         }
         Ok(told)
-    }
-
-    fn tell_frames(
-        &self,
-        stack: u16,
-        frames: &[Frame],
-        told: &mut Vec<FrameState>,
-    ) -> Result<(), OutOfMemory> {
-        let mut below = None;
-        for frame in frames {
-            told.push(self.told_frame(stack, below, frame)?)?;
-            below = Some(frame);
-        }
-        Ok(())
     }
 
     fn told_frame(
@@ -73,7 +61,7 @@ impl FrameTeller<'_> {
         call: &Call,
     ) -> Result<FrameState, OutOfMemory> {
         let arguments = copies(self.alloc, call.arguments.as_slice())?;
-        let way = self.told_way(stack, below, call.way)?;
+        let way = self.told_way(stack, below, call)?;
         Ok(FrameState::ToEnter {
             instance: call.instance,
             way,
@@ -82,18 +70,11 @@ impl FrameTeller<'_> {
     }
 
     // How a pending call of a stack names its function.
-    fn told_way(
-        &self,
-        stack: u16,
-        below: Option<&Frame>,
-        way: CallWay,
-    ) -> Result<Way, OutOfMemory> {
-        if let Some(Some(kept)) = self.world.kept.get(usize::from(stack)) {
-            return copy_of(self.alloc, kept);
-        }
-        match below {
-            Some(frame) => self.way_of_instruction(frame, way),
-            None => self.way_of_scene(stack),
+    fn told_way(&self, stack: u16, below: Option<&Frame>, call: &Call) -> Result<Way, OutOfMemory> {
+        match (&call.kept, below) {
+            (Some(kept), _) => copy_of(self.alloc, kept),
+            (None, Some(frame)) => self.way_of_instruction(frame, call.way),
+            (None, None) => self.way_of_scene(stack),
         }
     }
 
@@ -147,7 +128,10 @@ impl FrameTeller<'_> {
 
     fn told_body(&self, running: &Running) -> Result<FrameState, OutOfMemory> {
         let instruction = u16::try_from(running.place).ok().ok_or(OutOfMemory)?;
-        let reply = copy_if(self.alloc, running.reply.as_ref())?;
+        let reply = match &running.reply {
+            Some(value) => Some(value.try_clone(self.alloc)?),
+            None => None,
+        };
         let slots = copies(self.alloc, running.slots.as_slice())?;
         let at = self.told_place(running.body)?;
         Ok(FrameState::Running {
@@ -169,13 +153,6 @@ impl FrameTeller<'_> {
             function: Text::try_from_bytes(self.alloc, function.name.as_bytes())?,
             kind: body.kind(),
         })
-    }
-}
-
-fn copy_if(alloc: Global, value: Option<&Value>) -> Result<Option<Value>, OutOfMemory> {
-    match value {
-        Some(value) => Ok(Some(value.try_clone(alloc)?)),
-        None => Ok(None),
     }
 }
 

@@ -2,8 +2,7 @@
 
 ghost use Rattle.std.specs.Prelude.{◌<◌, length};
 
-use crate::begin::copies;
-use crate::store::Store;
+use crate::store::{Store, copies};
 use core_tree::{CoreType, DeviceKind, Value};
 use instance_store::{Arrays, Instances, ScriptVariables};
 use latent_natives::Device;
@@ -41,16 +40,9 @@ fn told_instance(
 fn told_values(alloc: Global, scripts: &[ScriptVariables]) -> Result<Vec<Value>, OutOfMemory> {
     let mut values = Vec::new(alloc);
     for script in scripts.iter().rev() {
-        append(alloc, script.values(), &mut values)?;
+        values.append(&mut copies(alloc, script.values())?)?;
     }
     Ok(values)
-}
-
-fn append(alloc: Global, more: &[Value], values: &mut Vec<Value>) -> Result<(), OutOfMemory> {
-    for value in more {
-        values.push(value.try_clone(alloc)?)?;
-    }
-    Ok(())
 }
 
 /// Tells the arrays.

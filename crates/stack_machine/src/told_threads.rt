@@ -1,6 +1,6 @@
 //! What a state tells of where stacks are. A stack that it doesn't tell is done.
 
-use crate::place::Place;
+use crate::moves::Place;
 use crate::threads::Threads;
 use papy_base::OutOfMemory;
 

@@ -1,6 +1,6 @@
 use Rattle.std.proofs.lemmas.Result.{MatchResult-weaker}
 use Rattle.stack_machine.proofs.Noting.{beginning_noted, some_more, some_noted}
-use Rattle.stack_machine.proofs.begin.begin.Goals as goal
+use Rattle.stack_machine.proofs.world.begin.Goals as goal
 
 pub returns-clause-noted : goal.returns-clause-noted
 returns-clause-noted g c =

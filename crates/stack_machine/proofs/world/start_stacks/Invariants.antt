@@ -2,7 +2,7 @@ use Rattle.std.proofs.Common.{◌≡◌, ◌+◌, ◌≤◌}
 use Rattle.stack_machine.specs.Moves.{AreStarts, Noted}
 use Rattle.stack_machine.specs.Plans.{planned_before}
 use Rattle.stack_machine.specs.Threads.{HasGrown}
-use Rattle.stack_machine.proofs.begin.start_stacks.Given as goal
+use Rattle.stack_machine.proofs.world.start_stacks.Given as goal
 
 abbrev pub invariant-loop-planned : goal.invariant-loop-planned
 invariant-loop-planned g l =

@@ -4,7 +4,7 @@ use Rattle.stack_machine.specs.declared.plan.PlannedCall.{PlannedCall}
 use Rattle.stack_machine.specs.Moves.{AreStarts}
 use Rattle.stack_machine.proofs.Noting.{noted_none, one_started}
 use Rattle.stack_machine.proofs.Planning.{few_at_first, left_at, left_past, left_within, next_is_later, none_is_left, one_starts}
-use Rattle.stack_machine.proofs.begin.start_stacks.Goals as goal
+use Rattle.stack_machine.proofs.world.start_stacks.Goals as goal
 
 pub loop-planned-init : goal.loop-planned-init
 loop-planned-init g c = record {
