@@ -98,11 +98,9 @@ fn append_instance(
 
 // The name of an instance's script.
 fn append_script(line: &mut Vec<u8>, machine: &Machine, instance: u16) -> Result<(), OutOfMemory> {
-    let Some(bound) = machine.scene().instances.get(usize::from(instance)) else {
-        return Ok(());
-    };
-    let scripts = &machine.outline().scripts;
-    if let Some(script) = scripts.get(usize::from(bound.script)) {
+    let (scripts, instances) = (&machine.outline().scripts, &machine.scene().instances);
+    let bound = instances.get(usize::from(instance));
+    if let Some(script) = bound.and_then(|bound| scripts.get(usize::from(bound.script))) {
         line.extend_from_slice(script.name.as_bytes())?;
     }
     Ok(())

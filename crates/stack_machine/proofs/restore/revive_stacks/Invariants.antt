@@ -1,5 +1,5 @@
 use Rattle.std.proofs.Common.{◌≡◌, ◌+◌}
-use Rattle.stack_machine.proofs.revived_threads.revive_stacks.Given as goal
+use Rattle.stack_machine.proofs.restore.revive_stacks.Given as goal
 
 abbrev pub invariant-loop-place : goal.invariant-loop-place
 invariant-loop-place l = record {
