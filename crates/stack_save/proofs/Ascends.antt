@@ -71,8 +71,8 @@ ascending_taken {A} numbers InRange spell there xs old new t passed = record {
 -- ---- what `is_sorted_by` answers
 
 not_true : (b : Bool) → (b ≡ true → ⊥) → false ≡ b
-not_true true no = absurd (no refl)
-not_true false no = refl
+not_true true never = absurd (never refl)
+not_true false never = refl
 
 -- the numbers at some place and the next are out of order
 falls : {X : Type 0} (number : X → ℕ) (xs : List X) (k : ℕ) → k + 1 < length xs

@@ -1,6 +1,7 @@
 //! Numbers and texts: added at the end of the bytes of a file, and taken from their front.
 
 ghost use Rattle.std.specs.Prelude.{◌≡◌, ◌<◌, ◌≤◌, ◌^◌, ◌++◌, length, OnOk};
+ghost use Rattle.byteorder.specs.Endian.{big_from};
 ghost use Rattle.machine_state.specs.Ranges.{IsI32, IsU16, IsU32};
 ghost use Rattle.machine_state.specs.Savable.{FitsTwoBytes, FitsFourBytes, IsNumbered};
 ghost use Rattle.pex_values.specs.Spelling as pex;
@@ -79,6 +80,33 @@ pub(crate) struct Cursor<'a> {
     pub(crate) alloc: Global,
 }
 
+/// The number in two bytes.
+fn number_of_two(bytes: &[u8]) -> u16
+    requires { length bytes.now ≡ 2 }
+    ensures spelled { bytes.now ≡ pex.two_bytes result }
+    ensures value { result ≡ big_from 0 2 bytes.now }
+{
+    BigEndian::read_u16(bytes)
+}
+
+/// The number in four bytes.
+fn number_of_four(bytes: &[u8]) -> u32
+    requires { length bytes.now ≡ 4 }
+    ensures spelled { bytes.now ≡ pex.four_bytes result }
+    ensures value { result ≡ big_from 0 4 bytes.now }
+{
+    BigEndian::read_u32(bytes)
+}
+
+/// The number in eight bytes.
+fn number_of_eight(bytes: &[u8]) -> u64
+    requires { length bytes.now ≡ 8 }
+    ensures spelled { bytes.now ≡ pex.eight_bytes result }
+    ensures value { result ≡ big_from 0 8 bytes.now }
+{
+    BigEndian::read_u64(bytes)
+}
+
 impl<'a> Cursor<'a> {
     /// So many bytes.
     #[tactic(auto, unfolding(crate::specs::Reading::bytes_at))]
@@ -118,21 +146,21 @@ impl<'a> Cursor<'a> {
     pub(crate) fn take_u16(&mut self) -> Taken<u16>
         ensures { Takes (λ n. n) IsU16 pex.two_bytes (reading.number_at 2) result self.old.rest.now self.new.rest.now }
     {
-        Ok(BigEndian::read_u16(self.take(2)?))
+        Ok(number_of_two(self.take(2)?))
     }
 
     #[tactic(auto, unfolding(crate::specs::Reading::number_at))]
     pub(crate) fn take_u32(&mut self) -> Taken<u32>
         ensures { Takes (λ n. n) IsU32 pex.four_bytes (reading.number_at 4) result self.old.rest.now self.new.rest.now }
     {
-        Ok(BigEndian::read_u32(self.take(4)?))
+        Ok(number_of_four(self.take(4)?))
     }
 
     #[tactic(auto, unfolding(crate::specs::Reading::number_at))]
     pub(crate) fn take_u64(&mut self) -> Taken<u64>
         ensures { Takes (λ n. n) (λ n. n < 2 ^ 64) pex.eight_bytes (reading.number_at 8) result self.old.rest.now self.new.rest.now }
     {
-        Ok(BigEndian::read_u64(self.take(8)?))
+        Ok(number_of_eight(self.take(8)?))
     }
 
     pub(crate) fn take_i32(&mut self) -> Taken<i32>
