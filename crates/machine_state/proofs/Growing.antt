@@ -1,9 +1,11 @@
 -- Lists that a loop makes longer by one item at a time: what holds of each item, and lists that ascend.
-use Rattle.std.proofs.Common.{◌≡◌, ℕ, ◌+◌, ◌<◌, ◌≤◌, List, [], ◌∷◌, ◌++◌, length, get_or, map, arith, inl, inr, ◌⊎◌, length-append}
+use Rattle.std.specs.Prelude.{true, nat_lt}
+use Rattle.std.proofs.Common.{◌≡◌, ℕ, ◌+◌, ◌<◌, ◌≤◌, List, [], ◌∷◌, ◌++◌, length, get_or, map, arith, inl, inr, ◌⊎◌, length-append, sym}
 use Rattle.std.proofs.lemmas.Grind.{common_steps}
-use Rattle.std.proofs.lemmas.List.{map-append, get_or_push}
+use Rattle.std.proofs.lemmas.Bool.{ltb-true}
+use Rattle.std.proofs.lemmas.List.{map-append, get_or_push, get_or-map, length-map}
 use Rattle.std.proofs.Math.ListN.{get_or-append}
-use Rattle.std.specs.List.{AllByRecursion}
+use Rattle.std.specs.List.{AllAdjacentBelow, AllByRecursion}
 use Rattle.std.specs.List.Sorted.{IsStrictlyIncreasing}
 
 -- ---- what holds of each item
@@ -64,3 +66,15 @@ ascends_passed xs number next ascends above = λ k h.
           let below = last_below xs number k ascends last in
           rw (get_or-append xs (next ∷ []) 0 k lower, get_or_push xs next 0 (k + 1) (omega arith)) (omega arith)
     ]
+
+-- where each item and the next are in order by their numbers, the numbers ascend
+pub adjacent_ascend : {X : Type 0} (number : X → ℕ) (xs : List X)
+    → AllAdjacentBelow (λ x y. true ≡ nat_lt (number x) (number y)) xs (length xs) → IsStrictlyIncreasing (map number xs)
+adjacent_ascend number [] each = λ k h. absurd (omega arith)
+adjacent_ascend number (x ∷ xs) each = λ k h.
+    let ys = x ∷ xs in
+    let inside : k + 1 < length ys = omega (arith, length-map ys number, h) in
+    let here : get_or (map number ys) k 0 ≡ number (get_or ys k x) = get_or-map number ys k x 0 (omega arith) in
+    let next : get_or (map number ys) (k + 1) 0 ≡ number (get_or ys (k + 1) x) = get_or-map number ys (k + 1) x 0 inside in
+    let above : number (get_or ys k x) < number (get_or ys (k + 1) x) = ltb-true (number (get_or ys k x)) (number (get_or ys (k + 1) x)) (sym (each k x inside)) in
+    omega (arith, here, next, above)

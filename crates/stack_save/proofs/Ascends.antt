@@ -1,10 +1,16 @@
 -- The test of whether numbers ascend.
-use Rattle.std.specs.Prelude.{Bool, true, false, nat_le, ◌&&◌, ◌^◌, ⊤}
-use Rattle.std.proofs.Common.{◌≡◌, ℕ, zero, suc, ◌+◌, ◌<◌, ◌≤◌, List, [], ◌∷◌, length, get_or, refl, ap, subst, ◌∙◌, arith}
+use Rattle.std.specs.Prelude.{Bool, true, false, nat_le, nat_lt, ◌&&◌, ◌^◌, Some, None, Err, ⊤}
+use Rattle.std.proofs.Common.{◌≡◌, ℕ, zero, suc, ◌+◌, ◌<◌, ◌≤◌, List, [], ◌∷◌, length, get_or, map, refl, sym, ap, subst, ◌∙◌, arith}
+use Rattle.std.specs.List.{IsAllAdjacentAnswer}
 use Rattle.std.specs.List.Sorted.{IsStrictlyIncreasing}
-use Rattle.std.proofs.lemmas.Bool.{le-leb, leb-true}
-use Rattle.stack_save.specs.Parts.{AreAscending, AreParts, HasTaken}
+use Rattle.std.proofs.lemmas.Bool.{le-leb, leb-true, lt-ltb}
+use Rattle.std.proofs.lemmas.List.{get_or-map, length-map}
+use Rattle.machine_state.proofs.Growing.{adjacent_ascend}
+use Rattle.stack_save.specs.Parts.{AreAscending, AreParts, HasTaken, Takes}
 use Rattle.stack_save.specs.Reading.{Found, ascending, ascending_above, found_where}
+use Rattle.stack_save.specs.declared.fault.HeldFault.{HeldFault}
+use Rattle.stack_save.specs.declared.fault.HeldFault.TheVariants.{Broken}
+use Rattle.stack_save.specs.declared.fault.HeldRule.TheVariants.{BadLayout}
 
 -- ---- what the test says
 
@@ -61,3 +67,35 @@ ascending_taken {A} numbers InRange spell there xs old new t passed = record {
   found = ap (λ (f : Found (List A)). found_where (λ ys. ascending (numbers ys)) f) t.found ∙ rw passed refl;
   bytes = t.bytes;
 }
+
+-- ---- what `is_sorted_by` answers
+
+not_true : (b : Bool) → (b ≡ true → ⊥) → false ≡ b
+not_true true never = absurd (never refl)
+not_true false never = refl
+
+-- the numbers at some place and the next are out of order
+falls : {X : Type 0} (number : X → ℕ) (xs : List X) (k : ℕ) → k + 1 < length xs
+    → ((d : X) → false ≡ nat_lt (number (get_or xs k d)) (number (get_or xs (k + 1) d))) → ascending (map number xs) ≡ true → ⊥
+falls number [] k below out passed = omega arith
+falls number (x ∷ xs) k below out passed =
+    let ys = x ∷ xs in
+    let here : get_or (map number ys) k 0 ≡ number (get_or ys k x) = get_or-map number ys k x 0 (omega arith) in
+    let next : get_or (map number ys) (k + 1) 0 ≡ number (get_or ys (k + 1) x) = get_or-map number ys (k + 1) x 0 below in
+    let above = ascending-increases (map number ys) passed k (omega (arith, length-map ys number, below)) in
+    let told : nat_lt (number (get_or ys k x)) (number (get_or ys (k + 1) x)) ≡ true = lt-ltb (number (get_or ys k x)) (number (get_or ys (k + 1) x)) (omega (arith, here, next, above)) in
+    let untold = out x in
+    absurd cc
+
+pub sorted_answer : {X : Type 0} (number : X → ℕ) (xs : List X) (r : Bool)
+    → IsAllAdjacentAnswer (λ x y b. b ≡ nat_lt (number x) (number y)) xs r → r ≡ ascending (map number xs)
+sorted_answer number xs true each = sym (ascending-complete (map number xs) (adjacent_ascend number xs each))
+sorted_answer number xs false (k, below, out) = not_true (ascending (map number xs)) (falls number xs k below out)
+
+-- a list whose numbers don't ascend isn't there
+pub descending_missing : {T A : Type 0} (plain : T → List A) (numbers : List A → List ℕ) (InRange : A → Type 0) (spell : List A → List ℕ) (at : List ℕ → Found (List A)) (fault : HeldFault) (xs : List A) (old new : List ℕ)
+    → fault ≡ Broken BadLayout → at old ≡ Some (xs, new) → ascending (numbers xs) ≡ false
+    → Takes plain (AreAscending numbers InRange) spell (λ bytes. found_where (λ ys. ascending (numbers ys)) (at bytes)) (Err fault) old new
+descending_missing {T} {A} plain numbers InRange spell at fault xs old new is found failed =
+    let missing : found_where (λ ys. ascending (numbers ys)) (at old) ≡ None = ap (λ (f : Found (List A)). found_where (λ ys. ascending (numbers ys)) f) found ∙ rw failed refl in
+    subst (λ (f : HeldFault). Takes plain (AreAscending numbers InRange) spell (λ bytes. found_where (λ ys. ascending (numbers ys)) (at bytes)) (Err f) old new) (sym is) (refl, missing)

@@ -10,8 +10,8 @@ use Rattle.stack_save.specs.Loading.{IsLayout, held_fields, plain_layout, ReadsL
 use Rattle.stack_save.specs.Parts.{Takes}
 use Rattle.stack_save.specs.Reading.{Found, PlainHeld, held_at}
 use Rattle.stack_save.specs.Spelling.{heading, spelling}
-use Rattle.stack_save.specs.declared.fault.LayoutFault.{LayoutFault}
-use Rattle.stack_save.specs.declared.fault.LayoutFault.TheVariants.{Missing, OutOfMemory}
+use Rattle.stack_save.specs.declared.fault.HeldFault.{HeldFault}
+use Rattle.stack_save.specs.declared.fault.HeldFault.TheVariants.{Broken, OutOfMemory}
 use Rattle.stack_save.specs.declared.loading.Layout.{Layout}
 
 abbrev held : List (List ℕ) → List ℕ → PlainState → PlainHeld
@@ -80,9 +80,9 @@ empty_from (x ∷ xs) none =
     cc
 
 -- the fault of a layout that isn't there
-pub reads_fault : (fault y : LayoutFault) (r : Result Layout LayoutFault) (behind new : List ℕ)
+pub reads_fault : (fault y : HeldFault) (r : Result Layout HeldFault) (behind new : List ℕ)
     → r ≡ Err y → y ≡ fault → Takes plain_layout IsLayout held_fields held_at (Err fault) behind new → ReadsLayout behind r
-reads_fault Missing y r behind new is same missing =
-    subst (λ (z : Result Layout LayoutFault). ReadsLayout behind z) (sym (is ∙ ap Err same)) (no_layout behind missing)
+reads_fault (Broken rule) y r behind new is same missing =
+    subst (λ (z : Result Layout HeldFault). ReadsLayout behind z) (sym (is ∙ ap Err same)) (missing.0, no_layout behind missing.1)
 reads_fault OutOfMemory y r behind new is same missing =
-    subst (λ (z : Result Layout LayoutFault). ReadsLayout behind z) (sym (is ∙ ap Err same)) tt
+    subst (λ (z : Result Layout HeldFault). ReadsLayout behind z) (sym (is ∙ ap Err same)) tt

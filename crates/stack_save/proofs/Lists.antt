@@ -6,8 +6,8 @@ use Rattle.std.proofs.lemmas.Grind.{take_at_read, flat_map-append}
 use Rattle.std.proofs.lemmas.List.{append-nil, map-append, length-append}
 use Rattle.machine_state.proofs.Growing.{each_more_viewed}
 use Rattle.stack_save.specs.Parts.{HasTaken, Takes, IsPart}
-use Rattle.stack_save.specs.declared.fault.LayoutFault.{LayoutFault}
-use Rattle.stack_save.specs.declared.fault.LayoutFault.TheVariants.{Missing, OutOfMemory}
+use Rattle.stack_save.specs.declared.fault.HeldFault.{HeldFault}
+use Rattle.stack_save.specs.declared.fault.HeldFault.TheVariants.{Broken, OutOfMemory}
 use Rattle.stack_save.specs.Reading.{Found, found_then, found_as, items_at}
 
 pub each_trivial : {X : Type 0} (xs : List X) → AllByRecursion (λ (x : X). ⊤) xs
@@ -89,13 +89,13 @@ TookFirst-missing Savable InRange spell at view old number i items rest first be
     ∙ ap (λ f. found_then f (λ one behind. found_as (λ others. one ∷ others) (items_at at (number - (i + 1)) behind))) missing)
 
 -- the fault of an item is the fault of the list
-pub err_taken : {T U A B : Type 0} (fault y : LayoutFault) (r : Result U LayoutFault) (plain : T → A) (Is : A → Type 0) (spell : A → List ℕ) (at : List ℕ → Found A)
+pub err_taken : {T U A B : Type 0} (fault y : HeldFault) (r : Result U HeldFault) (plain : T → A) (Is : A → Type 0) (spell : A → List ℕ) (at : List ℕ → Found A)
     (plain' : U → B) (Is' : B → Type 0) (spell' : B → List ℕ) (at' : List ℕ → Found B) (old new old' new' : List ℕ)
     → r ≡ Err y → y ≡ fault → Takes plain Is spell at (Err fault) old new → (at old ≡ None → at' old' ≡ None) → Takes plain' Is' spell' at' r old' new'
-err_taken {T} {U} Missing y r plain Is spell at plain' Is' spell' at' old new old' new' is same taken missing =
-    subst (λ (z : Result U LayoutFault). Takes plain' Is' spell' at' z old' new') (sym (is ∙ ap Err same)) (missing taken)
+err_taken {T} {U} (Broken rule) y r plain Is spell at plain' Is' spell' at' old new old' new' is same taken missing =
+    subst (λ (z : Result U HeldFault). Takes plain' Is' spell' at' z old' new') (sym (is ∙ ap Err same)) (taken.0, missing taken.1)
 err_taken {T} {U} OutOfMemory y r plain Is spell at plain' Is' spell' at' old new old' new' is same taken missing =
-    subst (λ (z : Result U LayoutFault). Takes plain' Is' spell' at' z old' new') (sym (is ∙ ap Err same)) tt
+    subst (λ (z : Result U HeldFault). Takes plain' Is' spell' at' z old' new') (sym (is ∙ ap Err same)) tt
 
 -- ---- parts in a row
 

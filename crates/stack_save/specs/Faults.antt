@@ -1,16 +1,10 @@
--- What a fault in a part is to a held file.
+-- What a fault in a PEX file is to a held file.
 use Rattle.std.specs.Prelude.{◌≡◌}
 use Rattle.pex_codec.specs.declared.faults.PexFault.{PexFault}
 use Rattle.pex_codec.specs.declared.faults.PexFault.TheVariants as pex
 use Rattle.stack_save.specs.declared.fault.HeldFault.{HeldFault}
 use Rattle.stack_save.specs.declared.fault.HeldFault.TheVariants.{Broken, OutOfMemory}
 use Rattle.stack_save.specs.declared.fault.HeldRule.TheVariants as rules
-use Rattle.stack_save.specs.declared.fault.LayoutFault.{LayoutFault}
-use Rattle.stack_save.specs.declared.fault.LayoutFault.TheVariants.{Missing, OutOfMemory as NoMemory}
-
-abbrev pub IsLayoutFault : LayoutFault → HeldFault → Type 0
-IsLayoutFault Missing fault = fault ≡ Broken rules.BadLayout
-IsLayoutFault NoMemory fault = fault ≡ OutOfMemory
 
 -- what a fault of the decoder is to a held file
 abbrev pub IsFileFault : PexFault → HeldFault → Type 0

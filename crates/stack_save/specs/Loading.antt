@@ -1,5 +1,5 @@
 -- What reading the layout of a held file and decoding its PEX files answer.
-use Rattle.std.specs.Prelude.{ℕ, List, ◌++◌, map, Result, Ok, Err}
+use Rattle.std.specs.Prelude.{◌≡◌, ℕ, List, ◌++◌, map, Result, Ok, Err}
 use Rattle.std.specs.declared.alloc.Global.{Global}
 use Rattle.std.specs.declared.vec.Vec.{Vec}
 use Rattle.std.specs.Borrow.{Bor}
@@ -14,8 +14,6 @@ use Rattle.stack_save.specs.Spelling.{heading, long_string, state}
 use Rattle.stack_save.specs.declared.fault.HeldFault.{HeldFault}
 use Rattle.stack_save.specs.declared.fault.HeldFault.TheVariants.{Broken, OutOfMemory}
 use Rattle.stack_save.specs.declared.fault.HeldRule.TheVariants as rules
-use Rattle.stack_save.specs.declared.fault.LayoutFault.{LayoutFault}
-use Rattle.stack_save.specs.declared.fault.LayoutFault.TheVariants.{Missing, OutOfMemory as NoMemory}
 use Rattle.stack_save.specs.declared.loading.Layout.{Layout}
 
 -- ---- the layout
@@ -36,11 +34,11 @@ abbrev pub held_fields : PlainHeld → List ℕ
 held_fields held = list long_string held.files ++ long_string held.scene ++ state held.state
 
 -- these bytes stand behind the heading
-abbrev pub ReadsLayout : List ℕ → Result Layout LayoutFault → Type 0
+abbrev pub ReadsLayout : List ℕ → Result Layout HeldFault → Type 0
 ReadsLayout bytes (Ok layout) =
     Spells (map lent layout.files.items) layout.scene.now (plain layout.state) (heading ++ bytes)
-ReadsLayout bytes (Err Missing) = ¬ HasLayout (heading ++ bytes)
-ReadsLayout bytes (Err NoMemory) = Unit {0}
+ReadsLayout bytes (Err (Broken rule)) = (rule ≡ rules.BadLayout) × ¬ HasLayout (heading ++ bytes)
+ReadsLayout bytes (Err OutOfMemory) = Unit {0}
 
 -- ---- the PEX files
 

@@ -6,8 +6,9 @@ use Rattle.machine_state.specs.Ranges as ranges
 use Rattle.machine_state.specs.Savable as savable
 use Rattle.stack_save.specs.Reading.{Found}
 use Rattle.stack_save.specs.Spelling.{PlainLocks, PlainThings}
-use Rattle.stack_save.specs.declared.fault.LayoutFault.{LayoutFault}
-use Rattle.stack_save.specs.declared.fault.LayoutFault.TheVariants.{Missing, OutOfMemory}
+use Rattle.stack_save.specs.declared.fault.HeldFault.{HeldFault}
+use Rattle.stack_save.specs.declared.fault.HeldFault.TheVariants.{Broken, OutOfMemory}
+use Rattle.stack_save.specs.declared.fault.HeldRule.TheVariants.{BadLayout}
 
 -- ---- putting and taking
 
@@ -22,9 +23,9 @@ pub record HasTaken {A : Type 0} (IsPart : A → Type 0) (spelling : A → List 
   pub found : there ≡ Some (part, new)
   pub bytes : old ≡ spelling part ++ new
 
-abbrev pub Takes : {T A : Type 0} → (T → A) → (A → Type 0) → (A → List ℕ) → (List ℕ → Found A) → Result T LayoutFault → List ℕ → List ℕ → Type 0
+abbrev pub Takes : {T A : Type 0} → (T → A) → (A → Type 0) → (A → List ℕ) → (List ℕ → Found A) → Result T HeldFault → List ℕ → List ℕ → Type 0
 Takes plain IsPart spelling at (Ok part) old new = HasTaken IsPart spelling (at old) (plain part) old new
-Takes plain IsPart spelling at (Err Missing) old new = at old ≡ None
+Takes plain IsPart spelling at (Err (Broken rule)) old new = (rule ≡ BadLayout) × (at old ≡ None)
 Takes plain IsPart spelling at (Err OutOfMemory) old new = Unit {0}
 
 -- ---- which parts may be

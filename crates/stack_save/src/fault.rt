@@ -1,8 +1,7 @@
 ghost use Rattle.std.specs.Prelude.{◌≡◌};
-ghost use Rattle.stack_save.specs.declared.fault.HeldFault.TheVariants.{OutOfMemory as NoMemoryToLoad};
-ghost use Rattle.stack_save.specs.declared.fault.LayoutFault.TheVariants.{OutOfMemory as NoMemoryToRead};
+ghost use Rattle.stack_save.specs.declared.fault.HeldFault.TheVariants.{Broken, OutOfMemory as NoMemoryToLoad};
 ghost use Rattle.stack_save.specs.declared.fault.SaveFault.TheVariants.{OutOfMemory as NoMemoryToSave};
-ghost use Rattle.stack_save.specs.Faults.{IsLayoutFault, IsFileFault};
+ghost use Rattle.stack_save.specs.Faults.{IsFileFault};
 
 use papy_base::OutOfMemory;
 use pex_codec::PexFault;
@@ -58,6 +57,14 @@ pub enum HeldFault {
     OutOfMemory,
 }
 
+impl From<OutOfMemory> for HeldFault {
+    ghost from_gives = { λ _ fault. fault ≡ NoMemoryToLoad };
+
+    fn from(_error: OutOfMemory) -> HeldFault {
+        HeldFault::OutOfMemory
+    }
+}
+
 impl From<AllocError> for HeldFault {
     ghost from_gives = { λ _ fault. fault ≡ NoMemoryToLoad };
 
@@ -74,66 +81,23 @@ impl<T: Drop> From<AllocFailed<T>> for HeldFault {
     }
 }
 
-impl From<LayoutFault> for HeldFault {
-    ghost from_gives = { IsLayoutFault };
-
-    fn from(fault: LayoutFault) -> HeldFault {
-        match fault {
-            LayoutFault::Missing => HeldFault::Broken {
-                rule: HeldRule::BadLayout,
-            },
-            LayoutFault::OutOfMemory => HeldFault::OutOfMemory,
-        }
-    }
-}
-
 impl From<PexFault> for HeldFault {
     ghost from_gives = { IsFileFault };
 
     fn from(fault: PexFault) -> HeldFault {
         match fault {
-            PexFault::Broken { .. } => HeldFault::Broken {
-                rule: HeldRule::BadFiles,
-            },
+            PexFault::Broken { .. } => refused(HeldRule::BadFiles),
             PexFault::OutOfMemory => HeldFault::OutOfMemory,
         }
     }
 }
 
-/// Why a part wasn't read.
-#[derive(Clone, Copy, Debug, PartialEq, Eq, Error)]
-pub(crate) enum LayoutFault {
-    /// No such part stands at the front.
-    #[error("the part isn't there")]
-    Missing,
-    /// No memory was found.
-    #[error("out of memory")]
-    OutOfMemory,
+/// That a held file is refused by this rule.
+pub(crate) fn refused(rule: HeldRule) -> HeldFault
+    ensures { result ≡ Broken rule }
+{
+    HeldFault::Broken { rule }
 }
 
-/// A part that was read.
-pub(crate) type Taken<T> = Result<T, LayoutFault>;
-
-impl From<OutOfMemory> for LayoutFault {
-    ghost from_gives = { λ _ fault. fault ≡ NoMemoryToRead };
-
-    fn from(_error: OutOfMemory) -> LayoutFault {
-        LayoutFault::OutOfMemory
-    }
-}
-
-impl From<AllocError> for LayoutFault {
-    ghost from_gives = { λ _ fault. fault ≡ NoMemoryToRead };
-
-    fn from(_error: AllocError) -> LayoutFault {
-        LayoutFault::OutOfMemory
-    }
-}
-
-impl<T: Drop> From<AllocFailed<T>> for LayoutFault {
-    ghost from_gives = { λ _ fault. fault ≡ NoMemoryToRead };
-
-    fn from(_error: AllocFailed<T>) -> LayoutFault {
-        LayoutFault::OutOfMemory
-    }
-}
+/// A part that was read. The rule `BadLayout` is broken where it isn't at the front of the bytes.
+pub(crate) type Taken<T> = Result<T, HeldFault>;

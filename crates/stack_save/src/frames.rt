@@ -1,18 +1,16 @@
 //! Stacks and their frames.
 
 ghost use Rattle.std.specs.Prelude.{◌≡◌, ◌≤◌, ◌∷◌, ◌++◌, List, map, refl, IfSome, OnOk};
-ghost use Rattle.machine_state.specs.Plain.{PlainBody, PlainCall, PlainFrame, plain_frame, plain_stack};
-ghost use Rattle.machine_state.specs.Ranges.{IsU16, IsBodyInRange, IsCallInRange, IsFrameInRange, IsStackInRange, IsValueInRange, IsWayInRange};
-ghost use Rattle.machine_state.specs.Savable.{FitsTwoBytes, name_of, IsSavableBody, IsSavableCall, IsSavableFrame, IsSavablePlace, IsSavableStack, IsSavableValue};
+ghost use Rattle.machine_state.specs.Plain.{PlainFrame, plain_frame, plain_stack};
+ghost use Rattle.machine_state.specs.Ranges.{IsU16, IsFrameInRange, IsStackInRange, IsValueInRange, IsWayInRange};
+ghost use Rattle.machine_state.specs.Savable.{FitsTwoBytes, name_of, IsSavableFrame, IsSavablePlace, IsSavableStack, IsSavableValue};
 ghost use Rattle.stack_save.specs.Parts.{HasPut, Takes, IsPart};
 ghost use Rattle.stack_save.specs.Reading as reading;
 ghost use Rattle.stack_save.specs.Spelling as spell;
 
-use crate::cursor::Cursor;
 use crate::fault::Taken;
+use crate::fields::{Cursor, put_byte, put_number_or_none, put_string, put_u16};
 use crate::part::{Part, put_list, take_list};
-use crate::put::{put_byte, put_number_or_none, put_string, put_u16};
-use crate::values::{take_name, take_text};
 use core_tree::Value;
 use machine_state::{BodyPlace, FrameState, Way};
 use papy_base::Name;
@@ -59,19 +57,17 @@ fn take_tagged_way(cursor: &mut Cursor<'_>, tag: u8) -> Taken<Way>
     ensures { Takes (λ way. way) (IsPart (λ way. FitsTwoBytes (name_of way)) IsWayInRange) spell.way reading.way_at result (tag ∷ cursor.old.rest.now) cursor.new.rest.now }
 {
     match tag {
-        0 => Ok(Way::Method(take_name(cursor)?)),
-        1 => {
-            let script = cursor.take_u16()?;
-            let name = take_name(cursor)?;
-            Ok(Way::Parent { script, name })
-        }
-        2 => {
-            let script = cursor.take_u16()?;
-            let name = take_name(cursor)?;
-            Ok(Way::Global { script, name })
-        }
-        3 => Ok(Way::Get(take_name(cursor)?)),
-        _ => Ok(Way::Set(take_name(cursor)?)),
+        0 => Ok(Way::Method(cursor.take_name()?)),
+        1 => Ok(Way::Parent {
+            script: cursor.take_u16()?,
+            name: cursor.take_name()?,
+        }),
+        2 => Ok(Way::Global {
+            script: cursor.take_u16()?,
+            name: cursor.take_name()?,
+        }),
+        3 => Ok(Way::Get(cursor.take_name()?)),
+        _ => Ok(Way::Set(cursor.take_name()?)),
     }
 }
 
@@ -88,13 +84,10 @@ fn take_way(cursor: &mut Cursor<'_>) -> Taken<Way>
 fn take_call(cursor: &mut Cursor<'_>) -> Taken<FrameState>
     ensures { Takes plain_frame (IsPart IsSavableFrame IsFrameInRange) spell.frame reading.frame_at result (0 ∷ cursor.old.rest.now) cursor.new.rest.now }
 {
-    let instance = cursor.take_number_or_none()?;
-    let way = take_way(cursor)?;
-    let arguments = take_list(cursor)?;
     Ok(FrameState::ToEnter {
-        instance,
-        way,
-        arguments,
+        instance: cursor.take_number_or_none()?,
+        way: take_way(cursor)?,
+        arguments: take_list(cursor)?,
     })
 }
 
@@ -115,15 +108,11 @@ fn put_place(out: &mut Vec<u8>, place: &BodyPlace) -> Result<(), AllocError>
 fn take_place(cursor: &mut Cursor<'_>) -> Taken<BodyPlace>
     ensures { Takes (λ place. place) (IsPart IsSavablePlace (λ place. IsU16 place.script)) spell.place reading.place_at result cursor.old.rest.now cursor.new.rest.now }
 {
-    let script = cursor.take_u16()?;
-    let state = take_text(cursor)?;
-    let function = take_text(cursor)?;
-    let kind = cursor.take_tag(2)?;
     Ok(BodyPlace {
-        script,
-        state,
-        function,
-        kind,
+        script: cursor.take_u16()?,
+        state: cursor.take_text()?,
+        function: cursor.take_text()?,
+        kind: cursor.take_tag(2)?,
     })
 }
 
@@ -147,8 +136,7 @@ fn take_reply(cursor: &mut Cursor<'_>) -> Taken<Option<Value>>
     if cursor.take_tag(1)? == 0 {
         return Ok(None);
     }
-    let value = Value::take(cursor)?;
-    Ok(Some(value))
+    Ok(Some(Value::take(cursor)?))
 }
 
 /// A running frame behind its tag.
@@ -156,17 +144,12 @@ fn take_reply(cursor: &mut Cursor<'_>) -> Taken<Option<Value>>
 fn take_body(cursor: &mut Cursor<'_>) -> Taken<FrameState>
     ensures { Takes plain_frame (IsPart IsSavableFrame IsFrameInRange) spell.frame reading.frame_at result (1 ∷ cursor.old.rest.now) cursor.new.rest.now }
 {
-    let instance = cursor.take_number_or_none()?;
-    let at = take_place(cursor)?;
-    let instruction = cursor.take_u16()?;
-    let slots = take_list(cursor)?;
-    let reply = take_reply(cursor)?;
     Ok(FrameState::Running {
-        instance,
-        at,
-        instruction,
-        slots,
-        reply,
+        instance: cursor.take_number_or_none()?,
+        at: take_place(cursor)?,
+        instruction: cursor.take_u16()?,
+        slots: take_list(cursor)?,
+        reply: take_reply(cursor)?,
     })
 }
 

@@ -1,18 +1,14 @@
 //! Held files: the state of a run, with the PEX files and the scene that it runs, as bytes and back.
 #![tactic(auto)]
 
-mod ascending;
-mod cursor;
 mod fault;
+mod fields;
 mod frames;
 mod laws;
 mod loading;
-mod numbers;
 mod part;
-mod put;
 mod saving;
 mod state;
-mod things;
 mod values;
 
 pub use fault::{HeldFault, HeldRule, SaveFault};

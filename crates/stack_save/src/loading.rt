@@ -10,8 +10,8 @@ ghost use Rattle.stack_save.specs.Parts.{AreItems, AreParts, Takes};
 ghost use Rattle.stack_save.specs.Reading as reading;
 ghost use Rattle.stack_save.specs.Spelling as spell;
 
-use crate::cursor::Cursor;
-use crate::fault::{HeldFault, HeldRule, LayoutFault, Taken};
+use crate::fault::{HeldFault, HeldRule, Taken, refused};
+use crate::fields::Cursor;
 use crate::state::take_state;
 use crate::{HEADING, HELD_LIMIT};
 use machine_state::MachineState;
@@ -62,13 +62,10 @@ fn take_files<'a>(cursor: &mut Cursor<'a>) -> Taken<Vec<&'a [u8]>>
 fn take_layout<'a>(cursor: &mut Cursor<'a>) -> Taken<Layout<'a>>
     ensures { Takes plain_layout IsLayout held_fields reading.held_at result cursor.old.rest.now cursor.new.rest.now }
 {
-    let files = take_files(cursor)?;
-    let scene = cursor.take_long_string()?;
-    let state = take_state(cursor)?;
     Ok(Layout {
-        files,
-        scene,
-        state,
+        files: take_files(cursor)?,
+        scene: cursor.take_long_string()?,
+        state: take_state(cursor)?,
     })
 }
 
@@ -80,7 +77,7 @@ fn read_layout<'a>(alloc: Global, bytes: &'a [u8]) -> Taken<Layout<'a>>
     let layout = take_layout(&mut cursor)?;
     if !cursor.rest.is_empty() {
         drop(layout);
-        return Err(LayoutFault::Missing);
+        return Err(refused(HeldRule::BadLayout));
     }
     Ok(layout)
 }
@@ -114,35 +111,15 @@ pub fn load(alloc: Global, bytes: &[u8]) -> Result<Held, HeldFault>
     ensures { LoadGives bytes.now result }
 {
     if bytes.len() > HELD_LIMIT as usize {
-        return Err(HeldFault::Broken {
-            rule: HeldRule::TooLarge,
-        });
+        return Err(refused(HeldRule::TooLarge));
     }
     let Some(rest) = behind_heading(bytes) else {
-        return Err(HeldFault::Broken {
-            rule: HeldRule::BadMagic,
-        });
+        return Err(refused(HeldRule::BadMagic));
     };
     let layout = read_layout(alloc, rest)?;
-    let files = decode_files(alloc, &layout.files)?;
-    let scene = layout.scene.to_vec(alloc)?;
-    Ok(held_of(files, scene, layout))
-}
-
-/// The files and the scene with the layout's state.
-fn held_of(files: Vec<Pex>, scene: Vec<u8>, layout: Layout<'_>) -> Held
-    ensures state { result.state ≡ layout.entry.state }
-    ensures files { result.files ≡ files }
-    ensures scene { result.scene ≡ scene }
-{
-    let Layout {
-        files: _,
-        scene: _,
-        state,
-    } = layout;
-    Held {
-        files,
-        scene,
-        state,
-    }
+    Ok(Held {
+        files: decode_files(alloc, &layout.files)?,
+        scene: layout.scene.to_vec(alloc)?,
+        state: layout.state,
+    })
 }

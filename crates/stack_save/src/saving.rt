@@ -11,7 +11,7 @@ ghost use Rattle.stack_save.specs.Parts.{HasPut};
 ghost use Rattle.stack_save.specs.Spelling as spell;
 
 use crate::fault::SaveFault;
-use crate::put::{put_long_string, put_u16};
+use crate::fields::{put_long_string, put_u16};
 use crate::state::put_state;
 use crate::{HEADING, HELD_LIMIT};
 use machine_state::MachineState;

@@ -9,11 +9,9 @@ ghost use Rattle.stack_save.specs.Parts.{HasPut, Takes, IsPart, AreAscending, Ar
 ghost use Rattle.stack_save.specs.Reading as reading;
 ghost use Rattle.stack_save.specs.Spelling as spell;
 
-use crate::ascending::ascends;
-use crate::cursor::Cursor;
-use crate::fault::{LayoutFault, Taken};
+use crate::fault::{HeldRule, Taken, refused};
+use crate::fields::{Cursor, put_number_or_none, put_u32};
 use crate::part::{put_list, take_list};
-use crate::put::{put_number_or_none, put_u32};
 use machine_state::MachineState;
 use std::alloc::AllocError;
 
@@ -53,9 +51,9 @@ pub(crate) fn put_state(out: &mut Vec<u8>, state: &MachineState) -> Result<(), A
 fn take_owners(cursor: &mut Cursor<'_>) -> Taken<Vec<(u16, u16)>>
     ensures { Takes (λ owners. owners.items) (AreAscending firsts IsPairInRange) (pex.list pex.pair) reading.owners_at result cursor.old.rest.now cursor.new.rest.now }
 {
-    let owners = take_list(cursor)?;
-    if !ascends(&owners) {
-        return Err(LayoutFault::Missing);
+    let owners: Vec<(u16, u16)> = take_list(cursor)?;
+    if !owners.is_sorted_by(|a, b| a.0 < b.0) {
+        return Err(refused(HeldRule::BadLayout));
     }
     Ok(owners)
 }
@@ -63,9 +61,9 @@ fn take_owners(cursor: &mut Cursor<'_>) -> Taken<Vec<(u16, u16)>>
 fn take_free(cursor: &mut Cursor<'_>) -> Taken<Vec<u16>>
     ensures { Takes (λ free. free.items) (AreAscending (λ free. free) IsU16) (pex.list pex.two_bytes) reading.free_at result cursor.old.rest.now cursor.new.rest.now }
 {
-    let free = take_list(cursor)?;
-    if !ascends(&free) {
-        return Err(LayoutFault::Missing);
+    let free: Vec<u16> = take_list(cursor)?;
+    if !free.is_sorted_by(|a, b| *a < *b) {
+        return Err(refused(HeldRule::BadLayout));
     }
     Ok(free)
 }
@@ -73,9 +71,9 @@ fn take_free(cursor: &mut Cursor<'_>) -> Taken<Vec<u16>>
 fn take_asleep(cursor: &mut Cursor<'_>) -> Taken<Vec<(u16, u32)>>
     ensures { Takes (λ asleep. asleep.items) (AreAscending firsts IsSleeperInRange) (pex.list spell.sleeper) reading.asleep_at result cursor.old.rest.now cursor.new.rest.now }
 {
-    let asleep = take_list(cursor)?;
-    if !ascends(&asleep) {
-        return Err(LayoutFault::Missing);
+    let asleep: Vec<(u16, u32)> = take_list(cursor)?;
+    if !asleep.is_sorted_by(|a, b| a.0 < b.0) {
+        return Err(refused(HeldRule::BadLayout));
     }
     Ok(asleep)
 }

@@ -1,9 +1,10 @@
-use Rattle.std.specs.Prelude.{nat_eq, true}
-use Rattle.std.proofs.Common.{◌≡◌, ℕ, List, [], ◌++◌, length, sym, ap, ◌∙◌}
+use Rattle.std.specs.Prelude.{nat_eq, true, Err}
+use Rattle.std.proofs.Common.{◌≡◌, ℕ, List, [], ◌++◌, length, refl, sym, ap, subst, ◌∙◌}
 use Rattle.std.proofs.lemmas.Result.{err_from_is_err_and}
 use Rattle.stack_save.proofs.HeldLemmas.{empty_from, not_whole, reads_fault, spells_layout}
 use Rattle.stack_save.proofs.loading.read_layout.Goals as goal
-use Rattle.stack_save.specs.Loading.{held_fields, plain_layout}
+use Rattle.stack_save.specs.Loading.{ReadsLayout, held_fields, plain_layout}
+use Rattle.stack_save.specs.declared.fault.HeldFault.{HeldFault}
 
 pub returns-in_err-layout : goal.returns-in_err-layout
 returns-in_err-layout c =
@@ -15,11 +16,14 @@ returns-then-not-is_empty c =
     let h = plain_layout c.in_ok-layout.layout in
     let rest = c.take_layout.new.cursor.rest.now in
     let taken = c.in_ok-layout.ensures in
-    not_whole c.args.bytes.now h rest taken.found
-    (λ (none : rest ≡ []).
-    let passed : nat_eq (length rest) 0 ≡ true = ap (λ (b : List ℕ). nat_eq (length b) 0) none in
-    let failed = sym c.is_empty.ensures ∙ c.if-not-is_empty.true in
-    cc)
+    subst (λ (fault : HeldFault). ReadsLayout c.args.bytes.now (Err fault)) (sym c.refused.ensures) (
+      refl,
+      not_whole c.args.bytes.now h rest taken.found
+          (λ (none : rest ≡ []).
+          let passed : nat_eq (length rest) 0 ≡ true = ap (λ (b : List ℕ). nat_eq (length b) 0) none in
+          let failed = sym c.is_empty.ensures ∙ c.if-not-is_empty.true in
+          cc),
+    )
 
 pub returns : goal.returns
 returns c =
