@@ -42,11 +42,12 @@ impl Machine {
             setting: &self.setting,
             world: &self.world,
         };
+        let count = self.setting.scene.instances.len() as u16;
         let state = MachineState {
             turn: self.turns,
             last: self.world.last,
-            instances: teller.instances()?,
-            owners: teller.owners()?,
+            instances: teller.instances(count)?,
+            owners: teller.owners(count)?,
             waiters: teller.waiters()?,
             free: teller.free()?,
             asleep: teller.asleep()?,
@@ -74,10 +75,11 @@ struct Teller<'a> {
 }
 
 impl Teller<'_> {
-    fn instances(&self) -> Told<Vec<(Text, Vec<Value>)>> {
+    // The first so many instances.
+    fn instances(&self, count: u16) -> Told<Vec<(Text, Vec<Value>)>> {
         let store = &self.world.store;
         let mut told = Vec::new(self.alloc);
-        for instance in 0..self.setting.scene.instances.len() as u16 {
+        for instance in 0..count {
             if store.has_instance(instance) {
                 let state = store.instances.state_of(instance).try_clone(self.alloc)?;
                 let values = self.values(store.instances.scripts_of(instance))?;
@@ -96,10 +98,10 @@ impl Teller<'_> {
         Ok(values)
     }
 
-    // The instances that a stack holds.
-    fn owners(&self) -> Told<Vec<(u16, u16)>> {
+    // Those of the first so many instances that a stack holds.
+    fn owners(&self, count: u16) -> Told<Vec<(u16, u16)>> {
         let mut owners = Vec::new(self.alloc);
-        for instance in 0..self.setting.scene.instances.len() as u16 {
+        for instance in 0..count {
             if let Some(stack) = self.world.threads.owner_of(instance) {
                 owners.push((instance, stack))?;
             }
