@@ -9,7 +9,7 @@ ghost use Rattle.scene_runner.specs.Report.{Closes};
 use crate::lines::{instance_line, property_line, stack_line, turns_line};
 use core_tree::OutlineProperty;
 use papy_base::OutOfMemory;
-use papy_io::Sink;
+use papy_io::{IoFault, Sink};
 use stack_machine::{Machine, TurnFault};
 use std::alloc::Global;
 
@@ -42,7 +42,11 @@ fn write_line<S: Sink>(sink: &mut S, line: &[u8]) -> Result<(), TurnFault>
     ensures count { CountsTurn result (S.faults sink.old) (S.faults sink.new) }
     ensures appended { WritesLines result (S.written sink.old) (S.written sink.new) }
 {
-    Ok(sink.write(line)?)
+    match sink.write(line) {
+        Ok(()) => Ok(()),
+        Err(IoFault::Failed) => Err(TurnFault::WriteFault),
+        Err(IoFault::OutOfMemory) => Err(TurnFault::OutOfMemory),
+    }
 }
 
 fn write_instances<S: Sink>(alloc: Global, machine: &Machine, sink: &mut S) -> Result<(), TurnFault>
@@ -115,18 +119,20 @@ fn properties_of(machine: &Machine, script: u16) -> &[OutlineProperty] {
 // The script of an instance, and those above it in turn.
 fn scripts_of(alloc: Global, machine: &Machine, instance: u16) -> Result<Vec<u16>, OutOfMemory> {
     let mut found = Vec::new(alloc);
-    let (scripts, instances) = (&machine.outline().scripts, &machine.scene().instances);
-    let mut next = instances
-        .get(usize::from(instance))
-        .map(|bound| bound.script);
+    let scripts = &machine.outline().scripts;
+    let mut next = match machine.scene().instances.get(usize::from(instance)) {
+        Some(bound) => Some(bound.script),
+        None => None,
+    };
     for _ in 0..scripts.len() {
         let Some(script) = next else {
             break;
         };
         found.push(script)?;
-        next = scripts
-            .get(usize::from(script))
-            .and_then(|outline| outline.parent);
+        next = match scripts.get(usize::from(script)) {
+            Some(outline) => outline.parent,
+            None => None,
+        };
     }
     Ok(found)
 }

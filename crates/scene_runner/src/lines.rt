@@ -27,13 +27,10 @@ pub fn instance_line(
     requires { instance < vec_len machine.now.scene.instances }
     ensures { IfOk result (λ line. IsLines line.items) }
 {
-    let bound = &machine.scene().instances[usize::from(instance)];
     let mut line = Vec::new(alloc);
-    line.extend_from_slice(bound.name.as_bytes())?;
+    append_instance(&mut line, machine, instance)?;
     line.extend_from_slice(b" : ")?;
-    if let Some(script) = machine.outline().scripts.get(usize::from(bound.script)) {
-        line.extend_from_slice(script.name.as_bytes())?;
-    }
+    append_script(&mut line, machine, instance)?;
     line.extend_from_slice(b" @")?;
     append_escaped(&mut line, machine.state_of(instance).as_bytes())?;
     line.push(b'\n')?;
@@ -95,6 +92,18 @@ fn append_instance(
 ) -> Result<(), OutOfMemory> {
     if let Some(bound) = machine.scene().instances.get(usize::from(instance)) {
         line.extend_from_slice(bound.name.as_bytes())?;
+    }
+    Ok(())
+}
+
+// The name of an instance's script.
+fn append_script(line: &mut Vec<u8>, machine: &Machine, instance: u16) -> Result<(), OutOfMemory> {
+    let Some(bound) = machine.scene().instances.get(usize::from(instance)) else {
+        return Ok(());
+    };
+    let scripts = &machine.outline().scripts;
+    if let Some(script) = scripts.get(usize::from(bound.script)) {
+        line.extend_from_slice(script.name.as_bytes())?;
     }
     Ok(())
 }
