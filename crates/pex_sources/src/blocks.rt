@@ -211,13 +211,13 @@ impl<'w, 'f> Blocks<'w, 'f> {
 
     // An If that is all of an Else is an ElseIf, and the end of that If is the end of this one.
     fn end_else(&mut self, line: usize, statements: usize) -> Found<()> {
-        let behind = self.lines.get_mut(line..);
-        if let (1, Some([begin, inner, ..])) = (statements, behind) {
-            if let Line::If(test) = *inner {
-                *begin = Line::Skipped;
-                *inner = Line::ElseIf(test);
-                return Ok(());
-            }
+        let behind = self.lines.as_mut_slice().get_mut(line..);
+        if let (1, Some([begin, inner, ..])) = (statements, behind)
+            && let Line::If(test) = *inner
+        {
+            *begin = Line::Skipped;
+            *inner = Line::ElseIf(test);
+            return Ok(());
         }
         self.lines.push(Line::EndIf)?;
         Ok(())

@@ -290,11 +290,11 @@ impl<'w> Code<'w> {
 // it.
 fn note_step(step: Step, operands: &mut [(Operand, bool)], reads: &mut [bool]) {
     for at in step.first..step.end {
-        if let Some((Operand::Slot(slot), is_read_next)) = operands.get_mut(at) {
-            if let Some(is_read) = reads.get_mut(*slot) {
-                *is_read_next = *is_read;
-                *is_read = step.result != Some(at);
-            }
+        if let Some((Operand::Slot(slot), is_read_next)) = operands.get_mut(at)
+            && let Some(is_read) = reads.get_mut(*slot)
+        {
+            *is_read_next = *is_read;
+            *is_read = step.result != Some(at);
         }
     }
 }

@@ -82,10 +82,10 @@ impl<'a> Author<'a> {
         let functions = accessors.chain(members.map(|(_, function)| function));
         let mut written = HashSet::new(page.alloc);
         for instruction in functions.flat_map(|function| function.code.iter()) {
-            if let Some(import) = self.import_of(instruction) {
-                if written.insert(self.script.number(import))? {
-                    page.line(&[b"Import ", self.script.text(import)])?;
-                }
+            if let Some(import) = self.import_of(instruction)
+                && written.insert(self.script.number(import))?
+            {
+                page.line(&[b"Import ", self.script.text(import)])?;
             }
         }
         Ok(())

@@ -156,10 +156,10 @@ impl<'w, 'f> Reader<'w, 'f> {
     // Takes back the temporaries that are read no more.
     fn give_back(&mut self) -> Found<()> {
         for input in &self.inputs {
-            if let Operand::Slot(slot) = input.operand {
-                if !self.values.contains_key(&slot) {
-                    self.slots.give_back(slot)?;
-                }
+            if let Operand::Slot(slot) = input.operand
+                && !self.values.contains_key(&slot)
+            {
+                self.slots.give_back(slot)?;
             }
         }
         Ok(())
@@ -217,10 +217,10 @@ impl<'w, 'f> Reader<'w, 'f> {
     // An assignment. The first to a local is its definition.
     fn assign(&mut self, at: usize, step: Step) -> Found<Outcome> {
         let (target, _) = self.code.operand(step.first)?;
-        if let Operand::Slot(slot) = target {
-            if self.slots.is_temporary(slot) {
-                return self.assign_temporary(at, step, slot);
-            }
+        if let Operand::Slot(slot) = target
+            && self.slots.is_temporary(slot)
+        {
+            return self.assign_temporary(at, step, slot);
         }
         let value = self.end_with_one()?;
         if let Some(slot) = self.slots.undefined(target) {

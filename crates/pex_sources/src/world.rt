@@ -204,12 +204,12 @@ impl<'a> World<'a> {
         let (script, (name, kind), place) = slot;
         let own = script.text(name);
         if is_word(own) && !self.taken.contains(&script.number(name)) {
-            return page.put(own);
+            return page.put(&[own]);
         }
         let kind = script.number(kind);
         let (stem, infix) = (stem(kind, self.is_script(kind)), self.infix.as_str());
         let name = format!(in page.alloc; "{stem}{infix}{place}")?;
-        page.put(name.as_bytes())
+        page.put(&[name.as_bytes()])
     }
 
     // The script that is this type.
