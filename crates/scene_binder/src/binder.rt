@@ -1,5 +1,5 @@
 // A scene bound to an outline, step by step: its instances and what they set, what native functions do, and its calls.
-ghost use Rattle.std.specs.Prelude.{IfOk, IfSome, IsTrue, List, Some, length, map, slice_get, ℕ, ◌↔◌, ◌≡◌, ◌≤◌};
+ghost use Rattle.std.specs.Prelude.{IfOk, IfSome, IsTrue, Some, length, map, slice_get, ◌↔◌, ◌≡◌, ◌≤◌};
 ghost use Rattle.std.specs.List.{All};
 ghost use Rattle.papy_base.specs.Case.{folded};
 ghost use Rattle.scene_reader.specs.Limits.{CallKeeps, EntryKeeps, InstanceKeeps, KeepsLimits, NativeKeeps, ValueKeeps};
