@@ -4,7 +4,7 @@ use Rattle.pex_alike.specs.SameCode.{SameEach}
 use Rattle.pex_alike.proofs.Lists.{each_more}
 use Rattle.pex_lift.specs.Lifted.{IsRead}
 use Rattle.pex_lift.proofs.Accepted.{each_none}
-use Rattle.pex_lift.proofs.compiling.sources_of.Goals as goal
+use Rattle.pex_lift.proofs.lifting.sources_of.Goals as goal
 
 pub loop-text-init : goal.loop-text-init
 loop-text-init c = rw c.in_ok-sources.ensures.items (each_none IsRead)

@@ -2,7 +2,7 @@ use Rattle.std.proofs.Common.{arith}
 use Rattle.pex_alike.proofs.Lists.{each_length}
 use Rattle.pex_lift.specs.Lifted.{IsRead}
 use Rattle.pex_lift.proofs.Accepted.{compile_to}
-use Rattle.pex_lift.proofs.compiling.compiled.Goals as goal
+use Rattle.pex_lift.proofs.lifting.compiled.Goals as goal
 
 pub linked_core-requires : goal.linked_core-requires
 linked_core-requires c =

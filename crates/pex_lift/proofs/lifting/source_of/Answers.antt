@@ -1,4 +1,4 @@
-use Rattle.pex_lift.proofs.compiling.source_of.Goals as goal
+use Rattle.pex_lift.proofs.lifting.source_of.Goals as goal
 
 pub returns : goal.returns
 returns c = record {

@@ -1,5 +1,5 @@
 use Rattle.std.proofs.Common.{arith, ◌≡◌, ◌-◌, length, vec_len}
-use Rattle.pex_lift.proofs.compiling.values_of.Goals as goal
+use Rattle.pex_lift.proofs.lifting.values_of.Goals as goal
 
 pub returns-in-Ok : goal.returns-in-Ok
 returns-in-Ok c =

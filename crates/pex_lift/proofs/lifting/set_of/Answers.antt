@@ -1,4 +1,4 @@
-use Rattle.pex_lift.proofs.compiling.set_of.Goals as goal
+use Rattle.pex_lift.proofs.lifting.set_of.Goals as goal
 
 pub returns-in-Ok : goal.returns-in-Ok
 returns-in-Ok c = record {
