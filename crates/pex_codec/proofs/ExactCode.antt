@@ -15,7 +15,7 @@ use Rattle.pex_values.specs.Plain.{PlainInstruction, PlainFunction, PlainState}
 use Rattle.pex_values.specs.Shape.{IsReference, ArePair, AgreesWith, IsShapedDatum, IsShapedInstruction, IsShapedFunction, IsShapedNamed, IsShapedState}
 use Rattle.pex_values.specs.Spelling.{one_byte, two_bytes, four_bytes, datum, counted, instruction, pair, list, function, named, state}
 use Rattle.pex_codec.specs.declared.faults.PexRule.TheVariants.{BadKind, BadOpcode, BadCount, BadIndex}
-use Rattle.pex_codec.specs.declared.heads.FunctionHead.{FunctionHead}
+use Rattle.pex_codec.specs.declared.cursor.FunctionHead.{FunctionHead}
 use Rattle.pex_codec.specs.Laws.{AreBytes}
 use Rattle.pex_codec.specs.Reading.{Reader, Got, read_as, judged, number_at, reference_at, list_at, kind_at, datum_with, datum_at, pair_at, opcode_at, count_at, instruction_with, instruction_at, function_head_at, function_with, function_at, named_at, state_at}
 use Rattle.pex_codec.proofs.Exact.{Spans, Stands, IsExact, joined, spelled_as, same_got, ended_at, short_got, taken, viewed, follow, ending, exact_as, judged_exact, row2, row3, row4, row5, byte_exact, two_exact, four_exact, items_exact, list_exact}

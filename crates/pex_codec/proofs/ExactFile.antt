@@ -8,8 +8,8 @@ use Rattle.pex_values.specs.Plain.{PlainLines, PlainDebug, PlainObject, PlainPex
 use Rattle.pex_values.specs.Shape.{IsReference, IsShapedLines, IsShapedDebug, IsShapedFlag, IsShapedObject, IsWellShaped}
 use Rattle.pex_values.specs.Spelling.{one_byte, two_bytes, four_bytes, eight_bytes, string, list, lines, debug, flag, object, heading, spelling}
 use Rattle.pex_codec.specs.declared.faults.PexRule.TheVariants.{BadMagic, BadVersion, BadGame, BadDebugFlag}
-use Rattle.pex_codec.specs.declared.heads.Heading.{Heading}
-use Rattle.pex_codec.specs.declared.heads.LinesHead.{LinesHead}
+use Rattle.pex_codec.specs.declared.cursor.Heading.{Heading}
+use Rattle.pex_codec.specs.declared.cursor.LinesHead.{LinesHead}
 use Rattle.pex_codec.specs.Laws.{AreBytes}
 use Rattle.pex_codec.specs.Reading.{Reader, Got, then_read, read_as, judged, byte_at, number_at, list_at, lines_head_at, lines_with, lines_at, debug_flag_at, debug_with, debug_at, flag_at, heading_at, Texts, texts_at, pex_with, pex_at}
 use Rattle.pex_codec.specs.Writing.{FitEach}

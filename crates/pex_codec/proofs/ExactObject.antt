@@ -13,8 +13,8 @@ use Rattle.pex_values.specs.Plain.{PlainFunction, PlainState, PlainProperty, Pla
 use Rattle.pex_values.specs.Shape.{IsReference, IsShapedFunction, IsShapedState, IsShapedVariable, IsShapedProperty, IsShapedObject}
 use Rattle.pex_values.specs.Spelling.{one_byte, two_bytes, four_bytes, datum, variable, optional, function, property, state, list, object_data, size_of, object}
 use Rattle.pex_codec.specs.declared.faults.PexRule.TheVariants.{BadSize}
-use Rattle.pex_codec.specs.declared.heads.PropertyHead.{PropertyHead}
-use Rattle.pex_codec.specs.declared.heads.ObjectHead.{ObjectHead}
+use Rattle.pex_codec.specs.declared.cursor.PropertyHead.{PropertyHead}
+use Rattle.pex_codec.specs.declared.cursor.ObjectHead.{ObjectHead}
 use Rattle.pex_codec.specs.Laws.{AreBytes}
 use Rattle.pex_codec.specs.Reading.{Reader, Got, Refused, then_read, read_as, reference_at, optional_at, function_at, variable_at, property_head_at, property_with, property_at, object_head_at, size_form_at, object_with, object_at}
 use Rattle.pex_codec.specs.Writing.{FitEach}

@@ -14,10 +14,10 @@ use Rattle.pex_codec.specs.declared.faults.PexFault.{PexFault}
 use Rattle.pex_codec.specs.declared.faults.PexFault.TheVariants.{Broken}
 use Rattle.pex_codec.specs.declared.faults.PexRule.{PexRule}
 use Rattle.pex_codec.specs.declared.faults.PexRule.TheVariants.{BadMagic, BadVersion, BadGame, BadDebugFlag, BadKind, BadOpcode, BadCount, BadIndex, BadSize, Truncated, Trailing, TooLarge}
-use Rattle.pex_codec.specs.declared.progress.Standing.{Standing}
-use Rattle.pex_codec.specs.declared.progress.Standing.TheVariants as standing
+use Rattle.pex_codec.specs.declared.decoder.Standing.{Standing}
+use Rattle.pex_codec.specs.declared.decoder.Standing.TheVariants as standing
 use Rattle.pex_codec.specs.declared.scan.Scan.{Scan}
-use Rattle.pex_codec.specs.declared.scanned_bytes.ScannedBytes.{ScannedBytes}
+use Rattle.pex_codec.specs.declared.decoder.ScannedBytes.{ScannedBytes}
 use Rattle.pex_codec.specs.Decoding.{Breaks, EndFrom, EndGives, FinishFrom, FinishGives, IsSpelling, IsUnfinished, Progress, reading}
 use Rattle.pex_codec.specs.DecoderState.{ends, Follows, IsOpen, HasEnded, GoesOver, StandsAs, TakesAll, TakesEnd, BreaksPiece}
 use Rattle.pex_codec.specs.Laws.{AreBytes}

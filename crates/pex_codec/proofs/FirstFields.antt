@@ -4,9 +4,9 @@ use Rattle.std.proofs.Common.{◌≡◌, ℕ, ◌≤◌, List, ◌++◌, refl, s
 use Rattle.pex_codec.specs.declared.cursor.Cursor.{Cursor}
 use Rattle.pex_codec.specs.declared.cursor.Stop.{Stop}
 use Rattle.pex_codec.specs.declared.cursor.Stop.TheVariants as stop
-use Rattle.pex_codec.specs.declared.parts.Opened.{Opened}
-use Rattle.pex_codec.specs.declared.parts.Part.{Part}
-use Rattle.pex_codec.specs.declared.parts.Task.{Task}
+use Rattle.pex_codec.specs.declared.scan.Opened.{Opened}
+use Rattle.pex_codec.specs.declared.scan.Part.{Part}
+use Rattle.pex_codec.specs.declared.scan.Task.{Task}
 use Rattle.pex_codec.specs.Opening.{Opens, OpensAs, HasOpened, IsOpened, Moved, tasks_of, least_of}
 use Rattle.pex_codec.specs.Reading.{Reading, Reader, Got, Short, Refused, then_read}
 use Rattle.pex_codec.specs.Scanning.{with_strings, part_at, tasks_at}

@@ -3,7 +3,7 @@ use Rattle.std.proofs.Common.{◌≡◌, ℕ, ◌+◌, ◌<◌, List, [], ◌∷
 use Rattle.std.specs.Prelude.{⊤, Result, Ok, Err}
 use Rattle.pex_values.specs.Fit.{IsCounted}
 use Rattle.pex_values.proofs.Parts.{flat_map-map, each_view}
-use Rattle.pex_codec.specs.Writing.{Writes, FitEach}
+use Rattle.pex_codec.specs.Writing.{Writes, FitEach, FitsAsList}
 use Rattle.pex_codec.specs.declared.faults.EncodeFault.{EncodeFault}
 use Rattle.pex_codec.specs.declared.faults.EncodeFault.TheVariants.{TooManyItems, OutOfMemory}
 use Rattle.pex_values.specs.Spelling.{list}
@@ -37,12 +37,23 @@ Writes-viewed (Ok x) old new P f view xs wrote =
 Writes-viewed (Err TooManyItems) old new P f view xs wrote = λ fit. wrote (rw (length-map xs view) at fit.0, each_viewed P view xs fit.1)
 Writes-viewed (Err OutOfMemory) old new P f view xs wrote = tt
 
+-- the same, where what a list must be is said in another way
+pub Writes-said : {T X : Type 0} (r : Result T EncodeFault) (old new : List ℕ) (P : X → Type 0) (ListFits : List X → Type 0) (bytes : List ℕ) (xs : List X)
+    → FitsAsList P ListFits xs → Writes r old new (FitEach P xs) bytes → Writes r old new (ListFits xs) bytes
+Writes-said (Ok x) old new P ListFits bytes xs said wrote = (said.fit wrote.0, wrote.1)
+Writes-said (Err TooManyItems) old new P ListFits bytes xs said wrote = λ fit. wrote (said.all fit)
+Writes-said (Err OutOfMemory) old new P ListFits bytes xs said wrote = tt
+
+pub Writes-listed : {T X Y : Type 0} (r : Result T EncodeFault) (old new : List ℕ) (P : Y → Type 0) (ListFits : List Y → Type 0) (f : Y → List ℕ) (view : X → Y) (xs : List X) (ys : List Y)
+    → ys ≡ map view xs → ((zs : List Y) → FitsAsList P ListFits zs)
+    → Writes r old new (FitEach (λ x. P (view x)) xs) (list (λ x. f (view x)) xs) → Writes r old new (ListFits ys) (list f ys)
+Writes-listed r old new P ListFits f view xs ys is said wrote =
+    subst (λ (zs : List _). Writes r old new (ListFits zs) (list f zs)) (sym is)
+    (Writes-said r old new P ListFits (list f (map view xs)) (map view xs) (said (map view xs)) (Writes-viewed r old new P f view xs wrote))
+
 -- items that always fit
-pub Writes-plain : {T X : Type 0} (r : Result T EncodeFault) (old new : List ℕ) (f : X → List ℕ) (xs : List X)
-    → Writes r old new (FitEach (λ (x : X). ⊤) xs) (list f xs) → Writes r old new (IsCounted xs) (list f xs)
-Writes-plain (Ok x) old new f xs wrote = (wrote.0.0, wrote.1)
-Writes-plain (Err TooManyItems) old new f xs wrote = λ fit. wrote (fit, each_trivial xs)
-Writes-plain (Err OutOfMemory) old new f xs wrote = tt
+pub counted_fits : {X : Type 0} (xs : List X) → FitsAsList (λ (x : X). ⊤) IsCounted xs
+counted_fits xs = record { all = λ counted. (counted, each_trivial xs); fit = λ all. all.0 }
 
 -- four parts, one after another
 pub four_parts : (o o1 o2 o3 o4 a b c d : List ℕ) → o1 ≡ o ++ a → o2 ≡ o1 ++ b → o3 ≡ o2 ++ c → o4 ≡ o3 ++ d → o4 ≡ o ++ (a ++ b ++ c ++ d)

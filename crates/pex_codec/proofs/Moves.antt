@@ -6,7 +6,7 @@ use Rattle.std.proofs.lemmas.List.{drop-drop}
 use Rattle.pex_values.specs.Opcodes.{operands_of}
 use Rattle.pex_values.specs.Bits.{has_variable}
 use Rattle.pex_codec.specs.Scanning.{with_strings, times_at}
-use Rattle.pex_codec.specs.declared.parts.Part.TheVariants as part
+use Rattle.pex_codec.specs.declared.scan.Part.TheVariants as part
 use Rattle.pex_codec.specs.Opening.{Moved, fixed_with, fixed_at, state_count_at, debug_count_with, debug_count_at}
 use Rattle.pex_codec.specs.Reading.{Reading, Reader, Got, Short, Refused, then_read, read_as, judged, byte_at, bytes_at, number_at, reference_at, string_at, items_at, optional_at, datum_with, kind_at, datum_at, pair_at, opcode_at, count_at, variable_at, function_head_at, property_head_at, object_head_at, size_form_at, lines_head_at, debug_flag_at, flag_at, heading_at}
 use Rattle.pex_values.specs.declared.values.SizeForm.{SizeForm}

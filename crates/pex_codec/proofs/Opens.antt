@@ -5,14 +5,14 @@ use Rattle.pex_values.specs.declared.values.Datum.{Datum}
 use Rattle.pex_values.specs.Bits.{has_read, has_write}
 use Rattle.pex_values.specs.Opcodes.{operands_of}
 use Rattle.pex_values.specs.Plain.{PlainInstruction, PlainPex}
-use Rattle.pex_codec.specs.declared.heads.Heading.{Heading}
-use Rattle.pex_codec.specs.declared.heads.FunctionHead.{FunctionHead}
-use Rattle.pex_codec.specs.declared.heads.PropertyHead.{PropertyHead}
-use Rattle.pex_codec.specs.declared.heads.ObjectHead.{ObjectHead}
-use Rattle.pex_codec.specs.declared.heads.LinesHead.{LinesHead}
-use Rattle.pex_codec.specs.declared.parts.Part.{Part}
-use Rattle.pex_codec.specs.declared.parts.Part.TheVariants as part
-use Rattle.pex_codec.specs.declared.parts.Task.{Task}
+use Rattle.pex_codec.specs.declared.cursor.Heading.{Heading}
+use Rattle.pex_codec.specs.declared.cursor.FunctionHead.{FunctionHead}
+use Rattle.pex_codec.specs.declared.cursor.PropertyHead.{PropertyHead}
+use Rattle.pex_codec.specs.declared.cursor.ObjectHead.{ObjectHead}
+use Rattle.pex_codec.specs.declared.cursor.LinesHead.{LinesHead}
+use Rattle.pex_codec.specs.declared.scan.Part.{Part}
+use Rattle.pex_codec.specs.declared.scan.Part.TheVariants as part
+use Rattle.pex_codec.specs.declared.scan.Task.{Task}
 use Rattle.pex_codec.specs.Opening.{task, times_of, object_tasks, whole_file, fixed_with, fixed_at, state_count_at, debug_count_with, debug_count_at}
 use Rattle.pex_codec.specs.Reading.{Reading, Reader, Got, Short, Refused, then_read, read_as, number_at, reference_at, items_at, list_at, optional_at, string_at, datum_at, count_at, pair_at, opcode_at, instruction_with, instruction_at, function_head_at, function_with, function_at, named_at, state_at, variable_at, property_head_at, property_with, property_at, object_head_at, object_with, object_at, size_form_at, lines_head_at, lines_with, lines_at, debug_flag_at, debug_with, debug_at, flag_at, heading_at, Texts, texts_at, pex_with, pex_at}
 use Rattle.pex_codec.specs.Scanning.{with_strings, part_at, times_at, tasks_at}

@@ -6,8 +6,8 @@ use Rattle.std.proofs.lemmas.List.{drop-drop}
 use Rattle.pex_codec.specs.declared.cursor.Cursor.{Cursor}
 use Rattle.pex_codec.specs.declared.cursor.Stop.{Stop}
 use Rattle.pex_codec.specs.declared.cursor.Stop.TheVariants as stop
-use Rattle.pex_codec.specs.declared.parts.Part.{Part}
-use Rattle.pex_codec.specs.declared.parts.Part.TheVariants as part
+use Rattle.pex_codec.specs.declared.scan.Part.{Part}
+use Rattle.pex_codec.specs.declared.scan.Part.TheVariants as part
 use Rattle.pex_codec.specs.Opening.{Moved, Passes, PassesOne, PassesIf, fixed_at, task}
 use Rattle.pex_codec.specs.Reading.{Reading, Reader, Got, Short, Refused, then_read, read_as, datum_at, opcode_at}
 use Rattle.pex_codec.specs.Scanning.{with_strings, part_at, times_at, tasks_at}

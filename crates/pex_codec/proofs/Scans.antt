@@ -9,10 +9,10 @@ use Rattle.pex_codec.specs.declared.cursor.Stop.{Stop}
 use Rattle.pex_codec.specs.declared.cursor.Stop.TheVariants as stop
 use Rattle.pex_codec.specs.declared.faults.PexRule.{PexRule}
 use Rattle.pex_codec.specs.declared.faults.PexRule.TheVariants.{BadSize}
-use Rattle.pex_codec.specs.declared.parts.Opened.{Opened}
-use Rattle.pex_codec.specs.declared.parts.Part.{Part}
-use Rattle.pex_codec.specs.declared.parts.Part.TheVariants as part
-use Rattle.pex_codec.specs.declared.parts.Task.{Task}
+use Rattle.pex_codec.specs.declared.scan.Opened.{Opened}
+use Rattle.pex_codec.specs.declared.scan.Part.{Part}
+use Rattle.pex_codec.specs.declared.scan.Part.TheVariants as part
+use Rattle.pex_codec.specs.declared.scan.Task.{Task}
 use Rattle.pex_codec.specs.Opening.{task, tasks_of, Moved, Passes, HasOpened, Opens, least_of}
 use Rattle.pex_codec.specs.Reading.{Reading, Reader, Got, Short, Refused, then_read, read_as, size_form_at}
 use Rattle.pex_codec.specs.Scanning.{with_strings, part_at, times_at, tasks_at}

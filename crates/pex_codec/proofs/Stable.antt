@@ -9,11 +9,11 @@ use Rattle.pex_values.specs.Opcodes.{operands_of}
 use Rattle.pex_values.specs.declared.values.SizeForm.TheVariants.{Counted, Bare}
 use Rattle.pex_codec.specs.declared.faults.PexRule.{PexRule}
 use Rattle.pex_codec.specs.declared.faults.PexRule.TheVariants.{BadSize}
-use Rattle.pex_codec.specs.declared.heads.Heading.{Heading}
-use Rattle.pex_codec.specs.declared.heads.FunctionHead.{FunctionHead}
-use Rattle.pex_codec.specs.declared.heads.PropertyHead.{PropertyHead}
-use Rattle.pex_codec.specs.declared.heads.ObjectHead.{ObjectHead}
-use Rattle.pex_codec.specs.declared.heads.LinesHead.{LinesHead}
+use Rattle.pex_codec.specs.declared.cursor.Heading.{Heading}
+use Rattle.pex_codec.specs.declared.cursor.FunctionHead.{FunctionHead}
+use Rattle.pex_codec.specs.declared.cursor.PropertyHead.{PropertyHead}
+use Rattle.pex_codec.specs.declared.cursor.ObjectHead.{ObjectHead}
+use Rattle.pex_codec.specs.declared.cursor.LinesHead.{LinesHead}
 use Rattle.pex_codec.specs.Reading.{Reading, Reader, Got, Short, Refused, then_read, read_as, judged, byte_at, bytes_at, number_at, reference_at, string_at, items_at, list_at, optional_at, datum_with, kind_at, datum_at, pair_at, opcode_at, count_at, instruction_with, instruction_at, function_head_at, function_with, function_at, named_at, state_at, variable_at, property_head_at, property_with, property_at, object_head_at, size_form_at, object_with, object_at, lines_head_at, lines_with, lines_at, debug_flag_at, debug_with, debug_at, flag_at, heading_at, Texts, texts_at, pex_with, pex_at}
 
 abbrev pub Extends : {A : Type 0} → Reading A → Reading A → List ℕ → Type 0

@@ -2,7 +2,7 @@
 use Rattle.std.specs.Prelude.{zero, suc, Bool, true, false, Option, Some, None}
 use Rattle.std.proofs.Common.{ℕ, List, refl}
 use Rattle.pex_values.specs.Opcodes.{operands_of}
-use Rattle.pex_codec.specs.declared.parts.Part.TheVariants as part
+use Rattle.pex_codec.specs.declared.scan.Part.TheVariants as part
 use Rattle.pex_codec.specs.Opening.{fixed_with, fixed_at, state_count_at, debug_count_with, debug_count_at}
 use Rattle.pex_codec.specs.Reading.{number_at, reference_at, opcode_at, count_at, debug_flag_at}
 use Rattle.pex_codec.specs.Scanning.{times_at}

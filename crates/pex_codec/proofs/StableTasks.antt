@@ -1,9 +1,9 @@
 -- What tasks read stays read, too.
 use Rattle.std.specs.Prelude.{zero, suc}
 use Rattle.std.proofs.Common.{ℕ, List, [], ◌∷◌, length, refl}
-use Rattle.pex_codec.specs.declared.parts.Part.{Part}
-use Rattle.pex_codec.specs.declared.parts.Part.TheVariants as part
-use Rattle.pex_codec.specs.declared.parts.Task.{Task}
+use Rattle.pex_codec.specs.declared.scan.Part.{Part}
+use Rattle.pex_codec.specs.declared.scan.Part.TheVariants as part
+use Rattle.pex_codec.specs.declared.scan.Task.{Task}
 use Rattle.pex_codec.specs.Reading.{Reader, number_at, string_at, list_at, datum_at, pair_at, instruction_at, function_at, named_at, state_at, variable_at, property_at, object_at, size_form_at, lines_at, debug_at, flag_at, heading_at}
 use Rattle.pex_codec.specs.Scanning.{part_at, times_at, tasks_at}
 use Rattle.pex_codec.proofs.Stable.{IsStable, then_stable, as_stable, number_stable, string_stable, list_stable, datum_stable, pair_stable, instruction_stable, function_stable, named_stable, state_stable, variable_stable, property_stable, object_stable, size_form_stable, lines_stable, debug_stable, flag_stable, heading_stable}

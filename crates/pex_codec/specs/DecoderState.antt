@@ -9,11 +9,11 @@ use Rattle.pex_codec.specs.declared.faults.PexFault.{PexFault}
 use Rattle.pex_codec.specs.declared.faults.PexFault.TheVariants.{Broken, OutOfMemory}
 use Rattle.pex_codec.specs.declared.faults.PexRule.{PexRule}
 use Rattle.pex_codec.specs.declared.faults.PexRule.TheVariants.{Truncated, Trailing}
-use Rattle.pex_codec.specs.declared.progress.Fed.{Fed}
-use Rattle.pex_codec.specs.declared.progress.Fed.TheVariants.{More, Done}
-use Rattle.pex_codec.specs.declared.progress.Standing.{Standing}
-use Rattle.pex_codec.specs.declared.progress.Standing.TheVariants as standing
-use Rattle.pex_codec.specs.declared.scanned_bytes.ScannedBytes.{ScannedBytes}
+use Rattle.pex_codec.specs.declared.decoder.Fed.{Fed}
+use Rattle.pex_codec.specs.declared.decoder.Fed.TheVariants.{More, Done}
+use Rattle.pex_codec.specs.declared.decoder.Standing.{Standing}
+use Rattle.pex_codec.specs.declared.decoder.Standing.TheVariants as standing
+use Rattle.pex_codec.specs.declared.decoder.ScannedBytes.{ScannedBytes}
 use Rattle.pex_codec.specs.Decoding.{Progress, Breaks, IsSpelling, IsUnfinished}
 use Rattle.pex_codec.specs.Laws.{AreBytes}
 use Rattle.pex_codec.specs.Reading.{Reading, Got, Short, Refused, read_as, pex_at}

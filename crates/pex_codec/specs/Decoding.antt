@@ -9,10 +9,10 @@ use Rattle.pex_codec.specs.declared.faults.PexFault.{PexFault}
 use Rattle.pex_codec.specs.declared.faults.PexFault.TheVariants.{Broken, OutOfMemory}
 use Rattle.pex_codec.specs.declared.faults.PexRule.{PexRule}
 use Rattle.pex_codec.specs.declared.faults.PexRule.TheVariants.{Truncated, Trailing, TooLarge}
-use Rattle.pex_codec.specs.declared.progress.Fed.{Fed}
-use Rattle.pex_codec.specs.declared.progress.Fed.TheVariants.{More, Done}
-use Rattle.pex_codec.specs.declared.progress.Standing.{Standing}
-use Rattle.pex_codec.specs.declared.progress.Standing.TheVariants as standing
+use Rattle.pex_codec.specs.declared.decoder.Fed.{Fed}
+use Rattle.pex_codec.specs.declared.decoder.Fed.TheVariants.{More, Done}
+use Rattle.pex_codec.specs.declared.decoder.Standing.{Standing}
+use Rattle.pex_codec.specs.declared.decoder.Standing.TheVariants as standing
 use Rattle.pex_codec.specs.Reading.{Reading, Got, Short, Refused, pex_at}
 use Rattle.pex_codec.specs.Spells.{Spells}
 

@@ -7,8 +7,8 @@ use Rattle.pex_values.specs.Plain.{PlainPex, plain}
 use Rattle.pex_codec.specs.declared.faults.PexFault.{PexFault}
 use Rattle.pex_codec.specs.declared.faults.PexFault.TheVariants.{OutOfMemory}
 use Rattle.pex_codec.specs.declared.faults.PexRule.{PexRule}
-use Rattle.pex_codec.specs.declared.progress.Fed.{Fed}
-use Rattle.pex_codec.specs.declared.progress.Fed.TheVariants.{More, Done}
+use Rattle.pex_codec.specs.declared.decoder.Fed.{Fed}
+use Rattle.pex_codec.specs.declared.decoder.Fed.TheVariants.{More, Done}
 use Rattle.pex_codec.specs.Decoding.{Progress}
 use Rattle.pex_codec.specs.Spells.{Spells}
 

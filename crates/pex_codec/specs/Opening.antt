@@ -4,13 +4,13 @@ use Rattle.pex_values.specs.Bits.{has_read, has_write}
 use Rattle.pex_values.specs.Opcodes.{operands_of}
 use Rattle.pex_codec.specs.declared.cursor.Cursor.{Cursor}
 use Rattle.pex_codec.specs.declared.cursor.Stop.{Stop}
-use Rattle.pex_codec.specs.declared.heads.FunctionHead.{FunctionHead}
-use Rattle.pex_codec.specs.declared.heads.ObjectHead.{ObjectHead}
-use Rattle.pex_codec.specs.declared.heads.PropertyHead.{PropertyHead}
-use Rattle.pex_codec.specs.declared.parts.Opened.{Opened}
-use Rattle.pex_codec.specs.declared.parts.Part.{Part}
-use Rattle.pex_codec.specs.declared.parts.Part.TheVariants as part
-use Rattle.pex_codec.specs.declared.parts.Task.{Task}
+use Rattle.pex_codec.specs.declared.cursor.FunctionHead.{FunctionHead}
+use Rattle.pex_codec.specs.declared.cursor.ObjectHead.{ObjectHead}
+use Rattle.pex_codec.specs.declared.cursor.PropertyHead.{PropertyHead}
+use Rattle.pex_codec.specs.declared.scan.Opened.{Opened}
+use Rattle.pex_codec.specs.declared.scan.Part.{Part}
+use Rattle.pex_codec.specs.declared.scan.Part.TheVariants as part
+use Rattle.pex_codec.specs.declared.scan.Task.{Task}
 use Rattle.pex_codec.specs.Reading.{Reading, Reader, Got, Short, Refused, then_read, read_as, number_at, reference_at, count_at, opcode_at, debug_flag_at}
 use Rattle.pex_codec.specs.Scanning.{part_at, times_at, tasks_at}
 use Rattle.pex_codec.specs.Taking.{Stops}

@@ -12,11 +12,11 @@ use Rattle.pex_values.specs.Opcodes.{operands_of}
 use Rattle.pex_values.specs.Plain.{PlainInstruction, PlainFunction, PlainState, PlainProperty, PlainObject, PlainLines, PlainDebug, PlainPex}
 use Rattle.pex_codec.specs.declared.faults.PexRule.{PexRule}
 use Rattle.pex_codec.specs.declared.faults.PexRule.TheVariants.{BadMagic, BadVersion, BadGame, BadDebugFlag, BadKind, BadOpcode, BadCount, BadIndex, BadSize}
-use Rattle.pex_codec.specs.declared.heads.Heading.{Heading}
-use Rattle.pex_codec.specs.declared.heads.FunctionHead.{FunctionHead}
-use Rattle.pex_codec.specs.declared.heads.PropertyHead.{PropertyHead}
-use Rattle.pex_codec.specs.declared.heads.ObjectHead.{ObjectHead}
-use Rattle.pex_codec.specs.declared.heads.LinesHead.{LinesHead}
+use Rattle.pex_codec.specs.declared.cursor.Heading.{Heading}
+use Rattle.pex_codec.specs.declared.cursor.FunctionHead.{FunctionHead}
+use Rattle.pex_codec.specs.declared.cursor.PropertyHead.{PropertyHead}
+use Rattle.pex_codec.specs.declared.cursor.ObjectHead.{ObjectHead}
+use Rattle.pex_codec.specs.declared.cursor.LinesHead.{LinesHead}
 
 pub data Reading (A : Type 0) : Type 0 where
   -- the part, the offset behind it, and the bytes behind it

@@ -1,8 +1,8 @@
 -- What a scan still has to read. It goes through a file without its values: only how many strings there are counts for what comes.
 use Rattle.std.specs.Prelude.{ℕ, zero, suc, List, [], ◌∷◌, length}
-use Rattle.pex_codec.specs.declared.parts.Part.{Part}
-use Rattle.pex_codec.specs.declared.parts.Part.TheVariants as part
-use Rattle.pex_codec.specs.declared.parts.Task.{Task}
+use Rattle.pex_codec.specs.declared.scan.Part.{Part}
+use Rattle.pex_codec.specs.declared.scan.Part.TheVariants as part
+use Rattle.pex_codec.specs.declared.scan.Task.{Task}
 use Rattle.pex_codec.specs.Reading.{Reading, Reader, Got, then_read, read_as, number_at, string_at, list_at, datum_at, pair_at, instruction_at, function_at, named_at, state_at, variable_at, property_at, object_at, size_form_at, lines_at, debug_at, flag_at, heading_at}
 
 -- a part of which only its end counts, and the number of strings behind it

@@ -3,7 +3,7 @@ use Rattle.std.specs.Prelude.{◌≡◌, ℕ, List, Result, Ok, Err}
 use Rattle.pex_codec.specs.declared.cursor.Cursor.{Cursor}
 use Rattle.pex_codec.specs.declared.cursor.Stop.{Stop}
 use Rattle.pex_codec.specs.declared.cursor.Stop.TheVariants as stop
-use Rattle.pex_codec.specs.declared.heads.Texts.{Texts}
+use Rattle.pex_codec.specs.declared.cursor.Texts.{Texts}
 use Rattle.pex_codec.specs.Reading as reading
 use Rattle.pex_codec.specs.Reading.{Reading, Reader, Got, Short, Refused}
 

@@ -24,6 +24,11 @@ HasSize o = FitsObject o × (length (object_data o) ≤ limit)
 abbrev pub FitEach : {A : Type 0} → (A → Type 0) → List A → Type 0
 FitEach P xs = IsCounted xs × AllByRecursion P xs
 
+-- what a list of items must be, said in another way
+pub record FitsAsList {A : Type 0} (P : A → Type 0) (ListFits : List A → Type 0) (xs : List A) : Type 0 where
+  pub all : ListFits xs → FitEach P xs
+  pub fit : FitEach P xs → ListFits xs
+
 -- the three parts of a value, in the order of the file
 
 pub record FitsHeader (v : PlainPex) : Type 0 where

@@ -1,12 +1,24 @@
-//! Takes bytes and numbers from the front of a file's bytes.
+//! Takes fields from the front of a file's bytes: numbers, strings, values, and those that stand together.
 
-ghost use Rattle.std.specs.Prelude.{◌≡◌, ◌+◌, ◌≤◌, Ok, Err, length, if◌then◌else◌, IfOk};
+ghost use Rattle.std.specs.Prelude.{◌≡◌, ◌==◌, ◌+◌, ◌≤◌, ◌||◌, Some, Ok, Err, length, if◌then◌else◌, IfOk};
+ghost use Rattle.pex_values.specs.Opcodes.{operands_of};
 ghost use Rattle.pex_codec.specs.declared.cursor.Stop.TheVariants.{OutOfMemory as NoMemory, Refused};
+ghost use Rattle.pex_codec.specs.declared.faults.PexRule.TheVariants.{BadMagic, BadVersion, BadGame};
 
 use crate::faults::PexRule;
 use byteorder::{BigEndian, ByteOrder};
-use papy_base::OutOfMemory;
+use papy_base::{OutOfMemory, Text};
+use pex_values::{Datum, PexVariable, SizeForm, has_variable, operand_count};
 use std::alloc::{AllocError, AllocFailed};
+
+/// The number that a file begins with.
+const MAGIC: u32 = 0xFA57_C0DE;
+
+/// The kind of a value that is an integer.
+const INTEGER: u8 = 3;
+
+/// The last kind of a value.
+const LAST_KIND: u8 = 5;
 
 /// Why a part wasn't taken.
 #[derive(Clone, Copy)]
@@ -45,13 +57,81 @@ impl<T: Drop> From<AllocFailed<T>> for Stop {
 
 /// The part, or why it is refused.
 #[inline(always)]
-pub(crate) fn judged<T: Copy>(part: T, good: bool, offset: u32, rule: PexRule) -> Result<T, Stop>
+fn judged<T: Copy>(part: T, good: bool, offset: u32, rule: PexRule) -> Result<T, Stop>
     ensures { result ≡ (if good then Ok part else Err (Refused offset rule)) }
 {
     if good {
         return Ok(part);
     }
     Err(Stop::Refused { offset, rule })
+}
+
+/// What the header says besides its strings.
+#[derive(Clone, Copy)]
+pub(crate) struct Heading {
+    pub minor: u8,
+    pub time: u64,
+}
+
+/// What stands before the parameters of a function, and their number.
+#[derive(Clone, Copy)]
+pub(crate) struct FunctionHead {
+    pub result: u16,
+    pub doc: u16,
+    pub flags: u32,
+    pub bits: u8,
+    pub parameters: u16,
+}
+
+/// What stands before the functions of a property.
+#[derive(Clone, Copy)]
+pub(crate) struct PropertyHead {
+    pub name: u16,
+    pub kind: u16,
+    pub doc: u16,
+    pub flags: u32,
+    pub bits: u8,
+    pub variable: Option<u16>,
+}
+
+/// What stands before the variables of an object, their number, and the offset of its size.
+#[derive(Clone, Copy)]
+pub(crate) struct ObjectHead {
+    pub name: u16,
+    pub size_at: u32,
+    pub size: u32,
+    pub parent: u16,
+    pub doc: u16,
+    pub flags: u32,
+    pub auto_state: u16,
+    pub variables: u16,
+}
+
+/// What stands before the line numbers of a function, and their number.
+#[derive(Clone, Copy)]
+pub(crate) struct LinesHead {
+    pub object: u16,
+    pub state: u16,
+    pub function: u16,
+    pub kind: u8,
+    pub lines: u16,
+}
+
+/// The header's strings and the string table.
+#[derive(Drop)]
+pub(crate) struct Texts {
+    pub source: Text,
+    pub user: Text,
+    pub machine: Text,
+    pub strings: Vec<Text>,
+}
+
+/// An opcode, how many operands it always has, and whether a count and that many more follow.
+#[derive(Clone, Copy)]
+pub(crate) struct Operation {
+    pub opcode: u8,
+    pub fixed: u8,
+    pub more: bool,
 }
 
 /// The bytes that weren't taken yet.
@@ -136,5 +216,194 @@ impl<'a> Cursor<'a> {
     {
         let length = self.u16()?;
         self.take(length as usize)
+    }
+
+    /// The kind of a value.
+    #[inline(always)]
+    #[tactic(auto, unfolding(crate::specs::Reading::kind_at))]
+    pub(crate) fn kind(&mut self) -> Result<u8, Stop>
+        ensures { Takes (λ n. n) reading.kind_at result self.old self.new }
+    {
+        let offset = self.at;
+        let kind = self.byte()?;
+        judged(kind, kind <= LAST_KIND, offset, PexRule::BadKind)
+    }
+
+    /// An operand or an initial value.
+    #[inline(always)]
+    #[tactic(auto, unfolding(crate::specs::Reading::datum_at))]
+    pub(crate) fn datum(&mut self, strings: u16) -> Result<Datum, Stop>
+        ensures { Takes (λ datum. datum) (reading.datum_at strings) result self.old self.new }
+    {
+        match self.kind()? {
+            0 => Ok(Datum::NoneValue),
+            1 => Ok(Datum::Word(self.reference(strings)?)),
+            2 => Ok(Datum::Quoted(self.reference(strings)?)),
+            3 => Ok(Datum::Int(self.u32()?.cast_signed())),
+            4 => Ok(Datum::Float(self.u32()?)),
+            _ => Ok(Datum::Bool(self.byte()?)),
+        }
+    }
+
+    /// Two references, as of a name and a type.
+    #[tactic(auto, unfolding(crate::specs::Reading::pair_at))]
+    pub(crate) fn pair(&mut self, strings: u16) -> Result<(u16, u16), Stop>
+        ensures { Takes (λ pair. pair) (reading.pair_at strings) result self.old self.new }
+    {
+        Ok((self.reference(strings)?, self.reference(strings)?))
+    }
+
+    /// An opcode, and what operands it has.
+    #[inline(always)]
+    #[tactic(auto, unfolding(crate::specs::Reading::opcode_at))]
+    pub(crate) fn opcode(&mut self) -> Result<Operation, Stop>
+        ensures taken { Takes (λ operation. operation.opcode) reading.opcode_at result self.old self.new }
+        ensures operands { IfOk result (λ operation. operands_of operation.opcode ≡ Some (operation.fixed, operation.more)) }
+    {
+        let offset = self.at;
+        let opcode = self.byte()?;
+        let rule = PexRule::BadOpcode;
+        let (fixed, more) = operand_count(opcode).ok_or(Stop::Refused { offset, rule })?;
+        Ok(Operation {
+            opcode,
+            fixed,
+            more,
+        })
+    }
+
+    /// How many operands more there are.
+    #[inline(always)]
+    #[tactic(auto, unfolding(crate::specs::Reading::count_at))]
+    pub(crate) fn count(&mut self) -> Result<u32, Stop>
+        ensures { Takes (λ n. n) reading.count_at result self.old self.new }
+    {
+        let offset = self.at;
+        let kind = self.kind()?;
+        judged(kind, kind == INTEGER, offset, PexRule::BadCount)?;
+        let count = self.u32()?;
+        judged(count, count < 1 << 31, offset, PexRule::BadCount)
+    }
+
+    /// A variable of a script.
+    #[tactic(auto, unfolding(crate::specs::Reading::variable_at))]
+    pub(crate) fn variable(&mut self, strings: u16) -> Result<PexVariable, Stop>
+        ensures { Takes (λ variable. variable) (reading.variable_at strings) result self.old self.new }
+    {
+        Ok(PexVariable {
+            name: self.reference(strings)?,
+            kind: self.reference(strings)?,
+            flags: self.u32()?,
+            value: self.datum(strings)?,
+        })
+    }
+
+    /// A reference to a flag's name, and the number of its bit.
+    #[tactic(auto, unfolding(crate::specs::Reading::flag_at))]
+    pub(crate) fn flag(&mut self, strings: u16) -> Result<(u16, u8), Stop>
+        ensures { Takes (λ flag. flag) (reading.flag_at strings) result self.old self.new }
+    {
+        Ok((self.reference(strings)?, self.byte()?))
+    }
+
+    /// 1 where debug information follows, else 0.
+    #[tactic(auto, unfolding(crate::specs::Reading::debug_flag_at))]
+    pub(crate) fn debug_flag(&mut self) -> Result<u8, Stop>
+        ensures { Takes (λ n. n) reading.debug_flag_at result self.old self.new }
+    {
+        let offset = self.at;
+        let flag = self.byte()?;
+        judged(flag, flag <= 1, offset, PexRule::BadDebugFlag)
+    }
+
+    /// Which form the size of an object has whose data ends here. Its field stands at the offset `size_at`.
+    pub(crate) fn size_form(&mut self, size_at: u32, size: u32) -> Result<SizeForm, Stop>
+        ensures { Takes (λ form. form) (reading.size_form_at size_at size) result self.old self.new }
+    {
+        let end = u64::from(size_at) + u64::from(size);
+        let at = u64::from(self.at);
+        if end == at {
+            return Ok(SizeForm::Counted);
+        }
+        judged(SizeForm::Bare, end + 4 == at, size_at, PexRule::BadSize)
+    }
+
+    #[tactic(auto, unfolding(crate::specs::Reading::heading_at))]
+    pub(crate) fn heading(&mut self) -> Result<Heading, Stop>
+        ensures { Takes (λ head. head) reading.heading_at result self.old self.new }
+    {
+        let start = self.at;
+        let magic = self.u32()?;
+        judged(magic, magic == MAGIC, start, PexRule::BadMagic)?;
+        let versions = self.at;
+        let major = self.byte()?;
+        judged(major, major == 3, versions, PexRule::BadVersion)?;
+        let second = self.at;
+        let minor = self.byte()?;
+        judged(minor, minor == 1 || minor == 2, second, PexRule::BadVersion)?;
+        let number = self.at;
+        let game = self.u16()?;
+        judged(game, game == 1, number, PexRule::BadGame)?;
+        let time = self.u64()?;
+        Ok(Heading { minor, time })
+    }
+
+    #[tactic(auto, unfolding(crate::specs::Reading::function_head_at))]
+    pub(crate) fn function_head(&mut self, strings: u16) -> Result<FunctionHead, Stop>
+        ensures { Takes (λ head. head) (reading.function_head_at strings) result self.old self.new }
+    {
+        Ok(FunctionHead {
+            result: self.reference(strings)?,
+            doc: self.reference(strings)?,
+            flags: self.u32()?,
+            bits: self.byte()?,
+            parameters: self.u16()?,
+        })
+    }
+
+    #[tactic(auto, unfolding(crate::specs::Reading::property_head_at))]
+    pub(crate) fn property_head(&mut self, strings: u16) -> Result<PropertyHead, Stop>
+        ensures { Takes (λ head. head) (reading.property_head_at strings) result self.old self.new }
+    {
+        let mut head = PropertyHead {
+            name: self.reference(strings)?,
+            kind: self.reference(strings)?,
+            doc: self.reference(strings)?,
+            flags: self.u32()?,
+            bits: self.byte()?,
+            variable: None,
+        };
+        if has_variable(head.bits) {
+            head.variable = Some(self.reference(strings)?);
+        }
+        Ok(head)
+    }
+
+    #[tactic(auto, unfolding(crate::specs::Reading::object_head_at))]
+    pub(crate) fn object_head(&mut self, strings: u16) -> Result<ObjectHead, Stop>
+        ensures { Takes (λ head. head) (reading.object_head_at strings) result self.old self.new }
+    {
+        Ok(ObjectHead {
+            name: self.reference(strings)?,
+            size_at: self.at,
+            size: self.u32()?,
+            parent: self.reference(strings)?,
+            doc: self.reference(strings)?,
+            flags: self.u32()?,
+            auto_state: self.reference(strings)?,
+            variables: self.u16()?,
+        })
+    }
+
+    #[tactic(auto, unfolding(crate::specs::Reading::lines_head_at))]
+    pub(crate) fn lines_head(&mut self, strings: u16) -> Result<LinesHead, Stop>
+        ensures { Takes (λ head. head) (reading.lines_head_at strings) result self.old self.new }
+    {
+        Ok(LinesHead {
+            object: self.reference(strings)?,
+            state: self.reference(strings)?,
+            function: self.reference(strings)?,
+            kind: self.byte()?,
+            lines: self.u16()?,
+        })
     }
 }

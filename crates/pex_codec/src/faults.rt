@@ -1,6 +1,6 @@
 ghost use Rattle.std.specs.Prelude.{◌≡◌};
 ghost use Rattle.pex_codec.specs.declared.faults.EncodeFault.TheVariants.{OutOfMemory as NoMemoryToEncode};
-ghost use Rattle.pex_codec.specs.declared.faults.PexFault.TheVariants.{OutOfMemory as NoMemoryToDecode};
+ghost use Rattle.pex_codec.specs.declared.faults.PexFault.TheVariants.{Broken, OutOfMemory as NoMemoryToDecode};
 
 use papy_base::OutOfMemory;
 use std::alloc::AllocError;
@@ -61,6 +61,15 @@ pub enum PexRule {
     Trailing,
     /// P12: the value isn't complete after 16 MiB, and a byte follows. At offset 16,777,216.
     TooLarge,
+}
+
+impl PexRule {
+    /// The rule is broken at this offset from the file's start.
+    pub(crate) fn broken_at(self, offset: u32) -> PexFault
+        ensures { result ≡ Broken offset self }
+    {
+        PexFault::Broken { offset, rule: self }
+    }
 }
 
 /// Why bytes weren't decoded.

@@ -1,148 +1,270 @@
-//! Takes the small parts of a file: values, pairs, opcodes, counts, variables and flags.
+//! How the parts of a file are taken from its bytes and written to them, and the lists of them.
 
-ghost use Rattle.std.specs.Prelude.{◌≡◌, Some, IfOk};
-ghost use Rattle.pex_values.specs.Opcodes.{operands_of};
+ghost use Rattle.std.specs.Prelude.{◌≡◌, ◌+◌, ◌<◌, ◌≤◌, ◌^◌, ◌++◌, ℕ, List, length, map, take, drop, refl, vec_len, vec_capacity, IfOk, OnOk, ⊤};
+ghost use Rattle.std.specs.List.{flat_map};
+ghost use Rattle.std.proofs.lemmas.List.{map-id};
+ghost use Rattle.std.proofs.Common.{sym};
+ghost use Rattle.pex_values.specs.Fit.{IsCounted};
+ghost use Rattle.pex_values.specs.Spelling as spell;
 ghost use Rattle.pex_codec.specs.Reading as reading;
+ghost use Rattle.pex_codec.specs.Reading.{Reader, items_at, list_at};
 ghost use Rattle.pex_codec.specs.Taking.{Takes};
+ghost use Rattle.pex_codec.specs.Writing.{Writes, FitEach, FitsAsList};
+ghost use Rattle.pex_codec.proofs.Lists.{counted_fits};
 
-use crate::cursor::{Cursor, Stop, judged};
-use crate::faults::PexRule;
-use pex_values::{Datum, PexVariable, SizeForm, operand_count};
+use crate::cursor::{Cursor, Stop};
+use crate::faults::EncodeFault;
+use byteorder::{BigEndian, ByteOrder};
+use papy_base::Text;
+use std::alloc::{AllocError, Global};
 
-/// An opcode, how many operands it always has, and whether a count and that many more follow.
-#[derive(Clone, Copy)]
-pub(crate) struct Operation {
-    pub opcode: u8,
-    pub fixed: u8,
-    pub more: bool,
+/// A part of a file, of which there may be lists.
+pub(crate) trait Item: Drop {
+    /// The same with lists in place of vectors.
+    ghost Plain: { Type 0 };
+
+    ghost plain: { Self → Plain };
+
+    ghost plain_each: { List Self → List Plain };
+
+    /// The item at an offset of a file with so many strings.
+    ghost at: { ℕ → Reader Plain };
+
+    /// Whether its lists are short enough for their counts.
+    ghost fits: { Plain → Type 0 };
+
+    /// Whether a list of such items fits.
+    ghost list_fits: { List Plain → Type 0 };
+
+    /// Its bytes.
+    ghost spelling: { Plain → List ℕ };
+
+    fn take(alloc: Global, cursor: &mut Cursor<'_>, strings: u16) -> Result<Self, Stop>
+        ensures { Takes plain (at strings) result cursor.old cursor.new };
+
+    /// Adds the item at the end, where it fits.
+    fn write(&self, out: &mut Vec<u8>) -> Result<(), EncodeFault>
+        ensures { Writes result out.old.items out.new.items (fits (plain self.now)) (spelling (plain self.now)) };
+
+    ghost each: { (items : List Self) → plain_each items ≡ map plain items };
+
+    ghost listed: { (items : List Plain) → FitsAsList fits list_fits items };
 }
 
-/// The kind of a value that is an integer.
-const INTEGER: u8 = 3;
+/// So many items.
+pub(crate) fn take_items<T: Item>(
+    alloc: Global,
+    cursor: &mut Cursor<'_>,
+    strings: u16,
+    count: usize,
+) -> Result<Vec<T>, Stop>
+    ensures taken { Takes (λ items. T.plain_each items.items) (items_at (T.at strings) count) result cursor.old cursor.new }
+    ensures count { IfOk result (λ items. length items.items ≡ count) }
+{
+    let room = count.min(cursor.rest.len());
+    let mut items = Vec::with_capacity(alloc, room)?;
+    'items: for _ in 0..count {
+        let item = T::take(alloc, cursor, strings)?;
+        items.push(item)?;
+    }
+    Ok(items)
+}
 
-/// The last kind of a value.
-const LAST_KIND: u8 = 5;
+/// The number of items, and each item.
+#[tactic(auto, unfolding(crate::specs::Reading::list_at))]
+pub(crate) fn take_list<T: Item>(
+    alloc: Global,
+    cursor: &mut Cursor<'_>,
+    strings: u16,
+) -> Result<Vec<T>, Stop>
+    ensures taken { Takes (λ items. T.plain_each items.items) (list_at (T.at strings)) result cursor.old cursor.new }
+    ensures count { IfOk result (λ items. length items.items < 2 ^ 16) }
+{
+    let count = cursor.u16()?;
+    take_items(alloc, cursor, strings, count as usize)
+}
 
-impl<'a> Cursor<'a> {
-    /// The kind of a value.
-    #[inline(always)]
-    #[tactic(auto, unfolding(crate::specs::Reading::kind_at))]
-    pub(crate) fn kind(&mut self) -> Result<u8, Stop>
-        ensures { Takes (λ n. n) reading.kind_at result self.old self.new }
-    {
-        let offset = self.at;
-        let kind = self.byte()?;
-        judged(kind, kind <= LAST_KIND, offset, PexRule::BadKind)
+pub(crate) fn put_byte(out: &mut Vec<u8>, n: u8) -> Result<(), AllocError>
+    ensures { OnOk result (out.new.items ≡ out.old.items ++ spell.one_byte n) }
+{
+    Ok(out.push(n)?)
+}
+
+pub(crate) fn put_u16(out: &mut Vec<u8>, n: u16) -> Result<(), AllocError>
+    ensures { OnOk result (out.new.items ≡ out.old.items ++ spell.two_bytes n) }
+{
+    out.extend_from_slice(&n.to_be_bytes())
+}
+
+pub(crate) fn put_u32(out: &mut Vec<u8>, n: u32) -> Result<(), AllocError>
+    ensures { OnOk result (out.new.items ≡ out.old.items ++ spell.four_bytes n) }
+{
+    out.extend_from_slice(&n.to_be_bytes())
+}
+
+/// Writes a number over the four bytes at a place.
+pub(crate) fn set_u32(out: &mut Vec<u8>, at: usize, n: u32)
+    requires { at + 4 ≤ vec_len out.old }
+    ensures { out.new.items ≡ take at out.old.items ++ spell.four_bytes n ++ drop 4 (drop at out.old.items) }
+{
+    BigEndian::write_u32(&mut out[at..], n);
+}
+
+pub(crate) fn put_u64(out: &mut Vec<u8>, n: u64) -> Result<(), AllocError>
+    ensures { OnOk result (out.new.items ≡ out.old.items ++ spell.eight_bytes n) }
+{
+    out.extend_from_slice(&n.to_be_bytes())
+}
+
+fn put_count(out: &mut Vec<u8>, count: usize) -> Result<(), EncodeFault>
+    ensures { Writes result out.old.items out.new.items (count < 2 ^ 16) (spell.two_bytes count) }
+{
+    if count > 0xFFFF {
+        return Err(EncodeFault::TooManyItems);
+    }
+    put_u16(out, count as u16)?;
+    Ok(())
+}
+
+fn put_each<T: Item>(out: &mut Vec<u8>, items: &[T]) -> Result<(), EncodeFault>
+    ensures { Writes result out.old.items out.new.items (FitEach (λ item. T.fits (T.plain item)) items.now)
+        (spell.list (λ item. T.spelling (T.plain item)) items.now) }
+{
+    put_count(out, items.len())?;
+    for item in items {
+        item.write(out)?;
+    }
+    Ok(())
+}
+
+/// A count, and that many items.
+pub(crate) fn put_list<T: Item>(out: &mut Vec<u8>, items: &[T]) -> Result<(), EncodeFault>
+    ensures { Writes result out.old.items out.new.items (T.list_fits (T.plain_each items.now))
+        (spell.list T.spelling (T.plain_each items.now)) }
+{
+    put_each(out, items)
+}
+
+/// A string of the table, and those of the header.
+impl Item for Text {
+    ghost Plain = { List ℕ };
+
+    ghost plain = { λ text. text };
+
+    ghost plain_each = { λ items. items };
+
+    ghost at = { λ _. reading.string_at };
+
+    ghost fits = { IsCounted };
+
+    ghost list_fits = { FitEach IsCounted };
+
+    ghost spelling = { spell.string };
+
+    ghost each = { λ items. sym (map-id items) };
+
+    ghost listed = { λ items. record { all = λ fit. fit; fit = λ all. all } };
+
+    fn take(alloc: Global, cursor: &mut Cursor<'_>, _strings: u16) -> Result<Self, Stop> {
+        let bytes = cursor.string()?;
+        Ok(Text::try_from_bytes(alloc, bytes)?)
     }
 
-    /// The value behind its kind.
-    #[inline(always)]
-    fn datum_of_kind(&mut self, kind: u8, strings: u16) -> Result<Datum, Stop>
-        ensures { Takes (λ datum. datum) (reading.datum_with strings kind) result self.old self.new }
-    {
-        match kind {
-            0 => Ok(Datum::NoneValue),
-            1 => Ok(Datum::Word(self.reference(strings)?)),
-            2 => Ok(Datum::Quoted(self.reference(strings)?)),
-            3 => Ok(Datum::Int(self.u32()?.cast_signed())),
-            4 => Ok(Datum::Float(self.u32()?)),
-            _ => Ok(Datum::Bool(self.byte()?)),
-        }
+    fn write(&self, out: &mut Vec<u8>) -> Result<(), EncodeFault> {
+        let bytes = self.as_bytes();
+        put_count(out, bytes.len())?;
+        out.extend_from_slice(bytes)?;
+        Ok(())
+    }
+}
+
+/// The line of an instruction.
+impl Item for u16 {
+    ghost Plain = { ℕ };
+
+    ghost plain = { λ n. n };
+
+    ghost plain_each = { λ items. items };
+
+    ghost at = { λ _. reading.number_at 2 };
+
+    ghost fits = { λ _. ⊤ };
+
+    ghost list_fits = { IsCounted };
+
+    ghost spelling = { spell.two_bytes };
+
+    ghost each = { λ items. sym (map-id items) };
+
+    ghost listed = { counted_fits };
+
+    fn take(_alloc: Global, cursor: &mut Cursor<'_>, _strings: u16) -> Result<Self, Stop> {
+        cursor.u16()
     }
 
-    /// An operand or an initial value.
-    #[inline(always)]
-    #[tactic(auto, unfolding(crate::specs::Reading::datum_at))]
-    pub(crate) fn datum(&mut self, strings: u16) -> Result<Datum, Stop>
-        ensures { Takes (λ datum. datum) (reading.datum_at strings) result self.old self.new }
-    {
-        let kind = self.kind()?;
-        self.datum_of_kind(kind, strings)
+    fn write(&self, out: &mut Vec<u8>) -> Result<(), EncodeFault> {
+        Ok(put_u16(out, *self)?)
+    }
+}
+
+/// A flag: a reference to its name, and the number of its bit.
+impl Item for (u16, u8) {
+    ghost Plain = { ℕ × ℕ };
+
+    ghost plain = { λ flag. flag };
+
+    ghost plain_each = { λ items. items };
+
+    ghost at = { reading.flag_at };
+
+    ghost fits = { λ _. ⊤ };
+
+    ghost list_fits = { IsCounted };
+
+    ghost spelling = { spell.flag };
+
+    ghost each = { λ items. sym (map-id items) };
+
+    ghost listed = { counted_fits };
+
+    fn take(_alloc: Global, cursor: &mut Cursor<'_>, strings: u16) -> Result<Self, Stop> {
+        cursor.flag(strings)
     }
 
-    /// Two references, as of a name and a type.
-    #[tactic(auto, unfolding(crate::specs::Reading::pair_at))]
-    pub(crate) fn pair(&mut self, strings: u16) -> Result<(u16, u16), Stop>
-        ensures { Takes (λ pair. pair) (reading.pair_at strings) result self.old self.new }
-    {
-        Ok((self.reference(strings)?, self.reference(strings)?))
+    fn write(&self, out: &mut Vec<u8>) -> Result<(), EncodeFault> {
+        put_u16(out, self.0)?;
+        put_byte(out, self.1)?;
+        Ok(())
+    }
+}
+
+/// A parameter or a local variable of a function: references to its name and type.
+impl Item for (u16, u16) {
+    ghost Plain = { ℕ × ℕ };
+
+    ghost plain = { λ pair. pair };
+
+    ghost plain_each = { λ items. items };
+
+    ghost at = { reading.pair_at };
+
+    ghost fits = { λ _. ⊤ };
+
+    ghost list_fits = { IsCounted };
+
+    ghost spelling = { spell.pair };
+
+    ghost each = { λ items. sym (map-id items) };
+
+    ghost listed = { counted_fits };
+
+    fn take(_alloc: Global, cursor: &mut Cursor<'_>, strings: u16) -> Result<Self, Stop> {
+        cursor.pair(strings)
     }
 
-    /// An opcode, and what operands it has.
-    #[inline(always)]
-    #[tactic(auto, unfolding(crate::specs::Reading::opcode_at))]
-    pub(crate) fn opcode(&mut self) -> Result<Operation, Stop>
-        ensures taken { Takes (λ operation. operation.opcode) reading.opcode_at result self.old self.new }
-        ensures operands { IfOk result (λ operation. operands_of operation.opcode ≡ Some (operation.fixed, operation.more)) }
-    {
-        let offset = self.at;
-        let opcode = self.byte()?;
-        match operand_count(opcode) {
-            Some((fixed, more)) => Ok(Operation {
-                opcode,
-                fixed,
-                more,
-            }),
-            None => Err(Stop::Refused {
-                offset,
-                rule: PexRule::BadOpcode,
-            }),
-        }
-    }
-
-    /// How many operands more there are.
-    #[inline(always)]
-    #[tactic(auto, unfolding(crate::specs::Reading::count_at))]
-    pub(crate) fn count(&mut self) -> Result<u32, Stop>
-        ensures { Takes (λ n. n) reading.count_at result self.old self.new }
-    {
-        let offset = self.at;
-        let kind = self.kind()?;
-        judged(kind, kind == INTEGER, offset, PexRule::BadCount)?;
-        let count = self.u32()?;
-        judged(count, count < 1 << 31, offset, PexRule::BadCount)
-    }
-
-    /// A variable of a script.
-    #[tactic(auto, unfolding(crate::specs::Reading::variable_at))]
-    pub(crate) fn variable(&mut self, strings: u16) -> Result<PexVariable, Stop>
-        ensures { Takes (λ variable. variable) (reading.variable_at strings) result self.old self.new }
-    {
-        Ok(PexVariable {
-            name: self.reference(strings)?,
-            kind: self.reference(strings)?,
-            flags: self.u32()?,
-            value: self.datum(strings)?,
-        })
-    }
-
-    /// A reference to a flag's name, and the number of its bit.
-    #[tactic(auto, unfolding(crate::specs::Reading::flag_at))]
-    pub(crate) fn flag(&mut self, strings: u16) -> Result<(u16, u8), Stop>
-        ensures { Takes (λ flag. flag) (reading.flag_at strings) result self.old self.new }
-    {
-        Ok((self.reference(strings)?, self.byte()?))
-    }
-
-    /// 1 where debug information follows, else 0.
-    #[tactic(auto, unfolding(crate::specs::Reading::debug_flag_at))]
-    pub(crate) fn debug_flag(&mut self) -> Result<u8, Stop>
-        ensures { Takes (λ n. n) reading.debug_flag_at result self.old self.new }
-    {
-        let offset = self.at;
-        let flag = self.byte()?;
-        judged(flag, flag <= 1, offset, PexRule::BadDebugFlag)
-    }
-
-    /// Which form the size of an object has whose data ends here. Its field stands at the offset `size_at`.
-    pub(crate) fn size_form(&mut self, size_at: u32, size: u32) -> Result<SizeForm, Stop>
-        ensures { Takes (λ form. form) (reading.size_form_at size_at size) result self.old self.new }
-    {
-        let end = u64::from(size_at) + u64::from(size);
-        let at = u64::from(self.at);
-        if end == at {
-            return Ok(SizeForm::Counted);
-        }
-        judged(SizeForm::Bare, end + 4 == at, size_at, PexRule::BadSize)
+    fn write(&self, out: &mut Vec<u8>) -> Result<(), EncodeFault> {
+        put_u16(out, self.0)?;
+        put_u16(out, self.1)?;
+        Ok(())
     }
 }

@@ -4,30 +4,16 @@
 #![tactic(auto)]
 
 mod code;
-mod code_values;
 mod cursor;
 mod decoder;
-mod encoding;
 mod faults;
-mod heads;
-mod item_list;
+mod file;
 mod items;
 mod laws;
-mod object_values;
 mod objects;
-mod opening;
-mod parts;
-mod progress;
-mod rows;
 mod scan;
-mod scanned_bytes;
-mod spelled;
-mod values;
-mod whole_file;
 
-pub use decoder::Decoder;
-pub use encoding::encode;
+pub use decoder::{Decoder, Fed, decode, judge};
 pub use faults::{EncodeFault, PexFault, PexRule};
+pub use file::encode;
 pub use laws::{encoded_is_decoded, one_refusal, one_spelling, pieces_add_up, reading_is_exact};
-pub use progress::Fed;
-pub use whole_file::{decode, judge};

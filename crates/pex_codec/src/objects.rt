@@ -1,23 +1,47 @@
-//! How variables, properties, states and objects are written.
+//! How variables, properties, states and objects are taken and written.
 
-ghost use Rattle.std.specs.Prelude.{◌≡◌, ◌≤◌, ◌++◌, map, OnOk, ⊤};
-ghost use Rattle.pex_values.specs.Fit.{IsCounted, FitsFunction, FitsState, FitsProperty, FitsObject};
-ghost use Rattle.pex_values.specs.Plain.{plain_named, plain_state, plain_property, plain_object};
+ghost use Rattle.std.specs.Prelude.{◌≡◌, ◌≤◌, ◌++◌, map, refl, OnOk, ⊤};
+ghost use Rattle.std.proofs.lemmas.List.{map-id};
+ghost use Rattle.std.proofs.Common.{sym};
+ghost use Rattle.pex_values.specs.declared.values.PexVariable.{PexVariable};
+ghost use Rattle.pex_values.specs.Fit.{IsCounted, FitsState, FitsProperty, FitsObject};
+ghost use Rattle.pex_values.specs.Plain.{PlainObject, PlainProperty, PlainState, plain_object, plain_property, plain_state};
 ghost use Rattle.pex_values.specs.Spelling as spell;
+ghost use Rattle.pex_codec.specs.Reading as reading;
 ghost use Rattle.pex_codec.specs.Writing.{Writes, FitEach, HasSize};
+ghost use Rattle.pex_codec.proofs.Lists.{counted_fits};
 
-use crate::code::{put_datum, put_optional_function};
+use crate::code::{put_datum, put_optional_function, take_optional_function};
+use crate::cursor::{Cursor, Stop};
 use crate::faults::EncodeFault;
-use crate::spelled::{Spelled, put_byte, put_list, put_u16, put_u32, set_u32};
+use crate::items::{Item, put_byte, put_list, put_u16, put_u32, set_u32, take_items, take_list};
 use pex_values::{
-    FILE_LIMIT, PexFunction, PexObject, PexProperty, PexState, PexVariable, SizeForm,
+    FILE_LIMIT, PexObject, PexProperty, PexState, PexVariable, SizeForm, has_read, has_write,
 };
-use std::alloc::AllocError;
+use std::alloc::{AllocError, Global};
 
-impl Spelled for PexVariable {
+impl Item for PexVariable {
+    ghost Plain = { PexVariable };
+
+    ghost plain = { λ variable. variable };
+
+    ghost plain_each = { λ items. items };
+
+    ghost at = { reading.variable_at };
+
     ghost fits = { λ _. ⊤ };
 
+    ghost list_fits = { IsCounted };
+
     ghost spelling = { spell.variable };
+
+    ghost each = { λ items. sym (map-id items) };
+
+    ghost listed = { counted_fits };
+
+    fn take(_alloc: Global, cursor: &mut Cursor<'_>, strings: u16) -> Result<Self, Stop> {
+        cursor.variable(strings)
+    }
 
     #[tactic(auto, unfolding(pex_values::specs::Spelling::variable))]
     fn write(&self, out: &mut Vec<u8>) -> Result<(), EncodeFault> {
@@ -29,29 +53,36 @@ impl Spelled for PexVariable {
     }
 }
 
-fn put_variables(out: &mut Vec<u8>, variables: &[PexVariable]) -> Result<(), EncodeFault>
-    ensures { Writes result out.old.items out.new.items (IsCounted variables.now) (spell.list spell.variable variables.now) }
-{
-    put_list(out, variables)
-}
+impl Item for PexState {
+    ghost Plain = { PlainState };
 
-fn put_functions(out: &mut Vec<u8>, functions: &[(u16, PexFunction)]) -> Result<(), EncodeFault>
-    ensures { Writes result out.old.items out.new.items
-        (FitEach (λ f. FitsFunction f.1) (map plain_named functions.now))
-        (spell.list spell.named (map plain_named functions.now)) }
-{
-    put_list(out, functions)
-}
+    ghost plain = { plain_state };
 
-impl Spelled for PexState {
-    ghost fits = { λ s. FitsState (plain_state s) };
+    ghost plain_each = { λ items. map plain_state items };
 
-    ghost spelling = { λ s. spell.state (plain_state s) };
+    ghost at = { reading.state_at };
+
+    ghost fits = { FitsState };
+
+    ghost list_fits = { FitEach FitsState };
+
+    ghost spelling = { spell.state };
+
+    ghost each = { λ _. refl };
+
+    ghost listed = { λ items. record { all = λ fit. fit; fit = λ all. all } };
+
+    #[tactic(auto, unfolding(crate::specs::Reading::state_at))]
+    fn take(alloc: Global, cursor: &mut Cursor<'_>, strings: u16) -> Result<Self, Stop> {
+        let name = cursor.reference(strings)?;
+        let functions = take_list(alloc, cursor, strings)?;
+        Ok(PexState { name, functions })
+    }
 
     #[tactic(auto, unfolding(pex_values::specs::Spelling::state))]
     fn write(&self, out: &mut Vec<u8>) -> Result<(), EncodeFault> {
         put_u16(out, self.name)?;
-        put_functions(out, &self.functions)?;
+        put_list(out, &self.functions)?;
         Ok(())
     }
 }
@@ -78,10 +109,39 @@ fn put_optional_reference(out: &mut Vec<u8>, reference: Option<u16>) -> Result<(
     }
 }
 
-impl Spelled for PexProperty {
-    ghost fits = { λ p. FitsProperty (plain_property p) };
+impl Item for PexProperty {
+    ghost Plain = { PlainProperty };
 
-    ghost spelling = { λ p. spell.property (plain_property p) };
+    ghost plain = { plain_property };
+
+    ghost plain_each = { λ items. map plain_property items };
+
+    ghost at = { reading.property_at };
+
+    ghost fits = { FitsProperty };
+
+    ghost list_fits = { FitEach FitsProperty };
+
+    ghost spelling = { spell.property };
+
+    ghost each = { λ _. refl };
+
+    ghost listed = { λ items. record { all = λ fit. fit; fit = λ all. all } };
+
+    #[tactic(auto, unfolding(crate::specs::Reading::property_at))]
+    fn take(alloc: Global, cursor: &mut Cursor<'_>, strings: u16) -> Result<Self, Stop> {
+        let head = cursor.property_head(strings)?;
+        Ok(PexProperty {
+            name: head.name,
+            kind: head.kind,
+            doc: head.doc,
+            flags: head.flags,
+            bits: head.bits,
+            variable: head.variable,
+            read: take_optional_function(alloc, cursor, strings, has_read(head.bits))?,
+            write: take_optional_function(alloc, cursor, strings, has_write(head.bits))?,
+        })
+    }
 
     #[tactic(auto, unfolding(pex_values::specs::Spelling::property))]
     fn write(&self, out: &mut Vec<u8>) -> Result<(), EncodeFault> {
@@ -91,22 +151,6 @@ impl Spelled for PexProperty {
         put_optional_function(out, &self.write)?;
         Ok(())
     }
-}
-
-fn put_properties(out: &mut Vec<u8>, properties: &[PexProperty]) -> Result<(), EncodeFault>
-    ensures { Writes result out.old.items out.new.items
-        (FitEach FitsProperty (map plain_property properties.now))
-        (spell.list spell.property (map plain_property properties.now)) }
-{
-    put_list(out, properties)
-}
-
-fn put_states(out: &mut Vec<u8>, states: &[PexState]) -> Result<(), EncodeFault>
-    ensures { Writes result out.old.items out.new.items
-        (FitEach FitsState (map plain_state states.now))
-        (spell.list spell.state (map plain_state states.now)) }
-{
-    put_list(out, states)
 }
 
 /// The fields of an object's data that stand before its lists.
@@ -126,9 +170,9 @@ fn put_object_data(out: &mut Vec<u8>, object: &PexObject) -> Result<(), EncodeFa
     ensures { Writes result out.old.items out.new.items (FitsObject (plain_object object.now)) (spell.object_data (plain_object object.now)) }
 {
     put_object_heading(out, object)?;
-    put_variables(out, &object.variables)?;
-    put_properties(out, &object.properties)?;
-    put_states(out, &object.states)?;
+    put_list(out, &object.variables)?;
+    put_list(out, &object.properties)?;
+    put_list(out, &object.states)?;
     Ok(())
 }
 
@@ -142,10 +186,44 @@ fn size_field(form: SizeForm, len: u32) -> u32
     }
 }
 
-impl Spelled for PexObject {
-    ghost fits = { λ o. HasSize (plain_object o) };
+impl Item for PexObject {
+    ghost Plain = { PlainObject };
 
-    ghost spelling = { λ o. spell.object (plain_object o) };
+    ghost plain = { plain_object };
+
+    ghost plain_each = { λ items. map plain_object items };
+
+    ghost at = { reading.object_at };
+
+    ghost fits = { HasSize };
+
+    ghost list_fits = { FitEach HasSize };
+
+    ghost spelling = { spell.object };
+
+    ghost each = { λ _. refl };
+
+    ghost listed = { λ items. record { all = λ fit. fit; fit = λ all. all } };
+
+    #[tactic(auto, unfolding(crate::specs::Reading::object_at))]
+    fn take(alloc: Global, cursor: &mut Cursor<'_>, strings: u16) -> Result<Self, Stop> {
+        let head = cursor.object_head(strings)?;
+        let variables = take_items(alloc, cursor, strings, head.variables as usize)?;
+        let properties = take_list(alloc, cursor, strings)?;
+        let states = take_list(alloc, cursor, strings)?;
+        let size_form = cursor.size_form(head.size_at, head.size)?;
+        Ok(PexObject {
+            name: head.name,
+            size_form,
+            parent: head.parent,
+            doc: head.doc,
+            flags: head.flags,
+            auto_state: head.auto_state,
+            variables,
+            properties,
+            states,
+        })
+    }
 
     #[tactic(auto, unfolding(pex_values::specs::Spelling::object))]
     fn write(&self, out: &mut Vec<u8>) -> Result<(), EncodeFault> {

@@ -1,7 +1,7 @@
 use Rattle.std.proofs.Common.{◌≡◌, ℕ, sym, subst}
 use Rattle.pex_codec.specs.Opening.{PassesIf, PassesOne, fixed_at}
 use Rattle.pex_codec.specs.Reading.{Got}
-use Rattle.pex_codec.specs.declared.parts.Part.{Part}
+use Rattle.pex_codec.specs.declared.scan.Part.{Part}
 use Rattle.pex_codec.proofs.Passing.{operand_if, instruction_passed}
 use Rattle.pex_codec.proofs.cursor.Cursor.passes.Goals as goal
 

@@ -3,8 +3,8 @@ use Rattle.pex_codec.specs.Decoding.{Progress, FinishFrom}
 use Rattle.pex_codec.specs.DecoderState.{StandsAs, IsOpen}
 use Rattle.pex_codec.specs.declared.faults.PexFault.TheVariants.{Broken}
 use Rattle.pex_codec.specs.declared.faults.PexRule.TheVariants.{Truncated}
-use Rattle.pex_codec.specs.declared.progress.Standing.{Standing}
-use Rattle.pex_codec.specs.declared.progress.Standing.TheVariants as standing
+use Rattle.pex_codec.specs.declared.decoder.Standing.{Standing}
+use Rattle.pex_codec.specs.declared.decoder.Standing.TheVariants as standing
 use Rattle.pex_codec.proofs.Feeding.{finishes_open}
 use Rattle.pex_codec.proofs.decoder.Decoder.finish.Goals as goal
 
