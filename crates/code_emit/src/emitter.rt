@@ -76,11 +76,8 @@ fn user_flags(writer: &mut Writer<'_>) -> Result<Vec<(u16, u8)>, EmitFault>
 /// What stands behind the last `/` of a file's name.
 fn source_name(alloc: Global, file: &Text) -> Result<Text, OutOfMemory> {
     let name = file.as_bytes();
-    let mut start = 0;
-    for (at, byte) in name.iter().enumerate() {
-        if *byte == b'/' {
-            start = at + 1;
-        }
+    match name.iter().rposition(|byte| *byte == b'/') {
+        Some(at) => Text::try_from_bytes(alloc, &name[at + 1..]),
+        None => Text::try_from_bytes(alloc, name),
     }
-    Text::try_from_bytes(alloc, &name[start..])
 }

@@ -16,9 +16,9 @@ returns-in_ok-variable-in-Auto-clause-property c =
     let last = c.in_ok-variable-in-Auto.ensures.goes.strings in
     record {
       name = reference_later c.string.new.self.strings n (omega arith) c.in_ok-name.name c.in_ok-name.ensures.place;
-      kind = reference_later c.type_name.new.self.strings n (omega arith) c.in_ok-kind.kind c.in_ok-kind.ensures.place;
+      kind = reference_later c.numbered.new.self.strings n (omega arith) c.in_ok-kind.kind c.in_ok-kind.ensures.place;
       doc = reference_later c.text.new.self.strings n last c.in_ok-doc.doc c.in_ok-doc.ensures.place;
-      flags = c.flag_bits.ensures.within;
+      flags = search rules;
       bits = omega arith;
       has_variable = refl;
       has_read = refl;
@@ -37,9 +37,9 @@ returns-in_ok-write-in-Full-clause-property c =
     let last = c.in_ok-write-in-Full.ensures.advances.strings in
     record {
       name = reference_later c.string.new.self.strings n (omega arith) c.in_ok-name.name c.in_ok-name.ensures.place;
-      kind = reference_later c.type_name.new.self.strings n (omega arith) c.in_ok-kind.kind c.in_ok-kind.ensures.place;
+      kind = reference_later c.numbered.new.self.strings n (omega arith) c.in_ok-kind.kind c.in_ok-kind.ensures.place;
       doc = reference_later c.text.new.self.strings n (omega arith) c.in_ok-doc.doc c.in_ok-doc.ensures.place;
-      flags = c.flag_bits-in-Full.ensures.within;
+      flags = search rules;
       bits = search rules;
       has_variable = sym c.accessor_bits.ensures.variable;
       has_read = is_some_map plain_function c.in_ok-read-in-Full.read ∙ sym c.is_some.ensures ∙ sym c.accessor_bits.ensures.read;
