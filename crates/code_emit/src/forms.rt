@@ -79,11 +79,6 @@ pub(crate) fn contains_call(expression: &Core, depth: u16) -> bool {
 
 /// How many of a call's arguments stand up to the last that contains a call, itself counted.
 pub(crate) fn up_to_last_call(arguments: &[Core], depth: u16) -> usize {
-    let last = arguments
-        .iter()
-        .rposition(|argument| contains_call(argument, depth));
-    match last {
-        Some(place) => place + 1,
-        None => 0,
-    }
+    let last = arguments.iter().rposition(|of| contains_call(of, depth));
+    last.map_or(0, |last| last.saturating_add(1))
 }

@@ -12,7 +12,7 @@ use crate::expressions::constant;
 use crate::faults::Result;
 use crate::statements::block;
 use crate::strings::{Numbered, script_at};
-use crate::writer::Writer;
+use crate::writer::{Writer, flag_bits};
 use core_tree::{CoreAccess, CoreFunction, CoreProperty, CoreState, CoreVariable};
 use pex_values::{PexFunction, PexObject, PexProperty, PexState, PexVariable, SizeForm};
 
@@ -57,7 +57,7 @@ pub(crate) fn object(writer: &mut Writer<'_>) -> Result<PexObject>
         size_form: SizeForm::Counted,
         parent,
         doc,
-        flags: script.flags,
+        flags: flag_bits(script.flags),
         auto_state,
         variables,
         properties,
@@ -87,7 +87,7 @@ fn one_variable(writer: &mut Writer<'_>, variable: &CoreVariable) -> Result<PexV
     Ok(PexVariable {
         name,
         kind,
-        flags: variable.flags,
+        flags: flag_bits(variable.flags),
         value: value.datum(),
     })
 }
@@ -120,7 +120,7 @@ fn one_property(writer: &mut Writer<'_>, property: &CoreProperty) -> Result<PexP
                 name,
                 kind,
                 doc,
-                flags: property.flags,
+                flags: flag_bits(property.flags),
                 bits: AUTO_BITS,
                 variable: Some(variable),
                 read: None,
@@ -134,7 +134,7 @@ fn one_property(writer: &mut Writer<'_>, property: &CoreProperty) -> Result<PexP
                 name,
                 kind,
                 doc,
-                flags: property.flags,
+                flags: flag_bits(property.flags),
                 bits: accessor_bits(read.is_some(), write.is_some()),
                 variable: None,
                 read,

@@ -348,7 +348,8 @@ impl<'a> Writer<'a> {
         ensures { GoesOn self.old self.new }
     {
         let fixed = data(self.alloc, operands)?;
-        self.instruct(opcode, fixed, Vec::new(self.alloc), operands)
+        let more = Vec::new(self.alloc);
+        self.instruct(opcode, fixed, more, operands)
     }
 
     /// Writes an instruction whose result stands before its operand, and gives that back where it is a temporary.
@@ -371,7 +372,8 @@ impl<'a> Writer<'a> {
         ensures { GoesOn self.old self.new }
     {
         let fixed = vec![in self.alloc; place.datum(), of.datum()]?;
-        self.instruct(opcode, fixed, Vec::new(self.alloc), &[of])
+        let more = Vec::new(self.alloc);
+        self.instruct(opcode, fixed, more, &[of])
     }
 
     /// As `compute`, with two operands.
@@ -390,7 +392,8 @@ impl<'a> Writer<'a> {
     {
         let place = self.take(kind)?;
         let fixed = vec![in self.alloc; place.datum(), left.datum(), right.datum()]?;
-        self.instruct(opcode, fixed, Vec::new(self.alloc), &[left, right])?;
+        let more = Vec::new(self.alloc);
+        self.instruct(opcode, fixed, more, &[left, right])?;
         Ok(place)
     }
 
@@ -514,8 +517,8 @@ impl<'a> Writer<'a> {
         let written = PexFunction {
             result: kind,
             doc,
-            flags: function.flags,
-            bits: u8::from(function.is_global) * GLOBAL | u8::from(function.is_native) * NATIVE,
+            flags: flag_bits(function.flags),
+            bits: function_bits(function.is_global, function.is_native),
             parameters,
             locals,
             code,
@@ -556,6 +559,18 @@ impl<'a> Writer<'a> {
     {
         Ok((self.strings.texts()?, self.debug))
     }
+}
+
+/// The user flags of a script or a member, as the file has them.
+pub(crate) fn flag_bits(flags: u32) -> u32
+    ensures value { result ≡ flags }
+    ensures within { result < 2 ^ 32 }
+{
+    flags
+}
+
+fn function_bits(is_global: bool, is_native: bool) -> u8 {
+    u8::from(is_global) * GLOBAL | u8::from(is_native) * NATIVE
 }
 
 fn name_at(pairs: &[(u16, u16)], place: usize) -> Result<u16>

@@ -1,6 +1,6 @@
 -- What holds of each item of a list, and the bytes of each item, over a loop.
 use Rattle.std.proofs.Common.{◌≡◌, ℕ, ◌+◌, ◌<◌, List, [], ◌∷◌, ◌++◌, length, get_or, take, map, refl, sym, ap, subst, ◌∙◌, append_assoc}
-use Rattle.std.specs.Prelude.{⊤, Result, Ok, Err}
+use Rattle.std.specs.Prelude.{Result, Ok, Err}
 use Rattle.pex_values.specs.Fit.{IsCounted}
 use Rattle.pex_values.proofs.Parts.{flat_map-map, each_view}
 use Rattle.pex_codec.specs.Writing.{Writes, FitEach, FitsAsList}
@@ -15,10 +15,6 @@ use Rattle.std.proofs.lemmas.List.Elements.{All-from_recursion, recursion_from_A
 pub record WroteFirst {X : Type 0} (P : X → Type 0) (spell : X → List ℕ) (old : List ℕ) (xs : List X) (i : ℕ) (new : List ℕ) : Type 0 where
   pub each : AllByRecursion P (take i xs)
   pub written : new ≡ old ++ flat_map spell (take i xs)
-
-pub each_trivial : {X : Type 0} (xs : List X) → AllByRecursion (λ (x : X). ⊤) xs
-each_trivial [] = tt
-each_trivial (x ∷ xs) = (tt, each_trivial xs)
 
 -- a list of what a view shows
 
@@ -50,10 +46,6 @@ pub Writes-listed : {T X Y : Type 0} (r : Result T EncodeFault) (old new : List 
 Writes-listed r old new P ListFits f view xs ys is said wrote =
     subst (λ (zs : List _). Writes r old new (ListFits zs) (list f zs)) (sym is)
     (Writes-said r old new P ListFits (list f (map view xs)) (map view xs) (said (map view xs)) (Writes-viewed r old new P f view xs wrote))
-
--- items that always fit
-pub counted_fits : {X : Type 0} (xs : List X) → FitsAsList (λ (x : X). ⊤) IsCounted xs
-counted_fits xs = record { all = λ counted. (counted, each_trivial xs); fit = λ all. all.0 }
 
 -- four parts, one after another
 pub four_parts : (o o1 o2 o3 o4 a b c d : List ℕ) → o1 ≡ o ++ a → o2 ≡ o1 ++ b → o3 ≡ o2 ++ c → o4 ≡ o3 ++ d → o4 ≡ o ++ (a ++ b ++ c ++ d)

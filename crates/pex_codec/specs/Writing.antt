@@ -1,5 +1,5 @@
 -- What writing a part of a file does.
-use Rattle.std.specs.Prelude.{◌≡◌, ℕ, ◌≤◌, List, ◌++◌, length, Result, Ok, Err, IfSome}
+use Rattle.std.specs.Prelude.{◌≡◌, ℕ, ◌≤◌, List, [], ◌∷◌, ◌++◌, length, Result, Ok, Err, IfSome, ⊤}
 use Rattle.std.specs.List.{AllByRecursion}
 use Rattle.pex_values.specs.Fit.{IsCounted, FitsObject, FitsDebug, limit}
 use Rattle.pex_values.specs.Plain.{PlainLines, PlainObject, PlainPex}
@@ -28,6 +28,15 @@ FitEach P xs = IsCounted xs × AllByRecursion P xs
 pub record FitsAsList {A : Type 0} (P : A → Type 0) (ListFits : List A → Type 0) (xs : List A) : Type 0 where
   pub all : ListFits xs → FitEach P xs
   pub fit : FitEach P xs → ListFits xs
+
+-- of items that always fit a list must only be short enough for its count
+
+each_fits : {A : Type 0} (xs : List A) → AllByRecursion (λ (x : A). ⊤) xs
+each_fits [] = tt
+each_fits (x ∷ xs) = (tt, each_fits xs)
+
+pub counted_fits : {A : Type 0} (xs : List A) → FitsAsList (λ (x : A). ⊤) IsCounted xs
+counted_fits xs = record { all = λ counted. (counted, each_fits xs); fit = λ all. all.0 }
 
 -- the three parts of a value, in the order of the file
 

@@ -11,8 +11,7 @@ ghost use Rattle.pex_values.specs.Plain.{PlainFunction, PlainInstruction, plain_
 ghost use Rattle.pex_values.specs.Spelling as spell;
 ghost use Rattle.pex_codec.specs.Reading as reading;
 ghost use Rattle.pex_codec.specs.Taking.{Takes};
-ghost use Rattle.pex_codec.specs.Writing.{Writes, FitEach};
-ghost use Rattle.pex_codec.proofs.Lists.{counted_fits};
+ghost use Rattle.pex_codec.specs.Writing.{counted_fits, Writes, FitEach};
 
 use crate::cursor::{Cursor, Stop};
 use crate::faults::EncodeFault;

@@ -8,8 +8,7 @@ ghost use Rattle.pex_values.specs.Fit.{IsCounted, FitsState, FitsProperty, FitsO
 ghost use Rattle.pex_values.specs.Plain.{PlainObject, PlainProperty, PlainState, plain_object, plain_property, plain_state};
 ghost use Rattle.pex_values.specs.Spelling as spell;
 ghost use Rattle.pex_codec.specs.Reading as reading;
-ghost use Rattle.pex_codec.specs.Writing.{Writes, FitEach, HasSize};
-ghost use Rattle.pex_codec.proofs.Lists.{counted_fits};
+ghost use Rattle.pex_codec.specs.Writing.{counted_fits, Writes, FitEach, HasSize};
 
 use crate::code::{put_datum, put_optional_function, take_optional_function};
 use crate::cursor::{Cursor, Stop};

@@ -53,7 +53,7 @@ pub(crate) struct Task {
 
 impl Task {
     /// A part so many times.
-    const fn times(part: Part, left: u32) -> Task
+    fn times(part: Part, left: u32) -> Task
         ensures { result ≡ task part left }
     {
         Task { part, left }
@@ -61,7 +61,10 @@ impl Task {
 }
 
 /// Nothing is to come.
-const NOTHING: Task = Task::times(Part::Operand, 0);
+const NOTHING: Task = Task {
+    part: Part::Operand,
+    left: 0,
+};
 
 /// What the first fields of a part open: what is to come behind them, and the number of strings from there on.
 #[derive(Clone, Copy)]

@@ -1,4 +1,4 @@
-use Rattle.std.proofs.Common.{map, arith, rules}
+use Rattle.std.proofs.Common.{map, arith}
 use Rattle.code_emit.proofs.Later.{reference_later, variable_later, property_later, all_later}
 use Rattle.pex_values.specs.Shape.{IsShapedVariable, IsShapedProperty}
 use Rattle.pex_values.specs.Plain.{plain_property}
@@ -23,7 +23,7 @@ returns-clause-object c =
       name = reference_later p1 n (omega arith) c.in_ok-name.name c.in_ok-name.ensures.place;
       parent = reference_later p2 n (omega arith) c.in_ok-parent.parent c.in_ok-parent.ensures.place;
       doc = reference_later p3 n (omega arith) c.in_ok-doc.doc c.in_ok-doc.ensures.place;
-      flags = search rules;
+      flags = c.flag_bits.ensures.within;
       auto_state = reference_later p4 n (omega arith) c.in_ok-auto_state.auto_state c.in_ok-auto_state.ensures.place;
       variables = all_later (IsShapedVariable p5) (IsShapedVariable n) (variable_later p5 n (omega arith)) c.in_ok-variables.variables.items c.in_ok-variables.ensures.variables;
       properties = all_later (IsShapedProperty p6) (IsShapedProperty n) (property_later p6 n (omega arith)) (map plain_property c.in_ok-properties.properties.items) c.in_ok-properties.ensures.properties;

@@ -13,4 +13,4 @@ pub instruct-requires-clause-agrees : goal.instruct-requires-clause-agrees
 instruct-requires-clause-agrees c =
     let few = length_of c.args.operands.now c.in_ok-fixed.fixed.items c.in_ok-fixed.ensures.values in
     let P : List Datum → Type 0 = λ more. AgreesWith (operands_of c.args.opcode) (length c.in_ok-fixed.fixed.items) (length more) in
-    subst P (sym c.new.ensures.items) (agrees_with c.args.opcode (length c.args.operands.now) (length c.in_ok-fixed.fixed.items) c.requires.opcode few)
+    subst P (sym c.new-more.ensures.items) (agrees_with c.args.opcode (length c.args.operands.now) (length c.in_ok-fixed.fixed.items) c.requires.opcode few)

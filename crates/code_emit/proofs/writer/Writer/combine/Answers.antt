@@ -20,4 +20,4 @@ instruct-requires-clause-fixed c =
 
 pub instruct-requires-clause-agrees : goal.instruct-requires-clause-agrees
 instruct-requires-clause-agrees c =
-    agrees_both c.args.opcode 3 (c.datum.result ∷ c.datum-2.result ∷ c.datum-3.result ∷ []) c.in_ok-fixed.fixed.items c.new.result.items c.requires.opcode refl c.in_ok-fixed.ensures.items c.new.ensures.items
+    agrees_both c.args.opcode 3 (c.datum.result ∷ c.datum-2.result ∷ c.datum-3.result ∷ []) c.in_ok-fixed.fixed.items c.new-more.result.items c.requires.opcode refl c.in_ok-fixed.ensures.items c.new-more.ensures.items
