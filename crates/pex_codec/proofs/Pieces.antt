@@ -1,5 +1,5 @@
 -- What a decoder answers is told by all the bytes that it got, however they were cut.
-use Rattle.std.proofs.Common.{◌≡◌, ℕ, zero, suc, ◌+◌, ◌-◌, ◌<◌, ◌≤◌, List, [], ◌∷◌, ◌++◌, length, take, drop, true, false, refl, sym, ap, subst, ◌∙◌, append_assoc, length-append, length-drop, arith}
+use Rattle.std.proofs.Common.{◌≡◌, ℕ, zero, suc, ◌+◌, ◌-◌, ◌<◌, ◌≤◌, List, [], ◌∷◌, ◌++◌, length, take, drop, true, false, refl, sym, ap, subst, ◌∙◌, append_assoc, length-append, arith}
 use Rattle.std.specs.Prelude.{Result, Ok, Err, ◌≢◌, nat_lt, if◌then◌else◌, OnOk}
 use Rattle.std.proofs.lemmas.Bool.Decides.{nat_tests}
 use Rattle.std.proofs.lemmas.List.{append-nil, length-take-le, take-append-le, take-append-drop}
@@ -15,7 +15,7 @@ use Rattle.pex_codec.specs.declared.decoder.Fed.{Fed}
 use Rattle.pex_codec.specs.declared.decoder.Fed.TheVariants.{More, Done}
 use Rattle.pex_codec.specs.declared.decoder.Standing.{Standing}
 use Rattle.pex_codec.specs.declared.decoder.Standing.TheVariants as standing
-use Rattle.pex_codec.specs.Decoding.{reading, Breaks, DecoderOf, HasTrailing, IsSpelling, Progress, StandsAt, IsNew, Ends, GoesOn, ReadGives, EndedGives, FeedFrom, FeedGives, MakesValue, EndFrom, EndGives}
+use Rattle.pex_codec.specs.Decoding.{reading, Breaks, Progress, IsNew, Ends, GoesOn, ReadGives, EndedGives, FeedFrom, FeedGives, MakesValue, EndFrom, EndGives}
 use Rattle.pex_codec.specs.Laws.{counted_on, SameOutcome, EndsBehind, GivesBack}
 use Rattle.pex_codec.specs.Reading.{Reading, Got, Short, Refused, pex_at}
 use Rattle.pex_codec.specs.Spells.{Spells}
@@ -239,49 +239,3 @@ encoded_ended result v bytes n d new s is_new g e =
     let taken : new.taken ≡ bytes = ends.taken ∙ (ap (λ (b : List ℕ). b ++ take n bytes) is_new.taken ∙ whole) in
     let m : MakesValue new.taken result = subst (λ t. EndFrom t new.taken result) ends.standing e in
     made result v bytes s (subst (λ (b : List ℕ). MakesValue b result) taken m)
-
--- ---- where the bytes behind a value come in a second piece
-
--- what all of the bytes led to, the last piece of which was answered so
-abbrev pub After : List ℕ → Result Fed PexFault → Progress → Type 0
-After bytes (Ok fed) d = StandsAt bytes d d.standing
-After bytes (Err fault) d = DecoderOf bytes (Err fault)
-
-after_none : (bytes : List ℕ) (mid last : Progress) (n : ℕ) (r : Result Fed PexFault) → n ≤ length bytes → mid.taken ≡ take n bytes → mid.standing ≡ standing.Complete
-    → EndedGives mid (drop n bytes) r last → length (drop n bytes) ≡ 0 → After bytes r last
-after_none bytes mid last n r within taken complete g none =
-    let gives = g.empty none in
-    let whole : n ≡ length bytes = omega (arith, length-drop n bytes) in
-    let all : take n bytes ≡ bytes = ap (λ (k : ℕ). take k bytes) whole ∙ take-length bytes in
-    let stands : StandsAt bytes mid mid.standing = subst (λ (s : Standing). StandsAt bytes mid s) (sym complete) (taken ∙ all) in
-    subst (λ (x : Result Fed PexFault). After bytes x last) (sym gives.0) (subst (λ (d : Progress). StandsAt bytes d d.standing) (sym gives.1) stands)
-
-after_some : (bytes : List ℕ) (mid last : Progress) (n : ℕ) (r : Result Fed PexFault) → n ≤ length bytes → mid.taken ≡ take n bytes → IsSpelling mid.taken
-    → EndedGives mid (drop n bytes) r last → 0 < length (drop n bytes) → After bytes r last
-after_some bytes mid last n r within taken spelled g some =
-    let gives = g.trailing some in
-    let size : length mid.taken ≡ n = ap (λ (l : List ℕ). length l) taken ∙ length-take-le n bytes within in
-    let same : take (length mid.taken) bytes ≡ mid.taken = ap (λ (k : ℕ). take k bytes) size ∙ sym taken in
-    let trailing : HasTrailing bytes (length mid.taken) = record {
-      spelled = subst (λ (l : List ℕ). IsSpelling l) (sym same) spelled;
-      shorter = omega (arith, size, length-drop n bytes);
-    } in
-    subst (λ (x : Result Fed PexFault). After bytes x last) (sym gives.0) trailing
-
-none_or_some : {P : Type 0} (k : ℕ) → (k ≡ 0 → P) → (0 < k → P) → P
-none_or_some zero none some = none refl
-none_or_some (suc k) none some = some (omega arith)
-
-pub fed_behind : (bytes : List ℕ) (new mid last : Progress) (n : ℕ) (r : Result Fed PexFault) → IsNew new
-    → FeedGives new bytes (Ok (Done n)) mid → FeedGives mid (drop n bytes) r last → After bytes r last
-fed_behind bytes new mid last n r is_new first second =
-    let e : Ends new bytes n mid = subst (λ (s : Standing). FeedFrom s new bytes (Ok (Done n)) mid) is_new.standing first in
-    let taken : mid.taken ≡ take n bytes = e.taken ∙ ap (λ (x : List ℕ). x ++ take n bytes) is_new.taken in
-    let g : EndedGives mid (drop n bytes) r last = subst (λ (s : Standing). FeedFrom s mid (drop n bytes) r last) e.standing second in
-    none_or_some (length (drop n bytes)) (after_none bytes mid last n r e.within taken e.standing g) (after_some bytes mid last n r e.within taken e.spelled g)
-
--- the value's end lies within the bytes
-pub done_within : (bytes : List ℕ) (new mid : Progress) (n : ℕ) → IsNew new → FeedGives new bytes (Ok (Done n)) mid → n ≤ length bytes
-done_within bytes new mid n is_new first =
-    let e : Ends new bytes n mid = subst (λ (s : Standing). FeedFrom s new bytes (Ok (Done n)) mid) is_new.standing first in
-    e.within

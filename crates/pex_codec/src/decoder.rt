@@ -2,7 +2,7 @@
 
 ghost use Rattle.std.specs.Prelude.{◌≡◌, IfOk, []};
 ghost use Rattle.pex_codec.specs.DecoderState.{Follows, GoesOver, IsOpen, TakesPiece};
-ghost use Rattle.pex_codec.specs.Decoding.{IsNew, FeedGives, EndGives, FinishGives, DecoderOf, Decodes, Judges};
+ghost use Rattle.pex_codec.specs.Decoding.{IsNew, FeedGives, EndGives, FinishGives, GotAll, DecoderOf, Decodes, Judges};
 
 use crate::cursor::{Cursor, Stop};
 use crate::faults::{PexFault, PexRule};
@@ -169,14 +169,26 @@ impl Decoder {
     }
 }
 
-/// A decoder that got all bytes of a file. Where some follow the value, that is its refusal.
+/// Hands all bytes of a file to a decoder. Where some follow the value, that is its refusal.
+fn feed_all(decoder: &mut Decoder, bytes: &[u8]) -> Result<(), PexFault>
+    requires { IsNew decoder.old }
+    ensures { GotAll bytes.now result decoder.new }
+{
+    match decoder.feed(bytes)? {
+        Fed::Done { taken } if taken < bytes.len() => {
+            decoder.feed(&bytes[taken..])?;
+        }
+        Fed::Done { .. } | Fed::More => {}
+    }
+    Ok(())
+}
+
+/// A decoder that got all bytes of a file.
 fn decoder_of(alloc: Global, bytes: &[u8]) -> Result<Decoder, PexFault>
     ensures { DecoderOf bytes.now result }
 {
     let mut decoder = Decoder::new(alloc)?;
-    if let Fed::Done { taken } = decoder.feed(bytes)? {
-        decoder.feed(&bytes[taken..])?;
-    }
+    feed_all(&mut decoder, bytes)?;
     Ok(decoder)
 }
 
