@@ -153,8 +153,11 @@ impl Decoder {
         ensures { EndGives self result }
     {
         self.finish()?;
-        // Bytes that spell a value are read, so only memory can be wanting.
-        pex(self.alloc, &self.taken.bytes).map_err(|_| PexFault::OutOfMemory)
+        match pex(self.alloc, &self.taken.bytes) {
+            Ok(value) => Ok(value),
+            // Bytes that spell a value are read, so only memory was wanting.
+            Err(_) => Err(PexFault::OutOfMemory),
+        }
     }
 
     /// Ok where the bytes so far spell a value. It answers as `end` does, and needs no memory, since it makes no value.

@@ -1,6 +1,6 @@
 //! How a whole file is taken as a value, and how a value is written as one.
 
-ghost use Rattle.std.specs.Prelude.{◌≡◌, ◌≤◌, ◌<◌, ◌^◌, ◌++◌, length, map, option_map, refl, IfOk, IfSome, IsErrOf};
+ghost use Rattle.std.specs.Prelude.{◌≡◌, ◌≤◌, ◌<◌, ◌^◌, ◌++◌, length, map, option_map, refl, OnOk, IfOk, IfSome, IsErrOf};
 ghost use Rattle.pex_values.specs.Fit.{FitsDebug, Fits};
 ghost use Rattle.pex_values.specs.Plain.{PlainLines, plain, plain_debug, plain_lines};
 ghost use Rattle.pex_values.specs.Shape.{IsWellShaped};
@@ -15,7 +15,7 @@ use crate::faults::EncodeFault;
 use crate::items::{Item, put_byte, put_list, put_u16, put_u64, take_items, take_list};
 use papy_base::Text;
 use pex_values::{FILE_LIMIT, Pex, PexDebug, PexLines};
-use std::alloc::Global;
+use std::alloc::{AllocError, Global};
 
 impl Item for PexLines {
     ghost Plain = { PlainLines };
@@ -139,14 +139,21 @@ fn put_debug(out: &mut Vec<u8>, debug: &Option<PexDebug>) -> Result<(), EncodeFa
     Ok(())
 }
 
+/// The magic number, the versions, the game's number and the time.
+fn put_versions(out: &mut Vec<u8>, value: &Pex) -> Result<(), AllocError>
+    ensures { OnOk result (out.new.items ≡ out.old.items ++ (spell.heading value.now.minor ++ spell.eight_bytes value.now.time)) }
+{
+    out.extend_from_slice(&[0xFA, 0x57, 0xC0, 0xDE, 3, value.minor, 0, 1])?;
+    put_u64(out, value.time)
+}
+
 /// The fields before the string table.
 fn put_header(out: &mut Vec<u8>, value: &Pex) -> Result<(), EncodeFault>
     ensures { Writes result out.old.items out.new.items (FitsHeader (plain value.now))
         (spell.heading value.now.minor ++ spell.eight_bytes value.now.time ++ spell.string value.now.source
         ++ spell.string value.now.user ++ spell.string value.now.machine) }
 {
-    out.extend_from_slice(&[0xFA, 0x57, 0xC0, 0xDE, 3, value.minor, 0, 1])?;
-    put_u64(out, value.time)?;
+    put_versions(out, value)?;
     value.source.write(out)?;
     value.user.write(out)?;
     value.machine.write(out)?;

@@ -13,4 +13,4 @@ returns-in-Reading c =
     let t = c.self.inside.taken in
     let open_item : IsOpen t = subst (λ (s : Standing). StandsAs s t) c.in-Reading.is c.self.invariant in
     let count : c.len.result ≡ length t.bytes.items = omega (arith, c.len.ensures, t.bytes.ok.0) in
-    finishes_open t c.self.inside.standing c.args.self.now c.len.result open_item c.in-Reading.is c.self.view_is count
+    rw c.broken_at.ensures (finishes_open t c.self.inside.standing c.args.self.now c.len.result open_item c.in-Reading.is c.self.view_is count)

@@ -37,7 +37,7 @@ returns-in-Err-Short c =
     let before : c.len-before.result ≡ length old.bytes.items = omega (arith, c.len-before.ensures, old.bytes.ok.0) in
     let e = extends old mid c.args.piece.now c.len-before.result c.min-count.result c.requires before c.min-count.ensures c.in_ok-extend_from_slice.ensures.items refl refl (λ i. omega (arith, c.type_inv.piece i)) in
     let over = over_stop mid c.go_over.new.self c.go_over.result c.in-Err-Short.field-0 stop.Short c.go_over.ensures c.in-Err-Short.is c.in-Err-Short.field-0-is in
-    piece_too_large old mid c.go_over.new.self c.args.piece.now c.min-count.result e (omega (arith, c.if-count-piece.true)) over.0 over.1
+    rw c.broken_at.ensures (piece_too_large old mid c.go_over.new.self c.args.piece.now c.min-count.result e (omega (arith, c.if-count-piece.true)) over.0 over.1)
 
 pub returns-in-Err-Short-2 : goal.returns-in-Err-Short-2
 returns-in-Err-Short-2 c =
@@ -55,4 +55,4 @@ returns-in-Err-Refused c =
     let before : c.len-before.result ≡ length old.bytes.items = omega (arith, c.len-before.ensures, old.bytes.ok.0) in
     let e = extends old mid c.args.piece.now c.len-before.result c.min-count.result c.requires before c.min-count.ensures c.in_ok-extend_from_slice.ensures.items refl refl (λ i. omega (arith, c.type_inv.piece i)) in
     let over = over_stop mid c.go_over.new.self c.go_over.result c.in-Err-Refused.field-0 (stop.Refused c.in-Err-Refused.offset c.in-Err-Refused.rule) c.go_over.ensures c.in-Err-Refused.is c.in-Err-Refused.field-0-is in
-    piece_refused old mid c.args.piece.now c.min-count.result c.in-Err-Refused.offset c.in-Err-Refused.rule e over
+    rw c.broken_at-in-Err-Refused.ensures (piece_refused old mid c.args.piece.now c.min-count.result c.in-Err-Refused.offset c.in-Err-Refused.rule e over)
