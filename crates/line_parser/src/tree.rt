@@ -1,7 +1,7 @@
 // What a line means: its form, with the trees of its expressions.
 
 use papy_base::{Name, Text};
-use script_lexer::Sign;
+use script_lexer::{Keyword, Sign};
 
 /// A type as a script writes it. `Int`, `Bool` and `String` are words of those spellings.
 #[derive(Drop)]
@@ -140,21 +140,16 @@ pub enum LineForm {
         name: Name,
         flags: u32,
     },
-    EndProperty,
     Function(Heading),
-    EndFunction,
-    EndEvent,
     State {
         name: Name,
         is_auto: bool,
     },
-    EndState,
     If(Expr),
     ElseIf(Expr),
-    Else,
-    EndIf,
     While(Expr),
-    EndWhile,
+    /// `Else`, or a keyword that ends a block.
+    Key(Keyword),
     Return(Option<Expr>),
     /// `target = value`, or with another sign of assignment, as `+=`.
     Assign {

@@ -43,11 +43,10 @@ pub(crate) fn member(
                 line,
             })?,
         ),
-        LineForm::Function(heading) => Ok(
-            script
-                .functions
-                .push(function(reader, line, heading, doc)?)?,
-        ),
+        LineForm::Function(heading) => {
+            let function = function(reader, line, heading, doc)?;
+            Ok(script.functions.push(function)?)
+        }
         LineForm::State { name, is_auto } => Ok(
             script.states.push(State {
                 name,
@@ -56,11 +55,10 @@ pub(crate) fn member(
                 line,
             })?,
         ),
-        other => Ok(
-            script
-                .properties
-                .push(property(reader, &first, other, doc)?)?,
-        ),
+        other => {
+            let property = property(reader, &first, other, doc)?;
+            Ok(script.properties.push(property)?)
+        }
     }
 }
 
@@ -112,11 +110,9 @@ fn property(
 fn initial_value(at: usize, value: Option<Expr>) -> Result<Option<Constant>, BlockFault>
     ensures { (lines : List Line) → IfErr result (IsBlockFault lines) }
 {
-    match value {
-        Some(tree) => match constant_of(tree) {
-            Some(constant) => Ok(Some(constant)),
-            None => Err(BlockFault::bad_block(at)),
-        },
+    match value.map(constant_of) {
+        Some(None) => Err(BlockFault::bad_block(at)),
+        Some(constant) => Ok(constant),
         None => Ok(None),
     }
 }
@@ -215,8 +211,8 @@ fn functions_until(reader: &mut Reader<'_>, end: Keyword) -> Result<Vec<Function
         let line = first.line.number;
         match form {
             LineForm::Function(heading) => functions.push(function(reader, line, heading, doc)?)?,
-            LineForm::EndState if end == Keyword::EndState => return Ok(functions),
-            LineForm::EndProperty if end == Keyword::EndProperty && !functions.is_empty() => {
+            LineForm::Key(word)
+                if word == end && (end == Keyword::EndState || !functions.is_empty()) => {
                 return Ok(functions);
             }
             other => {

@@ -97,10 +97,7 @@ impl<'a> Reader<'a> {
         ensures found { IfOk result (Found self.old self.new) }
         ensures fault { IfErr result (IsBlockFault self.old.lines.now) }
     {
-        match self.next_form() {
-            Some(found) => Ok(found),
-            None => Err(BlockFault::bad_block(self.at)),
-        }
+        self.next_form().ok_or(BlockFault::bad_block(self.at))
     }
 
     /// The documentation of the line that was read: that at its end, or else that of the next line,
@@ -110,17 +107,13 @@ impl<'a> Reader<'a> {
         ensures onward { GoesOn self.old self.new }
         ensures fault { IfErr result (IsBlockFault self.old.lines.now) }
     {
-        if at_end.is_some() {
-            return Ok(at_end);
+        match self.lines.get(self.at) {
+            Some(line) if at_end.is_none() && is_doc_only(line.tokens.as_slice()) => {
+                self.at += 1;
+                Ok(doc_at_end(self.alloc, line.tokens.as_slice())?)
+            }
+            _ => Ok(at_end),
         }
-        let Some(line) = self.lines.get(self.at) else {
-            return Ok(None);
-        };
-        if !is_doc_only(line.tokens.as_slice()) {
-            return Ok(None);
-        }
-        self.at += 1;
-        Ok(doc_at_end(self.alloc, line.tokens.as_slice())?)
     }
 }
 
