@@ -12,7 +12,7 @@ use crate::nesting::{BRACKET_LIMIT, is_too_deep};
 use crate::simple::{
     TypeWords, begins_declaration, flags, initial_constant, parameters, type_name,
 };
-use crate::tree::{Heading, LineForm, LineTree, TypeName};
+use crate::tree::{Access, Heading, LineForm, LineTree, TypeName};
 use papy_base::{OutOfMemory, Text};
 use script_lexer::{Keyword, Line, Sign, Spanned, Token};
 use std::alloc::Global;
@@ -209,23 +209,26 @@ fn property(cursor: &mut Cursor<'_>, kind: TypeName) -> Result<LineForm, FormFau
 {
     cursor.expect_keyword(Keyword::Property)?;
     let name = cursor.expect_word()?;
-    let value = initial_constant(cursor)?;
-    let is_auto = cursor.take_keyword(Keyword::Auto);
-    if !is_auto && value.is_none() {
-        let flags = flags(cursor)?;
-        return Ok(LineForm::FullProperty { kind, name, flags });
-    }
-    if !is_auto {
-        cursor.expect_keyword(Keyword::AutoReadOnly)?;
-    }
+    let access = access(cursor)?;
     let flags = flags(cursor)?;
-    Ok(LineForm::AutoProperty {
+    Ok(LineForm::Property {
         kind,
         name,
-        value,
-        read_only: !is_auto,
+        access,
         flags,
     })
+}
+
+fn access(cursor: &mut Cursor<'_>) -> Result<Access, FormFault> {
+    let value = initial_constant(cursor)?;
+    if cursor.take_keyword(Keyword::Auto) {
+        return Ok(Access::Auto(value));
+    }
+    let Some(value) = value else {
+        return Ok(Access::Full);
+    };
+    cursor.expect_keyword(Keyword::AutoReadOnly)?;
+    Ok(Access::ReadOnly(value))
 }
 
 // What begins with `Function` or `Event`, whichever the keyword is.

@@ -13,4 +13,6 @@ mod tree;
 pub use fault::{LineFault, LineRule};
 pub use form::{doc_at_end, parse_line};
 pub use simple::TypeWords;
-pub use tree::{Argument, Constant, Expr, Heading, LineForm, LineTree, Parameter, TypeName};
+pub use tree::{
+    Access, Argument, Constant, Expr, Heading, LineForm, LineTree, Parameter, TypeName,
+};

@@ -112,6 +112,15 @@ pub struct Heading {
     pub flags: u32,
 }
 
+/// How a property is read and written.
+#[derive(Drop)]
+pub enum Access {
+    Auto(Option<Constant>),
+    ReadOnly(Constant),
+    /// By functions, on the lines that follow.
+    Full,
+}
+
 /// The form of a line.
 #[derive(Drop)]
 pub enum LineForm {
@@ -128,16 +137,10 @@ pub enum LineForm {
         value: Option<Expr>,
         flags: u32,
     },
-    AutoProperty {
+    Property {
         kind: TypeName,
         name: Name,
-        value: Option<Constant>,
-        read_only: bool,
-        flags: u32,
-    },
-    FullProperty {
-        kind: TypeName,
-        name: Name,
+        access: Access,
         flags: u32,
     },
     Function(Heading),

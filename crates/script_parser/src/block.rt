@@ -6,7 +6,7 @@ ghost use Rattle.script_parser.specs.Reader.{BlockAt, GoesOn, IsBlockFault, bloc
 use crate::fault::BlockFault;
 use crate::reader::Reader;
 use crate::script::{Statement, StatementForm};
-use line_parser::{Expr, LineForm, LineRule};
+use line_parser::{Expr, LineForm, LineRule, LineTree};
 use script_lexer::Keyword;
 
 /// The most `If` and `While` that may be open.
@@ -32,10 +32,11 @@ fn statements(reader: &mut Reader<'_>, depth: u8) -> Result<Block, BlockFault>
     let mut found = Vec::new(reader.alloc);
     'lines: loop {
         let first = reader.next_in_block()?;
-        let found_form = reader.form(&first)?;
+        let LineTree { form, doc } = reader.tree(&first)?;
+        drop(doc);
         let at = first.at;
         let line = first.line.number;
-        let form = match found_form {
+        let form = match form {
             LineForm::Definition {
                 kind,
                 name,
