@@ -1,9 +1,9 @@
 // Reads the tokens of a line from left to right.
-ghost use Rattle.std.specs.Prelude.{◌≡◌, ◌+◌, ◌<◌, ◌≤◌, length, IsTrue, IsSome, IfSome, OnSome, OnOk};
-ghost use Rattle.line_parser.specs.Blocks.{first_keyword, keyword_of};
+ghost use Rattle.std.specs.Prelude.{◌≡◌, ◌+◌, ◌<◌, ◌≤◌, length, IsTrue, IsSome, IfOk, IfSome, OnSome, OnOk};
+ghost use Rattle.line_parser.specs.Blocks.{first_keyword};
 
 use crate::fault::FormFault;
-use crate::type_words::TypeWords;
+use crate::simple::TypeWords;
 use papy_base::Name;
 use script_lexer::{Keyword, Sign, Spanned, Token};
 use std::alloc::Global;
@@ -17,10 +17,6 @@ pub(crate) struct Cursor<'a> {
 }
 
 impl<'a> Cursor<'a> {
-    pub(crate) fn is_at_end(&self) -> bool {
-        self.rest.is_empty()
-    }
-
     pub(crate) fn next_sign(&self) -> Option<Sign>
         ensures { IsSome result → 0 < length self.now.rest.now }
     {
@@ -31,9 +27,9 @@ impl<'a> Cursor<'a> {
         ensures some { IsSome result → 0 < length self.now.rest.now }
         ensures first { result ≡ first_keyword self.now.rest.now }
     {
-        match self.rest.first() {
-            Some(spanned) => keyword(&spanned.token),
-            None => None,
+        match self.rest.first()?.token {
+            Token::Key(found) => Some(found),
+            _ => None,
         }
     }
 
@@ -77,11 +73,11 @@ impl<'a> Cursor<'a> {
         ensures shorter { IsTrue result → length self.new.rest.now < length self.old.rest.now }
         ensures bound { length self.new.rest.now ≤ length self.old.rest.now }
     {
-        if is_sign_at(self.rest, 0, wanted) {
+        let found = is_sign_at(self.rest, 0, wanted);
+        if found {
             self.skip();
-            return true;
         }
-        false
+        found
     }
 
     /// Takes the next token where it is this keyword.
@@ -89,35 +85,29 @@ impl<'a> Cursor<'a> {
         ensures shorter { IsTrue result → length self.new.rest.now < length self.old.rest.now }
         ensures bound { length self.new.rest.now ≤ length self.old.rest.now }
     {
-        match self.next_keyword() {
-            Some(found) if found == wanted => {
-                self.skip();
-                true
-            }
-            _ => false,
+        let found = self.next_keyword().is_some_and(|found| found == wanted);
+        if found {
+            self.skip();
         }
+        found
     }
 
     /// Takes the next token, which has to be this sign.
     pub(crate) fn expect_sign(&mut self, wanted: Sign) -> Result<(), FormFault>
         ensures shorter { OnOk result (length self.new.rest.now < length self.old.rest.now) }
     {
-        if self.take_sign(wanted) {
-            Ok(())
-        } else {
-            Err(FormFault::NoForm)
-        }
+        self.take_sign(wanted)
+            .then_some(())
+            .ok_or(FormFault::NoForm)
     }
 
     /// Takes the next token, which has to be this keyword.
     pub(crate) fn expect_keyword(&mut self, wanted: Keyword) -> Result<(), FormFault>
         ensures shorter { OnOk result (length self.new.rest.now < length self.old.rest.now) }
     {
-        if self.take_keyword(wanted) {
-            Ok(())
-        } else {
-            Err(FormFault::NoForm)
-        }
+        self.take_keyword(wanted)
+            .then_some(())
+            .ok_or(FormFault::NoForm)
     }
 
     /// Takes the next token, which has to be a word.
@@ -179,30 +169,30 @@ impl<'a> Cursor<'a> {
         Some((sign, found))
     }
 
-    /// Takes `-` or `!` where it is next.
-    pub(crate) fn take_unary(&mut self) -> Option<Sign>
+    /// Takes the next token where it is one of these signs.
+    pub(crate) fn take_one_of(&mut self, signs: &[Sign]) -> Option<Sign>
         ensures bound { length self.new.rest.now ≤ length self.old.rest.now }
     {
-        match self.next_sign() {
-            Some(found) if matches!(found, Sign::Minus | Sign::Not) => {
-                self.skip();
-                Some(found)
-            }
-            _ => None,
+        let sign = self.next_sign()?;
+        if !signs.contains(&sign) {
+            return None;
         }
+        self.skip();
+        Some(sign)
     }
 
-    /// Takes a sign of assignment where it is next.
-    pub(crate) fn take_assignment(&mut self) -> Option<Sign>
-        ensures bound { length self.new.rest.now ≤ length self.old.rest.now }
+    /// Whether a list in brackets ends here. Takes its `)`, or else the `,` before an element that isn't the first.
+    pub(crate) fn list_ends(&mut self, is_first: bool) -> Result<bool, FormFault>
+        ensures bound { OnOk result (length self.new.rest.now ≤ length self.old.rest.now) }
+        ensures shorter { IfOk result (λ ends. IsTrue ends → length self.new.rest.now < length self.old.rest.now) }
     {
-        match self.next_sign() {
-            Some(found) if is_assignment(found) => {
-                self.skip();
-                Some(found)
-            }
-            _ => None,
+        if self.take_sign(Sign::CloseParen) {
+            return Ok(true);
         }
+        if !is_first {
+            self.expect_sign(Sign::Comma)?;
+        }
+        Ok(false)
     }
 }
 
@@ -228,9 +218,9 @@ fn precedence(sign: Sign) -> u8
 fn sign_at(tokens: &[Spanned], at: usize) -> Option<Sign>
     ensures { IsSome result → at < length tokens.now }
 {
-    match tokens.get(at) {
-        Some(spanned) => sign(&spanned.token),
-        None => None,
+    match tokens.get(at)?.token {
+        Token::Sign(found) => Some(found),
+        _ => None,
     }
 }
 
@@ -238,10 +228,7 @@ fn sign_at(tokens: &[Spanned], at: usize) -> Option<Sign>
 pub(crate) fn is_sign_at(tokens: &[Spanned], at: usize, wanted: Sign) -> bool
     ensures { IsTrue result → at < length tokens.now }
 {
-    match sign_at(tokens, at) {
-        Some(found) => found == wanted,
-        None => false,
-    }
+    sign_at(tokens, at).is_some_and(|found| found == wanted)
 }
 
 /// Whether `[` and `]` stand at a place of the tokens.
@@ -249,32 +236,4 @@ pub(crate) fn is_array_mark_at(tokens: &[Spanned], at: usize) -> bool
     ensures { IsTrue result → at + 2 ≤ length tokens.now }
 {
     is_sign_at(tokens, at, Sign::OpenBracket) && is_sign_at(tokens, at + 1, Sign::CloseBracket)
-}
-
-fn sign(token: &Token) -> Option<Sign> {
-    match token {
-        Token::Sign(found) => Some(*found),
-        _ => None,
-    }
-}
-
-fn keyword(token: &Token) -> Option<Keyword>
-    ensures { result ≡ keyword_of token.now }
-{
-    match token {
-        Token::Key(found) => Some(*found),
-        _ => None,
-    }
-}
-
-fn is_assignment(sign: Sign) -> bool {
-    matches!(
-        sign,
-        Sign::Assign
-            | Sign::PlusAssign
-            | Sign::MinusAssign
-            | Sign::StarAssign
-            | Sign::SlashAssign
-            | Sign::PercentAssign
-    )
 }
