@@ -262,9 +262,9 @@ fn empty_event(alloc: Global, name: &[u8]) -> Result<Function, OutOfMemory>
 }
 
 // A function, Global and Native where it has no lines.
-fn member(result: Option<TypeName>, name: Name, parameters: Vec<Parameter>, body: Body) -> Function
+fn member(kind: Option<TypeName>, name: Name, parameters: Vec<Parameter>, body: Body) -> Function
     ensures { result ≡ record {
-      heading = record { result = result; name = name; parameters = parameters; is_event = false; is_global = is_native_body body; is_native = is_native_body body; flags = 0 };
+      heading = record { result = kind; name = name; parameters = parameters; is_event = false; is_global = is_native_body body; is_native = is_native_body body; flags = 0 };
       doc = None;
       body = body;
       line = 0;
@@ -274,7 +274,7 @@ fn member(result: Option<TypeName>, name: Name, parameters: Vec<Parameter>, body
     let is_native = is_native(&body);
     Function {
         heading: Heading {
-            result,
+            result: kind,
             name,
             parameters,
             is_event: false,
