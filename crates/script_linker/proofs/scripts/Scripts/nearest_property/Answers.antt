@@ -8,12 +8,9 @@ use Rattle.script_linker.proofs.scripts.Scripts.nearest_property.Goals as goal
 pub nearest-requires : goal.nearest-requires
 nearest-requires c =
     let now = c.args.self.now in
-    let name = c.args.name.now in (
-      c.requires,
-      ap length c.as_slice.ensures.value ∙ c.self.invariant.property_count ∙ ap length c.self.view_is,
-      λ n table lt.
-          subst (λ ts. number_in (get_or ts n table) (folded name) ≡ own_property now name n) (sym c.as_slice.ensures.value) (own_property-read c.self.invariant c.self.view_is name n table lt),
-    )
+    let name = c.args.name.now in
+    let count : length c.as_slice.result.now ≡ length now = ap length c.as_slice.ensures.value ∙ c.self.invariant.property_count ∙ ap length c.self.view_is in
+    (c.requires, (count, λ n table lt. subst (λ ts. number_in (get_or ts n table) (folded name) ≡ own_property now name n) (sym c.as_slice.ensures.value) (own_property-read c.self.invariant c.self.view_is name n table lt)))
 
 pub returns-clause-within : goal.returns-clause-within
 returns-clause-within c = Nearest-property c.args.self.now c.args.name.now c.nearest.result c.nearest.ensures
