@@ -287,12 +287,26 @@ fn judge_properties(
     for property in properties {
         let repeats = repeats_inherited(scripts, number, property);
         first.note(repeats, property.line, LinkRule::PropertyInParent);
-        if let PropertyForm::Full(functions) = &property.form {
-            let place = Place::Property(&property.kind);
-            judge_functions(alloc, scripts, number, functions.as_slice(), place, first)?;
-        }
+        judge_form(alloc, scripts, number, property, first)?;
     }
     Ok(())
+}
+
+fn judge_form(
+    alloc: Global,
+    scripts: &Scripts,
+    number: usize,
+    property: &Property,
+    first: &mut Earliest,
+) -> Result<(), OutOfMemory>
+    requires { number < length scripts.now }
+    ensures { OnOk result (FindsAmong (map function_line (accessors property.now.form)) first.old first.new) }
+{
+    let PropertyForm::Full(functions) = &property.form else {
+        return Ok(());
+    };
+    let place = Place::Property(&property.kind);
+    judge_functions(alloc, scripts, number, functions.as_slice(), place, first)
 }
 
 // N6: whether a thing on an earlier line has the name. `lines` has the least line of each name.

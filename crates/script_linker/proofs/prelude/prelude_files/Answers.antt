@@ -1,7 +1,7 @@
-use Rattle.std.proofs.Common.{◌≡◌, ◌++◌, ◌∷◌, [], length, take, sym, subst, ap, ◌∙◌, arith}
+use Rattle.std.proofs.Common.{◌≡◌, ◌++◌, ◌∷◌, [], All, length, take, sym, subst, ap, ◌∙◌, arith}
 use Rattle.std.proofs.lemmas.List.{take_all}
 use Rattle.std.proofs.lemmas.List.Elements.{All-push}
-use Rattle.script_linker.specs.Generated.{AreStandard, standard_scripts}
+use Rattle.script_linker.specs.Generated.{AreStandard, IsStandard, standard_child, standard_scripts}
 use Rattle.script_linker.specs.Lookup.{HasSmallScript}
 use Rattle.script_linker.proofs.GeneratedLemmas.{Pairwise-more, Pairwise-length, StartsWithPrelude-standard}
 use Rattle.script_linker.proofs.prelude.prelude_files.Goals as goal
