@@ -73,11 +73,11 @@ impl<'a> Cursor<'a> {
         ensures shorter { IsTrue result → length self.new.rest.now < length self.old.rest.now }
         ensures bound { length self.new.rest.now ≤ length self.old.rest.now }
     {
-        let found = is_sign_at(self.rest, 0, wanted);
-        if found {
+        if is_sign_at(self.rest, 0, wanted) {
             self.skip();
+            return true;
         }
-        found
+        false
     }
 
     /// Takes the next token where it is this keyword.
@@ -85,29 +85,35 @@ impl<'a> Cursor<'a> {
         ensures shorter { IsTrue result → length self.new.rest.now < length self.old.rest.now }
         ensures bound { length self.new.rest.now ≤ length self.old.rest.now }
     {
-        let found = self.next_keyword().is_some_and(|found| found == wanted);
-        if found {
-            self.skip();
+        match self.next_keyword() {
+            Some(found) if found == wanted => {
+                self.skip();
+                true
+            }
+            _ => false,
         }
-        found
     }
 
     /// Takes the next token, which has to be this sign.
     pub(crate) fn expect_sign(&mut self, wanted: Sign) -> Result<(), FormFault>
         ensures shorter { OnOk result (length self.new.rest.now < length self.old.rest.now) }
     {
-        self.take_sign(wanted)
-            .then_some(())
-            .ok_or(FormFault::NoForm)
+        if self.take_sign(wanted) {
+            Ok(())
+        } else {
+            Err(FormFault::NoForm)
+        }
     }
 
     /// Takes the next token, which has to be this keyword.
     pub(crate) fn expect_keyword(&mut self, wanted: Keyword) -> Result<(), FormFault>
         ensures shorter { OnOk result (length self.new.rest.now < length self.old.rest.now) }
     {
-        self.take_keyword(wanted)
-            .then_some(())
-            .ok_or(FormFault::NoForm)
+        if self.take_keyword(wanted) {
+            Ok(())
+        } else {
+            Err(FormFault::NoForm)
+        }
     }
 
     /// Takes the next token, which has to be a word.
@@ -189,9 +195,10 @@ impl<'a> Cursor<'a> {
         if self.take_sign(Sign::CloseParen) {
             return Ok(true);
         }
-        if !is_first {
-            self.expect_sign(Sign::Comma)?;
+        if is_first {
+            return Ok(false);
         }
+        self.expect_sign(Sign::Comma)?;
         Ok(false)
     }
 }
@@ -228,7 +235,10 @@ fn sign_at(tokens: &[Spanned], at: usize) -> Option<Sign>
 pub(crate) fn is_sign_at(tokens: &[Spanned], at: usize, wanted: Sign) -> bool
     ensures { IsTrue result → at < length tokens.now }
 {
-    sign_at(tokens, at).is_some_and(|found| found == wanted)
+    match sign_at(tokens, at) {
+        Some(found) => found == wanted,
+        None => false,
+    }
 }
 
 /// Whether `[` and `]` stand at a place of the tokens.

@@ -172,7 +172,10 @@ fn arguments(cursor: &mut Cursor<'_>, depth: u8) -> Result<Vec<Argument>, FormFa
 fn one_deeper(depth: u8) -> Result<u8, FormFault>
     ensures { IfOk result (λ inner. inner + 1 ≡ depth) }
 {
-    depth.checked_sub(1).ok_or(FormFault::NoForm)
+    match depth.checked_sub(1) {
+        Some(inner) => Ok(inner),
+        None => Err(FormFault::NoForm),
+    }
 }
 
 fn boxed(alloc: Global, of: Expr) -> Result<Box<Expr>, OutOfMemory> {

@@ -54,7 +54,9 @@ pub fn parse_line(alloc: Global, types: &TypeWords, line: &Line) -> Result<LineT
         Ok(LineTree { form, doc })
     } else {
         drop(form);
-        Err(LineFault::from(FormFault::NoForm))
+        Err(LineFault::Broken {
+            rule: LineRule::BadLine,
+        })
     }
 }
 

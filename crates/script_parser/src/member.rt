@@ -119,9 +119,11 @@ fn property_form(reader: &mut Reader<'_>, access: Access) -> Result<PropertyForm
 fn initial_value(at: usize, value: Option<Expr>) -> Result<Option<Constant>, BlockFault>
     ensures { (lines : List Line) → IfErr result (IsBlockFault lines) }
 {
-    match value.map(constant_of) {
-        Some(None) => Err(BlockFault::bad_block(at)),
-        Some(constant) => Ok(constant),
+    match value {
+        Some(tree) => match constant_of(tree) {
+            Some(constant) => Ok(Some(constant)),
+            None => Err(BlockFault::bad_block(at)),
+        },
         None => Ok(None),
     }
 }

@@ -86,7 +86,10 @@ impl<'a> Reader<'a> {
         ensures found { IfOk result (Found self.old self.new) }
         ensures fault { IfErr result (IsBlockFault self.old.lines.now) }
     {
-        self.next_form().ok_or(BlockFault::bad_block(self.at))
+        match self.next_form() {
+            Some(found) => Ok(found),
+            None => Err(BlockFault::bad_block(self.at)),
+        }
     }
 
     /// The documentation of the line that was read: that at its end, or else that of the next line,
