@@ -10,7 +10,7 @@ ghost use Rattle.pex_verify.specs.Types.{IsTypeAmong, IsValueTypeAmong};
 ghost use Rattle.pex_verify.specs.Soundness.{IsSoundFunction, AreSoundInstructions};
 
 use crate::fault::{Refusal, VerifyRule};
-use crate::instruction::{judge_instruction, load_instruction};
+use crate::instruction::load_instruction;
 use crate::lines::lines_of;
 use crate::loaded::{LoadedFunction, LoadedInstruction};
 use crate::named_list::NamedList;
@@ -196,7 +196,7 @@ fn judged_slot(
     Ok(found)
 }
 
-// The code of a function with its operands resolved, none where it isn't kept.
+// The code of a function with its operands resolved.
 fn load_code(
     scope: &FunctionScope<'_>,
     code: &[Instruction],
@@ -205,10 +205,6 @@ fn load_code(
     ensures sound { IfOk result (λ loaded. AreSoundInstructions (bounds_of scope.now.home.now) (vec_len scope.now.slots.now.list) (vec_len loaded) loaded.items) }
     ensures typed { IfOk result (λ loaded. AreTypedIn scope.now loaded.items) }
 {
-    if !scope.home.keeps_code {
-        judge_code(scope, code, operands)?;
-        return Ok(Vec::new(scope.home.alloc));
-    }
     let mut loaded = Vec::with_capacity(scope.home.alloc, code.len())?;
     for (place, instruction) in code.iter().enumerate() {
         match load_instruction(scope, place, code.len(), instruction, operands) {
@@ -217,17 +213,4 @@ fn load_code(
         }
     }
     Ok(loaded)
-}
-
-fn judge_code(
-    scope: &FunctionScope<'_>,
-    code: &[Instruction],
-    operands: &mut Operands,
-) -> Result<(), Refusal> {
-    for (place, instruction) in code.iter().enumerate() {
-        if let Err(refusal) = judge_instruction(scope, place, code.len(), instruction, operands) {
-            return Err(refusal.at(place.min(usize::from(u16::MAX)) as u16));
-        }
-    }
-    Ok(())
 }
