@@ -11,7 +11,7 @@ ghost use Rattle.command_files.specs.Scripts.{CountsScripts};
 ghost use Rattle.run_commands.specs.Program.{AreKept, AreSmall, AreSpelled, EndsOnProgram, EndsOnSet, EndsOnValues, EndsTogether, IsHeldProgram, IsSpelled, MissesRead, MissesValue, ReadsValue, Verifies};
 
 use command_files::{
-    Ending, FileFault, KeptPex, KeptScene, Place, Rule, load_kept_scene, read_kept_pex, read_pex,
+    Ending, FileFault, KeptScene, PexFile, Place, Rule, load_kept_scene, read_pex,
 };
 use core_tree::SceneTree;
 use papy_base::OutOfMemory;
@@ -46,7 +46,7 @@ fn read_value<D: Desk>(
     desk: &mut D,
     name: &[u8],
     keep: bool,
-) -> Result<KeptPex, FileFault>
+) -> Result<PexFile, FileFault>
     requires { D.busy desk.old ≡ Idle }
     ensures holds { D.holds desk.new ≡ D.holds desk.old }
     ensures busy { D.busy desk.new ≡ Idle }
@@ -59,10 +59,10 @@ fn read_value<D: Desk>(
     ensures spelled { IfOk result (λ file. IfSome (D.holds desk.old) (IsSpelled name.now file.value)) }
 {
     if keep {
-        return read_kept_pex(alloc, desk, name);
+        return read_pex(alloc, desk, name);
     }
     match read_pex(alloc, desk, name) {
-        Ok(file) => Ok(KeptPex {
+        Ok(file) => Ok(PexFile {
             value: file.value,
             bytes: Vec::new(alloc),
         }),
@@ -70,7 +70,7 @@ fn read_value<D: Desk>(
     }
 }
 
-fn keep_file(files: &mut ReadFiles, file: KeptPex) -> Result<(), OutOfMemory>
+fn keep_file(files: &mut ReadFiles, file: PexFile) -> Result<(), OutOfMemory>
     ensures values { IfOk result (λ _. files.new.values.items ≡ files.old.values.items ++ file.value ∷ []) }
     ensures kept { IfOk result (λ _. files.new.kept.items ≡ files.old.kept.items ++ file.bytes ∷ []) }
 {
