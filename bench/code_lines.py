@@ -109,6 +109,9 @@ def count(file):
 def main():
     wanted = sys.argv[1:]
     crates = sorted(it for it in (ROOT / "crates").iterdir() if (it / "src").is_dir() and not it.name.endswith("_tests"))
+    unknown = set(wanted) - {it.name for it in crates}
+    if unknown:
+        sys.exit(f"code_lines: no crate with code is called {', '.join(sorted(unknown))}")
     if len(wanted) == 1:
         for file in sorted((ROOT / "crates" / wanted[0] / "src").rglob("*.rt")):
             print(f"{count(file):6}  {file.name}")
