@@ -14,7 +14,7 @@ ghost use Rattle.pex_verify.specs.Types.{IsValueTypeAmong};
 ghost use Rattle.pex_verify.specs.Loading.{judged_by, AreObjects, IsLoadedSet};
 ghost use Rattle.pex_verify.specs.Whole.{IsJudged};
 
-use crate::fault::{Site, Valid, VerifyRule};
+use crate::fault::{Site, Valid, VerifyFault, VerifyRule};
 use crate::loaded::{Loaded, LoadedScript};
 use crate::members::MemberTable;
 use crate::object::{Loader, ObjectLists, load_object};
@@ -35,7 +35,7 @@ use std::alloc::Global;
 /// names, parents and numbers of all objects. Then, by file and object: the object, its variables, its
 /// properties, each before the functions that read and write it, and its states, each before its functions;
 /// and in a function the function itself, its result, its parameters, its locals and its instructions.
-pub fn verify(alloc: Global, files: Vec<Pex>) -> Valid<Loaded>
+pub fn verify(alloc: Global, files: Vec<Pex>) -> Result<Loaded, VerifyFault>
     requires few { vec_len files < 65536 }
     requires valid { All IsFile files.items }
     ensures files { IfOk result (λ loaded. loaded.files ≡ files.items) }
@@ -57,7 +57,7 @@ pub fn verify(alloc: Global, files: Vec<Pex>) -> Valid<Loaded>
 /// The outline of the set of these files, of which no code is kept. Each has the shape and the size of a file.
 ///
 /// `Broken` comes where a rule is broken, with the place and the rule that `verify` gives.
-pub fn judge(alloc: Global, files: &[Pex]) -> Valid<Outline>
+pub fn judge(alloc: Global, files: &[Pex]) -> Result<Outline, VerifyFault>
     requires few { length files.now < 65536 }
     requires valid { All IsFile files.now }
     ensures { IfOk result (λ outline. AreSoundOutlines (script_count files.now) outline.scripts.items) }
