@@ -2,8 +2,8 @@
 use Rattle.std.specs.Prelude.{◌≡◌, IsTrue, ℕ, zero, suc, ◌+◌, ℤ, pos, negsuc, Bool, true, false, List, [], ◌∷◌, ◌++◌, Option, Some, None, Result, Ok, Err, length, replicate, drop, position, slice_index_or, slice_set, nat_lt, int_lt, if◌then◌else◌}
 use Rattle.std.specs.Int.RustNames.{unsigned_abs}
 use Rattle.std.specs.Option.{option_map}
-use Rattle.instance_store.specs.declared.fault.StoreFault.{StoreFault}
-use Rattle.instance_store.specs.declared.fault.StoreFault.TheVariants.{Fault, OutOfMemory}
+use Rattle.instance_store.specs.declared.arrays.StoreFault.{StoreFault}
+use Rattle.instance_store.specs.declared.arrays.StoreFault.TheVariants.{Fault, OutOfMemory}
 use Rattle.papy_base.specs.declared.faults.StackFault.{StackFault}
 use Rattle.papy_base.specs.declared.faults.StackFault.TheVariants.{NoneArray, IndexRange}
 use Rattle.core_tree.specs.declared.core_type.CoreType.{CoreType}

@@ -1,16 +1,101 @@
 //! The arrays of a world.
 
-ghost use Rattle.std.specs.Prelude.{◌≡◌, ◌↔◌, ◌⊎◌, ◌<◌, ◌≤◌, [], ◌++◌, ◌∷◌, IfOk, IfErr, IsErrOf, IsTrue, OnErr, OnOk, not, length, vec_len};
+ghost use Rattle.std.specs.Prelude.{◌≡◌, ◌↔◌, ◌⊎◌, ◌<◌, ◌≤◌, [], ◌++◌, ◌∷◌, IfOk, IfErr, IsErrOf, IsTrue, OnErr, OnOk, not, pos, length, replicate, vec_len};
 ghost use Rattle.std.specs.Option.{ForSome};
-ghost use Rattle.instance_store.specs.Values.{is_array_type};
-ghost use Rattle.instance_store.specs.Arrays.{array_at, length_of, read, write_answer, arrays_with, found, IsRefusal, IsCreated};
+ghost use Rattle.instance_store.specs.declared.arrays.StoreFault.TheVariants.{OutOfMemory as StoreOutOfMemory};
+ghost use Rattle.instance_store.specs.Values.{is_array_type, default_value};
+ghost use Rattle.instance_store.specs.Arrays.{array_at, length_of, read, write_answer, arrays_with, found, item_of, write_answer_of, array_with, found_place, place_number, IsRefusal, IsCreated};
 
-use crate::fault::StoreFault;
-use crate::value_array::{ValueArray, defaults};
+use crate::values::{copy_of, default_value, found_place, place_in, place_number};
 use core_tree::{CoreType, Value};
 use papy_base::{OutOfMemory, StackFault};
 use std::alloc::Global;
 use std::marker::Model;
+use thiserror::Error;
+
+/// Why a call that takes memory gives no answer.
+#[derive(Clone, Copy, Debug, PartialEq, Eq, Error)]
+pub enum StoreFault {
+    /// The script has done what it can't.
+    #[error("a fault of the running script")]
+    Fault(StackFault),
+    /// No memory was found.
+    #[error("out of memory")]
+    OutOfMemory,
+}
+
+impl From<OutOfMemory> for StoreFault {
+    ghost from_gives = { λ _ fault. fault ≡ StoreOutOfMemory };
+
+    fn from(_error: OutOfMemory) -> StoreFault {
+        StoreFault::OutOfMemory
+    }
+}
+
+/// An array of at most 128 values.
+#[derive(Drop)]
+struct ValueArray {
+    kind: CoreType,
+    items: Vec<Value>,
+}
+
+impl Model for ValueArray {
+    ghost use Rattle.std.specs.Prelude.{◌≤◌, vec_len};
+    ghost use Rattle.instance_store.specs.Arrays.{ArrayState};
+
+    ghost Value = { ArrayState };
+
+    ghost view = { λ a. record { kind = a.kind; items = a.items.items } };
+
+    ghost invariant = { λ a. vec_len a.items ≤ 128 };
+}
+
+impl ValueArray {
+    /// How many elements it has, at most 128.
+    fn length(&self) -> i32
+        ensures { result ≡ pos (length self.now.items) }
+    {
+        self.items.len() as i32
+    }
+
+    /// A copy of the element at an index.
+    fn get(&self, alloc: Global, at: i32) -> Result<Value, StoreFault>
+        ensures item { IfOk result (λ value. item_of self.now at ≡ Ok value) }
+        ensures fault { IfErr result (λ fault. IsRefusal (item_of self.now at) fault) }
+    {
+        let fault = StoreFault::Fault(StackFault::IndexRange);
+        let place = place_in(self.items.len(), at).ok_or(fault)?;
+        Ok(copy_of(alloc, &self.items[place])?)
+    }
+
+    /// Writes the element at an index.
+    fn set(&mut self, at: i32, value: Value) -> Result<(), StackFault>
+        ensures answer { result ≡ write_answer_of self.old at }
+        ensures after { self.new ≡ array_with self.old at value }
+    {
+        let place = place_in(self.items.len(), at).ok_or(StackFault::IndexRange)?;
+        self.items[place] = value;
+        Ok(())
+    }
+
+    /// The place of a value, or -1.
+    fn find(&self, value: &Value, start: i32, back: bool) -> i32
+        ensures { result ≡ place_number (found_place self.now.items value.now start back) }
+    {
+        place_number(found_place(&self.items, value, start, back))
+    }
+}
+
+/// So many defaults of a type.
+fn defaults(alloc: Global, kind: CoreType, count: u8) -> Result<Vec<Value>, OutOfMemory>
+    ensures { IfOk result (λ items. items.items ≡ replicate count (default_value kind)) }
+{
+    let mut items = Vec::with_capacity(alloc, usize::from(count))?;
+    for _made in 0..count {
+        items.push(default_value(alloc, kind)?)?;
+    }
+    Ok(items)
+}
 
 /// The most arrays that a run may make.
 const ARRAY_LIMIT: usize = 4096;
@@ -58,7 +143,7 @@ impl Arrays {
         requires { array < length self.now }
         ensures { result.now ≡ (array_at self.now array).kind }
     {
-        self.arrays[usize::from(array)].kind()
+        &self.arrays[usize::from(array)].kind
     }
 
     /// Makes an array of 1 to 128 elements of a type that is no array type, and gives its number.
@@ -97,7 +182,7 @@ impl Arrays {
         ensures ok { OnOk result (self.new ≡ self.old ++ record { kind = kind; items = items.items } ∷ []) }
         ensures err { OnErr result (self.new ≡ self.old) }
     {
-        self.arrays.push(ValueArray::of(kind, items))?;
+        self.arrays.push(ValueArray { kind, items })?;
         Ok(())
     }
 
@@ -106,7 +191,7 @@ impl Arrays {
         requires { array < length self.now }
         ensures { result.now ≡ (array_at self.now array).items }
     {
-        self.arrays[usize::from(array)].items()
+        self.arrays[usize::from(array)].items.as_slice()
     }
 
     /// The number of an array's elements. `NoneArray` comes exactly where no array is given.

@@ -2,17 +2,9 @@
 #![tactic(auto)]
 
 mod arrays;
-mod fault;
-mod instance;
 mod instances;
-mod script_variables;
-mod search;
 mod start;
-mod value_array;
 mod values;
 
-pub use arrays::Arrays;
-pub use fault::StoreFault;
-pub use instance::Instance;
-pub use instances::Instances;
-pub use script_variables::ScriptVariables;
+pub use arrays::{Arrays, StoreFault};
+pub use instances::{Instance, Instances, ScriptVariables};

@@ -4,8 +4,7 @@ ghost use Rattle.std.specs.Prelude.{◌≡◌, IfOk, map, slice_get};
 ghost use Rattle.std.specs.Option.{option_copied};
 ghost use Rattle.instance_store.specs.Instances.{lineage, parent_of, auto_state_of, initial_values, initial_values_of, start_state, started};
 
-use crate::instance::{Instance, write};
-use crate::script_variables::ScriptVariables;
+use crate::instances::{Instance, ScriptVariables, write};
 use crate::values::copy_of;
 use core_tree::{BoundInstance, OutlineScript, OutlineVariable, Value};
 use papy_base::{Name, OutOfMemory, Text};

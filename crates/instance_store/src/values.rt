@@ -1,7 +1,9 @@
-//! Copies, comparison and defaults of values.
+//! Copies, comparison and defaults of values, and places in lists of them.
 
-ghost use Rattle.std.specs.Prelude.{◌≡◌, IfOk, OnErr, IsTrue};
+ghost use Rattle.std.specs.Prelude.{◌≡◌, ◌≤◌, ◌<◌, IfOk, IfSome, OnErr, IsTrue, length, position};
+ghost use Rattle.std.specs.Option.{ForSome};
 ghost use Rattle.instance_store.specs.Values.{is_text, equals, default_value};
+ghost use Rattle.instance_store.specs.Arrays.{place_in, first_equal, last_equal, first_place, end_behind, found_place, place_number};
 
 use core_tree::{CoreType, Value};
 use papy_base::{OutOfMemory, Text};
@@ -23,7 +25,7 @@ pub fn copy_of(alloc: Global, value: &Value) -> Result<Value, OutOfMemory>
 }
 
 /// What a script's `==` says of two values.
-pub fn equals(value: &Value, other: &Value) -> bool
+fn equals(value: &Value, other: &Value) -> bool
     ensures { result ≡ equals value.now other.now }
 {
     match (value, other) {
@@ -47,4 +49,79 @@ pub fn default_value(alloc: Global, kind: CoreType) -> Result<Value, OutOfMemory
         CoreType::Text => Value::Text(Text::try_from_bytes(alloc, &[])?),
         _ => Value::NoneValue,
     })
+}
+
+/// The place that an index names, if it is below the count.
+pub fn place_in(count: usize, index: i32) -> Option<usize>
+    ensures { result ≡ place_in count index }
+{
+    let place = usize::try_from(index).ok()?;
+    if place < count { Some(place) } else { None }
+}
+
+/// The place of a value: the first one not below the start, or with `back` the last one not above it.
+pub fn found_place(items: &[Value], value: &Value, start: i32, back: bool) -> Option<usize>
+    ensures place { result ≡ found_place items.now value.now start back }
+    ensures within { IfSome result (λ place. place < length items.now) }
+{
+    if back {
+        last_equal(items, value, end_behind(items.len(), start))
+    } else {
+        first_equal(items, value, first_place(start))
+    }
+}
+
+/// The first place not below the start whose item equals the value.
+fn first_equal(items: &[Value], value: &Value, start: usize) -> Option<usize>
+    ensures place { result ≡ first_equal items.now value.now start }
+    ensures within { IfSome result (λ place. place < length items.now) }
+{
+    let found = first_in(items.get(start..)?, value)?;
+    Some(start + found)
+}
+
+fn first_in(items: &[Value], value: &Value) -> Option<usize>
+    ensures place { result ≡ position (λ item. equals item value.now) items.now }
+    ensures within { IfSome result (λ place. place < length items.now) }
+{
+    items.iter().position(|item| equals(item, value))
+}
+
+/// The last place below the end whose item equals the value.
+fn last_equal(items: &[Value], value: &Value, end: usize) -> Option<usize>
+    requires { end ≤ length items.now }
+    ensures place { result ≡ last_equal items.now value.now end }
+    ensures within { IfSome result (λ place. place < length items.now) }
+{
+    let mut end = end;
+    while end > 0 {
+        end -= 1;
+        if equals(&items[end], value) {
+            return Some(end);
+        }
+    }
+    None
+}
+
+/// Where a search forward begins.
+fn first_place(start: i32) -> usize
+    ensures { result ≡ first_place start }
+{
+    start.max(0) as usize
+}
+
+/// Where a search backward begins: behind the start, or behind the last item.
+fn end_behind(count: usize, start: i32) -> usize
+    ensures end { result ≡ end_behind count (place_in count start) }
+    ensures within { result ≤ count }
+{
+    place_in(count, start).map_or(count, |place| place + 1)
+}
+
+/// A place as scripts see it.
+pub fn place_number(place: Option<usize>) -> i32
+    requires { ForSome place (λ place. place < 128) }
+    ensures { result ≡ place_number place }
+{
+    place.map_or(-1, |place| place as i32)
 }

@@ -1,7 +1,7 @@
 -- The sleeps of stacks, as a tree has them.
 use Rattle.std.specs.Prelude.{ℕ, ◌≤◌, List, [], ◌∷◌, ◌++◌, length, Option, Some, None}
-use Rattle.latent_natives.specs.declared.sleep_tree.Node.{Node}
-use Rattle.latent_natives.specs.declared.sleep_tree.Node.TheVariants.{Empty, One, Two}
+use Rattle.latent_natives.specs.declared.sleepers.Node.{Node}
+use Rattle.latent_natives.specs.declared.sleepers.Node.TheVariants.{Empty, One, Two}
 
 -- the sleeps of a node in order of stack number
 abbrev pub sleeps : Node → List (Option ℕ)

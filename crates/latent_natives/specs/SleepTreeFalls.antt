@@ -1,9 +1,9 @@
 -- Each side of a node has fewer stacks than the node.
 use Rattle.std.specs.Prelude.{◌≤◌, max, length}
 use Rattle.std.proofs.Common.{arith, length-append}
-use Rattle.latent_natives.specs.declared.sleep_tree.Node.{Node}
-use Rattle.latent_natives.specs.declared.sleep_tree.Node.TheVariants.{Empty, One, Two}
-use Rattle.latent_natives.specs.declared.sleep_tree.SleepTree.TheDeep.{deep-Node}
+use Rattle.latent_natives.specs.declared.sleepers.Node.{Node}
+use Rattle.latent_natives.specs.declared.sleepers.Node.TheVariants.{Empty, One, Two}
+use Rattle.latent_natives.specs.declared.sleepers.Sleepers.TheDeep.{deep-Node}
 use Rattle.latent_natives.specs.SleepTree.{sleeps, HasFullSides}
 
 pub depth_le-length-sleeps : (n : Node) → HasFullSides n → max (deep-Node n) 0 ≤ length (sleeps n)

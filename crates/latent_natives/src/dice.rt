@@ -1,11 +1,11 @@
 //! A device that replies with numbers in a range, chosen by its cells.
 
-ghost use Rattle.std.specs.Prelude.{◌≡◌, [], IsOkAnd};
+ghost use Rattle.std.specs.Prelude.{◌≡◌, ◌≤ℤ◌, ◌-ℤ◌, ◌+ℤ◌, pos, [], IsOkAnd};
+ghost use Rattle.std.specs.Int.RustNames.{unsigned_abs};
 ghost use Rattle.core_tree.specs.declared.DeviceKind.TheVariants as kinds;
-ghost use Rattle.core_tree.specs.Device.{DeviceState, load};
+ghost use Rattle.core_tree.specs.Device.{DeviceState, load, argument, number_in_range};
 
 use crate::device::Device;
-use crate::numbers::{argument_at, choose};
 use core_tree::DeviceKind;
 use papy_base::OutOfMemory;
 use std::alloc::Global;
@@ -70,4 +70,29 @@ impl Device for Dice {
     fn place(&self) -> u64 {
         self.place as u64
     }
+}
+
+/// The argument at a place, or 0 where it is missing.
+fn argument_at(arguments: &[i32], place: usize) -> i32
+    ensures { result ≡ argument arguments.now place }
+{
+    arguments.get(place).copied().unwrap_or(0)
+}
+
+/// How many numbers there are from `low` to `high`.
+fn range_size(low: i32, high: i32) -> u64
+    requires { low ≤ℤ high }
+    ensures size { result ≡ unsigned_abs (high -ℤ low +ℤ pos 1) }
+    ensures whole { pos result ≡ high -ℤ low +ℤ pos 1 }
+{
+    u64::from(high.abs_diff(low)) + 1
+}
+
+/// A number from `low` to `high`, chosen by a cell that is read as an unsigned number.
+fn choose(low: i32, high: i32, cell: i32) -> i32
+    requires { low ≤ℤ high }
+    ensures { result ≡ number_in_range low high cell }
+{
+    let offset = u64::from(cell.cast_unsigned()) % range_size(low, high);
+    (i64::from(low) + offset as i64) as i32
 }

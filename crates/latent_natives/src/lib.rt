@@ -2,19 +2,11 @@
 #![tactic(auto)]
 
 mod device;
-mod device_list;
+mod devices;
 mod dice;
-mod latch;
-mod numbers;
-mod sleep_tree;
 mod sleepers;
-mod sum;
-mod tape;
 
-pub use device::Device;
-pub use device_list::{call_device, load_device};
+pub use device::{Device, call_device, load_device};
+pub use devices::{Latch, Sum, Tape};
 pub use dice::Dice;
-pub use latch::Latch;
 pub use sleepers::Sleepers;
-pub use sum::Sum;
-pub use tape::Tape;

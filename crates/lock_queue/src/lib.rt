@@ -1,9 +1,7 @@
 //! The locks of instances: who holds each, and who waits for it, in order of joining.
 #![tactic(auto)]
 
-mod links;
 mod locks;
-mod order;
 mod queues;
 mod ready;
 mod seat;

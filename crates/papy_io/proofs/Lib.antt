@@ -1,4 +1,2 @@
 pub mod Progress
 pub mod Changes
-pub mod FileMap
-pub mod DeskSteps

@@ -8,19 +8,12 @@
 mod desk;
 mod fault;
 mod folder_desk;
-mod memory_desk;
-mod memory_files;
-mod memory_sink;
 mod numbers;
 mod sink;
-mod stream_sink;
 mod whole_file;
 
 pub use desk::Desk;
 pub use fault::{Failed, IoFault};
 pub use folder_desk::FolderDesk;
-pub use memory_desk::MemoryDesk;
-pub use memory_sink::MemorySink;
-pub use sink::Sink;
-pub use stream_sink::StreamSink;
+pub use sink::{MemorySink, Sink, StreamSink};
 pub use whole_file::{ReadAllFault, read_all, write_file};

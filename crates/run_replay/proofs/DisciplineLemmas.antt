@@ -5,11 +5,11 @@ use Rattle.std.proofs.lemmas.Bool.{false≢true, cond_both, and_parts, or_cases,
 use Rattle.std.proofs.lemmas.Option.{slice_get_past, slice_get_within}
 use Rattle.run_replay.specs.declared.lock_move.LockMove.{LockMove}
 use Rattle.run_replay.specs.declared.lock_move.LockMove.TheVariants as moves
-use Rattle.run_replay.specs.declared.place.Place.{Place}
-use Rattle.run_replay.specs.declared.place.Place.TheVariants as places
+use Rattle.run_replay.specs.declared.book.Place.{Place}
+use Rattle.run_replay.specs.declared.book.Place.TheVariants as places
 use Rattle.run_replay.specs.declared.book.Stage.{Stage}
 use Rattle.run_replay.specs.declared.book.Stage.TheVariants as stages
-use Rattle.run_replay.specs.declared.waiter.Waiter.{Waiter}
+use Rattle.run_replay.specs.declared.book.Waiter.{Waiter}
 use Rattle.run_replay.specs.Lines.{JournalLine, Heading, Instance, Turn, End, Moved}
 use Rattle.run_replay.specs.Book.{Standing, start, place_of, is_due, is_between, is_free, holds, waits, nobody_holds, is_first, ready_at, wakes, begins, arrives, acts, just_ran, stage_after, move_is_allowed, is_allowed, is_other, without_stack, moved, after, Leave, AreLegal}
 use Rattle.run_replay.specs.Discipline.{Stands, OneHolder, InOrder, LetsGo}

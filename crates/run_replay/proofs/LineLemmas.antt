@@ -6,12 +6,12 @@ use Rattle.std.specs.List.{prefix_len}
 use Rattle.std.proofs.lemmas.Bool.{cond-true, cond-false, le-ltb, le-leb, and_parts}
 use Rattle.std.proofs.lemmas.Fmt.{decimal_digit}
 use Rattle.std.proofs.lemmas.List.{take-append-drop}
-use Rattle.run_replay.specs.declared.line.Line.{Line}
+use Rattle.run_replay.specs.declared.reader.Line.{Line}
 use Rattle.run_replay.specs.declared.lock_move.LockMove.TheVariants as moves
-use Rattle.run_replay.specs.declared.keyword.Keyword.{Keyword}
-use Rattle.run_replay.specs.declared.keyword.Keyword.TheVariants as keyword
-use Rattle.run_replay.specs.declared.arguments.Numbers.{Numbers}
-use Rattle.run_replay.specs.declared.arguments.Numbers.TheVariants as numbers
+use Rattle.run_replay.specs.declared.reader.Keyword.{Keyword}
+use Rattle.run_replay.specs.declared.reader.Keyword.TheVariants as keyword
+use Rattle.run_replay.specs.declared.reader.Numbers.{Numbers}
+use Rattle.run_replay.specs.declared.reader.Numbers.TheVariants as numbers
 use Rattle.run_replay.specs.Lines.{JournalLine, Heading, Instance, Turn, End, Moved, line_text, LineFits, word_of, spelled, AreSmall, Ends, Lacks, is_not, is_name_byte, is_instance_name}
 use Rattle.run_replay.specs.Reading.{seen, numbered_line}
 use Rattle.run_replay.proofs.SplitLemmas.{one_split, cut_here, lacks_all, number_lacks, lacks_both}

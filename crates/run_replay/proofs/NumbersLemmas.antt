@@ -3,8 +3,8 @@ use Rattle.std.proofs.Common.{◌≡◌, ◌≢◌, ℕ, ◌<◌, ◌^◌, List,
 use Rattle.std.proofs.lemmas.Bool.{eqb-false}
 use Rattle.std.specs.Fmt.{decimal}
 use Rattle.std.proofs.lemmas.Fmt.{decimal_injective}
-use Rattle.run_replay.specs.declared.arguments.Numbers.{Numbers}
-use Rattle.run_replay.specs.declared.arguments.Numbers.TheVariants as numbers
+use Rattle.run_replay.specs.declared.reader.Numbers.{Numbers}
+use Rattle.run_replay.specs.declared.reader.Numbers.TheVariants as numbers
 use Rattle.run_replay.specs.Lines.{Ends, spelled, AreSmall}
 use Rattle.run_replay.proofs.SplitLemmas.{one_split, number_lacks}
 

@@ -6,7 +6,7 @@ use Rattle.std.proofs.lemmas.List.{get_or-set_same, get_or-set_other, get_or_pas
 use Rattle.std.proofs.lemmas.Bool.{false≢true, cond_both, cond-true, cond-false, and_parts, eqb-true, eq-eqb, ne_eqb, ltb-true, cases_eq, cases_lt}
 use Rattle.run_replay.specs.declared.lock_move.LockMove.{LockMove}
 use Rattle.run_replay.specs.declared.lock_move.LockMove.TheVariants as moves
-use Rattle.run_replay.specs.declared.waiter.Waiter.{Waiter}
+use Rattle.run_replay.specs.declared.book.Waiter.{Waiter}
 use Rattle.run_replay.specs.Lines.{JournalLine, Heading, Instance, Turn, End, Moved, LineFits}
 use Rattle.run_replay.specs.Book.{Standing, start, move_is_allowed, move_may_stand, is_first, is_other, without_stack, since_of, added, counted, moved, after, Leave}
 use Rattle.run_replay.specs.Outline.{AreLines, turns_in, names_in}

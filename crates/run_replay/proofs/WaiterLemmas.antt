@@ -2,7 +2,7 @@
 use Rattle.std.proofs.Common.{◌≡◌, ℕ, suc, ◌+◌, ◌<◌, ◌≤◌, Bool, true, false, List, [], ◌∷◌, length, refl, sym, ap, ◌∙◌, arith}
 use Rattle.std.specs.List.{prefix_len, remove}
 use Rattle.std.proofs.lemmas.Bool.{cond-true, cond-false}
-use Rattle.run_replay.specs.declared.waiter.Waiter.{Waiter}
+use Rattle.run_replay.specs.declared.book.Waiter.{Waiter}
 use Rattle.run_replay.specs.Book.{is_other, without_stack}
 
 removed_at : (stack : ℕ) (w : Waiter) (ws : List Waiter) (n : ℕ) (t : Bool) → is_other stack w ≡ t → n ≡ prefix_len (is_other stack) (w ∷ ws) → n < suc (length ws)

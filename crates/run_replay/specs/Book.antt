@@ -3,11 +3,11 @@ use Rattle.std.specs.Prelude.{ℕ, ◌≡◌, ◌≢◌, ◌+◌, ◌-◌, ◌<�
 use Rattle.std.specs.List.{list_all}
 use Rattle.run_replay.specs.declared.lock_move.LockMove.{LockMove}
 use Rattle.run_replay.specs.declared.lock_move.LockMove.TheVariants as moves
-use Rattle.run_replay.specs.declared.place.Place.{Place}
-use Rattle.run_replay.specs.declared.place.Place.TheVariants as places
+use Rattle.run_replay.specs.declared.book.Place.{Place}
+use Rattle.run_replay.specs.declared.book.Place.TheVariants as places
 use Rattle.run_replay.specs.declared.book.Stage.{Stage}
 use Rattle.run_replay.specs.declared.book.Stage.TheVariants as stages
-use Rattle.run_replay.specs.declared.waiter.Waiter.{Waiter}
+use Rattle.run_replay.specs.declared.book.Waiter.{Waiter}
 use Rattle.run_replay.specs.Lines.{JournalLine, Heading, Instance, Turn, End, Moved, LineFits, ended_line, journal_text}
 use Rattle.run_replay.specs.declared.fault.JournalRule.{JournalRule}
 use Rattle.run_replay.specs.declared.fault.JournalRule.TheVariants as rules

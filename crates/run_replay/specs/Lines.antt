@@ -6,10 +6,10 @@ use Rattle.std.specs.Fmt.{decimal}
 use Rattle.std.specs.Str.Parse.{digits_value}
 use Rattle.run_replay.specs.declared.lock_move.LockMove.{LockMove}
 use Rattle.run_replay.specs.declared.lock_move.LockMove.TheVariants as moves
-use Rattle.run_replay.specs.declared.keyword.Keyword.{Keyword}
-use Rattle.run_replay.specs.declared.keyword.Keyword.TheVariants as keyword
-use Rattle.run_replay.specs.declared.arguments.Numbers.{Numbers}
-use Rattle.run_replay.specs.declared.arguments.Numbers.TheVariants as numbers
+use Rattle.run_replay.specs.declared.reader.Keyword.{Keyword}
+use Rattle.run_replay.specs.declared.reader.Keyword.TheVariants as keyword
+use Rattle.run_replay.specs.declared.reader.Numbers.{Numbers}
+use Rattle.run_replay.specs.declared.reader.Numbers.TheVariants as numbers
 
 pub data JournalLine : Type 0 where
   Heading : JournalLine

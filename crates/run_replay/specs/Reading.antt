@@ -1,12 +1,12 @@
 -- How the lines that were read are seen.
 use Rattle.std.specs.Prelude.{ℕ, ◌==◌, Option, Some, None, nat_le, nat_lt, if◌then◌else◌}
-use Rattle.run_replay.specs.declared.line.Line.{Line}
-use Rattle.run_replay.specs.declared.line.Line.TheVariants as lines
+use Rattle.run_replay.specs.declared.reader.Line.{Line}
+use Rattle.run_replay.specs.declared.reader.Line.TheVariants as lines
 use Rattle.run_replay.specs.declared.lock_move.LockMove.TheVariants as moves
-use Rattle.run_replay.specs.declared.keyword.Keyword.{Keyword}
-use Rattle.run_replay.specs.declared.keyword.Keyword.TheVariants as keyword
-use Rattle.run_replay.specs.declared.arguments.Numbers.{Numbers}
-use Rattle.run_replay.specs.declared.arguments.Numbers.TheVariants as numbers
+use Rattle.run_replay.specs.declared.reader.Keyword.{Keyword}
+use Rattle.run_replay.specs.declared.reader.Keyword.TheVariants as keyword
+use Rattle.run_replay.specs.declared.reader.Numbers.{Numbers}
+use Rattle.run_replay.specs.declared.reader.Numbers.TheVariants as numbers
 use Rattle.run_replay.specs.Lines.{JournalLine, Heading, Instance, Turn, End, Moved}
 
 -- a line that was read, wherever its name lies

@@ -1,13 +1,12 @@
 //! What the lines of a journal leave, and which may follow them.
 
-ghost use Rattle.std.specs.Prelude.{◌≡◌, OnOk, true, slice_set};
+ghost use Rattle.std.specs.Prelude.{◌≡◌, ◌≤◌, OnOk, true, length, slice_set};
+ghost use Rattle.std.specs.List.{prefix_len};
 ghost use Rattle.run_replay.specs.Lines.{LineFits};
-ghost use Rattle.run_replay.specs.Book.{Standing, start, place_of, nobody_due, nobody_holds, is_ready, before_run, after_run, between_turns, in_turn, just_ran, acts, begins, wakes, arrives, is_settled, stage_after, may_stand, move_may_stand, is_allowed, move_is_allowed, joined, settled_at, moved, after};
+ghost use Rattle.run_replay.specs.Book.{Standing, start, place_of, is_due, is_between, is_free, holds, waits, is_first, is_other, since_of, without_stack, nobody_due, nobody_holds, is_ready, before_run, after_run, between_turns, in_turn, just_ran, acts, begins, wakes, arrives, is_settled, stage_after, may_stand, move_may_stand, is_allowed, move_is_allowed, joined, settled_at, moved, after};
 
-use crate::line::Line;
 use crate::lock_move::LockMove;
-use crate::place::{Place, holds, is_between, is_due, is_free, is_waiting, waits};
-use crate::waiter::{Waiter, is_first, remove_stack, since_of};
+use crate::reader::Line;
 use crate::waits::{Waits, add_to};
 use papy_base::{OutOfMemory, Text};
 use std::alloc::Global;
@@ -15,6 +14,109 @@ use std::marker::Model;
 
 /// The most instances of a journal.
 const INSTANCE_LIMIT: usize = 256;
+
+/// Where a stack is that has begun.
+#[derive(Clone, Copy)]
+pub(crate) enum Place {
+    /// It runs without an instance.
+    Free,
+    /// It waits for this instance.
+    Waits(u16),
+    /// It holds this instance.
+    Holds(u16),
+    /// It sleeps until this turn.
+    Asleep(u32),
+    Done,
+    /// It let go of its place in this turn, and has no other yet.
+    Between,
+}
+
+/// Whether the stack sleeps and its turn has come, where this many turns have begun.
+fn is_due(place: Option<Place>, turns: u32) -> bool
+    ensures { result ≡ is_due turns place }
+{
+    matches!(place, Some(Place::Asleep(until)) if until < turns)
+}
+
+fn is_between(place: Option<Place>) -> bool
+    ensures { result ≡ is_between place }
+{
+    matches!(place, Some(Place::Between))
+}
+
+fn is_free(place: Option<Place>) -> bool
+    ensures { result ≡ is_free place }
+{
+    matches!(place, Some(Place::Free))
+}
+
+fn holds(place: Option<Place>, instance: u16) -> bool
+    ensures { result ≡ holds instance place }
+{
+    matches!(place, Some(Place::Holds(held)) if held == instance)
+}
+
+fn waits(place: Option<Place>, instance: u16) -> bool
+    ensures { result ≡ waits instance place }
+{
+    matches!(place, Some(Place::Waits(awaited)) if awaited == instance)
+}
+
+/// A stack that waits for an instance.
+#[derive(Clone, Copy)]
+pub(crate) struct Waiter {
+    stack: u16,
+    instance: u16,
+    /// The turn in which it joined.
+    since: u32,
+}
+
+/// Whether this stack is the first of those that wait for the instance.
+fn is_first(instance: u16, stack: u16, waiters: &[Waiter]) -> bool
+    ensures { result ≡ is_first instance stack waiters.now }
+{
+    for waiter in waiters {
+        if waiter.instance == instance {
+            return waiter.stack == stack;
+        }
+    }
+    false
+}
+
+/// The turn in which a stack joined that waits.
+fn since_of(stack: u16, waiters: &[Waiter]) -> u32
+    ensures { result ≡ since_of stack waiters.now }
+{
+    for waiter in waiters {
+        if waiter.stack == stack {
+            return waiter.since;
+        }
+    }
+    0
+}
+
+// The place of a stack among the waiters, or their number where it is none of them.
+fn place_among(stack: u16, waiters: &[Waiter]) -> usize
+    ensures place { result ≡ prefix_len (is_other stack) waiters.now }
+    ensures within { result ≤ length waiters.now }
+{
+    for (at, waiter) in waiters.iter().enumerate() {
+        if waiter.stack == stack {
+            return at;
+        }
+    }
+    waiters.len()
+}
+
+/// Takes a stack out of the waiters.
+fn remove_stack(stack: u16, waiters: &mut Vec<Waiter>)
+    ensures { waiters.new.items ≡ without_stack stack waiters.old.items }
+{
+    let at = place_among(stack, waiters.as_slice());
+    if at < waiters.len() {
+        waiters.remove(at);
+    }
+}
 
 /// How far a journal is.
 #[derive(Clone, Copy)]
@@ -206,7 +308,7 @@ impl Book {
         ensures { result ≡ is_settled self.now self.now.stage }
     {
         match self.stage {
-            Stage::Ran(stack) => !is_waiting(self.place_of(stack)),
+            Stage::Ran(stack) => !matches!(self.place_of(stack), Some(Place::Waits(_))),
             Stage::Left(stack) => !is_between(self.place_of(stack)),
             _ => true,
         }

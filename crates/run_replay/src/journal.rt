@@ -1,19 +1,19 @@
 //! Journals, checked.
 
 ghost use Rattle.std.specs.Prelude.{◌≡◌, ◌+◌, ◌<◌, ◌≤◌, ◌++◌, ◌∷◌, ◌^◌, ℕ, length, map, slice_index, List, MatchOption, OnOk, IfOk, IfErr};
-ghost use Rattle.run_replay.specs.Book.{Standing, start, IsLegal};
+ghost use Rattle.run_replay.specs.Book.{Standing, start, FirstBreak, IsLegal};
 ghost use Rattle.run_replay.specs.Journal.{StepAnswer, ReadAnswer, JournalFaultIs, IsRefused};
 ghost use Rattle.run_replay.specs.Discipline.{OneHolder, InOrder, LetsGo};
 ghost use Rattle.run_replay.specs.Lines.{JournalLine, Lacks};
 ghost use Rattle.run_replay.specs.Outline.{AreLines, turns_in, names_in};
 ghost use Rattle.run_replay.specs.Waiting.{waited};
 ghost use Rattle.run_replay.specs.declared.fault.JournalFault.TheVariants as faults;
+ghost use Rattle.run_replay.specs.declared.fault.JournalRule.{JournalRule};
 ghost use Rattle.run_replay.specs.declared.fault.JournalRule.TheVariants as rules;
 
 use crate::book::Book;
 use crate::fault::{JournalFault, JournalRule};
-use crate::number::len_before;
-use crate::reader::line_of;
+use crate::reader::{len_before, line_of};
 use crate::waits::Waits;
 use std::alloc::Global;
 
@@ -131,3 +131,8 @@ pub fn check_journal(alloc: Global, bytes: &[u8]) -> Result<Waits, JournalFault>
         Err(fault) => Err(fault),
     }
 }
+
+/// A journal that isn't legal has one first line that breaks a rule, and that line breaks one rule first.
+pub fn one_break()
+    ensures { (bytes : List ℕ) (m n : ℕ) (q r : JournalRule) → FirstBreak bytes m q → FirstBreak bytes n r → (m ≡ n) × (q ≡ r) }
+{}

@@ -1,16 +1,15 @@
 //! Lines, read.
 
-ghost use Rattle.std.specs.Prelude.{◌≡◌, ◌≢◌, ℕ, List, ◌++◌, ◌∷◌, true, IfSome, MatchOption, option_map};
-ghost use Rattle.std.specs.List.{list_all};
-ghost use Rattle.run_replay.specs.declared.arguments.Numbers.TheVariants as numbers;
-ghost use Rattle.run_replay.specs.Lines.{JournalLine, line_text, LineFits, is_instance_name, is_name_byte, word_of, spelled};
+ghost use Rattle.std.specs.Prelude.{◌≡◌, ◌≢◌, ◌<◌, ◌≤◌, ◌^◌, ℕ, List, ◌++◌, ◌∷◌, true, length, IfSome, MatchOption, option_map};
+ghost use Rattle.std.specs.Fmt.{decimal};
+ghost use Rattle.std.specs.List.{list_all, prefix_len};
+ghost use Rattle.run_replay.specs.declared.reader.Keyword.{Keyword};
+ghost use Rattle.run_replay.specs.declared.reader.Numbers.{Numbers};
+ghost use Rattle.run_replay.specs.declared.reader.Numbers.TheVariants as numbers;
+ghost use Rattle.run_replay.specs.Lines.{JournalLine, line_text, LineFits, is_instance_name, is_name_byte, word_of, spelled, AreSmall, Ends, has_leading_zero, decimal_number, is_not};
 ghost use Rattle.run_replay.specs.Reading.{seen, line_with_one, line_with_two, numbered_line};
 
-use crate::arguments::{Numbers, numbers_of};
-use crate::keyword::{Keyword, keyword_of};
-use crate::line::Line;
 use crate::lock_move::LockMove;
-use crate::number::{behind_blank, len_before};
 
 /// The most bytes of an instance's name.
 const NAME_LIMIT: usize = 64;
@@ -23,6 +22,158 @@ const LAST_STACK: u32 = 1023;
 
 /// The greatest number of an instance.
 const LAST_INSTANCE: u32 = 255;
+
+/// A line of a journal, whose form is good.
+#[derive(Clone, Copy)]
+pub(crate) enum Line<'a> {
+    /// The first line.
+    Heading,
+    /// An instance, by its name.
+    Instance(&'a [u8]),
+    /// A turn begins.
+    Turn(u32),
+    /// The journal ends, after this many turns.
+    End(u32),
+    /// A stack moves.
+    Move(LockMove),
+}
+
+/// The first word of a line.
+#[derive(Clone, Copy, PartialEq, Eq)]
+pub(crate) enum Keyword {
+    Journal,
+    Instance,
+    Turn,
+    End,
+    Join,
+    Take,
+    Release,
+    Free,
+    Leave,
+    Sleep,
+    Done,
+    Run,
+    Idle,
+}
+
+/// The keyword that a word spells.
+fn keyword_of(word: &[u8]) -> Option<Keyword>
+    ensures { MatchOption result ((k : Keyword) → word.now ≢ word_of k) (λ k. word.now ≡ word_of k) }
+{
+    match word {
+        b"join" => Some(Keyword::Join),
+        b"take" => Some(Keyword::Take),
+        b"release" => Some(Keyword::Release),
+        b"run" => Some(Keyword::Run),
+        b"turn" => Some(Keyword::Turn),
+        b"sleep" => Some(Keyword::Sleep),
+        b"free" => Some(Keyword::Free),
+        b"leave" => Some(Keyword::Leave),
+        b"done" => Some(Keyword::Done),
+        b"idle" => Some(Keyword::Idle),
+        b"end" => Some(Keyword::End),
+        b"instance" => Some(Keyword::Instance),
+        b"journal" => Some(Keyword::Journal),
+        _ => None,
+    }
+}
+
+/// The numbers of a line, of which there are at most two.
+#[derive(Clone, Copy)]
+pub(crate) enum Numbers {
+    Nothing,
+    One(u32),
+    Two(u32, u32),
+}
+
+/// How many bytes stand before the first such byte.
+pub(crate) fn len_before(sign: u8, bytes: &[u8]) -> usize
+    ensures run { result ≡ prefix_len (is_not sign) bytes.now }
+    ensures within { result ≤ length bytes.now }
+{
+    for (at, byte) in bytes.iter().enumerate() {
+        if *byte == sign {
+            return at;
+        }
+    }
+    bytes.len()
+}
+
+// The number of the digits. None where a byte is no digit, or where the number has more than 32 bits.
+fn value_of(digits: &[u8]) -> Option<u32>
+    ensures { result ≡ decimal_number digits.now }
+{
+    let mut number: u32 = 0;
+    for digit in digits {
+        if !digit.is_ascii_digit() {
+            return None;
+        }
+        number = number
+            .checked_mul(10)?
+            .checked_add(u32::from(*digit - b'0'))?;
+    }
+    Some(number)
+}
+
+// Whether a zero stands before another digit.
+fn has_leading_zero(digits: &[u8]) -> bool
+    ensures { result ≡ has_leading_zero digits.now }
+{
+    digits.len() > 1 && digits.first() == Some(&b'0')
+}
+
+// The number that a word writes, with no zero before another digit.
+fn magnitude(digits: &[u8]) -> Option<u32>
+    ensures { MatchOption result ((n : ℕ) → n < 2 ^ 32 → digits.now ≢ decimal n) (λ n. (digits.now ≡ decimal n) × (n < 2 ^ 32)) }
+{
+    if digits.is_empty() {
+        return None;
+    }
+    if has_leading_zero(digits) {
+        return None;
+    }
+    value_of(digits)
+}
+
+/// What stands behind a blank.
+fn behind_blank(bytes: &[u8]) -> Option<&[u8]>
+    ensures { MatchOption result ((field : List ℕ) → bytes.now ≢ 32 ∷ field) (λ field. bytes.now ≡ 32 ∷ field.now) }
+{
+    match bytes {
+        [b' ', field @ ..] => Some(field),
+        _ => None,
+    }
+}
+
+/// A blank and a number, with what stands behind them.
+fn number_at(bytes: &[u8]) -> Option<(u32, &[u8])>
+    ensures { MatchOption result
+        ((n : ℕ) (after : List ℕ) → n < 2 ^ 32 → Ends 32 after → bytes.now ≢ 32 ∷ decimal n ++ after)
+        (λ found. (bytes.now ≡ 32 ∷ decimal found.0 ++ found.1.now) × (found.0 < 2 ^ 32) × Ends 32 found.1.now) }
+{
+    let field = behind_blank(bytes)?;
+    let (digits, after) = field.split_at(len_before(b' ', field));
+    let number = magnitude(digits)?;
+    Some((number, after))
+}
+
+/// The numbers that the bytes are, each behind a blank.
+fn numbers_of(bytes: &[u8]) -> Option<Numbers>
+    ensures { MatchOption result ((ns : Numbers) → AreSmall ns → bytes.now ≢ spelled ns) (λ ns. (bytes.now ≡ spelled ns) × AreSmall ns) }
+{
+    if bytes.is_empty() {
+        return Some(Numbers::Nothing);
+    }
+    let (first, behind) = number_at(bytes)?;
+    if behind.is_empty() {
+        return Some(Numbers::One(first));
+    }
+    let (second, rest) = number_at(behind)?;
+    if rest.is_empty() {
+        return Some(Numbers::Two(first, second));
+    }
+    None
+}
 
 fn is_name_byte(byte: u8) -> bool
     ensures { result ≡ is_name_byte byte }

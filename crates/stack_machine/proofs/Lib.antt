@@ -1,5 +1,4 @@
 pub mod AsMany
-pub mod Ascent
 pub mod Begun
 pub mod Noting
 pub mod Planning

@@ -1,6 +1,5 @@
 -- What a store has at a place, where the place may be missing.
-use Rattle.std.specs.Prelude.{ℕ, List, Option, Some, None, Result, Ok, Err, length, nat_lt, if◌then◌else◌}
-use Rattle.papy_base.specs.declared.faults.StackFault.{StackFault}
+use Rattle.std.specs.Prelude.{ℕ, List, Option, Some, None, length, nat_lt, if◌then◌else◌}
 use Rattle.core_tree.specs.declared.core_type.CoreType.{CoreType}
 use Rattle.core_tree.specs.declared.value.Value.{Value}
 use Rattle.core_tree.specs.declared.value.Value.TheVariants as values
@@ -20,8 +19,3 @@ array_in arrays (values.Bool truth) = None
 array_in arrays (values.Text text) = None
 array_in arrays (values.Instance instance) = None
 array_in arrays (values.Array number) = if nat_lt number (length arrays) then Some number else None
-
--- what was read, and None in place of a fault
-abbrev pub value_or_none : Result Value StackFault → Value
-value_or_none (Ok value) = value
-value_or_none (Err fault) = values.NoneValue

@@ -1,16 +1,60 @@
-//! Casts.
+//! What values count as, and what they are cast to.
 
 ghost use Rattle.std.specs.Prelude.{◌≡◌, ◌++◌, slice_get, IfOk, OnOk};
+ghost use Rattle.instance_store.specs.Values.{equals};
 ghost use Rattle.stack_machine.specs.Casts.{named, plain_text, text_of_bound, IsTextOf};
+ghost use Rattle.stack_machine.specs.Values.{is_true, number_in};
 
-use crate::coercions::{counts_as_true, number_of};
 use crate::operands::Executor;
 use crate::setting::Setting;
 use crate::store::Store;
 use core_tree::{CoreType, Value};
+use instance_store::Arrays;
 use papy_base::{OutOfMemory, Text, read_int, write_int};
 use pex_verify::LoadedInstruction;
 use std::alloc::Global;
+
+/// The number of an Int, 1 of True, and 0 of all else.
+pub fn number_of(value: &Value) -> i32
+    ensures { result ≡ number_in value.now }
+{
+    match value {
+        Value::Int(number) => *number,
+        Value::Bool(true) => 1,
+        _ => 0,
+    }
+}
+
+/// Whether a value counts as true: it is no 0, False, empty text or None.
+pub fn counts_as_true(value: &Value) -> bool
+    ensures { result ≡ is_true value.now }
+{
+    match value {
+        Value::NoneValue => false,
+        Value::Int(number) => *number != 0,
+        Value::Bool(truth) => *truth,
+        Value::Text(text) => !text.as_bytes().is_empty(),
+        Value::Instance(_) | Value::Array(_) => true,
+    }
+}
+
+/// Whether two values are equal: texts with the case of A to Z ignored, instances and arrays where they are
+/// the same one.
+pub fn are_equal(value: &Value, other: &Value) -> bool
+    ensures { result ≡ equals value.now other.now }
+{
+    match (value, other) {
+        (Value::NoneValue, Value::NoneValue) => true,
+        (Value::Int(left), Value::Int(right)) => left == right,
+        (Value::Bool(left), Value::Bool(right)) => left == right,
+        (Value::Text(left), Value::Text(right)) => {
+            left.as_bytes().eq_ignore_ascii_case(right.as_bytes())
+        },
+        (Value::Instance(left), Value::Instance(right)) => left == right,
+        (Value::Array(left), Value::Array(right)) => left == right,
+        _ => false,
+    }
+}
 
 impl Executor<'_> {
     /// cast: a result and a value.
@@ -27,20 +71,13 @@ impl Executor<'_> {
         match kind {
             CoreType::Bool => Ok(Value::Bool(counts_as_true(&value))),
             CoreType::Int => Ok(Value::Int(cast_to_number(&value))),
-            CoreType::Text => self.cast_to_text(value),
-            CoreType::Script(script) => Ok(self.cast_to_script(script, value)),
-            _ => Ok(value),
-        }
-    }
-
-    fn cast_to_text(&self, value: Value) -> Result<Value, OutOfMemory> {
-        match value {
-            Value::Text(text) => Ok(Value::Text(text)),
-            other => {
-                let text = text_of(self.turn.alloc, self.turn.setting, self.store, &other);
-                drop(other);
+            CoreType::Text => {
+                let text = text_of(self.turn.alloc, self.turn.setting, self.store, &value);
+                drop(value);
                 Ok(Value::Text(text?))
             }
+            CoreType::Script(script) => Ok(self.cast_to_script(script, value)),
+            _ => Ok(value),
         }
     }
 
@@ -76,7 +113,7 @@ pub fn text_of(
 {
     let mut bytes = Vec::new(alloc);
     if let Value::Array(array) = value {
-        append_array(&mut bytes, setting, store, *array)?;
+        append_array(&mut bytes, setting, &store.arrays, *array)?;
         return Text::try_from_bytes(alloc, bytes.as_slice());
     }
     append_plain(&mut bytes, setting, value)?;
@@ -113,12 +150,8 @@ fn append_instance(bytes: &mut Vec<u8>, setting: &Setting, instance: u16) -> Res
     let Some(bound) = setting.scene.instances.get(usize::from(instance)) else {
         return Ok(());
     };
-    let Some(script) = setting
-        .loaded
-        .outline()
-        .scripts
-        .get(usize::from(bound.script))
-    else {
+    let scripts = &setting.loaded.outline().scripts;
+    let Some(script) = scripts.get(usize::from(bound.script)) else {
         return Ok(());
     };
     append_named(bytes, script.name.as_bytes(), bound.name.as_bytes())
@@ -139,16 +172,17 @@ fn append_named(bytes: &mut Vec<u8>, script: &[u8], name: &[u8]) -> Result<(), O
 fn append_array(
     bytes: &mut Vec<u8>,
     setting: &Setting,
-    store: &Store,
+    arrays: &Arrays,
     array: u16,
 ) -> Result<(), OutOfMemory> {
-    let count = store.length_of(array);
     bytes.push(b'[')?;
-    for at in 0..count {
-        if at > 0 {
-            bytes.extend_from_slice(b", ")?;
+    if array < arrays.count() {
+        for (at, item) in arrays.items_of(array).iter().enumerate() {
+            if at > 0 {
+                bytes.extend_from_slice(b", ")?;
+            }
+            append_plain(bytes, setting, item)?;
         }
-        append_plain(bytes, setting, &store.element(array, at)?)?;
     }
     bytes.push(b']')?;
     Ok(())

@@ -1,6 +1,6 @@
 //! Which values fit which types in a state that is judged.
 
-use crate::array_instructions::element_type;
+use crate::instructions::element_type;
 use crate::sound::Judged;
 use core_tree::{CoreType, Value};
 use papy_base::TEXT_LIMIT;
@@ -44,10 +44,9 @@ impl Judged<'_> {
 
     /// Whether an instance is of this script or one below it.
     pub fn is_of(&self, instance: u16, script: u16) -> bool {
-        match self.setting.script_of(instance) {
-            Some(own) => self.is_child(own, script),
-            None => false,
-        }
+        self.setting
+            .script_of(instance)
+            .is_some_and(|own| self.is_child(own, script))
     }
 
     // Whether the second script is the first one or stands above it.
@@ -57,13 +56,8 @@ impl Judged<'_> {
     }
 
     fn is_array_of(&self, array: u16, kind: CoreType) -> bool {
-        match (
-            self.state.arrays.get(usize::from(array)),
-            element_type(Some(kind)),
-        ) {
-            (Some(found), Some(element)) => found.0 == element,
-            _ => false,
-        }
+        let found = self.state.arrays.get(usize::from(array));
+        found.is_some_and(|held| element_type(Some(kind)) == Some(held.0))
     }
 }
 

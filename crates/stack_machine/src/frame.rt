@@ -3,7 +3,11 @@
 ghost use Rattle.std.specs.Prelude.{◌≤◌};
 
 use core_tree::Value;
+use machine_state::Way;
 use pex_verify::{MethodPlace, PropertyPlace};
+
+/// The most frames of one stack.
+pub const FRAME_LIMIT: usize = 128;
 
 /// How a call names its function. Names stand as their numbers.
 #[derive(Clone, Copy, PartialEq, Eq)]
@@ -28,6 +32,9 @@ pub struct Call {
     pub way: CallWay,
     /// By parameter.
     pub arguments: Vec<Value>,
+    /// How the call names its function where a restored machine began with it. One that a machine made itself is
+    /// spelled in the code or in the scene.
+    pub kept: Option<Way>,
 }
 
 /// Which body runs.
@@ -91,4 +98,11 @@ impl Frame {
             Frame::Running(running) => running.instance,
         }
     }
+}
+
+/// The frames of one stack.
+#[derive(Drop)]
+pub struct Stack {
+    /// Innermost last.
+    pub frames: Vec<Frame>,
 }

@@ -1,53 +1,32 @@
 //! The machine that runs loaded Papyrus scripts in turns: one stack runs at a time, from one act to the next.
 #![tactic(auto)]
 
-mod arithmetic;
-mod array_instructions;
 mod ascending;
-mod begin;
-mod call_instructions;
 mod casts;
-mod coercions;
 mod fits;
 mod frame;
-mod instruction;
+mod instructions;
 mod lines;
-mod lookup;
 mod machine;
-mod named;
+mod moves;
 mod natives;
-mod notes;
 mod operands;
-mod place;
 mod plan;
 mod restore;
 mod restore_fault;
-mod revived_store;
-mod revived_threads;
 mod run;
 mod savable;
 mod setting;
 mod snapshot;
 mod sound;
-mod sound_bodies;
-mod sound_calls;
-mod sound_locks;
-mod sound_numbers;
+mod sound_frames;
 mod sound_stacks;
-mod sound_values;
-mod stack;
 mod status;
 mod store;
 mod threads;
-mod told_frames;
-mod told_store;
-mod told_threads;
-mod transfers;
 mod world;
 
 pub use lines::append_escaped;
 pub use machine::Machine;
-pub use machine_state::{BodyPlace, FrameState, MachineState, Way};
 pub use restore_fault::RestoreFault;
-pub use run_replay::LockMove;
 pub use status::{Status, TurnEnd, TurnFault};

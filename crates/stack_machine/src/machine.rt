@@ -10,7 +10,7 @@ ghost use Rattle.stack_machine.specs.Plans.{ArePlanned, HasBegun, calls_before};
 ghost use Rattle.stack_machine.specs.Written.{WritesLines};
 
 use crate::casts::text_of;
-use crate::notes::{NoNotes, Notes};
+use crate::moves::{NoNotes, Notes};
 use crate::plan::Plan;
 use crate::setting::Setting;
 use crate::status::{Status, TurnEnd, TurnFault};
@@ -18,7 +18,6 @@ use crate::store::Store;
 use crate::threads::Threads;
 use crate::world::World;
 use core_tree::{Outline, Scene, TurnOrder, Value};
-use instance_store::Arrays;
 use latent_natives::{Device, load_device};
 use papy_base::{OutOfMemory, Text};
 use papy_io::Sink;
@@ -77,9 +76,9 @@ impl Machine {
             setting: Setting {
                 loaded,
                 scene,
-                plan: first.plan,
+                plan: first.0,
             },
-            world: first.world,
+            world: first.1,
             turns: 0,
             fault: None,
         })
@@ -281,19 +280,6 @@ impl Machine {
         &self.setting.plan.no_state
     }
 
-    /// The value of an instance's Auto property of this number, where those of the root script come first, each
-    /// script's in order of declaration.
-    ///
-    /// # Errors
-    ///
-    /// `OutOfMemory` comes only of a text.
-    pub fn property_at(&self, instance: u16, property: u32) -> Result<Value, OutOfMemory> {
-        match self.setting.property_place(instance, property) {
-            Some((script, variable)) => self.world.store.variable(instance, script, variable),
-            None => Ok(Value::NoneValue),
-        }
-    }
-
     /// The value of an instance's variable of this number, among the variables of this script. None where the
     /// instance has no such variable.
     ///
@@ -320,37 +306,26 @@ impl Machine {
     {
         text_of(self.world.alloc, &self.setting, &self.world.store, value)
     }
-
-    /// The arrays that scripts have made.
-    pub fn arrays(&self) -> &Arrays {
-        &self.world.store.arrays
-    }
 }
 
 // What a machine has before its first turn, beside the scripts and the scene.
-#[derive(Drop)]
-struct FirstState {
-    plan: Plan,
-    world: World,
-}
-
 fn initial(
     alloc: Global,
     loaded: &Loaded,
     scene: &Scene,
     devices: &mut Vec<Box<dyn Device>>,
-) -> Result<FirstState, OutOfMemory>
+) -> Result<(Plan, World), OutOfMemory>
     requires instances { vec_len scene.now.instances < 65536 }
     requires calls { vec_len scene.now.calls < 65536 }
-    ensures fresh { IfOk result (λ first. (first.world.threads.started ≡ 0) × (first.world.threads.done ≡ 0)) }
-    ensures room { IfOk result (λ first. first.world.threads.room ≡ vec_len scene.now.calls) }
-    ensures planned { IfOk result (λ first. ArePlanned first.plan.calls.items scene.now.calls.items) }
+    ensures fresh { IfOk result (λ first. (first.1.threads.started ≡ 0) × (first.1.threads.done ≡ 0)) }
+    ensures room { IfOk result (λ first. first.1.threads.room ≡ vec_len scene.now.calls) }
+    ensures planned { IfOk result (λ first. ArePlanned first.0.calls.items scene.now.calls.items) }
     ensures kinds { SameKinds (map (λ d. device_state d) devices.old.items) (map (λ d. device_state d) devices.new.items) }
 {
     load_devices(&scene.tapes, devices)?;
     let plan = Plan::of(alloc, loaded, scene)?;
     let world = initial_world(alloc, loaded, scene)?;
-    Ok(FirstState { plan, world })
+    Ok((plan, world))
 }
 
 fn initial_world(alloc: Global, loaded: &Loaded, scene: &Scene) -> Result<World, OutOfMemory>
@@ -367,7 +342,6 @@ fn initial_world(alloc: Global, loaded: &Loaded, scene: &Scene) -> Result<World,
         store,
         threads,
         last: None,
-        kept: Vec::new(alloc),
     })
 }
 

@@ -12,7 +12,7 @@ ghost use Rattle.stack_machine.specs.Settings.{method_at};
 ghost use Rattle.stack_machine.specs.Values.{number_in};
 ghost use Rattle.stack_machine.specs.Written.{WritesLines};
 
-use crate::coercions::number_of;
+use crate::casts::number_of;
 use crate::lines::trace_line;
 use crate::operands::Turn;
 use crate::setting::Setting;

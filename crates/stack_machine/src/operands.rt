@@ -2,12 +2,12 @@
 
 ghost use Rattle.std.specs.Prelude.{◌≡◌, IfOk, OnOk, map, slice_index_or, slice_set};
 ghost use Rattle.core_tree.specs.declared.value.Value.TheVariants as values;
-ghost use Rattle.stack_machine.specs.Operands.{own_instance, state_in, state_with, type_at, variable_in, variable_with, worth, worth_at, Stores, StoresAt};
+ghost use Rattle.stack_machine.specs.Operands.{state_in, state_with, type_at, variable_in, variable_with, worth, worth_at, Stores, StoresAt};
 ghost use Rattle.stack_machine.specs.Instructions.{number_at};
 ghost use Rattle.stack_machine.specs.Stores.{default_in};
 ghost use Rattle.stack_machine.specs.Values.{is_true};
 
-use crate::coercions::{counts_as_true, number_of};
+use crate::casts::{counts_as_true, number_of};
 use crate::setting::Setting;
 use crate::store::{Store, default_of};
 use core_tree::{CoreType, Value};
@@ -77,9 +77,18 @@ impl Executor<'_> {
             Operand::Quoted(text) => Ok(Value::Text(text.try_clone(self.turn.alloc)?)),
             Operand::Int(number) => Ok(Value::Int(*number)),
             Operand::Bool(truth) => Ok(Value::Bool(*truth)),
-            Operand::Slot(number) => self.read_slot(usize::from(*number)),
-            Operand::Variable(number) => self.read_variable(*number),
-            Operand::Instance => Ok(self.own_instance()),
+            Operand::Slot(number) => match self.slots.get(usize::from(*number)) {
+                Some(value) => value.try_clone(self.turn.alloc),
+                None => Ok(Value::NoneValue),
+            },
+            Operand::Variable(number) => match self.instance {
+                Some(instance) => self.store.variable(instance, self.script, *number),
+                None => Ok(Value::NoneValue),
+            },
+            Operand::Instance => match self.instance {
+                Some(instance) => Ok(Value::Instance(instance)),
+                None => Ok(Value::NoneValue),
+            },
             Operand::State => self.read_state(),
         }
     }
@@ -110,34 +119,6 @@ impl Executor<'_> {
             },
             Some(operand) => Ok(counts_as_true(&self.read(operand)?)),
             None => Ok(false),
-        }
-    }
-
-    #[inline(always)]
-    fn read_slot(&self, number: usize) -> Result<Value, OutOfMemory>
-        ensures { IfOk result (λ value. value ≡ slice_index_or self.now.slots.now.items number values.NoneValue) }
-    {
-        match self.slots.get(number) {
-            Some(value) => value.try_clone(self.turn.alloc),
-            None => Ok(Value::NoneValue),
-        }
-    }
-
-    fn read_variable(&self, number: u16) -> Result<Value, OutOfMemory>
-        ensures { IfOk result (λ value. value ≡ variable_in self.now.store.now.instances self.now.instance self.now.script number) }
-    {
-        match self.instance {
-            Some(instance) => self.store.variable(instance, self.script, number),
-            None => Ok(Value::NoneValue),
-        }
-    }
-
-    fn own_instance(&self) -> Value
-        ensures { result ≡ own_instance self.now.instance }
-    {
-        match self.instance {
-            Some(instance) => Value::Instance(instance),
-            None => Value::NoneValue,
         }
     }
 
@@ -175,8 +156,7 @@ impl Executor<'_> {
         let Some(operand) = instruction.fixed.get(place) else {
             return Ok(());
         };
-        let setting = self.turn.setting;
-        match setting.type_of(self.script, self.function, operand) {
+        match self.type_of(instruction, place) {
             Some(_) => self.keep(operand, value),
             None => Ok(()),
         }
@@ -188,11 +168,16 @@ impl Executor<'_> {
     {
         match operand {
             Operand::Slot(number) => {
-                self.write_slot(usize::from(*number), value);
+                if let Some(slot) = self.slots.get_mut(usize::from(*number)) {
+                    *slot = value;
+                }
                 Ok(())
             }
             Operand::Variable(number) => {
-                self.write_variable(*number, value);
+                if let Some(instance) = self.instance {
+                    self.store
+                        .set_variable(instance, self.script, *number, value);
+                }
                 Ok(())
             }
             Operand::State => self.write_state(value),
@@ -210,28 +195,6 @@ impl Executor<'_> {
     {
         let value = default_of(self.turn.alloc, self.type_of(instruction, place))?;
         self.write(instruction, place, value)
-    }
-
-    #[inline(always)]
-    fn write_slot(&mut self, number: usize, value: Value)
-        ensures slots { self.new.slots.now.items ≡ slice_set self.old.slots.now.items number value }
-        ensures instances { self.new.store.now.instances ≡ self.old.store.now.instances }
-        ensures arrays { self.new.store.now.arrays ≡ self.old.store.now.arrays }
-    {
-        if let Some(slot) = self.slots.get_mut(number) {
-            *slot = value;
-        }
-    }
-
-    fn write_variable(&mut self, number: u16, value: Value)
-        ensures slots { self.new.slots.now.items ≡ self.old.slots.now.items }
-        ensures instances { self.new.store.now.instances ≡ variable_with self.old.store.now.instances self.old.instance self.old.script number value }
-        ensures arrays { self.new.store.now.arrays ≡ self.old.store.now.arrays }
-    {
-        if let Some(instance) = self.instance {
-            self.store
-                .set_variable(instance, self.script, number, value);
-        }
     }
 
     fn write_state(&mut self, value: Value) -> Result<(), OutOfMemory>

@@ -98,14 +98,10 @@ fn no_bindings(alloc: Global, outline: &Outline) -> Result<Vec<Vec<Option<Bindin
 
 fn bind_natives(natives: &mut Vec<Vec<Option<Binding>>>, bound: &[BoundNative]) {
     for native in bound {
-        bind_native(natives, native);
-    }
-}
-
-fn bind_native(natives: &mut Vec<Vec<Option<Binding>>>, native: &BoundNative) {
-    if let Some(functions) = natives.get_mut(usize::from(native.script)) {
-        if let Some(binding) = functions.get_mut(usize::from(native.function)) {
-            *binding = Some(native.binding);
+        if let Some(functions) = natives.get_mut(usize::from(native.script)) {
+            if let Some(binding) = functions.get_mut(usize::from(native.function)) {
+                *binding = Some(native.binding);
+            }
         }
     }
 }

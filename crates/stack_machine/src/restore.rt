@@ -1,24 +1,34 @@
-//! A machine that goes on from a state of a run.
+//! A machine that goes on from a state of a run, which was found sound.
 
-ghost use Rattle.std.specs.Prelude.{◌≡◌, ◌≤◌, ◌<◌, None, IfErr, IfOk, map, vec_len};
+ghost use Rattle.std.specs.Prelude.{◌≡◌, ◌+◌, ◌≤◌, ◌<◌, None, IfErr, IfOk, OnOk, length, map, vec_len};
 ghost use Rattle.latent_natives.specs.Devices.{SameKinds};
 ghost use Rattle.stack_machine.specs.Plans.{ArePlanned, HasBegun};
 ghost use Rattle.stack_machine.specs.Restoring.{LeavesDevices};
+ghost use Rattle.stack_machine.specs.Threads.{IsSameSize};
 
+use crate::frame::{Call, Frame, Running};
 use crate::machine::Machine;
 use crate::plan::Plan;
 use crate::restore_fault::RestoreFault;
-use crate::revived_store::revived_store;
-use crate::revived_threads::{kept_ways, revived_threads};
 use crate::setting::Setting;
+use crate::snapshot::copy_of;
 use crate::sound::is_sound;
+use crate::store::Store;
+use crate::threads::Threads;
 use crate::world::World;
-use core_tree::{DeviceKind, Scene};
+use core_tree::{CoreType, DeviceKind, Outline, Scene, Value};
+use instance_store::{Arrays, Instance, Instances, ScriptVariables};
 use latent_natives::{Device, load_device};
-use machine_state::MachineState;
-use papy_base::OutOfMemory;
+use machine_state::{FrameState, MachineState};
+use papy_base::{OutOfMemory, Text};
 use pex_verify::Loaded;
 use std::alloc::Global;
+use std::mem;
+
+/// The most arrays, and the most elements of one.
+pub const ARRAY_LIMIT: u16 = 4096;
+
+pub const ELEMENT_LIMIT: usize = 128;
 
 impl Machine {
     /// The machine that goes on from a state of a run of a scene, which is bound to the loaded outline and to the state's
@@ -95,26 +105,17 @@ fn revive(
         return Err(RestoreFault::OtherDevices);
     }
     let world = revived_world(alloc, setting, state)?;
-    match load_devices(&state.devices, devices) {
-        Ok(()) => Ok(world),
-        Err(_) => {
-            drop(world);
-            Err(RestoreFault::OutOfMemory)
-        }
-    }
+    load_devices(&state.devices, devices)?;
+    Ok(world)
 }
 
 // Whether there are as many devices, of the same kinds in the same order.
 fn are_of_kinds(told: &[(DeviceKind, Vec<i32>, u64)], devices: &Vec<Box<dyn Device>>) -> bool {
-    if told.len() != devices.len() {
-        return false;
-    }
-    for (device, told) in devices.iter().zip(told) {
-        if device.kind() != told.0 {
-            return false;
-        }
-    }
-    true
+    told.len() == devices.len()
+        && devices
+            .iter()
+            .zip(told)
+            .all(|(device, told)| device.kind() == told.0)
 }
 
 fn revived_world(
@@ -128,7 +129,6 @@ fn revived_world(
     ensures room { IfOk result (λ world. world.threads.room ≡ vec_len setting.now.scene.calls) }
     ensures started { IfOk result (λ world. world.threads.started ≡ vec_len state.old.stacks) }
 {
-    let kept = kept_ways(alloc, &state.stacks)?;
     let store = revived_store(alloc, setting, state)?;
     let threads = revived_threads(alloc, setting, state)?;
     Ok(World {
@@ -136,7 +136,6 @@ fn revived_world(
         store,
         threads,
         last: state.last,
-        kept,
     })
 }
 
@@ -153,4 +152,215 @@ fn load_devices(
         }
     }
     Ok(())
+}
+
+// ---- instances and arrays
+
+// The values of the state, which are taken out of it.
+fn revived_store(
+    alloc: Global,
+    setting: &Setting,
+    state: &mut MachineState,
+) -> Result<Store, OutOfMemory>
+    requires { vec_len setting.now.scene.instances < 65536 }
+    ensures stacks { state.new.stacks ≡ state.old.stacks }
+{
+    let arrays = revived_arrays(alloc, &mut state.arrays)?;
+    let instances = revived_instances(alloc, setting, &mut state.instances)?;
+    let count = instances.len();
+    Store::of(
+        alloc,
+        &setting.loaded,
+        Instances::of(instances),
+        arrays,
+        count,
+    )
+}
+
+fn revived_arrays(
+    alloc: Global,
+    told: &mut Vec<(CoreType, Vec<Value>)>,
+) -> Result<Arrays, OutOfMemory> {
+    let mut arrays = Arrays::new(alloc);
+    for array in told.iter_mut() {
+        let items = mem::replace(&mut array.1, Vec::new(alloc));
+        if arrays.count() < ARRAY_LIMIT && items.len() <= ELEMENT_LIMIT {
+            arrays.add(array.0, items)?;
+        }
+    }
+    Ok(arrays)
+}
+
+fn revived_instances(
+    alloc: Global,
+    setting: &Setting,
+    told: &mut Vec<(Text, Vec<Value>)>,
+) -> Result<Vec<Instance>, OutOfMemory>
+    requires { vec_len setting.now.scene.instances < 65536 }
+    ensures { IfOk result (λ instances. vec_len instances < 65536) }
+{
+    let bound = &setting.scene.instances;
+    let mut instances = Vec::with_capacity(alloc, bound.len())?;
+    for (place, instance) in bound.iter().enumerate() {
+        if let Some(entry) = told.get_mut(place) {
+            let state = entry.0.try_clone(alloc)?;
+            let outline = setting.loaded.outline();
+            let scripts = revived_scripts(alloc, outline, instance.script, &mut entry.1)?;
+            instances.push(Instance::new(state, scripts))?;
+        }
+    }
+    Ok(instances)
+}
+
+// The values of a script and of those above it, whose own values stand last.
+fn revived_scripts(
+    alloc: Global,
+    outline: &Outline,
+    script: u16,
+    values: &mut Vec<Value>,
+) -> Result<Vec<ScriptVariables>, OutOfMemory> {
+    let mut scripts = Vec::new(alloc);
+    let mut next = Some(script);
+    for _ in 0..outline.scripts.len() {
+        let Some(number) = next else {
+            break;
+        };
+        let Some(found) = outline.scripts.get(usize::from(number)) else {
+            break;
+        };
+        let above = values.len().saturating_sub(found.variables.len());
+        scripts.push(ScriptVariables::new(number, values.split_off(above)?))?;
+        next = found.parent;
+    }
+    Ok(scripts)
+}
+
+// ---- stacks, each in its place
+
+// The stacks of the state, whose values are taken out of it.
+fn revived_threads(
+    alloc: Global,
+    setting: &Setting,
+    state: &mut MachineState,
+) -> Result<Threads, OutOfMemory>
+    requires instances { vec_len setting.now.scene.instances < 65536 }
+    requires calls { vec_len setting.now.scene.calls < 65536 }
+    requires stacks { vec_len state.old.stacks ≤ vec_len setting.now.scene.calls }
+    ensures room { IfOk result (λ threads. threads.room ≡ vec_len setting.now.scene.calls) }
+    ensures started { IfOk result (λ threads. threads.started ≡ vec_len state.old.stacks) }
+{
+    let scene = &setting.scene;
+    let (instances, room) = (scene.instances.len() as u16, scene.calls.len() as u16);
+    let mut threads = Threads::with_room(alloc, instances, room)?;
+    revive_stacks(alloc, setting, &mut state.stacks, &mut threads)?;
+    take_all(&mut threads, &state.owners);
+    wait_all(&mut threads, &state.waiters);
+    free_all(&mut threads, &state.free);
+    sleep_all(&mut threads, &state.asleep);
+    Ok(threads)
+}
+
+// Adds each stack with its frames.
+fn revive_stacks(
+    alloc: Global,
+    setting: &Setting,
+    stacks: &mut [Vec<FrameState>],
+    threads: &mut Threads,
+) -> Result<(), OutOfMemory>
+    requires room { threads.old.started + length stacks.old ≤ threads.old.room }
+    ensures room { threads.new.room ≡ threads.old.room }
+    ensures started { OnOk result (threads.new.started ≡ threads.old.started + length stacks.old) }
+{
+    for place in 0..stacks.len() {
+        let frames = revived_frames(alloc, setting, &mut stacks[place])?;
+        threads.add(frames)?;
+    }
+    Ok(())
+}
+
+fn revived_frames(
+    alloc: Global,
+    setting: &Setting,
+    told: &mut Vec<FrameState>,
+) -> Result<Vec<Frame>, OutOfMemory> {
+    let mut frames = Vec::with_capacity(alloc, told.len())?;
+    for frame in told.iter_mut() {
+        frames.push(revived_frame(alloc, setting, frame)?)?;
+    }
+    Ok(frames)
+}
+
+fn revived_frame(
+    alloc: Global,
+    setting: &Setting,
+    told: &mut FrameState,
+) -> Result<Frame, OutOfMemory> {
+    match told {
+        FrameState::ToEnter {
+            instance,
+            way,
+            arguments,
+        } => {
+            let found = setting.way_named(alloc, way)?.ok_or(OutOfMemory)?;
+            let kept = Some(copy_of(alloc, way)?);
+            Ok(Frame::Pending(Call {
+                instance: *instance,
+                way: found,
+                arguments: mem::replace(arguments, Vec::new(alloc)),
+                kept,
+            }))
+        }
+        FrameState::Running {
+            instance,
+            at,
+            instruction,
+            slots,
+            reply,
+        } => {
+            let body = setting.body_named(alloc, at)?.ok_or(OutOfMemory)?;
+            Ok(Frame::Running(Running {
+                instance: *instance,
+                body,
+                place: usize::from(*instruction),
+                slots: mem::replace(slots, Vec::new(alloc)),
+                reply: reply.take(),
+            }))
+        }
+    }
+}
+
+// Lets stacks hold instances for which nobody waits yet.
+fn take_all(threads: &mut Threads, owners: &[(u16, u16)])
+    ensures { IsSameSize threads.old threads.new }
+{
+    for owner in owners {
+        threads.go_to_wait(owner.1);
+        threads.take(owner.1);
+    }
+}
+
+// Lets stacks wait for the instances of their frames, one behind another.
+fn wait_all(threads: &mut Threads, waiters: &[(u16, u16)])
+    ensures { IsSameSize threads.old threads.new }
+{
+    for waiter in waiters {
+        threads.go_to_wait(waiter.1);
+    }
+}
+
+// Lets stacks run free, whose frames have no instance.
+fn free_all(threads: &mut Threads, free: &[u16])
+    ensures { IsSameSize threads.old threads.new }
+{
+    for stack in free {
+        threads.go_to_wait(*stack);
+    }
+}
+
+fn sleep_all(threads: &mut Threads, asleep: &[(u16, u32)])
+    ensures { IsSameSize threads.old threads.new }
+{
+    for sleeper in asleep {
+        threads.sleep(sleeper.0, sleeper.1);
+    }
 }

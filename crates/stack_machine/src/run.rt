@@ -6,11 +6,12 @@ ghost use Rattle.latent_natives.specs.Devices.{SameKinds};
 ghost use Rattle.stack_machine.specs.Machine.{CountsTurn};
 ghost use Rattle.stack_machine.specs.Written.{WritesLines};
 
-use crate::frame::{Call, Running};
-use crate::instruction::{Event, Step};
+use crate::frame::{Call, Frame, FunctionPlace, Running, Stack};
+use crate::instructions::{Event, Step};
 use crate::lines::fault_line;
 use crate::natives::{Performed, perform};
 use crate::operands::{Executor, Turn};
+use crate::setting::Found;
 use crate::status::TurnFault;
 use crate::store::{Store, default_of};
 use core_tree::Value;
@@ -18,8 +19,9 @@ use latent_natives::Device;
 use papy_base::{OutOfMemory, StackFault};
 use papy_io::Sink;
 use pex_verify::{LoadedInstruction, MethodPlace};
+use std::mem;
 
-/// What ended a run of a body.
+/// What ended a run of a stack.
 #[derive(Drop)]
 pub enum Ending {
     /// A loop pass.
@@ -28,8 +30,8 @@ pub enum Ending {
     Called(Call),
     /// A global native that isn't prompt was performed.
     Performed { reply: Value, latency: u32 },
-    /// The body returned.
-    Returned(Value),
+    /// The frame gave its reply: its body returned, or what it called is a native method or an Auto property.
+    Returned(Performed),
 }
 
 // Where a row of instructions halts, and what the last of them did: it faulted, leads to a place that doesn't lie ahead, or calls
@@ -40,9 +42,107 @@ struct Row {
     halt: Step,
 }
 
-/// Runs a frame's body up to the act that ends the turn: the reply that it awaited is stored, and it goes on
-/// behind its act. A frame without a body passes.
-pub fn run_frame<S: Sink>(
+/// Runs a stack's innermost frame up to the act that ends the turn. A call that is pending is entered first. Where there is no
+/// frame, the stack passes.
+pub fn run_innermost<S: Sink>(
+    turn: &Turn<'_>,
+    store: &mut Store,
+    stack: &mut Stack,
+    has_room: bool,
+    sink: &mut S,
+    devices: &mut Vec<Box<dyn Device>>,
+) -> Result<Ending, TurnFault>
+    ensures appended { WritesLines result (S.written sink.old) (S.written sink.new) }
+    ensures count { CountsTurn result (S.faults sink.old) (S.faults sink.new) }
+    ensures kinds { SameKinds (map (λ d. device_state d) devices.old.items) (map (λ d. device_state d) devices.new.items) }
+{
+    let Some(frame) = stack.frames.last_mut() else {
+        return Ok(Ending::Pass);
+    };
+    if let Some(ending) = enter(turn, store, frame, sink, devices)? {
+        return Ok(ending);
+    }
+    match frame {
+        Frame::Running(running) => run_frame(turn, store, running, has_room, sink, devices),
+        Frame::Pending(_) => Ok(Ending::Pass),
+    }
+}
+
+// Enters a frame's call where it is pending: a body takes the call's place, and anything else ends the frame.
+fn enter<S: Sink>(
+    turn: &Turn<'_>,
+    store: &mut Store,
+    frame: &mut Frame,
+    sink: &mut S,
+    devices: &mut Vec<Box<dyn Device>>,
+) -> Result<Option<Ending>, TurnFault>
+    ensures appended { WritesLines result (S.written sink.old) (S.written sink.new) }
+    ensures count { CountsTurn result (S.faults sink.old) (S.faults sink.new) }
+    ensures kinds { SameKinds (map (λ d. device_state d) devices.old.items) (map (λ d. device_state d) devices.new.items) }
+{
+    let Frame::Pending(call) = frame else {
+        return Ok(None);
+    };
+    let state = store.state_number(call.instance);
+    match turn.setting.look_up(state, call.instance, call.way) {
+        Some(Found::Body(body)) => {
+            let running = open(turn, call, body)?;
+            *frame = Frame::Running(running);
+            Ok(None)
+        }
+        Some(Found::Native(native)) => {
+            let performed = perform(turn, native, &call.arguments, sink, devices)?;
+            Ok(Some(Ending::Returned(performed)))
+        }
+        Some(Found::Variable(property, variable)) => {
+            let reply = set_or_get(store, call, property.script, variable)?;
+            Ok(Some(returning(reply)))
+        }
+        None => Ok(Some(returning(Value::NoneValue))),
+    }
+}
+
+// The frame of a body: its parameters are the call's arguments, which are taken, and its locals have their defaults.
+fn open(turn: &Turn<'_>, call: &mut Call, body: FunctionPlace) -> Result<Running, OutOfMemory> {
+    let mut slots = mem::replace(&mut call.arguments, Vec::new(turn.alloc));
+    if let Some(function) = turn.setting.function(body) {
+        for (_, kind) in &function.locals {
+            slots.push(default_of(turn.alloc, *kind)?)?;
+        }
+    }
+    Ok(Running {
+        instance: call.instance,
+        body,
+        place: 0,
+        slots,
+        reply: None,
+    })
+}
+
+// An Auto property: its variable is written, or read where the call has no argument.
+fn set_or_get(
+    store: &mut Store,
+    call: &mut Call,
+    script: u16,
+    variable: u16,
+) -> Result<Value, OutOfMemory> {
+    let Some(instance) = call.instance else {
+        return Ok(Value::NoneValue);
+    };
+    let Some(value) = call.arguments.pop() else {
+        return store.variable(instance, script, variable);
+    };
+    store.set_variable(instance, script, variable, value);
+    Ok(Value::NoneValue)
+}
+
+fn returning(reply: Value) -> Ending {
+    Ending::Returned(Performed { reply, rest: None })
+}
+
+// Runs a frame's body up to the act that ends the turn: the reply that it awaited is stored, and it goes on
+// behind its act. A frame without a body passes.
+fn run_frame<S: Sink>(
     turn: &Turn<'_>,
     store: &mut Store,
     running: &mut Running,
@@ -57,7 +157,7 @@ pub fn run_frame<S: Sink>(
     let Some(function) = turn.setting.function(running.body) else {
         return Ok(Ending::Pass);
     };
-    let (place, reply) = (running.place, running.reply.take());
+    let reply = running.reply.take();
     let mut executor = Executor {
         turn,
         function,
@@ -66,25 +166,17 @@ pub fn run_frame<S: Sink>(
         script: running.body.script(),
         slots: &mut running.slots,
         has_room,
-        place,
+        place: running.place,
     };
-    take_reply(&mut executor, reply)?;
+    if let Some(reply) = reply {
+        if let Some(call) = function.code.get(executor.place) {
+            executor.give(call, reply)?;
+        }
+        executor.place = executor.place.saturating_add(1);
+    }
     let ending = run_body(&mut executor, sink, devices)?;
     running.place = executor.place;
     Ok(ending)
-}
-
-// Stores the reply that was awaited, and goes on behind the act that awaited it.
-fn take_reply(executor: &mut Executor<'_>, awaited: Option<Value>) -> Result<(), OutOfMemory> {
-    let Some(reply) = awaited else {
-        return Ok(());
-    };
-    let function = executor.function;
-    if let Some(call) = function.code.get(executor.place) {
-        executor.give(call, reply)?;
-    }
-    executor.place = executor.place.saturating_add(1);
-    Ok(())
 }
 
 // Runs a body up to the act that ends its turn, which a loop pass does only as the last that the turn may have.
@@ -158,7 +250,7 @@ fn run_row(
 // A body that ends without a return gives the default of its type.
 fn returned(executor: &Executor<'_>) -> Result<Ending, OutOfMemory> {
     let value = default_of(executor.turn.alloc, executor.function.result)?;
-    Ok(Ending::Returned(value))
+    Ok(returning(value))
 }
 
 // Does what follows a row of instructions, none where the next instruction does. A jump that doesn't lead ahead
@@ -202,16 +294,9 @@ fn leave<S: Sink>(
     match executor.leave(instruction)? {
         Event::Refused(fault) => refuse(executor, sink, fault),
         Event::Called(call) => Ok(Some(Ending::Called(call))),
-        Event::Returned(value) => Ok(Some(Ending::Returned(value))),
+        Event::Returned(value) => Ok(Some(returning(value))),
         Event::Native { at, arguments } => {
-            let ending = run_native(
-                executor,
-                instruction,
-                at,
-                arguments.as_slice(),
-                sink,
-                devices,
-            );
+            let ending = run_native(executor, instruction, at, &arguments, sink, devices);
             drop(arguments);
             ending
         }

@@ -1,16 +1,20 @@
 //! Whether a held file has the fields for a state: lists and texts are no longer than their counts can say, and what has to
 //! ascend does.
 
-ghost use Rattle.std.specs.Prelude.{◌≡◌, true, map, IfSome};
+ghost use Rattle.std.specs.Prelude.{◌≡◌, true, List, map, refl, IfSome};
+ghost use Rattle.std.proofs.lemmas.List.{map-id};
+ghost use Rattle.std.proofs.Common.{sym};
 ghost use Rattle.std.specs.List.Sorted.{IsStrictlyIncreasing};
 ghost use Rattle.std.specs.List.{AllByRecursion};
-ghost use Rattle.machine_state.specs.Plain.{plain, plain_array, plain_device, plain_frame, plain_instance, plain_stack};
-ghost use Rattle.machine_state.specs.Savable.{AreSavableValues, FitsTwoBytes, IsElementType, IsNumbered, IsSavable, IsSavableArray, IsSavableDevice, IsSavableFrame, IsSavableInstance, IsSavablePlace, IsSavableStack, IsSavableValue, firsts, name_of};
+ghost use Rattle.core_tree.specs.Device.{DeviceState};
+ghost use Rattle.core_tree.specs.declared.value.Value.{Value};
+ghost use Rattle.machine_state.specs.Plain.{PlainArray, PlainFrame, PlainInstance, plain, plain_array, plain_device, plain_frame, plain_instance, plain_stack};
+ghost use Rattle.machine_state.specs.Savable.{FitsTwoBytes, IsElementType, IsNumbered, IsSavable, IsSavableArray, IsSavableDevice, IsSavableFrame, IsSavableInstance, IsSavablePlace, IsSavableStack, IsSavableValue, firsts};
 
 use crate::ascending::{pairs_ascend, sleepers_ascend, stacks_ascend};
-use crate::named::name_of;
+use crate::setting::name_of;
 use core_tree::{CoreType, DeviceKind, Value};
-use machine_state::{BodyPlace, FrameState, MachineState, Way};
+use machine_state::{BodyPlace, FrameState, MachineState};
 use papy_base::Text;
 
 /// So many fit a count of one, two or four bytes.
@@ -20,19 +24,57 @@ const TWO_BYTES: usize = 65_536;
 
 const FOUR_BYTES: usize = 4_294_967_296;
 
+/// What stands in lists of a state.
+trait Savable {
+    /// The same with lists in place of vectors.
+    ghost Plain: { Type 0 };
+
+    ghost plain: { Self → Plain };
+
+    ghost plain_each: { List Self → List Plain };
+
+    /// Whether it fits its fields.
+    ghost savable: { Plain → Type 0 };
+
+    /// Whether a held file has the fields for it.
+    fn is_savable(&self) -> bool
+        ensures { result ≡ true → savable (plain self.now) };
+
+    ghost each: { (items : List Self) → plain_each items ≡ map plain items };
+}
+
+fn are_savable<T: Savable>(items: &[T]) -> bool
+    ensures { result ≡ true → AllByRecursion T.savable (T.plain_each items.now) }
+{
+    for item in items {
+        if !item.is_savable() {
+            return false;
+        }
+    }
+    true
+}
+
+// Those of a list whose count has two bytes.
+fn is_savable_list<T: Savable>(items: &[T]) -> bool
+    ensures count { result ≡ true → FitsTwoBytes items.now }
+    ensures each { result ≡ true → AllByRecursion T.savable (T.plain_each items.now) }
+{
+    items.len() < TWO_BYTES && are_savable(items)
+}
+
 /// Whether a held file has the fields for the state. Each state of a run is such a one.
 pub fn is_savable(state: &MachineState) -> bool
     ensures { result ≡ true → IsSavable (plain state.now) }
 {
     is_numbered(state.last)
-        && are_savable_instances(&state.instances)
-        && are_savable_lists(state)
-        && are_savable_arrays(&state.arrays)
-        && are_savable_devices(&state.devices)
-        && are_savable_stacks(&state.stacks)
+        && is_savable_list(&state.instances)
+        && are_savable_locks(state)
+        && is_savable_list(&state.arrays)
+        && is_savable_list(&state.devices)
+        && is_savable_list(&state.stacks)
 }
 
-fn are_savable_lists(state: &MachineState) -> bool
+fn are_savable_locks(state: &MachineState) -> bool
     ensures owners { result ≡ true → FitsTwoBytes state.now.owners.items }
     ensures owners_ascend { result ≡ true → IsStrictlyIncreasing (firsts state.now.owners.items) }
     ensures waiters { result ≡ true → FitsTwoBytes state.now.waiters.items }
@@ -54,68 +96,60 @@ fn are_savable_lists(state: &MachineState) -> bool
 fn is_numbered(number: Option<u16>) -> bool
     ensures { result ≡ true → IsNumbered number }
 {
-    match number {
-        Some(number) => number < u16::MAX,
-        None => true,
-    }
+    number.is_none_or(|number| number < u16::MAX)
 }
 
-fn are_savable_instances(instances: &[(Text, Vec<Value>)]) -> bool
-    ensures count { result ≡ true → FitsTwoBytes (map plain_instance instances.now) }
-    ensures each { result ≡ true → AllByRecursion IsSavableInstance (map plain_instance instances.now) }
-{
-    for instance in instances {
-        if !is_savable_instance(instance) {
-            return false;
+impl Savable for Value {
+    ghost Plain = { Value };
+
+    ghost plain = { λ value. value };
+
+    ghost plain_each = { λ items. items };
+
+    ghost savable = { IsSavableValue };
+
+    ghost each = { λ items. sym (map-id items) };
+
+    fn is_savable(&self) -> bool {
+        match self {
+            Value::Text(text) => text.as_bytes().len() < TWO_BYTES,
+            _ => true,
         }
     }
-    instances.len() < TWO_BYTES
 }
 
-fn is_savable_instance(instance: &(Text, Vec<Value>)) -> bool
-    ensures { result ≡ true → IsSavableInstance (plain_instance instance.now) }
-{
-    instance.0.as_bytes().len() < TWO_BYTES
-        && instance.1.len() < FOUR_BYTES
-        && are_savable_values(&instance.1)
-}
+/// An instance: the text of its state, and the values of its variables.
+impl Savable for (Text, Vec<Value>) {
+    ghost Plain = { PlainInstance };
 
-fn are_savable_values(values: &[Value]) -> bool
-    ensures { result ≡ true → AreSavableValues values.now }
-{
-    for value in values {
-        if !is_savable_value(value) {
-            return false;
-        }
-    }
-    true
-}
+    ghost plain = { plain_instance };
 
-fn is_savable_value(value: &Value) -> bool
-    ensures { result ≡ true → IsSavableValue value.now }
-{
-    match value {
-        Value::Text(text) => text.as_bytes().len() < TWO_BYTES,
-        _ => true,
+    ghost plain_each = { map plain_instance };
+
+    ghost savable = { IsSavableInstance };
+
+    ghost each = { λ items. refl };
+
+    fn is_savable(&self) -> bool {
+        self.0.as_bytes().len() < TWO_BYTES && self.1.len() < FOUR_BYTES && are_savable(&self.1)
     }
 }
 
-fn are_savable_arrays(arrays: &[(CoreType, Vec<Value>)]) -> bool
-    ensures count { result ≡ true → FitsTwoBytes (map plain_array arrays.now) }
-    ensures each { result ≡ true → AllByRecursion IsSavableArray (map plain_array arrays.now) }
-{
-    for array in arrays {
-        if !is_savable_array(array) {
-            return false;
-        }
-    }
-    arrays.len() < TWO_BYTES
-}
+/// An array: the type of its elements, and the elements.
+impl Savable for (CoreType, Vec<Value>) {
+    ghost Plain = { PlainArray };
 
-fn is_savable_array(array: &(CoreType, Vec<Value>)) -> bool
-    ensures { result ≡ true → IsSavableArray (plain_array array.now) }
-{
-    is_element_type(array.0) && array.1.len() < BYTE && are_savable_values(&array.1)
+    ghost plain = { plain_array };
+
+    ghost plain_each = { map plain_array };
+
+    ghost savable = { IsSavableArray };
+
+    ghost each = { λ items. refl };
+
+    fn is_savable(&self) -> bool {
+        is_element_type(self.0) && self.1.len() < BYTE && are_savable(&self.1)
+    }
 }
 
 /// Whether a type is none of arrays.
@@ -129,75 +163,76 @@ pub fn is_element_type(kind: CoreType) -> bool
     }
 }
 
-fn are_savable_devices(devices: &[(DeviceKind, Vec<i32>, u64)]) -> bool
-    ensures count { result ≡ true → FitsTwoBytes (map plain_device devices.now) }
-    ensures each { result ≡ true → AllByRecursion IsSavableDevice (map plain_device devices.now) }
-{
-    for device in devices {
-        if device.1.len() >= FOUR_BYTES {
-            return false;
-        }
-    }
-    devices.len() < TWO_BYTES
-}
+/// A device: its kind, its cells and its place.
+impl Savable for (DeviceKind, Vec<i32>, u64) {
+    ghost Plain = { DeviceState };
 
-fn are_savable_stacks(stacks: &[Vec<FrameState>]) -> bool
-    ensures count { result ≡ true → FitsTwoBytes (map plain_stack stacks.now) }
-    ensures each { result ≡ true → AllByRecursion IsSavableStack (map plain_stack stacks.now) }
-{
-    for frames in stacks {
-        if !are_savable_frames(frames) {
-            return false;
-        }
-    }
-    stacks.len() < TWO_BYTES
-}
+    ghost plain = { plain_device };
 
-fn are_savable_frames(frames: &Vec<FrameState>) -> bool
-    ensures { result ≡ true → IsSavableStack (plain_stack frames.now) }
-{
-    for frame in frames {
-        if !is_savable_frame(frame) {
-            return false;
-        }
-    }
-    frames.len() < TWO_BYTES
-}
+    ghost plain_each = { map plain_device };
 
-fn is_savable_frame(frame: &FrameState) -> bool
-    ensures { result ≡ true → IsSavableFrame (plain_frame frame.now) }
-{
-    match frame {
-        FrameState::ToEnter {
-            instance,
-            way,
-            arguments,
-        } => {
-            is_numbered(*instance)
-                && has_savable_name(way)
-                && arguments.len() < TWO_BYTES
-                && are_savable_values(arguments)
-        }
-        FrameState::Running {
-            instance,
-            at,
-            slots,
-            reply,
-            ..
-        } => {
-            is_numbered(*instance)
-                && is_savable_place(at)
-                && slots.len() < TWO_BYTES
-                && are_savable_values(slots)
-                && is_savable_reply(reply)
-        }
+    ghost savable = { IsSavableDevice };
+
+    ghost each = { λ items. refl };
+
+    fn is_savable(&self) -> bool {
+        self.1.len() < FOUR_BYTES
     }
 }
 
-fn has_savable_name(way: &Way) -> bool
-    ensures { result ≡ true → FitsTwoBytes (name_of way.now) }
-{
-    name_of(way).as_bytes().len() < TWO_BYTES
+/// A stack.
+impl Savable for Vec<FrameState> {
+    ghost Plain = { List PlainFrame };
+
+    ghost plain = { plain_stack };
+
+    ghost plain_each = { map plain_stack };
+
+    ghost savable = { IsSavableStack };
+
+    ghost each = { λ items. refl };
+
+    fn is_savable(&self) -> bool {
+        is_savable_list(self)
+    }
+}
+
+impl Savable for FrameState {
+    ghost Plain = { PlainFrame };
+
+    ghost plain = { plain_frame };
+
+    ghost plain_each = { map plain_frame };
+
+    ghost savable = { IsSavableFrame };
+
+    ghost each = { λ items. refl };
+
+    fn is_savable(&self) -> bool {
+        match self {
+            FrameState::ToEnter {
+                instance,
+                way,
+                arguments,
+            } => {
+                is_numbered(*instance)
+                    && name_of(way).as_bytes().len() < TWO_BYTES
+                    && is_savable_list(arguments)
+            }
+            FrameState::Running {
+                instance,
+                at,
+                slots,
+                reply,
+                ..
+            } => {
+                is_numbered(*instance)
+                    && is_savable_place(at)
+                    && is_savable_list(slots)
+                    && reply.as_ref().is_none_or(|value| value.is_savable())
+            }
+        }
+    }
 }
 
 fn is_savable_place(at: &BodyPlace) -> bool
@@ -206,13 +241,4 @@ fn is_savable_place(at: &BodyPlace) -> bool
     at.state.as_bytes().len() < TWO_BYTES
         && at.function.as_bytes().len() < TWO_BYTES
         && at.kind <= 2
-}
-
-fn is_savable_reply(reply: &Option<Value>) -> bool
-    ensures { result ≡ true → IfSome reply.now IsSavableValue }
-{
-    match reply {
-        Some(value) => is_savable_value(value),
-        None => true,
-    }
 }

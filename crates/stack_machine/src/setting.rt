@@ -1,14 +1,27 @@
-//! What no turn changes: the loaded scripts, the scene and what was resolved at the start.
+//! What no turn changes: the loaded scripts, the scene and what was resolved at the start; and what names mean there.
 
 ghost use Rattle.std.specs.Prelude.{◌≡◌, slice_get};
 ghost use Rattle.std.specs.Option.{option_copied, option_map};
 ghost use Rattle.instance_store.specs.Instances.{parent_of};
+ghost use Rattle.machine_state.specs.Savable.{name_of};
 ghost use Rattle.stack_machine.specs.Settings.{function_of, is_above, method_at, property_at, slot_type, type_of};
 
-use crate::frame::FunctionPlace;
+use crate::frame::{CallWay, FunctionPlace};
 use crate::plan::Plan;
 use core_tree::{CoreType, Scene};
+use machine_state::{BodyPlace, Way};
+use papy_base::{Name, OutOfMemory};
 use pex_verify::{Loaded, LoadedFunction, LoadedProperty, MethodPlace, Operand, PropertyPlace};
+use std::alloc::Global;
+
+/// What a look-up finds.
+#[derive(Clone, Copy, PartialEq, Eq)]
+pub enum Found {
+    Body(FunctionPlace),
+    Native(MethodPlace),
+    /// An Auto property: a variable of the property's script.
+    Variable(PropertyPlace, u16),
+}
 
 /// What no turn changes.
 #[derive(Drop)]
@@ -69,11 +82,8 @@ impl Setting {
     pub fn parent_of(&self, script: u16) -> Option<u16>
         ensures { result ≡ parent_of (slice_get self.now.loaded.outline script) }
     {
-        self.loaded
-            .outline()
-            .scripts
-            .get(usize::from(script))?
-            .parent
+        let scripts = &self.loaded.outline().scripts;
+        scripts.get(usize::from(script))?.parent
     }
 
     /// The number of an instance's script.
@@ -124,6 +134,97 @@ impl Setting {
     }
 }
 
+// What names mean.
+impl Setting {
+    /// What a call means for an instance whose state's name has this number, none where nothing has the call's name.
+    pub fn look_up(
+        &self,
+        state: Option<usize>,
+        instance: Option<u16>,
+        way: CallWay,
+    ) -> Option<Found> {
+        match way {
+            CallWay::Global(at) => Some(Found::Body(FunctionPlace::Method(at))),
+            CallWay::Method(name) => self.find_method(state, self.script_of(instance?)?, name),
+            CallWay::Parent { script, name } => {
+                instance?;
+                self.find_method(state, self.parent_of(script)?, name)
+            }
+            CallWay::Get(name) | CallWay::Set(name) => {
+                let at = self.loaded.find_property(self.script_of(instance?)?, name)?;
+                Some(match self.property(at)?.variable {
+                    Some(variable) => Found::Variable(at, variable),
+                    None if matches!(way, CallWay::Get(_)) => Found::Body(FunctionPlace::Reader(
+                        at,
+                    )),
+                    None => Found::Body(FunctionPlace::Writer(at)),
+                })
+            }
+        }
+    }
+
+    // The method that an instance has in a state, looked for from a script upward.
+    fn find_method(&self, state: Option<usize>, script: u16, name: usize) -> Option<Found> {
+        let at = self.loaded.find_method(script, state, name)?;
+        if self.method(at)?.is_native {
+            return Some(Found::Native(at));
+        }
+        Some(Found::Body(FunctionPlace::Method(at)))
+    }
+
+    /// The body that a place names, none where it isn't spelled as one is declared.
+    pub fn body_named(
+        &self,
+        alloc: Global,
+        at: &BodyPlace,
+    ) -> Result<Option<FunctionPlace>, OutOfMemory> {
+        let state = self.loaded.name_number(alloc, at.state.as_bytes())?;
+        let name = self.loaded.name_number(alloc, at.function.as_bytes())?;
+        let (Some(state), Some(name)) = (state, name) else {
+            return Ok(None);
+        };
+        Ok(self.body_found(at, state, name))
+    }
+
+    // The body that look-ups find, where it is spelled as the place.
+    fn body_found(&self, at: &BodyPlace, state: usize, name: usize) -> Option<FunctionPlace> {
+        let body = match at.kind {
+            0 => FunctionPlace::Method(self.loaded.find_method(at.script, Some(state), name)?),
+            1 => FunctionPlace::Reader(self.loaded.find_property(at.script, name)?),
+            2 => FunctionPlace::Writer(self.loaded.find_property(at.script, name)?),
+            _ => return None,
+        };
+        let function = self.function(body)?;
+        let is_spelled = self.state_name(body) == at.state.as_bytes()
+            && function.name.as_bytes() == at.function.as_bytes();
+        (body.script() == at.script && !function.is_native && is_spelled).then_some(body)
+    }
+
+    /// How a call looks its function up, none where nothing has its name.
+    pub fn way_named(&self, alloc: Global, way: &Way) -> Result<Option<CallWay>, OutOfMemory> {
+        let Some(name) = self.loaded.name_number(alloc, name_of(way).as_bytes())? else {
+            return Ok(None);
+        };
+        Ok(match way {
+            Way::Method(_) => Some(CallWay::Method(name)),
+            Way::Parent { script, .. } => Some(CallWay::Parent {
+                script: *script,
+                name,
+            }),
+            Way::Global { script, .. } => self.global_named(*script, name),
+            Way::Get(_) => Some(CallWay::Get(name)),
+            Way::Set(_) => Some(CallWay::Set(name)),
+        })
+    }
+
+    // A function of the empty state, from the script upward.
+    fn global_named(&self, script: u16, name: usize) -> Option<CallWay> {
+        self.loaded.outline().scripts.get(usize::from(script))?;
+        let found = self.loaded.find_method(script, None, name)?;
+        Some(CallWay::Global(found))
+    }
+}
+
 /// The type of a parameter or local, none where what is stored in it is dropped.
 #[inline(always)]
 pub fn slot_type(function: &LoadedFunction, number: usize) -> Option<CoreType>
@@ -137,37 +238,15 @@ pub fn slot_type(function: &LoadedFunction, number: usize) -> Option<CoreType>
     *kind
 }
 
-impl Setting {
-    /// The script and the variable of an instance's Auto property of this number, in the order of the report.
-    pub fn property_place(&self, instance: u16, property: u32) -> Option<(u16, u16)> {
-        let scripts = &self.loaded.outline().scripts;
-        let (mut script, property) = (self.script_of(instance)?, property as usize);
-        let mut above = self.properties_upward(script);
-        for _ in 0..scripts.len() {
-            let found = scripts.get(usize::from(script))?;
-            above = above.saturating_sub(found.properties.len());
-            if property >= above {
-                return Some((script, found.properties.get(property - above)?.variable));
-            }
-            script = found.parent?;
-        }
-        None
-    }
-
-    // How many Auto properties a script and those above it have.
-    fn properties_upward(&self, script: u16) -> usize {
-        let scripts = &self.loaded.outline().scripts;
-        let (mut count, mut next) = (0usize, Some(script));
-        for _ in 0..scripts.len() {
-            let Some(number) = next else {
-                break;
-            };
-            let Some(found) = scripts.get(usize::from(number)) else {
-                break;
-            };
-            count = count.saturating_add(found.properties.len());
-            next = found.parent;
-        }
-        count
+/// The name by which a call looks its function up.
+pub fn name_of(way: &Way) -> &Name
+    ensures { result.now ≡ name_of way.now }
+{
+    match way {
+        Way::Method(name)
+        | Way::Parent { name, .. }
+        | Way::Global { name, .. }
+        | Way::Get(name)
+        | Way::Set(name) => name,
     }
 }

@@ -1,17 +1,22 @@
-//! The state of a run between two turns.
+//! The state of a run between two turns, as it is told. A stack of which no place is told is done.
 
-ghost use Rattle.std.specs.Prelude.{◌≡◌, ◌+◌, None, IfOk, OnOk, vec_len};
+ghost use Rattle.std.specs.Prelude.{◌≡◌, ◌+◌, None, IfOk, vec_len};
 ghost use Rattle.machine_state.specs.Plain.{plain};
 ghost use Rattle.machine_state.specs.Savable.{IsSavable};
 
+use crate::frame::{Call, CallWay, Frame, Running};
 use crate::machine::Machine;
+use crate::moves::Place;
 use crate::savable::is_savable;
-use crate::told_frames::FrameTeller;
-use crate::told_store::{tell_arrays, tell_devices, tell_instances};
-use crate::told_threads::{tell_free_and_asleep, tell_owners, tell_waiters};
+use crate::setting::{Setting, name_of};
+use crate::store::copies;
+use crate::world::World;
+use core_tree::{CoreType, DeviceKind, Value};
+use instance_store::ScriptVariables;
 use latent_natives::Device;
-use machine_state::MachineState;
-use papy_base::OutOfMemory;
+use machine_state::{BodyPlace, FrameState, MachineState, Way};
+use papy_base::{OutOfMemory, Text};
+use pex_verify::{LoadedInstruction, MethodPlace, Operand};
 use std::alloc::Global;
 
 impl Machine {
@@ -32,57 +37,260 @@ impl Machine {
         ensures turn { IfOk result (λ state. state.turn ≡ self.now.turns) }
         ensures stacks { IfOk result (λ state. vec_len state.stacks ≡ self.now.started) }
     {
-        let mut state = empty_state(alloc);
-        state.turn = self.turns;
-        state.last = self.world.last;
-        let told = self.tell(alloc, devices, &mut state);
-        if told.is_ok() && is_savable(&state) {
-            return Ok(state);
-        }
-        drop(state);
-        Err(OutOfMemory)
-    }
-
-    // Fills an empty state.
-    fn tell(
-        &self,
-        alloc: Global,
-        devices: &Vec<Box<dyn Device>>,
-        state: &mut MachineState,
-    ) -> Result<(), OutOfMemory>
-        ensures turn { state.new.turn ≡ state.old.turn }
-        ensures stacks { OnOk result (vec_len state.new.stacks ≡ vec_len state.old.stacks + self.now.started) }
-    {
-        let (store, threads) = (&self.world.store, &self.world.threads);
-        let instances = self.setting.scene.instances.len() as u16;
-        tell_instances(alloc, store, instances, &mut state.instances)?;
-        tell_owners(threads, instances, &mut state.owners)?;
-        tell_waiters(threads, &mut state.waiters)?;
-        tell_free_and_asleep(threads, &mut state.free, &mut state.asleep)?;
-        tell_arrays(alloc, &store.arrays, &mut state.arrays)?;
-        tell_devices(alloc, devices, &mut state.devices)?;
-        let teller = FrameTeller {
+        let teller = Teller {
             alloc,
             setting: &self.setting,
             world: &self.world,
         };
-        teller.tell_stacks(&mut state.stacks)
+        let count = self.setting.scene.instances.len() as u16;
+        let state = MachineState {
+            turn: self.turns,
+            last: self.world.last,
+            instances: teller.instances(count)?,
+            owners: teller.owners(count)?,
+            waiters: teller.waiters()?,
+            free: teller.free()?,
+            asleep: teller.asleep()?,
+            arrays: teller.arrays()?,
+            devices: told_devices(alloc, devices)?,
+            stacks: teller.stacks()?,
+        };
+        if !is_savable(&state) {
+            drop(state);
+            return Err(OutOfMemory);
+        }
+        Ok(state)
     }
 }
 
-fn empty_state(alloc: Global) -> MachineState
-    ensures { vec_len result.stacks ≡ 0 }
-{
-    MachineState {
-        turn: 0,
-        last: None,
-        instances: Vec::new(alloc),
-        owners: Vec::new(alloc),
-        waiters: Vec::new(alloc),
-        free: Vec::new(alloc),
-        asleep: Vec::new(alloc),
-        arrays: Vec::new(alloc),
-        devices: Vec::new(alloc),
-        stacks: Vec::new(alloc),
+/// What is told, where there is room for it.
+type Told<T> = Result<T, OutOfMemory>;
+
+// What tells the state of a world.
+#[derive(Drop)]
+struct Teller<'a> {
+    alloc: Global,
+    setting: &'a Setting,
+    world: &'a World,
+}
+
+impl Teller<'_> {
+    // The first so many instances.
+    fn instances(&self, count: u16) -> Told<Vec<(Text, Vec<Value>)>> {
+        let store = &self.world.store;
+        let mut told = Vec::new(self.alloc);
+        for instance in 0..count {
+            if store.has_instance(instance) {
+                let state = store.instances.state_of(instance).try_clone(self.alloc)?;
+                let values = self.values(store.instances.scripts_of(instance))?;
+                told.push((state, values))?;
+            }
+        }
+        Ok(told)
     }
+
+    // The values of scripts that stand upward, from the topmost script down.
+    fn values(&self, scripts: &[ScriptVariables]) -> Told<Vec<Value>> {
+        let mut values = Vec::new(self.alloc);
+        for script in scripts.iter().rev() {
+            values.append(&mut copies(self.alloc, script.values())?)?;
+        }
+        Ok(values)
+    }
+
+    // Those of the first so many instances that a stack holds.
+    fn owners(&self, count: u16) -> Told<Vec<(u16, u16)>> {
+        let mut owners = Vec::new(self.alloc);
+        for instance in 0..count {
+            if let Some(stack) = self.world.threads.owner_of(instance) {
+                owners.push((instance, stack))?;
+            }
+        }
+        Ok(owners)
+    }
+
+    // The stacks that wait, in order of joining.
+    fn waiters(&self) -> Told<Vec<(u16, u16)>> {
+        let threads = &self.world.threads;
+        let (mut waiters, mut after) = (Vec::new(self.alloc), None);
+        for _ in 0..threads.count() {
+            let Some(stack) = threads.next_waiter(after) else {
+                break;
+            };
+            if let Some(instance) = threads.waits_for(stack) {
+                waiters.push((instance, stack))?;
+            }
+            after = Some(stack);
+        }
+        Ok(waiters)
+    }
+
+    // The stacks that run free.
+    fn free(&self) -> Told<Vec<u16>> {
+        let threads = &self.world.threads;
+        let mut free = Vec::new(self.alloc);
+        for stack in 0..threads.count() {
+            if matches!(threads.place_of(stack), Place::Free) {
+                free.push(stack)?;
+            }
+        }
+        Ok(free)
+    }
+
+    // The stacks that sleep, with the turns at which they are due.
+    fn asleep(&self) -> Told<Vec<(u16, u32)>> {
+        let threads = &self.world.threads;
+        let mut asleep = Vec::new(self.alloc);
+        for stack in 0..threads.count() {
+            if let Place::Asleep(until) = threads.place_of(stack) {
+                asleep.push((stack, until))?;
+            }
+        }
+        Ok(asleep)
+    }
+
+    fn arrays(&self) -> Told<Vec<(CoreType, Vec<Value>)>> {
+        let arrays = &self.world.store.arrays;
+        let mut told = Vec::new(self.alloc);
+        for array in 0..arrays.count() {
+            let items = copies(self.alloc, arrays.items_of(array))?;
+            told.push((*arrays.kind_of(array), items))?;
+        }
+        Ok(told)
+    }
+
+    // The frames of each stack that has started, outermost first.
+    fn stacks(&self) -> Told<Vec<Vec<FrameState>>>
+        ensures { IfOk result (λ told. vec_len told ≡ self.now.world.now.threads.started) }
+    {
+        let mut told = Vec::new(self.alloc);
+        for stack in 0..self.world.threads.count() {
+            told.push(self.frames(stack)?)?;
+        }
+        Ok(told)
+    }
+
+    fn frames(&self, stack: u16) -> Told<Vec<FrameState>> {
+        let mut told = Vec::new(self.alloc);
+        let mut below = None;
+        if let Some(found) = self.world.threads.stack(stack) {
+            for frame in &found.frames {
+                told.push(match frame {
+                    Frame::Pending(call) => self.call(stack, below, call)?,
+                    Frame::Running(running) => self.body(running)?,
+                })?;
+                below = Some(frame);
+            }
+        }
+        Ok(told)
+    }
+
+    fn call(&self, stack: u16, below: Option<&Frame>, call: &Call) -> Told<FrameState> {
+        Ok(FrameState::ToEnter {
+            instance: call.instance,
+            way: self.way(stack, below, call)?,
+            arguments: copies(self.alloc, &call.arguments)?,
+        })
+    }
+
+    // How a pending call of a stack names its function.
+    fn way(&self, stack: u16, below: Option<&Frame>, call: &Call) -> Told<Way> {
+        match (&call.kept, below) {
+            (Some(kept), _) => copy_of(self.alloc, kept),
+            (None, Some(frame)) => self.way_of_instruction(frame, call.way),
+            (None, None) => self.way_of_scene(stack),
+        }
+    }
+
+    // The first call of a stack is one of the scene's.
+    fn way_of_scene(&self, stack: u16) -> Told<Way> {
+        let (plan, scene) = (&self.setting.plan, &self.setting.scene);
+        let planned = plan.calls.get(usize::from(stack)).ok_or(OutOfMemory)?;
+        let call = scene.calls.get(planned.number).ok_or(OutOfMemory)?;
+        Ok(Way::Method(call.function.try_clone(self.alloc)?))
+    }
+
+    // Another call is that of the instruction at which the frame below it halts.
+    fn way_of_instruction(&self, below: &Frame, way: CallWay) -> Told<Way> {
+        let instruction = self.calling(below).ok_or(OutOfMemory)?;
+        let place = usize::from(matches!(way, CallWay::Global(_)));
+        let Some(Operand::Word(word)) = instruction.fixed.get(place) else {
+            return Err(OutOfMemory);
+        };
+        let name = word.try_clone(self.alloc)?;
+        Ok(match way {
+            CallWay::Method(_) => Way::Method(name),
+            CallWay::Parent { script, .. } => Way::Parent { script, name },
+            CallWay::Global(at) => Way::Global {
+                script: self.named_script(instruction, at),
+                name,
+            },
+            CallWay::Get(_) => Way::Get(name),
+            CallWay::Set(_) => Way::Set(name),
+        })
+    }
+
+    // The instruction at which a frame halts.
+    fn calling(&self, frame: &Frame) -> Option<&LoadedInstruction> {
+        let Frame::Running(running) = frame else {
+            return None;
+        };
+        self.setting.function(running.body)?.code.get(running.place)
+    }
+
+    // The script that a callstatic names. The function may stand above it.
+    fn named_script(&self, instruction: &LoadedInstruction, at: MethodPlace) -> u16 {
+        let Some(Operand::Word(name)) = instruction.fixed.first() else {
+            return at.script;
+        };
+        let scripts = &self.setting.loaded.outline().scripts;
+        let found = scripts.iter().position(|script| script.name.same(name));
+        found
+            .and_then(|number| u16::try_from(number).ok())
+            .unwrap_or(at.script)
+    }
+
+    // A body that runs. Where it stands is spelled as it is declared.
+    fn body(&self, running: &Running) -> Told<FrameState> {
+        let (setting, body) = (self.setting, running.body);
+        let name = &setting.function(body).ok_or(OutOfMemory)?.name;
+        Ok(FrameState::Running {
+            instance: running.instance,
+            at: BodyPlace {
+                script: body.script(),
+                state: Text::try_from_bytes(self.alloc, setting.state_name(body))?,
+                function: Text::try_from_bytes(self.alloc, name.as_bytes())?,
+                kind: body.kind(),
+            },
+            instruction: u16::try_from(running.place).ok().ok_or(OutOfMemory)?,
+            slots: copies(self.alloc, &running.slots)?,
+            reply: match &running.reply {
+                Some(value) => Some(value.try_clone(self.alloc)?),
+                None => None,
+            },
+        })
+    }
+}
+
+fn told_devices(
+    alloc: Global,
+    devices: &Vec<Box<dyn Device>>,
+) -> Told<Vec<(DeviceKind, Vec<i32>, u64)>> {
+    let mut told = Vec::new(alloc);
+    for device in devices {
+        told.push((device.kind(), device.cells().to_vec(alloc)?, device.place()))?;
+    }
+    Ok(told)
+}
+
+/// An equal way.
+pub fn copy_of(alloc: Global, way: &Way) -> Result<Way, OutOfMemory> {
+    let name = name_of(way).try_clone(alloc)?;
+    Ok(match *way {
+        Way::Method(_) => Way::Method(name),
+        Way::Parent { script, .. } => Way::Parent { script, name },
+        Way::Global { script, .. } => Way::Global { script, name },
+        Way::Get(_) => Way::Get(name),
+        Way::Set(_) => Way::Set(name),
+    })
 }

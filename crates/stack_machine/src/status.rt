@@ -6,7 +6,7 @@ ghost use Rattle.stack_machine.specs.declared.status.TurnFault.TheVariants.{OutO
 
 use papy_base::OutOfMemory;
 use papy_io::IoFault;
-use std::alloc::{AllocError, AllocFailed};
+use std::alloc::AllocError;
 use thiserror::Error;
 
 /// How a turn ended.
@@ -56,14 +56,6 @@ impl From<AllocError> for TurnFault {
     ghost from_gives = { λ _ fault. fault ≡ TurnOutOfMemory };
 
     fn from(_error: AllocError) -> TurnFault {
-        TurnFault::OutOfMemory
-    }
-}
-
-impl<T: Drop> From<AllocFailed<T>> for TurnFault {
-    ghost from_gives = { λ _ fault. fault ≡ TurnOutOfMemory };
-
-    fn from(_error: AllocFailed<T>) -> TurnFault {
         TurnFault::OutOfMemory
     }
 }

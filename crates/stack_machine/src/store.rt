@@ -1,12 +1,11 @@
 //! What scripts change beside their frames: variables, state texts and arrays.
 
-ghost use Rattle.std.specs.Prelude.{◌≡◌, ◌↔◌, ◌<◌, [], pos, Some, IfOk, IfSome, IsTrue, OnErr, OnOk, length, slice_set, vec_len};
-ghost use Rattle.instance_store.specs.Arrays.{array_at, read};
+ghost use Rattle.std.specs.Prelude.{◌≡◌, ◌↔◌, ◌<◌, [], IfOk, IfSome, IsTrue, OnErr, OnOk, length, slice_set, vec_len};
 ghost use Rattle.instance_store.specs.Instances.{instance_at, instance_with, variable_of};
-ghost use Rattle.stack_machine.specs.Stores.{array_in, default_in, value_or_none};
+ghost use Rattle.stack_machine.specs.Stores.{array_in, default_in};
 
 use core_tree::{CoreType, Scene, Value};
-use instance_store::{Arrays, Instances, StoreFault};
+use instance_store::{Arrays, Instances};
 use papy_base::{OutOfMemory, Text};
 use pex_verify::Loaded;
 use std::alloc::Global;
@@ -151,28 +150,13 @@ pub fn default_of(alloc: Global, kind: Option<CoreType>) -> Result<Value, OutOfM
     })
 }
 
-impl Store {
-    /// The number of an array's elements, 0 where there is no such array.
-    pub fn length_of(&self, array: u16) -> i32
-        ensures { result ≡ pos (length (array_at self.now.arrays array).items) }
-    {
-        if array >= self.arrays.count() {
-            return 0;
-        }
-        self.arrays.length(Some(array)).unwrap_or(0)
+/// Copies of the values.
+pub fn copies(alloc: Global, values: &[Value]) -> Result<Vec<Value>, OutOfMemory>
+    ensures { IfOk result (λ copies. copies.items ≡ values.now) }
+{
+    let mut copies = Vec::with_capacity(alloc, values.len())?;
+    for value in values {
+        copies.push(value.try_clone(alloc)?)?;
     }
-
-    /// An element of an array, None where it isn't there.
-    pub fn element(&self, array: u16, at: i32) -> Result<Value, OutOfMemory>
-        ensures { IfOk result (λ value. value ≡ value_or_none (read self.now.arrays (Some array) at)) }
-    {
-        if array >= self.arrays.count() {
-            return Ok(Value::NoneValue);
-        }
-        match self.arrays.get_at(Some(array), at) {
-            Ok(value) => Ok(value),
-            Err(StoreFault::Fault(_)) => Ok(Value::NoneValue),
-            Err(StoreFault::OutOfMemory) => Err(OutOfMemory),
-        }
-    }
+    Ok(copies)
 }

@@ -8,10 +8,10 @@ ghost use Rattle.lock_queue.specs.LockTable.{seat_of, waits_for, is_ready, ready
 ghost use Rattle.stack_machine.specs.Moves.{AddsSome, AreWakes, Begins, Noted, Takes};
 ghost use Rattle.stack_machine.specs.Threads.{GoesToWait, HasGrown, IsOn, IsSameSize, due_after, let_go, put_to_sleep, taken};
 
-use crate::frame::{Call, Frame};
-use crate::notes::{Notes, note_any};
-use crate::place::Place;
-use crate::stack::Stack;
+use crate::frame::{Call, CallWay, FRAME_LIMIT, Frame, Stack};
+use crate::moves::{Notes, Place, note_any};
+use crate::natives::Performed;
+use crate::run::Ending;
 use crate::status::Status;
 use core_tree::Value;
 use latent_natives::Sleepers;
@@ -92,68 +92,59 @@ impl Threads {
         ensures moved { IfOk result (Begins self.old.started) }
     {
         let stack = self.count();
-        self.stacks.push(Stack::starting(alloc, first)?)?;
+        let frames = vec![in alloc; first]?;
+        self.stacks.push(Stack { frames })?;
         Ok(self.go_on(stack))
     }
 
     /// The instance of a stack's innermost frame.
     pub fn instance_of(&self, stack: u16) -> Option<u16> {
-        self.stack(stack)?.instance()
+        self.stack(stack)?.frames.last()?.instance()
     }
 
     /// Whether a stack may push a further frame.
     pub fn has_room(&self, stack: u16) -> bool {
-        self.extra < ALL_FRAMES && self.stack(stack).is_some_and(|found| found.has_room())
+        self.extra < ALL_FRAMES
+            && self
+                .stack(stack)
+                .is_some_and(|found| found.frames.len() < FRAME_LIMIT)
     }
 
-    /// Pushes a frame.
-    pub fn push(&mut self, stack: u16, frame: Frame) -> Result<(), OutOfMemory>
+    // Pushes a frame.
+    fn push(&mut self, stack: u16, frame: Frame) -> Result<(), OutOfMemory>
         ensures { IsSameSize self.old self.new }
     {
         let Some(found) = self.stacks.get_mut(usize::from(stack)) else {
             drop(frame);
             return Ok(());
         };
-        if !found.is_done() {
+        if !found.frames.is_empty() {
             self.extra = self.extra.saturating_add(1);
         }
-        found.push(frame)
+        found.frames.push(frame)?;
+        Ok(())
     }
 
-    /// Takes the innermost frame away.
-    pub fn pop(&mut self, stack: u16) -> Option<Frame>
+    // Takes the innermost frame away.
+    fn pop(&mut self, stack: u16) -> Option<Frame>
         ensures { IsSameSize self.old self.new }
     {
         let found = self.stacks.get_mut(usize::from(stack))?;
-        let frame = found.pop();
-        if !found.is_done() {
+        let frame = found.frames.pop();
+        if !found.frames.is_empty() {
             self.extra = self.extra.saturating_sub(1);
         }
         frame
     }
 
-    /// Takes the innermost frame away where it is a call that is pending.
-    pub fn pop_call(&mut self, stack: u16) -> Option<Call>
-        ensures { IsSameSize self.old self.new }
-    {
-        let Some(Frame::Pending(_)) = self.stack(stack)?.innermost() else {
-            return None;
-        };
-        match self.pop(stack)? {
-            Frame::Pending(call) => Some(call),
-            running => {
-                drop(running);
-                None
-            }
-        }
-    }
-
-    /// Hands the innermost frame the reply to its act.
-    pub fn reply(&mut self, stack: u16, value: Value)
+    // Hands the innermost frame, which is a running one, the reply to its act.
+    fn reply(&mut self, stack: u16, value: Value)
         ensures { IsSameSize self.old self.new }
     {
         if let Some(found) = self.stacks.get_mut(usize::from(stack)) {
-            found.reply(value);
+            if let Some(Frame::Running(running)) = found.frames.last_mut() {
+                running.reply = Some(value);
+            }
         }
     }
 
@@ -347,21 +338,14 @@ impl Threads {
 
     /// Whether a stack's first call has returned.
     pub fn is_done(&self, stack: u16) -> bool {
-        self.stack(stack).is_none_or(|found| found.is_done())
-    }
-
-    /// Notes that a stack's first call has returned.
-    pub fn finish(&mut self, stack: u16)
-        ensures { IsSameSize self.old self.new }
-    {
-        self.let_go(stack);
-        self.done = self.done.saturating_add(1);
+        self.stack(stack)
+            .is_none_or(|found| found.frames.is_empty())
     }
 }
 
 impl Threads {
     ghost use Rattle.std.specs.Borrow.{LendsIf, sem};
-    ghost use Rattle.stack_machine.specs.contracts.stack.Stack.{the_row as stack_row};
+    ghost use Rattle.stack_machine.specs.contracts.frame.Stack.{the_row as stack_row};
     ghost use Rattle.stack_machine.specs.contracts.threads.Threads.{the_row};
 
     /// The frames of a stack, of which the innermost one may be changed.
@@ -397,7 +381,7 @@ impl Threads {
         ensures started { OnOk result (self.new.started ≡ self.old.started + 1) }
     {
         let (extra, is_done) = (frames.len().saturating_sub(1), frames.is_empty());
-        self.stacks.push(Stack::of(frames))?;
+        self.stacks.push(Stack { frames })?;
         let extra = u16::try_from(extra).unwrap_or(u16::MAX);
         self.extra = self.extra.saturating_add(extra);
         if is_done {
@@ -419,13 +403,82 @@ impl Threads {
     }
 }
 
+// What the acts of stacks do to their frames and their locks.
+impl Threads {
+    /// Does the act that ended a stack's turn.
+    pub fn act(&mut self, stack: u16, turn: u32, ending: Ending) -> Result<(), OutOfMemory>
+        ensures { IsSameSize self.old self.new }
+    {
+        match ending {
+            Ending::Pass => Ok(()),
+            Ending::Called(call) => self.call(stack, call),
+            Ending::Performed { reply, latency } => {
+                self.rest_after_native(stack, turn, reply, latency);
+                Ok(())
+            }
+            Ending::Returned(Performed { reply, rest }) => {
+                let instance = self.instance_of(stack);
+                drop(self.pop(stack));
+                match rest {
+                    Some(latency) => self.rest_after_native(stack, turn, reply, latency),
+                    None => self.return_from(stack, instance, reply),
+                }
+                Ok(())
+            }
+        }
+    }
+
+    // A call that needs a frame. The stack keeps its lock where the call is on the frame's own instance, and a global function
+    // runs free.
+    fn call(&mut self, stack: u16, call: Call) -> Result<(), OutOfMemory>
+        ensures { IsSameSize self.old self.new }
+    {
+        let is_own = match call.way {
+            CallWay::Global(_) => false,
+            CallWay::Parent { .. } => true,
+            CallWay::Method(_) | CallWay::Get(_) | CallWay::Set(_) => {
+                self.instance_of(stack) == call.instance
+            }
+        };
+        self.push(stack, Frame::Pending(call))?;
+        if !is_own {
+            self.let_go(stack);
+            self.go_to_wait(stack);
+        }
+        Ok(())
+    }
+
+    // Hands the frame that is now innermost what a native that isn't prompt gave, and lets the stack rest.
+    fn rest_after_native(&mut self, stack: u16, turn: u32, reply: Value, latency: u32)
+        ensures { IsSameSize self.old self.new }
+    {
+        self.let_go(stack);
+        self.reply(stack, reply);
+        self.rest(stack, turn, latency);
+    }
+
+    // Returns a value from a frame of this instance, which was popped, to its caller.
+    fn return_from(&mut self, stack: u16, instance: Option<u16>, value: Value)
+        ensures { IsSameSize self.old self.new }
+    {
+        if self.is_done(stack) {
+            drop(value);
+            self.let_go(stack);
+            self.done = self.done.saturating_add(1);
+            return;
+        }
+        self.reply(stack, value);
+        if instance.is_none() || self.instance_of(stack) != instance {
+            self.let_go(stack);
+            self.go_to_wait(stack);
+        }
+    }
+}
+
 // The stack whose number is one less.
 fn stack_before(stack: u16) -> Option<u16>
     ensures start { start_after result ≡ stack }
     ensures below { ForSome result (λ before. before < stack) }
 {
-    if stack == 0 {
-        return None;
-    }
-    Some(stack - 1)
+    stack.checked_sub(1)
 }

@@ -1,33 +1,29 @@
 //! What turns change, and what a turn does.
 #![tactic(auto, using(crate::proofs::Sinks::sinks))]
 
-ghost use Rattle.std.specs.Prelude.{◌≡◌, ◌+◌, MatchResult, Ok, OnOk, map};
+ghost use Rattle.std.specs.Prelude.{◌≡◌, ◌<◌, ◌≤◌, ◌+◌, IfOk, IfSome, MatchResult, Ok, OnOk, length, map, vec_len};
+ghost use Rattle.std.specs.Option.{ForSome};
 ghost use Rattle.latent_natives.specs.Devices.{SameKinds};
+ghost use Rattle.stack_machine.specs.Choices.{chosen};
 ghost use Rattle.stack_machine.specs.Machine.{CountsTurn, HasStarted};
-ghost use Rattle.stack_machine.specs.Moves.{AddsSome, AreOfEnd, AreOfTurn, IsAct, Noted};
+ghost use Rattle.stack_machine.specs.Moves.{AddsSome, AreOfBeginning, AreOfEnd, AreOfTurn, AreStarts, Begins, IsAct, Noted};
 ghost use Rattle.stack_machine.specs.Plans.{HasBegun, calls_before};
-ghost use Rattle.stack_machine.specs.Threads.{IsSameSize};
+ghost use Rattle.stack_machine.specs.Threads.{HasGrown, IsSameSize};
 ghost use Rattle.stack_machine.specs.Written.{WritesLines};
 
-use crate::begin::{begin, choose};
-use crate::frame::{Call, Frame, FunctionPlace};
-use crate::lookup::{Found, look_up, open};
-use crate::natives::{Performed, perform};
-use crate::notes::{Notes, note_any};
+use crate::frame::{Call, CallWay, Frame};
+use crate::moves::{Notes, Place, moves_between, note_any};
 use crate::operands::Turn;
-use crate::place::{Place, moves_between};
-use crate::run::{Ending, run_frame};
+use crate::plan::PlannedCall;
+use crate::run::run_innermost;
 use crate::setting::Setting;
-use crate::stack::Stack;
 use crate::status::{TurnEnd, TurnFault};
-use crate::store::Store;
+use crate::store::{Store, copies};
 use crate::threads::Threads;
-use core_tree::Value;
+use core_tree::{Scene, TurnOrder};
 use latent_natives::Device;
-use machine_state::Way;
 use papy_base::OutOfMemory;
 use papy_io::Sink;
-use pex_verify::MethodPlace;
 use run_replay::LockMove;
 use std::alloc::Global;
 
@@ -39,9 +35,6 @@ pub struct World {
     pub threads: Threads,
     /// The stack that was chosen last.
     pub last: Option<u16>,
-    /// Of each stack, how a call names its function that a restored machine began with and that is still pending. A
-    /// call that a machine made itself is spelled in the code or in the scene.
-    pub kept: Vec<Option<Way>>,
 }
 
 impl World {
@@ -98,32 +91,16 @@ impl World {
     {
         notes.note(LockMove::Run(turn.stack))?;
         note_any(self.threads.take(turn.stack), notes)?;
-        let from = self.place_before(turn.stack, notes);
+        let from = self.threads.place_of(turn.stack);
         self.run_stack(turn, sink, devices)?;
         self.note_act(turn.stack, from, notes)?;
         Ok(())
     }
 
-    // Where a stack is before its act, as far as that is to be noted.
-    fn place_before<N: Notes>(&self, stack: u16, notes: &N) -> Option<Place> {
-        if notes.are_kept() {
-            return Some(self.threads.place_of(stack));
-        }
-        None
-    }
-
     // Notes the moves of a stack's act, which began at a place.
-    fn note_act<N: Notes>(
-        &self,
-        stack: u16,
-        from: Option<Place>,
-        notes: &mut N,
-    ) -> Result<(), OutOfMemory>
+    fn note_act<N: Notes>(&self, stack: u16, from: Place, notes: &mut N) -> Result<(), OutOfMemory>
         ensures { MatchResult result (λ _. Noted (IsAct stack) (N.noted notes.old) (N.noted notes.new)) (λ _. AddsSome (N.noted notes.old) (N.noted notes.new)) }
     {
-        let Some(from) = from else {
-            return Ok(());
-        };
         let to = self.threads.place_of(stack);
         let Some((departure, arrival)) = moves_between(stack, from, to) else {
             return Ok(());
@@ -132,7 +109,7 @@ impl World {
         notes.note(arrival)
     }
 
-    // Enters the stack's call where one is pending, and runs its body where the entry didn't end the turn.
+    // Runs the stack up to the act that ends the turn, and does that act.
     fn run_stack<S: Sink>(
         &mut self,
         turn: &Turn<'_>,
@@ -144,213 +121,97 @@ impl World {
         ensures kinds { SameKinds (map (λ d. device_state d) devices.old.items) (map (λ d. device_state d) devices.new.items) }
         ensures size { IsSameSize self.old.threads self.new.threads }
     {
-        if self.enter(turn, sink, devices)? {
-            return self.run_and_act(turn, sink, devices);
-        }
-        Ok(())
-    }
-
-    // Runs the innermost frame's body, and does the act that ends the turn.
-    fn run_and_act<S: Sink>(
-        &mut self,
-        turn: &Turn<'_>,
-        sink: &mut S,
-        devices: &mut Vec<Box<dyn Device>>,
-    ) -> Result<(), TurnFault>
-        ensures appended { WritesLines result (S.written sink.old) (S.written sink.new) }
-        ensures count { CountsTurn result (S.faults sink.old) (S.faults sink.new) }
-        ensures kinds { SameKinds (map (λ d. device_state d) devices.old.items) (map (λ d. device_state d) devices.new.items) }
-        ensures size { IsSameSize self.old.threads self.new.threads }
-    {
-        let ending = self.run_innermost(turn, sink, devices)?;
+        let has_room = self.threads.has_room(turn.stack);
+        let Some(stack) = self.threads.stack_mut(turn.stack) else {
+            return Ok(());
+        };
+        let ending = run_innermost(turn, &mut self.store, stack, has_room, sink, devices)?;
         self.threads.act(turn.stack, turn.number, ending)?;
         Ok(())
     }
-
-    // Enters the pending call, if there is one. It is false where the entry ended the turn.
-    fn enter<S: Sink>(
-        &mut self,
-        turn: &Turn<'_>,
-        sink: &mut S,
-        devices: &mut Vec<Box<dyn Device>>,
-    ) -> Result<bool, TurnFault>
-        ensures appended { WritesLines result (S.written sink.old) (S.written sink.new) }
-        ensures count { CountsTurn result (S.faults sink.old) (S.faults sink.new) }
-        ensures kinds { SameKinds (map (λ d. device_state d) devices.old.items) (map (λ d. device_state d) devices.new.items) }
-        ensures size { IsSameSize self.old.threads self.new.threads }
-    {
-        let Some(call) = self.threads.pop_call(turn.stack) else {
-            return Ok(true);
-        };
-        self.forget_way(turn.stack);
-        self.enter_call(turn, call, sink, devices)
-    }
-
-    // The stack's pending call is entered.
-    fn forget_way(&mut self, stack: u16)
-        ensures { self.new.threads ≡ self.old.threads }
-    {
-        if let Some(kept) = self.kept.get_mut(usize::from(stack)) {
-            *kept = None;
-        }
-    }
-
-    // The same of this call, whose frame was popped.
-    fn enter_call<S: Sink>(
-        &mut self,
-        turn: &Turn<'_>,
-        call: Call,
-        sink: &mut S,
-        devices: &mut Vec<Box<dyn Device>>,
-    ) -> Result<bool, TurnFault>
-        ensures appended { WritesLines result (S.written sink.old) (S.written sink.new) }
-        ensures count { CountsTurn result (S.faults sink.old) (S.faults sink.new) }
-        ensures kinds { SameKinds (map (λ d. device_state d) devices.old.items) (map (λ d. device_state d) devices.new.items) }
-        ensures size { IsSameSize self.old.threads self.new.threads }
-    {
-        let state = self.store.state_number(call.instance);
-        match look_up(turn.setting, state, call.instance, call.way) {
-            Some(Found::Body(body)) => Ok(self.enter_body(turn, call, body)?),
-            Some(Found::Variable { property, variable }) => {
-                Ok(self.enter_variable(turn.stack, call, property.script, variable)?)
-            }
-            Some(Found::Native(native)) => {
-                let entered = self.enter_native(turn, native, &call, sink, devices);
-                drop(call);
-                entered
-            }
-            None => {
-                let instance = call.instance;
-                drop(call);
-                self.threads
-                    .return_from(turn.stack, instance, Value::NoneValue);
-                Ok(false)
-            }
-        }
-    }
-
-    // The body's frame takes the place of the call's.
-    fn enter_body(
-        &mut self,
-        turn: &Turn<'_>,
-        call: Call,
-        body: FunctionPlace,
-    ) -> Result<bool, OutOfMemory>
-        ensures size { IsSameSize self.old.threads self.new.threads }
-    {
-        let running = open(turn.alloc, turn.setting, call, body)?;
-        self.threads.push(turn.stack, Frame::Running(running))?;
-        Ok(true)
-    }
-
-    // A native method is performed, and the call ends.
-    fn enter_native<S: Sink>(
-        &mut self,
-        turn: &Turn<'_>,
-        native: MethodPlace,
-        call: &Call,
-        sink: &mut S,
-        devices: &mut Vec<Box<dyn Device>>,
-    ) -> Result<bool, TurnFault>
-        ensures appended { WritesLines result (S.written sink.old) (S.written sink.new) }
-        ensures count { CountsTurn result (S.faults sink.old) (S.faults sink.new) }
-        ensures kinds { SameKinds (map (λ d. device_state d) devices.old.items) (map (λ d. device_state d) devices.new.items) }
-        ensures size { IsSameSize self.old.threads self.new.threads }
-    {
-        let performed = perform(turn, native, call.arguments.as_slice(), sink, devices)?;
-        self.leave_native(turn, call.instance, performed);
-        Ok(false)
-    }
-
-    // A native method was performed, and its frame, which was popped, has ended.
-    fn leave_native(&mut self, turn: &Turn<'_>, instance: Option<u16>, performed: Performed)
-        ensures size { IsSameSize self.old.threads self.new.threads }
-    {
-        let reply = performed.reply;
-        match performed.rest {
-            Some(latency) => {
-                self.threads
-                    .rest_after_native(turn.stack, turn.number, reply, latency);
-            }
-            None => self.threads.return_from(turn.stack, instance, reply),
-        }
-    }
-
-    // An Auto property: its variable is read or written, and the call returns.
-    fn enter_variable(
-        &mut self,
-        stack: u16,
-        mut call: Call,
-        script: u16,
-        variable: u16,
-    ) -> Result<bool, OutOfMemory>
-        ensures size { IsSameSize self.old.threads self.new.threads }
-    {
-        let (instance, written) = (call.instance, call.arguments.pop());
-        drop(call);
-        let Some(instance) = instance else {
-            drop(written);
-            return Ok(false);
-        };
-        let value = self.set_or_get(instance, script, variable, written)?;
-        self.threads.return_from(stack, Some(instance), value);
-        Ok(false)
-    }
-
-    // Writes a variable, or reads it where nothing is to be written.
-    fn set_or_get(
-        &mut self,
-        instance: u16,
-        script: u16,
-        variable: u16,
-        written: Option<Value>,
-    ) -> Result<Value, OutOfMemory>
-        ensures size { IsSameSize self.old.threads self.new.threads }
-    {
-        match written {
-            Some(value) => {
-                self.store.set_variable(instance, script, variable, value);
-                Ok(Value::NoneValue)
-            }
-            None => self.store.variable(instance, script, variable),
-        }
-    }
-
-    // Runs the innermost frame's body. Where none runs, the stack passes.
-    fn run_innermost<S: Sink>(
-        &mut self,
-        turn: &Turn<'_>,
-        sink: &mut S,
-        devices: &mut Vec<Box<dyn Device>>,
-    ) -> Result<Ending, TurnFault>
-        ensures appended { WritesLines result (S.written sink.old) (S.written sink.new) }
-        ensures count { CountsTurn result (S.faults sink.old) (S.faults sink.new) }
-        ensures kinds { SameKinds (map (λ d. device_state d) devices.old.items) (map (λ d. device_state d) devices.new.items) }
-        ensures size { IsSameSize self.old.threads self.new.threads }
-    {
-        let has_room = self.threads.has_room(turn.stack);
-        let Some(stack) = self.threads.stack_mut(turn.stack) else {
-            return Ok(Ending::Pass);
-        };
-        run_stack_body(turn, &mut self.store, stack, has_room, sink, devices)
-    }
 }
 
-// Runs the body of a stack's innermost frame. Where none runs, the stack passes.
-fn run_stack_body<S: Sink>(
-    turn: &Turn<'_>,
-    store: &mut Store,
-    stack: &mut Stack,
-    has_room: bool,
-    sink: &mut S,
-    devices: &mut Vec<Box<dyn Device>>,
-) -> Result<Ending, TurnFault>
-    ensures appended { WritesLines result (S.written sink.old) (S.written sink.new) }
-    ensures count { CountsTurn result (S.faults sink.old) (S.faults sink.new) }
-    ensures kinds { SameKinds (map (λ d. device_state d) devices.old.items) (map (λ d. device_state d) devices.new.items) }
+// Starts the stacks of the scene calls of this turn, then wakes the sleepers that are due.
+fn begin<N: Notes>(
+    alloc: Global,
+    setting: &Setting,
+    threads: &mut Threads,
+    turn: u32,
+    notes: &mut N,
+) -> Result<(), OutOfMemory>
+    requires { HasBegun setting.now.plan.calls.items setting.now.scene.calls.items threads.old turn }
+    ensures grown { HasGrown threads.old threads.new }
+    ensures started { OnOk result (threads.new.started ≡ calls_before (turn + 1) setting.now.scene.calls.items) }
+    ensures noted { MatchResult result (λ _. Noted (AreOfBeginning threads.old.started threads.new.started) (N.noted notes.old) (N.noted notes.new)) (λ _. AddsSome (N.noted notes.old) (N.noted notes.new)) }
 {
-    match stack.innermost_mut() {
-        Some(Frame::Running(running)) => run_frame(turn, store, running, has_room, sink, devices),
-        _ => Ok(Ending::Pass),
+    start_stacks(alloc, setting, threads, turn, notes)?;
+    threads.wake(turn, notes)
+}
+
+// Starts the stacks of the scene calls of this turn.
+fn start_stacks<N: Notes>(
+    alloc: Global,
+    setting: &Setting,
+    threads: &mut Threads,
+    turn: u32,
+    notes: &mut N,
+) -> Result<(), OutOfMemory>
+    requires { HasBegun setting.now.plan.calls.items setting.now.scene.calls.items threads.old turn }
+    ensures grown { HasGrown threads.old threads.new }
+    ensures started { OnOk result (threads.new.started ≡ calls_before (turn + 1) setting.now.scene.calls.items) }
+    ensures noted { MatchResult result (λ _. Noted (AreStarts threads.old.started threads.new.started) (N.noted notes.old) (N.noted notes.new)) (λ _. AddsSome (N.noted notes.old) (N.noted notes.new)) }
+{
+    let calls = setting.plan.calls.as_slice();
+    let first = usize::from(threads.count());
+    for planned in &calls[first..] {
+        if planned.turn > turn {
+            break;
+        }
+        let moved = start(alloc, setting, threads, *planned)?;
+        notes.note(moved)?;
+    }
+    Ok(())
+}
+
+// Starts the stack of a scene call.
+fn start(
+    alloc: Global,
+    setting: &Setting,
+    threads: &mut Threads,
+    planned: PlannedCall,
+) -> Result<LockMove, OutOfMemory>
+    requires room { threads.old.started < threads.old.room }
+    requires call { planned.number < vec_len setting.now.scene.calls }
+    ensures grown { HasGrown threads.old threads.new }
+    ensures by_one { OnOk result (threads.new.started ≡ threads.old.started + 1) }
+    ensures moved { IfOk result (Begins threads.old.started) }
+{
+    let call = &setting.scene.calls[planned.number];
+    let arguments = copies(alloc, &call.arguments)?;
+    let first = Frame::Pending(Call {
+        instance: Some(call.instance),
+        way: CallWay::Method(planned.name.unwrap_or(0)),
+        arguments,
+        kept: None,
+    });
+    threads.start(alloc, first)
+}
+
+// The stack that gets this turn, none where the turn is idle.
+fn choose(scene: &Scene, threads: &Threads, turn: u32, last: Option<u16>) -> Option<u16>
+    ensures within { IfSome result (λ stack. stack < threads.now.room) }
+    ensures started { IfSome result (λ stack. stack < threads.now.started) }
+    ensures chosen { ForSome last (λ stack. stack < threads.now.room) → result ≡ chosen scene.now.order threads.now turn last }
+{
+    match &scene.order {
+        TurnOrder::Round => threads.ready_after(last),
+        TurnOrder::List(stacks) => {
+            let stack = *stacks.get(turn as usize)?;
+            if stack < threads.count() && threads.is_ready(stack) {
+                Some(stack)
+            } else {
+                None
+            }
+        }
     }
 }

@@ -1,7 +1,7 @@
 use Rattle.std.proofs.Common.{◌≡◌, ◌++◌, ℕ, sym, ap, ◌∙◌, arith}
-use Rattle.run_replay.specs.declared.keyword.Keyword.{Keyword}
-use Rattle.run_replay.specs.declared.keyword.Keyword.TheVariants as keyword
-use Rattle.run_replay.specs.declared.arguments.Numbers.TheVariants as numbers
+use Rattle.run_replay.specs.declared.reader.Keyword.{Keyword}
+use Rattle.run_replay.specs.declared.reader.Keyword.TheVariants as keyword
+use Rattle.run_replay.specs.declared.reader.Numbers.TheVariants as numbers
 use Rattle.run_replay.specs.Lines.{word_of, spelled}
 use Rattle.run_replay.proofs.LineLemmas.{heading_is}
 use Rattle.run_replay.proofs.reader.line_with_one.Goals as goal

@@ -1,11 +1,11 @@
-use Rattle.std.proofs.Common.{ℕ}
-use Rattle.stack_machine.proofs.Ascent.{ascends_more, ascends_all}
+use Rattle.std.specs.Prelude.{Bool, nat_lt}
+use Rattle.std.specs.List.{IsAllAdjacentAnswer}
+use Rattle.std.proofs.Common.{◌≡◌, ℕ, subst, rules, of_calls}
+use Rattle.std.proofs.lemmas.Fn.{always_returns_same}
+use Rattle.machine_state.proofs.Growing.{adjacent_ascend}
 use Rattle.stack_machine.proofs.ascending.pairs_ascend.Goals as goal
 
-pub loop-pair-preserved : goal.loop-pair-preserved
-loop-pair-preserved c =
-    ascends_more (λ (pair : ℕ × ℕ). pair.0) c.args.pairs.now c.loop-pair.pair-index (0, 0) c.loop-pair.least c.from-first.result c.loop-pair-test.true c.from-first.ensures c.loop-pair.invariant c.if-first-least.false
-
 pub returns : goal.returns
-returns c = λ _.
-    ascends_all (λ (pair : ℕ × ℕ). pair.0) c.args.pairs.now c.loop-pair.pair-index c.loop-pair.least c.loop-pair-test.false c.loop-pair.invariant
+returns c = λ passed.
+    let answer = c.is_sorted_by.ensures.cases (λ a b. nat_lt a.0 b.0) (always_returns_same _ _ _ (λ a r f k. search (rules, of_calls))) in
+    adjacent_ascend (λ (pair : ℕ × ℕ). pair.0) c.args.pairs.now (subst (λ (r : Bool). IsAllAdjacentAnswer (λ x y b. b ≡ nat_lt x.0 y.0) c.args.pairs.now r) passed answer)

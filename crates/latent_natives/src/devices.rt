@@ -1,0 +1,175 @@
+//! The devices that go from cell to cell, that add and that keep.
+
+ghost use Rattle.std.specs.Prelude.{◌≡◌, [], ◌∷◌, IsOkAnd};
+ghost use Rattle.core_tree.specs.declared.DeviceKind.TheVariants as kinds;
+ghost use Rattle.core_tree.specs.Device.{DeviceState, load, wrapping_sum};
+
+use crate::device::Device;
+use core_tree::DeviceKind;
+use papy_base::OutOfMemory;
+use std::alloc::Global;
+use std::marker::Model;
+
+/// A device whose calls reply with one cell after another, and with 0 past the end.
+#[derive(Drop)]
+pub struct Tape {
+    cells: Vec<i32>,
+    place: usize,
+}
+
+impl Model for Tape {
+    ghost Value = { DeviceState };
+
+    ghost view = { λ t. record { kind = kinds.Tape; cells = t.cells.items; place = t.place } };
+}
+
+impl Tape {
+    /// A tape with no cells. It takes no memory, and so is never refused.
+    pub fn new(alloc: Global) -> Result<Tape, OutOfMemory>
+        ensures { IsOkAnd result (λ t. t ≡ load kinds.Tape [] 0) }
+    {
+        Ok(Tape {
+            cells: Vec::new(alloc),
+            place: 0,
+        })
+    }
+}
+
+impl Device for Tape {
+    ghost device_state = { λ t. record t { kind = kinds.Tape } };
+
+    fn load(&mut self, cells: &[i32], at: u64) -> Result<(), OutOfMemory> {
+        self.cells = Vec::from_slice(*self.cells.allocator(), cells)?;
+        self.place = cells.len().min(at as usize);
+        Ok(())
+    }
+
+    fn call(&mut self, _args: &[i32]) -> i32 {
+        let Some(&cell) = self.cells.get(self.place) else {
+            return 0;
+        };
+        self.place += 1;
+        cell
+    }
+
+    fn kind(&self) -> DeviceKind {
+        DeviceKind::Tape
+    }
+
+    fn cells(&self) -> &[i32] {
+        &self.cells
+    }
+
+    fn place(&self) -> u64 {
+        self.place as u64
+    }
+}
+
+/// A device whose calls add all their arguments to its cell and reply with it. The sum wraps.
+#[derive(Drop)]
+pub struct Sum {
+    cell: [i32; 1],
+}
+
+impl Model for Sum {
+    ghost Value = { DeviceState };
+
+    ghost view = { λ s. record { kind = kinds.Sum; cells = s.cell; place = 0 } };
+}
+
+impl Sum {
+    /// A sum of nothing. It takes no memory, and so is never refused.
+    pub fn new(_alloc: Global) -> Result<Sum, OutOfMemory>
+        ensures { IsOkAnd result (λ s. s ≡ load kinds.Sum [] 0) }
+    {
+        Ok(Sum { cell: [0] })
+    }
+}
+
+impl Device for Sum {
+    ghost device_state = { λ s. record s { kind = kinds.Sum; place = 0 } };
+
+    fn load(&mut self, cells: &[i32], _at: u64) -> Result<(), OutOfMemory> {
+        self.cell = [sum_from(0, cells)];
+        Ok(())
+    }
+
+    fn call(&mut self, args: &[i32]) -> i32 {
+        let total = sum_from(self.cell[0], args);
+        self.cell = [total];
+        total
+    }
+
+    fn kind(&self) -> DeviceKind {
+        DeviceKind::Sum
+    }
+
+    fn cells(&self) -> &[i32] {
+        &self.cell
+    }
+
+    fn place(&self) -> u64 {
+        0
+    }
+}
+
+/// A device whose calls reply with its cell, which then becomes the first argument, if there is one.
+#[derive(Drop)]
+pub struct Latch {
+    cell: [i32; 1],
+}
+
+impl Model for Latch {
+    ghost Value = { DeviceState };
+
+    ghost view = { λ l. record { kind = kinds.Latch; cells = l.cell; place = 0 } };
+}
+
+impl Latch {
+    /// A latch that holds 0. It takes no memory, and so is never refused.
+    pub fn new(_alloc: Global) -> Result<Latch, OutOfMemory>
+        ensures { IsOkAnd result (λ l. l ≡ load kinds.Latch [] 0) }
+    {
+        Ok(Latch { cell: [0] })
+    }
+}
+
+impl Device for Latch {
+    ghost device_state = { λ l. record l { kind = kinds.Latch; place = 0 } };
+
+    fn load(&mut self, cells: &[i32], _at: u64) -> Result<(), OutOfMemory> {
+        self.cell = [cells.last().copied().unwrap_or(0)];
+        Ok(())
+    }
+
+    fn call(&mut self, args: &[i32]) -> i32 {
+        let reply = self.cell[0];
+        if let Some(&first) = args.first() {
+            self.cell = [first];
+        }
+        reply
+    }
+
+    fn kind(&self) -> DeviceKind {
+        DeviceKind::Latch
+    }
+
+    fn cells(&self) -> &[i32] {
+        &self.cell
+    }
+
+    fn place(&self) -> u64 {
+        0
+    }
+}
+
+/// The sum of a number and a list of numbers, which wraps at 32 bits.
+fn sum_from(first: i32, numbers: &[i32]) -> i32
+    ensures { result ≡ wrapping_sum (first ∷ numbers.now) }
+{
+    let mut total = first;
+    for number in numbers {
+        total = total.wrapping_add(*number);
+    }
+    total
+}

@@ -1,5 +1,0 @@
-use Rattle.run_replay.proofs.LegalLemmas.{one_break}
-use Rattle.run_replay.proofs.laws.one_break.Goals as goal
-
-pub returns : goal.returns
-returns c = one_break

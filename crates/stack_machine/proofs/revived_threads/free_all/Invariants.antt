@@ -1,5 +1,0 @@
-use Rattle.stack_machine.specs.Threads.{IsSameSize}
-use Rattle.stack_machine.proofs.revived_threads.free_all.Given as goal
-
-abbrev pub invariant-loop-stack : goal.invariant-loop-stack
-invariant-loop-stack l = IsSameSize l.fn.threads l.threads

@@ -1,5 +1,0 @@
-use Rattle.stack_machine.specs.Threads.{IsSameSize}
-use Rattle.stack_machine.proofs.revived_threads.sleep_all.Given as goal
-
-abbrev pub invariant-loop-sleeper : goal.invariant-loop-sleeper
-invariant-loop-sleeper l = IsSameSize l.fn.threads l.threads

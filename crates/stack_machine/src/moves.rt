@@ -1,0 +1,99 @@
+//! The moves of stacks from one place to another, and who is told them.
+
+ghost use Rattle.std.specs.Prelude.{◌≡◌, ◌∷◌, [], List, Option, None, Some, IfSome, OnErr, OnOk};
+ghost use Rattle.std.specs.Option.{option_to_list};
+ghost use Rattle.run_replay.specs.declared.lock_move.LockMove.{LockMove};
+ghost use Rattle.stack_machine.specs.Moves.{Adds, Arrives, LetsGo};
+
+use papy_base::OutOfMemory;
+use run_replay::LockMove;
+
+/// What is told the moves of a turn, in order.
+pub trait Notes {
+    ghost noted: { Self → Option (List LockMove) };
+
+    /// Notes one more move.
+    fn note(&mut self, moved: LockMove) -> Result<(), OutOfMemory>
+        ensures added { OnOk result (Adds (moved ∷ []) (noted self.old) (noted self.new)) }
+        ensures kept { OnErr result (noted self.new ≡ noted self.old) };
+}
+
+/// Keeps no moves.
+#[derive(Drop)]
+pub struct NoNotes;
+
+impl Notes for NoNotes {
+    ghost noted = { λ _. None };
+
+    fn note(&mut self, _moved: LockMove) -> Result<(), OutOfMemory> {
+        Ok(())
+    }
+}
+
+impl Notes for Vec<LockMove> {
+    ghost noted = { λ moves. Some moves.items };
+
+    fn note(&mut self, moved: LockMove) -> Result<(), OutOfMemory> {
+        self.push(moved)?;
+        Ok(())
+    }
+}
+
+/// Notes a move where there is one.
+pub fn note_any<N: Notes>(moved: Option<LockMove>, notes: &mut N) -> Result<(), OutOfMemory>
+    ensures added { OnOk result (Adds (option_to_list moved) (N.noted notes.old) (N.noted notes.new)) }
+    ensures kept { OnErr result (N.noted notes.new ≡ N.noted notes.old) }
+{
+    match moved {
+        Some(moved) => notes.note(moved),
+        None => Ok(()),
+    }
+}
+
+/// Where a stack is that has started.
+#[derive(Clone, Copy, PartialEq, Eq)]
+pub enum Place {
+    /// It runs without an instance.
+    Free,
+    /// It waits for this instance.
+    Waits(u16),
+    /// It holds this instance.
+    Holds(u16),
+    /// It sleeps until this turn.
+    Asleep(u32),
+    /// Its first call has returned.
+    Done,
+}
+
+/// The two moves of a stack from one place to another, none where it stays.
+pub fn moves_between(stack: u16, from: Place, to: Place) -> Option<(LockMove, LockMove)>
+    ensures { IfSome result (λ moves. LetsGo stack moves.0 × Arrives stack moves.1) }
+{
+    if from == to {
+        return None;
+    }
+    Some((departure(stack, from), arrival(stack, to)?))
+}
+
+// How a stack lets go of its place.
+fn departure(stack: u16, from: Place) -> LockMove
+    ensures { LetsGo stack result }
+{
+    match from {
+        Place::Holds(instance) => LockMove::Release(stack, instance),
+        _ => LockMove::Leave(stack),
+    }
+}
+
+// How it finds another. No act gives a stack an instance.
+fn arrival(stack: u16, to: Place) -> Option<LockMove>
+    ensures { IfSome result (Arrives stack) }
+{
+    match to {
+        Place::Free => Some(LockMove::Free(stack)),
+        Place::Waits(instance) => Some(LockMove::Join(stack, instance)),
+        Place::Asleep(until) => Some(LockMove::Sleep(stack, until)),
+        Place::Done => Some(LockMove::Done(stack)),
+        Place::Holds(_) => None,
+    }
+}
