@@ -7,7 +7,7 @@ use Rattle.std.proofs.lemmas.Int.{ints}
 use Rattle.std.proofs.lemmas.List.Elements.{All-from_recursion, recursion_from_All, All-take, All-drop, All-contains}
 use Rattle.jump_patch.specs.Jumps.{Buffer, with_offset, nop, offset, without, removed}
 use Rattle.jump_patch.specs.Jumps as jumps
-use Rattle.jump_patch.specs.declared.kind.JumpKind.TheVariants.{Always}
+use Rattle.jump_patch.specs.declared.buffer.JumpKind.TheVariants.{Always}
 use Rattle.pex_values.specs.declared.debug.PexLines.{PexLines}
 use Rattle.pex_values.specs.declared.values.Datum.TheVariants.{Int}
 use Rattle.pex_values.specs.Opcodes.{operands_of}

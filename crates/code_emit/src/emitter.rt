@@ -76,11 +76,7 @@ fn user_flags(writer: &mut Writer<'_>) -> Result<Vec<(u16, u8)>, EmitFault>
 /// What stands behind the last `/` of a file's name.
 fn source_name(alloc: Global, file: &Text) -> Result<Text, OutOfMemory> {
     let name = file.as_bytes();
-    let mut start = 0;
-    for (at, byte) in name.iter().enumerate() {
-        if *byte == b'/' {
-            start = at + 1;
-        }
-    }
-    Text::try_from_bytes(alloc, &name[start..])
+    let last = name.iter().rposition(|byte| *byte == b'/');
+    let start = last.map_or(0, |at| at.saturating_add(1));
+    Text::try_from_bytes(alloc, name.get(start..).unwrap_or(name))
 }

@@ -1,43 +1,41 @@
 // Expressions: for each form a function that appends its code.
 #![tactic(auto, using(crate::proofs::Goes::going))]
 
-ghost use Rattle.std.specs.Prelude.{◌≡◌, ◌+◌, ◌≤◌, IfOk};
+ghost use Rattle.std.specs.Prelude.{◌≡◌, ℕ, ◌+◌, ◌≤◌, [], ◌∷◌, suc, pos, Some, true, length, IfOk, OnErr};
+ghost use Rattle.std.specs.List.{AllByRecursion};
+ghost use Rattle.jump_patch.specs.Jumps.{jump};
+ghost use Rattle.pex_values.specs.Opcodes.{operands_of};
+ghost use Rattle.pex_values.specs.Shape.{IsShapedDatum, IsShapedInstruction};
 ghost use Rattle.code_emit.specs.Operands.{needs};
-ghost use Rattle.code_emit.specs.Writing.{GoesOn, Takes};
+ghost use Rattle.code_emit.specs.Writing.{GoesOn, AreThere, Leaps, Takes};
 
-use crate::calls::{Called, call, global_names};
-use crate::conditions::either;
-use crate::faults::EmitFault;
+use crate::faults::{EmitFault, Result};
 use crate::forms::{contains_call, first_operand, spine, up_to_last_call};
 use crate::opcodes::{
-    ARRAY_CREATE, ARRAY_FINDELEMENT, ARRAY_GETELEMENT, ARRAY_LENGTH, ARRAY_RFINDELEMENT,
+    ARRAY_CREATE, ARRAY_FINDELEMENT, ARRAY_GETELEMENT, ARRAY_LENGTH, ARRAY_RFINDELEMENT, ASSIGN,
     CALL_METHOD, CALL_PARENT, CALL_STATIC, CAST, CMP_EQ, INEG, NOT, PROPGET, STRCAT, arith_opcode,
     order_opcode,
 };
 use crate::operand::Operand;
-use crate::strings::Numbered;
+use crate::strings::{Numbered, script_at};
 use crate::writer::Writer;
-use core_tree::{Core, CoreType, Value};
+use core_tree::{Core, CoreType, FunctionPlace, Value};
+use jump_patch::{Ahead, JumpKind};
 use papy_base::Name;
+use pex_values::Datum;
+use std::alloc::Global;
 
 /// How many may stand inside one more.
-pub(crate) fn one_deeper(depth: u16) -> Result<u16, EmitFault>
+pub(crate) fn one_deeper(depth: u16) -> Result<u16>
     ensures { IfOk result (λ inner. inner + 1 ≡ depth) }
 {
-    match depth.checked_sub(1) {
-        Some(inner) => Ok(inner),
-        None => Err(EmitFault::TooLarge),
-    }
+    depth.checked_sub(1).ok_or(EmitFault::TooLarge)
 }
 
 /// Appends the code of an expression, and gives the operand that has its value. `depth` counts operands behind the first
 /// one, so that a chain as `a + b + c` takes one level.
 #[cycle(expression)]
-pub(crate) fn value(
-    writer: &mut Writer<'_>,
-    expression: &Core,
-    depth: u16,
-) -> Result<Operand, EmitFault>
+pub(crate) fn value(writer: &mut Writer<'_>, expression: &Core, depth: u16) -> Result<Operand>
     ensures operand { IfOk result (λ operand. needs operand ≤ writer.new.strings) }
     ensures goes { GoesOn writer.old writer.new }
 {
@@ -59,7 +57,7 @@ pub(crate) fn value(
 
 // The value of a form without a first operand: one without operands, or a call without a target.
 #[cycle(expression)]
-fn leaf_value(writer: &mut Writer<'_>, form: &Core, depth: u16) -> Result<Operand, EmitFault>
+fn leaf_value(writer: &mut Writer<'_>, form: &Core, depth: u16) -> Result<Operand>
     ensures operand { IfOk result (λ operand. needs operand ≤ writer.new.strings) }
     ensures goes { GoesOn writer.old writer.new }
 {
@@ -76,12 +74,7 @@ fn leaf_value(writer: &mut Writer<'_>, form: &Core, depth: u16) -> Result<Operan
 
 // Appends the code of a form whose first operand, where it has one, is evaluated.
 #[cycle(expression)]
-fn form_value(
-    writer: &mut Writer<'_>,
-    form: &Core,
-    first: Operand,
-    depth: u16,
-) -> Result<Operand, EmitFault>
+fn form_value(writer: &mut Writer<'_>, form: &Core, first: Operand, depth: u16) -> Result<Operand>
     requires { needs first ≤ writer.old.strings }
     ensures operand { IfOk result (λ operand. needs operand ≤ writer.new.strings) }
     ensures goes { GoesOn writer.old writer.new }
@@ -103,33 +96,20 @@ fn form_value(
         Core::Or(_, right) => either(writer, true, first, right, depth),
         Core::Cast(to, _) => writer.compute(CAST, *to, first),
         Core::CallMethod { .. } => call_value(writer, form, first, depth),
-        Core::PropGet {
-            name,
-            result: kind,
-            ..
-        } => get_property(writer, first, name, *kind),
+        Core::PropGet { name, result, .. } => get_property(writer, first, name, *result),
         Core::Length(_) => writer.compute(ARRAY_LENGTH, CoreType::Int, first),
         Core::Element(_, index, kind) => {
             with_second(writer, ARRAY_GETELEMENT, *kind, first, index, depth)
         }
-        Core::Find(_, searched, start) => {
-            find(writer, ARRAY_FINDELEMENT, first, searched, start, depth)
-        }
-        Core::FindBack(_, searched, start) => {
-            find(writer, ARRAY_RFINDELEMENT, first, searched, start, depth)
-        }
+        Core::Find(_, of, start) => find(writer, ARRAY_FINDELEMENT, first, of, start, depth),
+        Core::FindBack(_, of, start) => find(writer, ARRAY_RFINDELEMENT, first, of, start, depth),
         _ => leaf_value(writer, form, depth),
     }
 }
 
 // Appends the code of a call whose target, where it has one, is evaluated.
 #[cycle(expression)]
-fn call_value(
-    writer: &mut Writer<'_>,
-    form: &Core,
-    target: Operand,
-    depth: u16,
-) -> Result<Operand, EmitFault>
+fn call_value(writer: &mut Writer<'_>, form: &Core, target: Operand, depth: u16) -> Result<Operand>
     requires { needs target ≤ writer.old.strings }
     ensures operand { IfOk result (λ operand. needs operand ≤ writer.new.strings) }
     ensures goes { GoesOn writer.old writer.new }
@@ -190,7 +170,7 @@ fn called_by(form: &Core) -> Option<Called<'_>> {
 }
 
 /// The operand of a value that the tree has written out.
-pub(crate) fn constant(writer: &mut Writer<'_>, value: &Value) -> Result<Operand, EmitFault>
+pub(crate) fn constant(writer: &mut Writer<'_>, value: &Value) -> Result<Operand>
     ensures operand { IfOk result (λ operand. needs operand ≤ writer.new.strings) }
     ensures goes { GoesOn writer.old writer.new }
 {
@@ -204,27 +184,23 @@ pub(crate) fn constant(writer: &mut Writer<'_>, value: &Value) -> Result<Operand
 }
 
 /// The variable of this number.
-pub(crate) fn field(writer: &mut Writer<'_>, number: u16) -> Result<Operand, EmitFault>
+pub(crate) fn field(writer: &mut Writer<'_>, number: u16) -> Result<Operand>
     ensures operand { IfOk result (λ operand. needs operand ≤ writer.new.strings) }
     ensures goes { GoesOn writer.old writer.new }
 {
     let (variable, name) = writer.variable(number)?;
-    Ok(Operand::Variable {
-        name,
-        kind: variable.kind,
-    })
+    let kind = variable.kind;
+    Ok(Operand::Variable { name, kind })
 }
 
 /// The name of the state.
-pub(crate) fn state_text(writer: &mut Writer<'_>) -> Result<Operand, EmitFault>
+pub(crate) fn state_text(writer: &mut Writer<'_>) -> Result<Operand>
     ensures operand { IfOk result (λ operand. needs operand ≤ writer.new.strings) }
     ensures goes { GoesOn writer.old writer.new }
 {
     let name = writer.string(b"::State")?;
-    Ok(Operand::Variable {
-        name,
-        kind: CoreType::Text,
-    })
+    let kind = CoreType::Text;
+    Ok(Operand::Variable { name, kind })
 }
 
 /// The operand of an expression. Where calls come before it is read, it keeps the value that it has now.
@@ -235,7 +211,7 @@ pub(crate) fn kept_value(
     expression: &Core,
     before_calls: bool,
     depth: u16,
-) -> Result<Operand, EmitFault>
+) -> Result<Operand>
     ensures operand { IfOk result (λ operand. needs operand ≤ writer.new.strings) }
     ensures goes { GoesOn writer.old writer.new }
 {
@@ -244,19 +220,14 @@ pub(crate) fn kept_value(
 }
 
 // The operand, with the value that it has before another expression is evaluated.
-fn kept_before(
-    writer: &mut Writer<'_>,
-    operand: Operand,
-    next: &Core,
-    depth: u16,
-) -> Result<Operand, EmitFault>
-    requires { needs operand ≤ writer.old.strings }
+fn kept_before(writer: &mut Writer<'_>, first: Operand, next: &Core, depth: u16) -> Result<Operand>
+    requires { needs first ≤ writer.old.strings }
     ensures operand { IfOk result (λ operand. needs operand ≤ writer.new.strings) }
     ensures goes { GoesOn writer.old writer.new }
 {
-    match operand {
-        Operand::Variable { .. } => writer.kept(operand, contains_call(next, depth)),
-        _ => Ok(operand),
+    match first {
+        Operand::Variable { .. } => writer.kept(first, contains_call(next, depth)),
+        _ => Ok(first),
     }
 }
 
@@ -268,7 +239,7 @@ fn with_second(
     first: Operand,
     second: &Core,
     depth: u16,
-) -> Result<Operand, EmitFault>
+) -> Result<Operand>
     requires opcode { Takes opcode 3 }
     requires first { needs first ≤ writer.old.strings }
     ensures operand { IfOk result (λ operand. needs operand ≤ writer.new.strings) }
@@ -287,7 +258,7 @@ fn find(
     searched: &Core,
     start: &Core,
     depth: u16,
-) -> Result<Operand, EmitFault>
+) -> Result<Operand>
     requires opcode { Takes opcode 4 }
     requires array { needs array ≤ writer.old.strings }
     ensures operand { IfOk result (λ operand. needs operand ≤ writer.new.strings) }
@@ -302,13 +273,11 @@ fn find(
     Ok(place)
 }
 
-fn new_array(writer: &mut Writer<'_>, kind: CoreType, count: u8) -> Result<Operand, EmitFault>
+fn new_array(writer: &mut Writer<'_>, kind: CoreType, count: u8) -> Result<Operand>
     ensures operand { IfOk result (λ operand. needs operand ≤ writer.new.strings) }
     ensures goes { GoesOn writer.old writer.new }
 {
-    let Some(array) = array_of(kind) else {
-        return Err(EmitFault::OutOfRange);
-    };
+    let array = array_of(kind).ok_or(EmitFault::OutOfRange)?;
     writer.compute(ARRAY_CREATE, array, Operand::Int(i32::from(count)))
 }
 
@@ -329,7 +298,7 @@ pub(crate) fn get_property(
     of: Operand,
     name: &Name,
     kind: CoreType,
-) -> Result<Operand, EmitFault>
+) -> Result<Operand>
     requires { needs of ≤ writer.old.strings }
     ensures operand { IfOk result (λ operand. needs operand ≤ writer.new.strings) }
     ensures goes { GoesOn writer.old writer.new }
@@ -337,4 +306,140 @@ pub(crate) fn get_property(
     let name = writer.string(name.as_bytes())?;
     let more = Vec::new(writer.alloc());
     writer.call(PROPGET, &[Operand::Word(name), of], Some(kind), more)
+}
+
+// ---- calls: the arguments in order of writing, each placed at its parameter
+
+/// What a call has besides what is called.
+#[derive(Clone, Copy)]
+struct Called<'a> {
+    arguments: &'a [Core],
+    places: &'a [u16],
+    kind: Option<CoreType>,
+}
+
+/// Appends the code of a call's arguments, and the call behind them. Its operands are evaluated.
+#[cycle(expression)]
+fn call(
+    writer: &mut Writer<'_>,
+    opcode: u8,
+    operands: &[Operand],
+    called: Called<'_>,
+    depth: u16,
+) -> Result<Operand>
+    requires opcode { operands_of opcode ≡ Some (suc (length operands.now), true) }
+    requires operands { AreThere writer.old.strings operands.now }
+    ensures operand { IfOk result (λ operand. needs operand ≤ writer.new.strings) }
+    ensures goes { GoesOn writer.old writer.new }
+{
+    let values = argument_values(writer, called.arguments, depth)?;
+    let more = placed(writer.alloc(), &values, called.places)?;
+    let given = writer.call(opcode, operands, called.kind, more)?;
+    writer.give_all_back(&values)?;
+    Ok(given)
+}
+
+// The operands of the arguments. Each keeps its value while those behind it are evaluated.
+#[cycle(expression)]
+fn argument_values(writer: &mut Writer<'_>, arguments: &[Core], depth: u16) -> Result<Vec<Operand>>
+    ensures operands { IfOk result (λ operands. AreThere writer.new.strings operands.items) }
+    ensures goes { GoesOn writer.old writer.new }
+{
+    let calling = up_to_last_call(arguments, depth);
+    let mut values = Vec::with_capacity(writer.alloc(), arguments.len())?;
+    for (place, argument) in arguments.iter().enumerate() {
+        let is_before = calling > 0 && place < calling - 1;
+        let kept = kept_value(writer, argument, is_before, depth)?;
+        values.push(kept)?;
+    }
+    Ok(values)
+}
+
+/// The names of the script and of a function of its empty state.
+fn global_names(writer: &mut Writer<'_>, at: FunctionPlace) -> Result<(Operand, Operand)>
+    ensures names { IfOk result (λ names. AreThere writer.new.strings (names.0 ∷ names.1 ∷ [])) }
+    ensures goes { GoesOn writer.old writer.new }
+{
+    let object = script_at(writer.scripts(), at.script)?;
+    let empty = object.states.first().ok_or(EmitFault::OutOfRange)?;
+    let found = empty.functions.get(usize::from(at.place));
+    let member = found.ok_or(EmitFault::OutOfRange)?;
+    let script = writer.numbered(Numbered::Type(Some(CoreType::Script(at.script))))?;
+    let function = writer.string(member.name.as_bytes())?;
+    Ok((Operand::Word(script), Operand::Word(function)))
+}
+
+// The operands in the order of their parameters.
+fn placed(alloc: Global, values: &[Operand], places: &[u16]) -> Result<Vec<Datum>>
+    ensures { IfOk result (λ found. (strings : ℕ) → AreThere strings values.now → AllByRecursion (IsShapedDatum strings) found.items) }
+{
+    if places.len() != values.len() {
+        return Err(EmitFault::OutOfRange);
+    }
+    let mut placed = vec![in alloc; Datum::NoneValue; values.len()]?;
+    for (at, operand) in values.iter().enumerate() {
+        let place = usize::from(places[at]);
+        if place >= placed.len() {
+            return Err(EmitFault::OutOfRange);
+        }
+        placed[place] = operand.datum();
+    }
+    Ok(placed)
+}
+
+// ---- And and Or, and the jumps of tests
+
+/// And, or where `decided` is true Or: the right side is evaluated where the left isn't `decided`.
+#[cycle(expression)]
+#[tactic(auto, using(crate::proofs::Landing::landing, crate::proofs::Goes::going))]
+fn either(
+    writer: &mut Writer<'_>,
+    decided: bool,
+    left: Operand,
+    right: &Core,
+    depth: u16,
+) -> Result<Operand>
+    requires { needs left ≤ writer.old.strings }
+    ensures operand { IfOk result (λ operand. needs operand ≤ writer.new.strings) }
+    ensures goes { GoesOn writer.old writer.new }
+{
+    let place = writer.take(CoreType::Bool)?;
+    writer.store(ASSIGN, place, left)?;
+    let over = writer.jump_ahead(jump_where(decided, place.datum()))?;
+    let stored = store_value(writer, place, right, depth);
+    writer.land(over);
+    stored?;
+    Ok(place)
+}
+
+fn jump_where(decided: bool, condition: Datum) -> JumpKind
+    ensures { (strings : ℕ) → IsShapedDatum strings condition → IsShapedInstruction strings (jump result (pos 0)) }
+{
+    if decided {
+        JumpKind::IfTrue(condition)
+    } else {
+        JumpKind::IfFalse(condition)
+    }
+}
+
+/// Appends the code of an expression, whose value goes to a variable.
+#[cycle(expression)]
+pub(crate) fn store_value(writer: &mut Writer<'_>, to: Operand, of: &Core, depth: u16) -> Result<()>
+    requires { needs to ≤ writer.old.strings }
+    ensures { GoesOn writer.old writer.new }
+{
+    let of = value(writer, of, depth)?;
+    writer.store(ASSIGN, to, of)
+}
+
+/// Appends the code of a test, and a jump where it doesn't hold.
+#[tactic(auto, using(crate::proofs::Goes::leaping))]
+pub(crate) fn jump_unless(writer: &mut Writer<'_>, test: &Core, depth: u16) -> Result<Ahead>
+    ensures leaps { IfOk result (λ ahead. Leaps writer.old ahead writer.new) }
+    ensures err { OnErr result (GoesOn writer.old writer.new) }
+{
+    let test = value(writer, test, depth)?;
+    writer.give_back(test)?;
+    let over = writer.jump_ahead(jump_where(false, test.datum()))?;
+    Ok(over)
 }

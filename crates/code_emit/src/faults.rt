@@ -5,6 +5,9 @@ use papy_base::OutOfMemory;
 use std::alloc::{AllocError, AllocFailed};
 use thiserror::Error;
 
+/// What is found or written, unless it can't be.
+pub(crate) type Result<T> = std::result::Result<T, EmitFault>;
+
 /// Why a set of scripts has no files. No set of accepted scripts is known that meets any but the last.
 #[derive(Clone, Copy, Debug, PartialEq, Eq, Error)]
 pub enum EmitFault {

@@ -1,5 +1,5 @@
 // The first operands of expressions, and which expressions contain calls.
-use crate::faults::EmitFault;
+use crate::faults::{EmitFault, Result};
 use core_tree::Core;
 use std::alloc::Global;
 
@@ -31,7 +31,7 @@ pub(crate) fn first_operand(form: &Core) -> Option<&Core> {
 
 /// The expression, its first operand, that one's first operand and so on, down to a form without operands or a call
 /// without a target.
-pub(crate) fn spine<'a>(alloc: Global, expression: &'a Core) -> Result<Vec<&'a Core>, EmitFault> {
+pub(crate) fn spine<'a>(alloc: Global, expression: &'a Core) -> Result<Vec<&'a Core>> {
     let mut forms = Vec::new(alloc);
     let mut form = expression;
     for _ in 0..MOST_FORMS {
@@ -79,11 +79,6 @@ pub(crate) fn contains_call(expression: &Core, depth: u16) -> bool {
 
 /// How many of a call's arguments stand up to the last that contains a call, itself counted.
 pub(crate) fn up_to_last_call(arguments: &[Core], depth: u16) -> usize {
-    let mut count = 0;
-    for (place, argument) in arguments.iter().enumerate() {
-        if contains_call(argument, depth) {
-            count = place + 1;
-        }
-    }
-    count
+    let last = arguments.iter().rposition(|of| contains_call(of, depth));
+    last.map_or(0, |last| last.saturating_add(1))
 }

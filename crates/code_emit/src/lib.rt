@@ -3,22 +3,15 @@
 //! The format is that of UESP's page "Skyrim Mod:File Formats/PEX" (Compiled Script File).
 #![tactic(auto)]
 
-mod bits;
-mod calls;
-mod changes;
-mod conditions;
 mod emitter;
 mod expressions;
 mod faults;
 mod forms;
-mod functions;
 mod objects;
 mod opcodes;
 mod operand;
 mod statements;
 mod strings;
-mod temporaries;
-mod type_names;
 mod writer;
 
 pub use emitter::{PRELUDE_COUNT, emit};

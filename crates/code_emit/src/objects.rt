@@ -8,13 +8,11 @@ ghost use Rattle.pex_values.specs.Plain.{plain_function, plain_named, plain_prop
 ghost use Rattle.pex_values.specs.Shape.{IsShapedFunction, IsShapedNamed, IsShapedVariable, IsShapedProperty, IsShapedState, IsShapedObject};
 ghost use Rattle.code_emit.specs.Writing.{GoesOn, Advances};
 
-use crate::bits::flag_bits;
 use crate::expressions::constant;
-use crate::faults::EmitFault;
-use crate::functions::{DebugName, function};
-use crate::strings::Numbered;
-use crate::type_names::script_name;
-use crate::writer::Writer;
+use crate::faults::Result;
+use crate::statements::block;
+use crate::strings::{Numbered, script_at};
+use crate::writer::{Writer, flag_bits};
 use core_tree::{CoreAccess, CoreFunction, CoreProperty, CoreState, CoreVariable};
 use pex_values::{PexFunction, PexObject, PexProperty, PexState, PexVariable, SizeForm};
 
@@ -28,16 +26,20 @@ const WRITE: u8 = 2;
 /// The bits of an auto property.
 const AUTO_BITS: u8 = 7;
 
+/// How many expressions and statements may stand inside each other, first operands not counted. Those of an accepted
+/// script are fewer: 64 blocks, and 64 brackets with five operands behind the first in each.
+const MOST_NESTED: u16 = 1_000;
+
 /// What the file has of the writer's script.
-pub(crate) fn object(writer: &mut Writer<'_>) -> Result<PexObject, EmitFault>
+pub(crate) fn object(writer: &mut Writer<'_>) -> Result<PexObject>
     requires { writer.old.ahead ≡ [] }
     ensures object { IfOk result (λ o. IsShapedObject writer.new.strings (plain_object o)) }
     ensures advances { Advances writer.old writer.new }
 {
     let script = writer.script();
-    let name = writer.new_name(Numbered::Script)?;
+    let name = writer.string(script.name.as_bytes())?;
     let parent_name: &[u8] = match script.parent {
-        Some(number) => script_name(writer.scripts(), number)?,
+        Some(number) => script_at(writer.scripts(), number)?.name.as_bytes(),
         None => b"",
     };
     let parent = writer.string(parent_name)?;
@@ -63,10 +65,7 @@ pub(crate) fn object(writer: &mut Writer<'_>) -> Result<PexObject, EmitFault>
     })
 }
 
-fn variables(
-    writer: &mut Writer<'_>,
-    variables: &[CoreVariable],
-) -> Result<Vec<PexVariable>, EmitFault>
+fn variables(writer: &mut Writer<'_>, variables: &[CoreVariable]) -> Result<Vec<PexVariable>>
     ensures variables { IfOk result (λ found. AllByRecursion (IsShapedVariable writer.new.strings) found.items) }
     ensures goes { GoesOn writer.old writer.new }
 {
@@ -78,12 +77,12 @@ fn variables(
     Ok(found)
 }
 
-fn one_variable(writer: &mut Writer<'_>, variable: &CoreVariable) -> Result<PexVariable, EmitFault>
+fn one_variable(writer: &mut Writer<'_>, variable: &CoreVariable) -> Result<PexVariable>
     ensures variable { IfOk result (IsShapedVariable writer.new.strings) }
     ensures goes { GoesOn writer.old writer.new }
 {
     let name = writer.string(variable.name.as_bytes())?;
-    let kind = writer.type_name(Some(variable.kind))?;
+    let kind = writer.numbered(Numbered::Type(Some(variable.kind)))?;
     let value = constant(writer, &variable.value)?;
     Ok(PexVariable {
         name,
@@ -93,10 +92,7 @@ fn one_variable(writer: &mut Writer<'_>, variable: &CoreVariable) -> Result<PexV
     })
 }
 
-fn properties(
-    writer: &mut Writer<'_>,
-    properties: &[CoreProperty],
-) -> Result<Vec<PexProperty>, EmitFault>
+fn properties(writer: &mut Writer<'_>, properties: &[CoreProperty]) -> Result<Vec<PexProperty>>
     requires { writer.old.ahead ≡ [] }
     ensures properties { IfOk result (λ found. AllByRecursion (IsShapedProperty writer.new.strings) (map plain_property found.items)) }
     ensures advances { Advances writer.old writer.new }
@@ -109,13 +105,13 @@ fn properties(
     Ok(found)
 }
 
-fn one_property(writer: &mut Writer<'_>, property: &CoreProperty) -> Result<PexProperty, EmitFault>
+fn one_property(writer: &mut Writer<'_>, property: &CoreProperty) -> Result<PexProperty>
     requires { writer.old.ahead ≡ [] }
     ensures property { IfOk result (λ p. IsShapedProperty writer.new.strings (plain_property p)) }
     ensures advances { Advances writer.old writer.new }
 {
     let name = writer.string(property.name.as_bytes())?;
-    let kind = writer.type_name(Some(property.kind))?;
+    let kind = writer.numbered(Numbered::Type(Some(property.kind)))?;
     let doc = writer.text(&property.doc)?;
     match &property.access {
         CoreAccess::Auto(variable) => {
@@ -167,7 +163,7 @@ fn accessor(
     property: &CoreProperty,
     found: &Option<CoreFunction>,
     kind: u8,
-) -> Result<Option<PexFunction>, EmitFault>
+) -> Result<Option<PexFunction>>
     requires { writer.old.ahead ≡ [] }
     ensures accessor { IfOk result (λ f. IfSome (option_map plain_function f) (IsShapedFunction writer.new.strings)) }
     ensures advances { Advances writer.old writer.new }
@@ -175,15 +171,12 @@ fn accessor(
     let Some(found) = found else {
         return Ok(None);
     };
-    let place = DebugName {
-        state: b"",
-        name: property.name.as_bytes(),
-        kind,
-    };
-    Ok(Some(function(writer, found, place)?))
+    let state: &[u8] = b"";
+    let name = property.name.as_bytes();
+    Ok(Some(function(writer, found, DebugName { state, name, kind })?))
 }
 
-fn states(writer: &mut Writer<'_>, states: &[CoreState]) -> Result<Vec<PexState>, EmitFault>
+fn states(writer: &mut Writer<'_>, states: &[CoreState]) -> Result<Vec<PexState>>
     requires { writer.old.ahead ≡ [] }
     ensures states { IfOk result (λ found. AllByRecursion (IsShapedState writer.new.strings) (map plain_state found.items)) }
     ensures advances { Advances writer.old writer.new }
@@ -196,7 +189,7 @@ fn states(writer: &mut Writer<'_>, states: &[CoreState]) -> Result<Vec<PexState>
     Ok(found)
 }
 
-fn one_state(writer: &mut Writer<'_>, state: &CoreState) -> Result<PexState, EmitFault>
+fn one_state(writer: &mut Writer<'_>, state: &CoreState) -> Result<PexState>
     requires { writer.old.ahead ≡ [] }
     ensures state { IfOk result (λ s. IsShapedState writer.new.strings (plain_state s)) }
     ensures advances { Advances writer.old writer.new }
@@ -210,7 +203,7 @@ fn state_functions(
     writer: &mut Writer<'_>,
     state: &[u8],
     functions: &[CoreFunction],
-) -> Result<Vec<(u16, PexFunction)>, EmitFault>
+) -> Result<Vec<(u16, PexFunction)>>
     requires { writer.old.ahead ≡ [] }
     ensures functions { IfOk result (λ found. AllByRecursion (IsShapedNamed writer.new.strings) (map plain_named found.items)) }
     ensures advances { Advances writer.old writer.new }
@@ -227,4 +220,30 @@ fn state_functions(
         found.push((name, written))?;
     }
     Ok(found)
+}
+
+/// Where a function stands: the name of its state, its own name, and what its debug entry has as its kind.
+#[derive(Clone, Copy)]
+pub(crate) struct DebugName<'a> {
+    pub state: &'a [u8],
+    pub name: &'a [u8],
+    pub kind: u8,
+}
+
+/// What the file has of a function. A function with a body gets its debug entry.
+fn function(writer: &mut Writer<'_>, of: &CoreFunction, place: DebugName<'_>) -> Result<PexFunction>
+    requires { writer.old.ahead ≡ [] }
+    ensures function { IfOk result (λ f. IsShapedFunction writer.new.strings (plain_function f)) }
+    ensures advances { Advances writer.old writer.new }
+{
+    writer.begin(of)?;
+    block(writer, &of.body, MOST_NESTED)?;
+    let kind = writer.numbered(Numbered::Type(of.result))?;
+    let doc = writer.text(&of.doc)?;
+    let (written, lines) = writer.end(of, kind, doc)?;
+    if of.is_native {
+        return Ok(written);
+    }
+    writer.note_lines(place, lines)?;
+    Ok(written)
 }

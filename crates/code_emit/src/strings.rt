@@ -1,13 +1,12 @@
-// The strings of a file, each once, in order of first use.
+// The strings of a file, each once, in order of first use, and the names of types.
 ghost use Rattle.std.specs.Prelude.{◌≡◌, ◌<◌, ◌≤◌, ◌^◌, [], length, map, IfOk, IfSome, OnOk};
 ghost use Rattle.pex_values.specs.Shape.{IsReference};
 ghost use Rattle.code_emit.specs.Strings.{with_string};
 
-use crate::faults::EmitFault;
-use crate::type_names::type_number;
-use core_tree::CoreType;
+use crate::faults::{EmitFault, Result};
+use core_tree::{CoreScript, CoreSet, CoreType};
 use indexmap::IndexSet;
-use papy_base::{OutOfMemory, Text};
+use papy_base::Text;
 use std::alloc::Global;
 use std::marker::Model;
 
@@ -23,14 +22,8 @@ pub(crate) enum Numbered {
     Variable(u16),
     /// A parameter or a local of any function, temporaries counted.
     Local(u16),
-    /// The name of the script whose file it is.
-    Script,
-    /// The empty text.
-    Empty,
     /// `self`
     OwnInstance,
-    /// `::NoneVar`
-    NoneVariable,
 }
 
 /// The strings so far. Contracts see them as a list, in which none stands twice.
@@ -66,7 +59,7 @@ impl Strings {
     }
 
     /// The place of this string, which is added where it isn't there.
-    pub(crate) fn place_of(&mut self, string: &[u8]) -> Result<u16, EmitFault>
+    pub(crate) fn place_of(&mut self, string: &[u8]) -> Result<u16>
         ensures added { OnOk result (self.new ≡ with_string self.old string.now) }
         ensures place { IfOk result (IsReference (length self.new)) }
         ensures grows { length self.old ≤ length self.new }
@@ -89,7 +82,7 @@ impl Strings {
     }
 
     /// Notes the place of a numbered name.
-    pub(crate) fn note(&mut self, name: Numbered, place: u16) -> Result<(), OutOfMemory>
+    pub(crate) fn note(&mut self, name: Numbered, place: u16) -> Result<()>
         requires { IsReference (length self.old) place }
         ensures { self.new ≡ self.old }
     {
@@ -102,29 +95,26 @@ impl Strings {
     }
 
     /// The strings as texts, in their order.
-    pub(crate) fn texts(&self) -> Result<Vec<Text>, OutOfMemory>
+    pub(crate) fn texts(&self) -> Result<Vec<Text>>
         ensures { IfOk result (λ texts. texts.items ≡ self.now) }
     {
         texts_of(self.alloc, self.numbers.as_slice())
     }
 }
 
-// Where the place of a name is noted: behind those without a number of their own the kinds take turns.
+// Where the place of a name is noted: behind that without a number of its own the kinds take turns.
 fn slot(name: Numbered) -> usize
     ensures { result < 2 ^ 35 }
 {
     match name {
-        Numbered::Script => 0,
-        Numbered::Empty => 1,
-        Numbered::OwnInstance => 2,
-        Numbered::NoneVariable => 3,
-        Numbered::Type(kind) => 3 * type_number(kind) as usize + 4,
-        Numbered::Variable(number) => 3 * usize::from(number) + 5,
-        Numbered::Local(number) => 3 * usize::from(number) + 6,
+        Numbered::OwnInstance => 0,
+        Numbered::Type(kind) => 3 * type_number(kind) as usize + 1,
+        Numbered::Variable(number) => 3 * usize::from(number) + 2,
+        Numbered::Local(number) => 3 * usize::from(number) + 3,
     }
 }
 
-fn texts_of(alloc: Global, strings: &[Vec<u8>]) -> Result<Vec<Text>, OutOfMemory>
+fn texts_of(alloc: Global, strings: &[Vec<u8>]) -> Result<Vec<Text>>
     ensures { IfOk result (λ texts. texts.items ≡ map (λ string. string.items) strings.now) }
 {
     let mut texts = Vec::with_capacity(alloc, strings.len())?;
@@ -132,4 +122,67 @@ fn texts_of(alloc: Global, strings: &[Vec<u8>]) -> Result<Vec<Text>, OutOfMemory
         texts.push(Text::try_from_bytes(alloc, string.as_slice())?)?;
     }
     Ok(texts)
+}
+
+/// The name as bytes.
+pub(crate) fn name_bytes(
+    alloc: Global,
+    set: &CoreSet,
+    script: &CoreScript,
+    name: Numbered,
+) -> Result<Vec<u8>> {
+    let bytes: &[u8] = match name {
+        Numbered::Type(kind) => return type_name(alloc, &set.scripts, kind),
+        Numbered::Local(number) => return Ok(format!(in alloc; "::temp{number}")?.into_bytes()),
+        Numbered::Variable(number) => {
+            let variable = script.variables.get(usize::from(number));
+            variable.ok_or(EmitFault::OutOfRange)?.name.as_bytes()
+        }
+        Numbered::OwnInstance => b"self",
+    };
+    Ok(bytes.to_vec(alloc)?)
+}
+
+/// Each type has a number of its own.
+fn type_number(kind: Option<CoreType>) -> u32 {
+    match kind {
+        None => 0,
+        Some(CoreType::Int) => 1,
+        Some(CoreType::Bool) => 2,
+        Some(CoreType::Text) => 3,
+        Some(CoreType::IntArray) => 4,
+        Some(CoreType::BoolArray) => 5,
+        Some(CoreType::TextArray) => 6,
+        Some(CoreType::Script(number)) => 7 + 2 * u32::from(number),
+        Some(CoreType::ScriptArray(number)) => 8 + 2 * u32::from(number),
+    }
+}
+
+/// The name of a type. That of an array ends with `[]` behind the name of its elements' type.
+fn type_name(alloc: Global, scripts: &[CoreScript], kind: Option<CoreType>) -> Result<Vec<u8>> {
+    let name: &[u8] = match kind {
+        None => b"None",
+        Some(CoreType::Int) => b"Int",
+        Some(CoreType::Bool) => b"Bool",
+        Some(CoreType::Text) => b"String",
+        Some(CoreType::IntArray) => b"Int[]",
+        Some(CoreType::BoolArray) => b"Bool[]",
+        Some(CoreType::TextArray) => b"String[]",
+        Some(CoreType::Script(number)) => script_at(scripts, number)?.name.as_bytes(),
+        Some(CoreType::ScriptArray(number)) => return array_name(alloc, scripts, number),
+    };
+    Ok(name.to_vec(alloc)?)
+}
+
+fn array_name(alloc: Global, scripts: &[CoreScript], number: u16) -> Result<Vec<u8>> {
+    let script = script_at(scripts, number)?;
+    let mut name = script.name.as_bytes().to_vec(alloc)?;
+    name.extend_from_slice(b"[]")?;
+    Ok(name)
+}
+
+/// The script of this number.
+pub(crate) fn script_at(scripts: &[CoreScript], number: u16) -> Result<&CoreScript> {
+    let script = scripts.get(usize::from(number));
+    script.ok_or(EmitFault::OutOfRange)
 }

@@ -1,23 +1,21 @@
 // What is written of a file: its strings and debug entries, and the function that is being written.
 #![tactic(auto, using(crate::proofs::Goes::going))]
 
-ghost use Rattle.std.specs.Prelude.{◌≡◌, ℕ, ◌<◌, ◌≤◌, ◌^◌, [], pos, length, suc, map, vec_len, IfOk, IfSome, OnErr, Contains};
+ghost use Rattle.std.specs.Prelude.{◌≡◌, ℕ, ◌<◌, ◌≤◌, ◌^◌, ◌==◌, [], pos, length, suc, map, position, vec_len, IfOk, IfSome, OnErr, Contains};
 ghost use Rattle.std.specs.List.{AllByRecursion};
 ghost use Rattle.jump_patch.specs.Jumps.{jump};
 ghost use Rattle.pex_values.specs.Opcodes.{operands_of};
 ghost use Rattle.pex_values.specs.Plain.{plain_function, plain_instruction, plain_lines};
 ghost use Rattle.pex_values.specs.Shape.{ArePair, IsReference, AgreesWith, IsShapedDatum, IsShapedFunction, IsShapedInstruction, IsShapedLines};
 ghost use Rattle.code_emit.specs.Operands.{needs};
+ghost use Rattle.code_emit.specs.Temporaries.{TakenFrom};
 ghost use Rattle.code_emit.specs.Writing.{GoesOn, Leaps, AreThere, Takes, landed};
 
-use crate::bits::{flag_bits, function_bits};
-use crate::faults::EmitFault;
-use crate::functions::DebugName;
+use crate::faults::{EmitFault, Result};
+use crate::objects::DebugName;
 use crate::opcodes::ASSIGN;
 use crate::operand::{Operand, data};
-use crate::strings::{Numbered, Strings};
-use crate::temporaries::FreeTemporaries;
-use crate::type_names::type_name;
+use crate::strings::{Numbered, Strings, name_bytes};
 use core_tree::{CoreFunction, CoreScript, CoreSet, CoreType, CoreVariable};
 use jump_patch::{Ahead, Code, CodeBuffer, JumpKind, Mark};
 use papy_base::Text;
@@ -30,6 +28,11 @@ const MOST_INSTRUCTIONS: usize = 65_535;
 
 /// The most parameters and locals of a function, temporaries counted.
 const MOST_VARIABLES: usize = 8_192;
+
+/// The bits of a function.
+const GLOBAL: u8 = 1;
+
+const NATIVE: u8 = 2;
 
 /// Contracts see how many strings there are, how many instructions the function has so far, and the places of its jumps
 /// that haven't landed.
@@ -49,7 +52,8 @@ pub(crate) struct Writer<'a> {
     variables: Vec<(u16, u16)>,
     // How many of them the function's tree numbers.
     numbered: usize,
-    spare: FreeTemporaries,
+    // Temporaries that are read and may be used again, each by the places of its type's name and of its own.
+    spare: Vec<(u16, u16)>,
     none_variable: Option<u16>,
 }
 
@@ -61,7 +65,7 @@ impl<'a> Model for Writer<'a> {
 
     ghost view = { λ w. record { strings = length w.strings; count = w.count; ahead = w.code.ahead } };
 
-    ghost invariant = { λ w. IsWriting (length w.strings) w.count w.code w.debug.items w.variables.items w.spare w.none_variable };
+    ghost invariant = { λ w. IsWriting (length w.strings) w.count w.code w.debug.items w.variables.items w.spare.items w.none_variable };
 }
 
 impl<'a> Writer<'a> {
@@ -80,7 +84,7 @@ impl<'a> Writer<'a> {
             line: 0,
             variables: Vec::new(alloc),
             numbered: 0,
-            spare: FreeTemporaries::new(alloc),
+            spare: Vec::new(alloc),
             none_variable: None,
         }
     }
@@ -101,18 +105,15 @@ impl<'a> Writer<'a> {
     }
 
     /// The place of a string in the file's table.
-    pub(crate) fn string(&mut self, string: &[u8]) -> Result<u16, EmitFault>
+    pub(crate) fn string(&mut self, string: &[u8]) -> Result<u16>
         ensures place { IfOk result (IsReference self.new.strings) }
         ensures goes { GoesOn self.old self.new }
     {
-        if string.is_empty() {
-            return self.numbered(Numbered::Empty);
-        }
         self.strings.place_of(string)
     }
 
     /// The place of a text that may be missing, which is then the empty one.
-    pub(crate) fn text(&mut self, text: &Option<Text>) -> Result<u16, EmitFault>
+    pub(crate) fn text(&mut self, text: &Option<Text>) -> Result<u16>
         ensures place { IfOk result (IsReference self.new.strings) }
         ensures goes { GoesOn self.old self.new }
     {
@@ -122,18 +123,9 @@ impl<'a> Writer<'a> {
         }
     }
 
-    /// The place of the name of a type, as of a result or a local. Without a type it is `None`.
-    #[inline(always)]
-    pub(crate) fn type_name(&mut self, kind: Option<CoreType>) -> Result<u16, EmitFault>
-        ensures place { IfOk result (IsReference self.new.strings) }
-        ensures goes { GoesOn self.old self.new }
-    {
-        self.numbered(Numbered::Type(kind))
-    }
-
     /// The place of a name that is known by its number once it was looked up.
     #[inline(always)]
-    pub(crate) fn numbered(&mut self, name: Numbered) -> Result<u16, EmitFault>
+    pub(crate) fn numbered(&mut self, name: Numbered) -> Result<u16>
         ensures place { IfOk result (IsReference self.new.strings) }
         ensures goes { GoesOn self.old self.new }
     {
@@ -145,7 +137,7 @@ impl<'a> Writer<'a> {
 
     /// The place of a name that wasn't looked up before.
     #[inline(never)]
-    pub(crate) fn new_name(&mut self, name: Numbered) -> Result<u16, EmitFault>
+    fn new_name(&mut self, name: Numbered) -> Result<u16>
         ensures place { IfOk result (IsReference self.new.strings) }
         ensures goes { GoesOn self.old self.new }
     {
@@ -156,13 +148,12 @@ impl<'a> Writer<'a> {
     }
 
     /// The variable of this number, and the place of its name.
-    pub(crate) fn variable(&mut self, number: u16) -> Result<(&'a CoreVariable, u16), EmitFault>
+    pub(crate) fn variable(&mut self, number: u16) -> Result<(&'a CoreVariable, u16)>
         ensures place { IfOk result (λ found. IsReference self.new.strings found.1) }
         ensures goes { GoesOn self.old self.new }
     {
-        let Some(variable) = self.script.variables.get(usize::from(number)) else {
-            return Err(EmitFault::OutOfRange);
-        };
+        let found = self.script.variables.get(usize::from(number));
+        let variable = found.ok_or(EmitFault::OutOfRange)?;
         let place = self.numbered(Numbered::Variable(number))?;
         Ok((variable, place))
     }
@@ -175,7 +166,7 @@ impl<'a> Writer<'a> {
     }
 
     /// The name of a parameter or a local of the function, by its number.
-    pub(crate) fn local(&self, number: u16) -> Result<u16, EmitFault>
+    pub(crate) fn local(&self, number: u16) -> Result<u16>
         ensures { IfOk result (λ name. name < self.now.strings) }
     {
         let number = usize::from(number);
@@ -185,7 +176,7 @@ impl<'a> Writer<'a> {
         name_at(&self.variables, number)
     }
 
-    fn next_name(&mut self) -> Result<u16, EmitFault>
+    fn next_name(&mut self) -> Result<u16>
         ensures place { IfOk result (IsReference self.new.strings) }
         ensures goes { GoesOn self.old self.new }
     {
@@ -197,7 +188,7 @@ impl<'a> Writer<'a> {
     }
 
     /// Begins a function.
-    pub(crate) fn begin(&mut self, function: &CoreFunction) -> Result<(), EmitFault>
+    pub(crate) fn begin(&mut self, function: &CoreFunction) -> Result<()>
         ensures { GoesOn self.old self.new }
     {
         self.begin_parameters(&function.parameters)?;
@@ -206,29 +197,29 @@ impl<'a> Writer<'a> {
         Ok(())
     }
 
-    fn begin_parameters(&mut self, kinds: &[CoreType]) -> Result<(), EmitFault>
+    fn begin_parameters(&mut self, kinds: &[CoreType]) -> Result<()>
         ensures { GoesOn self.old self.new }
     {
         for kind in kinds {
             let name = self.next_name()?;
-            let kind = self.type_name(Some(*kind))?;
+            let kind = self.numbered(Numbered::Type(Some(*kind)))?;
             self.add_variable(name, kind)?;
         }
         Ok(())
     }
 
-    fn begin_locals(&mut self, kinds: &[CoreType]) -> Result<(), EmitFault>
+    fn begin_locals(&mut self, kinds: &[CoreType]) -> Result<()>
         ensures { GoesOn self.old self.new }
     {
         for kind in kinds {
-            let kind = self.type_name(Some(*kind))?;
+            let kind = self.numbered(Numbered::Type(Some(*kind)))?;
             self.new_local(kind)?;
         }
         Ok(())
     }
 
     #[inline(never)]
-    fn new_local(&mut self, kind: u16) -> Result<u16, EmitFault>
+    fn new_local(&mut self, kind: u16) -> Result<u16>
         requires { IsReference self.old.strings kind }
         ensures name { IfOk result (λ name. name < self.new.strings) }
         ensures goes { GoesOn self.old self.new }
@@ -238,7 +229,7 @@ impl<'a> Writer<'a> {
         Ok(name)
     }
 
-    fn add_variable(&mut self, name: u16, kind: u16) -> Result<(), EmitFault>
+    fn add_variable(&mut self, name: u16, kind: u16) -> Result<()>
         requires name { IsReference self.old.strings name }
         requires kind { IsReference self.old.strings kind }
         ensures { self.new ≡ self.old }
@@ -248,11 +239,11 @@ impl<'a> Writer<'a> {
     }
 
     /// A temporary of this type that isn't still to be read.
-    pub(crate) fn take(&mut self, kind: CoreType) -> Result<Operand, EmitFault>
+    pub(crate) fn take(&mut self, kind: CoreType) -> Result<Operand>
         ensures operand { IfOk result (λ operand. needs operand ≤ self.new.strings) }
         ensures goes { GoesOn self.old self.new }
     {
-        let kind = self.type_name(Some(kind))?;
+        let kind = self.numbered(Numbered::Type(Some(kind)))?;
         let name = match self.take_spare(kind) {
             Some(name) => name,
             None => self.new_local(kind)?,
@@ -264,24 +255,24 @@ impl<'a> Writer<'a> {
         ensures name { IfSome result (λ name. name < self.new.strings) }
         ensures same { self.new ≡ self.old }
     {
-        self.spare.take(kind)
+        take_free(&mut self.spare, kind)
     }
 
     /// The variable for what a function without result gives.
-    pub(crate) fn none_variable(&mut self) -> Result<u16, EmitFault>
+    pub(crate) fn none_variable(&mut self) -> Result<u16>
         ensures name { IfOk result (λ name. name < self.new.strings) }
         ensures goes { GoesOn self.old self.new }
     {
         if let Some(name) = self.none_variable {
             return Ok(name);
         }
-        let name = self.numbered(Numbered::NoneVariable)?;
-        let kind = self.type_name(None)?;
+        let name = self.string(b"::NoneVar")?;
+        let kind = self.numbered(Numbered::Type(None))?;
         self.add_none(name, kind)?;
         Ok(name)
     }
 
-    fn add_none(&mut self, name: u16, kind: u16) -> Result<(), EmitFault>
+    fn add_none(&mut self, name: u16, kind: u16) -> Result<()>
         requires name { IsReference self.old.strings name }
         requires kind { IsReference self.old.strings kind }
         ensures { self.new ≡ self.old }
@@ -292,7 +283,7 @@ impl<'a> Writer<'a> {
     }
 
     #[inline(always)]
-    fn add(&mut self, instruction: Instruction) -> Result<(), EmitFault>
+    fn add(&mut self, instruction: Instruction) -> Result<()>
         requires { IsShapedInstruction self.old.strings (plain_instruction instruction) }
         ensures { GoesOn self.old self.new }
     {
@@ -312,7 +303,7 @@ impl<'a> Writer<'a> {
         fixed: Vec<Datum>,
         more: Vec<Datum>,
         read: &[Operand],
-    ) -> Result<(), EmitFault>
+    ) -> Result<()>
         requires agrees { AgreesWith (operands_of opcode) (length fixed.items) (length more.items) }
         requires fixed { AllByRecursion (IsShapedDatum self.old.strings) fixed.items }
         requires more { AllByRecursion (IsShapedDatum self.old.strings) more.items }
@@ -328,19 +319,19 @@ impl<'a> Writer<'a> {
     }
 
     /// Gives a temporary back that is read no more.
-    pub(crate) fn give_back(&mut self, operand: Operand) -> Result<(), EmitFault>
+    pub(crate) fn give_back(&mut self, operand: Operand) -> Result<()>
         requires { needs operand ≤ self.old.strings }
         ensures { self.new ≡ self.old }
     {
         if let Operand::Temporary { name, kind } = operand {
-            self.spare.give_back(kind, name)?;
+            self.spare.push((kind, name))?;
         }
         Ok(())
     }
 
     /// Gives back the temporaries among operands that are read no more.
     #[inline(always)]
-    pub(crate) fn give_all_back(&mut self, operands: &[Operand]) -> Result<(), EmitFault>
+    pub(crate) fn give_all_back(&mut self, operands: &[Operand]) -> Result<()>
         requires { AreThere self.old.strings operands.now }
         ensures { self.new ≡ self.old }
     {
@@ -351,7 +342,7 @@ impl<'a> Writer<'a> {
     }
 
     /// Writes an instruction without a result, and gives back the temporaries that it reads.
-    pub(crate) fn act(&mut self, opcode: u8, operands: &[Operand]) -> Result<(), EmitFault>
+    pub(crate) fn act(&mut self, opcode: u8, operands: &[Operand]) -> Result<()>
         requires opcode { Takes opcode (length operands.now) }
         requires operands { AreThere self.old.strings operands.now }
         ensures { GoesOn self.old self.new }
@@ -362,12 +353,7 @@ impl<'a> Writer<'a> {
     }
 
     /// Writes an instruction whose result stands before its operand, and gives that back where it is a temporary.
-    pub(crate) fn compute(
-        &mut self,
-        opcode: u8,
-        kind: CoreType,
-        of: Operand,
-    ) -> Result<Operand, EmitFault>
+    pub(crate) fn compute(&mut self, opcode: u8, kind: CoreType, of: Operand) -> Result<Operand>
         requires opcode { Takes opcode 2 }
         requires of { needs of ≤ self.old.strings }
         ensures operand { IfOk result (λ operand. needs operand ≤ self.new.strings) }
@@ -379,7 +365,7 @@ impl<'a> Writer<'a> {
     }
 
     /// As `compute`, into a variable that is there.
-    pub(crate) fn store(&mut self, opcode: u8, place: Operand, of: Operand) -> Result<(), EmitFault>
+    pub(crate) fn store(&mut self, opcode: u8, place: Operand, of: Operand) -> Result<()>
         requires opcode { Takes opcode 2 }
         requires place { needs place ≤ self.old.strings }
         requires of { needs of ≤ self.old.strings }
@@ -397,7 +383,7 @@ impl<'a> Writer<'a> {
         kind: CoreType,
         left: Operand,
         right: Operand,
-    ) -> Result<Operand, EmitFault>
+    ) -> Result<Operand>
         requires opcode { Takes opcode 3 }
         requires left { needs left ≤ self.old.strings }
         requires right { needs right ≤ self.old.strings }
@@ -419,7 +405,7 @@ impl<'a> Writer<'a> {
         operands: &[Operand],
         kind: Option<CoreType>,
         more: Vec<Datum>,
-    ) -> Result<Operand, EmitFault>
+    ) -> Result<Operand>
         requires agrees { AgreesWith (operands_of opcode) (suc (length operands.now)) (length more.items) }
         requires operands { AreThere self.old.strings operands.now }
         requires more { AllByRecursion (IsShapedDatum self.old.strings) more.items }
@@ -434,7 +420,7 @@ impl<'a> Writer<'a> {
     }
 
     // The variable that takes the result of a call.
-    fn place_for(&mut self, kind: Option<CoreType>) -> Result<Operand, EmitFault>
+    fn place_for(&mut self, kind: Option<CoreType>) -> Result<Operand>
         ensures operand { IfOk result (λ operand. needs operand ≤ self.new.strings) }
         ensures goes { GoesOn self.old self.new }
     {
@@ -446,11 +432,7 @@ impl<'a> Writer<'a> {
 
     /// The operand, or where calls come before it is read and may change it, a temporary with its value.
     #[inline(never)]
-    pub(crate) fn kept(
-        &mut self,
-        operand: Operand,
-        before_calls: bool,
-    ) -> Result<Operand, EmitFault>
+    pub(crate) fn kept(&mut self, operand: Operand, before_calls: bool) -> Result<Operand>
         requires { needs operand ≤ self.old.strings }
         ensures operand { IfOk result (λ operand. needs operand ≤ self.new.strings) }
         ensures goes { GoesOn self.old self.new }
@@ -469,7 +451,7 @@ impl<'a> Writer<'a> {
     }
 
     /// Adds a jump back to a mark.
-    pub(crate) fn jump_back(&mut self, mark: Mark) -> Result<(), EmitFault>
+    pub(crate) fn jump_back(&mut self, mark: Mark) -> Result<()>
         requires { mark ≤ self.old.count }
         ensures { GoesOn self.old self.new }
     {
@@ -482,7 +464,7 @@ impl<'a> Writer<'a> {
     }
 
     /// Adds a jump whose place is still ahead.
-    pub(crate) fn jump_ahead(&mut self, kind: JumpKind) -> Result<Ahead, EmitFault>
+    pub(crate) fn jump_ahead(&mut self, kind: JumpKind) -> Result<Ahead>
         requires { IsShapedInstruction self.old.strings (jump kind (pos 0)) }
         ensures leaps { IfOk result (λ ahead. Leaps self.old ahead self.new) }
         ensures err { OnErr result (self.new ≡ self.old) }
@@ -510,7 +492,7 @@ impl<'a> Writer<'a> {
         function: &CoreFunction,
         kind: u16,
         doc: u16,
-    ) -> Result<(PexFunction, Vec<u16>), EmitFault>
+    ) -> Result<(PexFunction, Vec<u16>)>
         requires ahead { self.old.ahead ≡ [] }
         requires kind { IsReference self.old.strings kind }
         requires doc { IsReference self.old.strings doc }
@@ -545,15 +527,12 @@ impl<'a> Writer<'a> {
     }
 
     /// Adds the debug entry of a function.
-    pub(crate) fn note_lines(
-        &mut self,
-        place: DebugName<'_>,
-        lines: Vec<u16>,
-    ) -> Result<(), EmitFault>
+    pub(crate) fn note_lines(&mut self, place: DebugName<'_>, lines: Vec<u16>) -> Result<()>
         requires { AllByRecursion (λ line. line < 2 ^ 16) lines.items }
         ensures { GoesOn self.old self.new }
     {
-        let object = self.numbered(Numbered::Script)?;
+        let script = self.script();
+        let object = self.string(script.name.as_bytes())?;
         let state = self.string(place.state)?;
         let function = self.string(place.name)?;
         self.add_entry(PexLines {
@@ -565,7 +544,7 @@ impl<'a> Writer<'a> {
         })
     }
 
-    fn add_entry(&mut self, entry: PexLines) -> Result<(), EmitFault>
+    fn add_entry(&mut self, entry: PexLines) -> Result<()>
         requires { IsShapedLines self.old.strings (plain_lines entry) }
         ensures { self.new ≡ self.old }
     {
@@ -574,38 +553,27 @@ impl<'a> Writer<'a> {
     }
 
     /// The strings of the file, and its debug entries.
-    pub(crate) fn finish(self) -> Result<(Vec<Text>, Vec<PexLines>), EmitFault>
+    pub(crate) fn finish(self) -> Result<(Vec<Text>, Vec<PexLines>)>
         ensures strings { IfOk result (λ parts. vec_len parts.0 ≡ self.entry.strings) }
         ensures entries { IfOk result (λ parts. AllByRecursion (IsShapedLines self.entry.strings) (map plain_lines parts.1.items)) }
     {
-        let texts = self.strings.texts()?;
-        Ok((texts, self.debug))
+        Ok((self.strings.texts()?, self.debug))
     }
 }
 
-fn name_bytes(
-    alloc: Global,
-    set: &CoreSet,
-    script: &CoreScript,
-    name: Numbered,
-) -> Result<Vec<u8>, EmitFault> {
-    let bytes: &[u8] = match name {
-        Numbered::Type(kind) => return type_name(alloc, &set.scripts, kind),
-        Numbered::Local(number) => return Ok(format!(in alloc; "::temp{number}")?.into_bytes()),
-        Numbered::Variable(number) => {
-            let variables = script.variables.as_slice();
-            let variable = variables.get(usize::from(number));
-            variable.ok_or(EmitFault::OutOfRange)?.name.as_bytes()
-        }
-        Numbered::Script => script.name.as_bytes(),
-        Numbered::Empty => b"",
-        Numbered::OwnInstance => b"self",
-        Numbered::NoneVariable => b"::NoneVar",
-    };
-    Ok(bytes.to_vec(alloc)?)
+/// The user flags of a script or a member, as the file has them.
+pub(crate) fn flag_bits(flags: u32) -> u32
+    ensures value { result ≡ flags }
+    ensures within { result < 2 ^ 32 }
+{
+    flags
 }
 
-fn name_at(pairs: &[(u16, u16)], place: usize) -> Result<u16, EmitFault>
+fn function_bits(is_global: bool, is_native: bool) -> u8 {
+    u8::from(is_global) * GLOBAL | u8::from(is_native) * NATIVE
+}
+
+fn name_at(pairs: &[(u16, u16)], place: usize) -> Result<u16>
     ensures { IfOk result (λ name. (strings : ℕ) → AllByRecursion (ArePair strings) pairs.now → name < strings) }
 {
     if place >= pairs.len() {
@@ -613,4 +581,20 @@ fn name_at(pairs: &[(u16, u16)], place: usize) -> Result<u16, EmitFault>
     }
     let (name, _) = pairs[place];
     Ok(name)
+}
+
+// Hands a temporary of this type out, which is then no longer free. None where there is none.
+fn take_free(temporaries: &mut Vec<(u16, u16)>, kind: u16) -> Option<u16>
+    ensures { TakenFrom kind temporaries.old.items result temporaries.new.items }
+{
+    let at = first_of(temporaries, kind)?;
+    let (_, name) = temporaries.remove(at);
+    Some(name)
+}
+
+fn first_of(temporaries: &[(u16, u16)], kind: u16) -> Option<usize>
+    ensures value { result ≡ position (λ temporary. temporary.0 == kind) temporaries.now }
+    ensures within { IfSome result (λ at. at < length temporaries.now) }
+{
+    temporaries.iter().position(|temporary| temporary.0 == kind)
 }

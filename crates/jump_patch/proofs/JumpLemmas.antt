@@ -9,8 +9,8 @@ use Rattle.std.specs.List.{All, position, Contains}
 use Rattle.pex_values.specs.declared.values.Datum.TheVariants.{Int}
 use Rattle.pex_values.specs.Plain.{PlainInstruction, plain_instruction}
 use Rattle.pex_values.specs.declared.values.Instruction.{Instruction}
-use Rattle.jump_patch.specs.declared.kind.JumpKind.{JumpKind}
-use Rattle.jump_patch.specs.declared.kind.JumpKind.TheVariants.{Always, IfTrue, IfFalse}
+use Rattle.jump_patch.specs.declared.buffer.JumpKind.{JumpKind}
+use Rattle.jump_patch.specs.declared.buffer.JumpKind.TheVariants.{Always, IfTrue, IfFalse}
 use Rattle.jump_patch.specs.Jumps.{Buffer, removed, jump, with_offset, nop, offset, landed, without, IsJumpAt, AreAhead}
 
 kept_jump : (code : List PlainInstruction) (added : PlainInstruction) (place : ℕ) → IsJumpAt code place → IsJumpAt (code ++ added ∷ []) place

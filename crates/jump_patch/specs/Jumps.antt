@@ -2,8 +2,8 @@
 use Rattle.std.specs.Prelude.{ℕ, ◌-◌, ◌<◌, ◌≤◌, ◌==◌, ℤ, pos, ◌-ℤ◌, Option, Some, None, position, remove, List, [], ◌∷◌, length, slice_set, slice_index_or, All}
 use Rattle.pex_values.specs.declared.values.Datum.TheVariants.{Int}
 use Rattle.pex_values.specs.Plain.{PlainInstruction}
-use Rattle.jump_patch.specs.declared.kind.JumpKind.{JumpKind}
-use Rattle.jump_patch.specs.declared.kind.JumpKind.TheVariants.{Always, IfTrue, IfFalse}
+use Rattle.jump_patch.specs.declared.buffer.JumpKind.{JumpKind}
+use Rattle.jump_patch.specs.declared.buffer.JumpKind.TheVariants.{Always, IfTrue, IfFalse}
 
 -- instructions, the line of each, and the places of the jumps that haven't landed, in order of adding
 pub record Buffer : Type 0 where

@@ -1,14 +1,21 @@
-//! The buffer, its marks, and the jumps that haven't landed.
+//! The buffer, its marks, and its jumps, which may have landed or not.
 
 ghost use Rattle.std.specs.Prelude.{◌≡◌, ◌<◌, ◌≤◌, ◌++◌, ◌∷◌, [], ℕ, pos, length, map, vec_len, Contains, position, ◌==◌, IfSome, IfOk, OnOk, OnErr, slice_set};
 ghost use Rattle.pex_values.specs.Plain.{plain_instruction};
 ghost use Rattle.jump_patch.specs.Jumps.{jump, landed, offset, with_offset, without};
 
-use crate::kind::{JumpKind, make_jump};
 use papy_base::OutOfMemory;
 use pex_values::{Datum, Instruction};
 use std::alloc::{AllocError, Global};
 use std::marker::Model;
+
+/// When a jump is taken.
+#[derive(Clone, Copy)]
+pub enum JumpKind {
+    Always,
+    IfTrue(Datum),
+    IfFalse(Datum),
+}
 
 /// The instructions of a function, and the line of each.
 #[derive(Drop)]
@@ -152,18 +159,6 @@ impl CodeBuffer {
         remove(&mut self.ahead, place);
     }
 
-    /// Ends the buffer. Every jump must have landed.
-    pub fn finish(self) -> Code
-        requires { self.ahead ≡ [] }
-        ensures code { map plain_instruction result.code.items ≡ self.code }
-        ensures lines { result.lines.items ≡ self.lines }
-    {
-        Code {
-            code: self.code,
-            lines: self.lines,
-        }
-    }
-
     /// Takes the code out, in vectors of just its length. Every jump must have landed. The buffer has no instruction
     /// then, and keeps its room for the next code.
     ///
@@ -184,6 +179,24 @@ impl CodeBuffer {
         lines.append(&mut self.lines).unwrap();
         Ok(Code { code, lines })
     }
+}
+
+/// The jump of a kind, with this offset.
+#[inline(always)]
+fn make_jump(alloc: Global, kind: JumpKind, offset: i32) -> Result<Instruction, AllocError>
+    ensures { IfOk result (λ i. plain_instruction i ≡ jump kind offset) }
+{
+    let offset = Datum::Int(offset);
+    let (opcode, fixed) = match kind {
+        JumpKind::Always => (0x14, vec![in alloc; offset]?),
+        JumpKind::IfTrue(condition) => (0x15, vec![in alloc; condition, offset]?),
+        JumpKind::IfFalse(condition) => (0x16, vec![in alloc; condition, offset]?),
+    };
+    Ok(Instruction {
+        opcode,
+        fixed,
+        more: Vec::new(alloc),
+    })
 }
 
 #[inline(always)]

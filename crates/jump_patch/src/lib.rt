@@ -2,7 +2,5 @@
 #![tactic(auto)]
 
 mod buffer;
-mod kind;
 
-pub use buffer::{Ahead, Code, CodeBuffer, Mark};
-pub use kind::JumpKind;
+pub use buffer::{Ahead, Code, CodeBuffer, JumpKind, Mark};

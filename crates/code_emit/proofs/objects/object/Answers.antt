@@ -6,10 +6,10 @@ use Rattle.code_emit.proofs.objects.object.Goals as goal
 
 pub returns-clause-object : goal.returns-clause-object
 returns-clause-object c =
-    let p1 = c.new_name.new.self.strings in
-    let p2 = c.string.new.self.strings in
+    let p1 = c.string.new.self.strings in
+    let p2 = c.string-2.new.self.strings in
     let p3 = c.text.new.self.strings in
-    let p4 = c.string-2.new.self.strings in
+    let p4 = c.string-3.new.self.strings in
     let p5 = c.variables.new.writer.strings in
     let p6 = c.properties.new.writer.strings in
     let n = c.states.new.writer.strings in

@@ -16,7 +16,7 @@ returns-in_ok-variable-in-Auto-clause-property c =
     let last = c.in_ok-variable-in-Auto.ensures.goes.strings in
     record {
       name = reference_later c.string.new.self.strings n (omega arith) c.in_ok-name.name c.in_ok-name.ensures.place;
-      kind = reference_later c.type_name.new.self.strings n (omega arith) c.in_ok-kind.kind c.in_ok-kind.ensures.place;
+      kind = reference_later c.numbered.new.self.strings n (omega arith) c.in_ok-kind.kind c.in_ok-kind.ensures.place;
       doc = reference_later c.text.new.self.strings n last c.in_ok-doc.doc c.in_ok-doc.ensures.place;
       flags = c.flag_bits.ensures.within;
       bits = omega arith;
@@ -37,7 +37,7 @@ returns-in_ok-write-in-Full-clause-property c =
     let last = c.in_ok-write-in-Full.ensures.advances.strings in
     record {
       name = reference_later c.string.new.self.strings n (omega arith) c.in_ok-name.name c.in_ok-name.ensures.place;
-      kind = reference_later c.type_name.new.self.strings n (omega arith) c.in_ok-kind.kind c.in_ok-kind.ensures.place;
+      kind = reference_later c.numbered.new.self.strings n (omega arith) c.in_ok-kind.kind c.in_ok-kind.ensures.place;
       doc = reference_later c.text.new.self.strings n (omega arith) c.in_ok-doc.doc c.in_ok-doc.ensures.place;
       flags = c.flag_bits-in-Full.ensures.within;
       bits = search rules;

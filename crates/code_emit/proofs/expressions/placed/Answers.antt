@@ -5,7 +5,7 @@ use Rattle.pex_values.specs.declared.values.Datum.TheVariants.{NoneValue}
 use Rattle.pex_values.specs.Shape.{IsShapedDatum}
 use Rattle.code_emit.proofs.Data.{none_each, datum_at}
 use Rattle.code_emit.proofs.Writings.{set_each}
-use Rattle.code_emit.proofs.calls.placed.Goals as goal
+use Rattle.code_emit.proofs.expressions.placed.Goals as goal
 
 pub loop-at-init : goal.loop-at-init
 loop-at-init c = λ strings there.

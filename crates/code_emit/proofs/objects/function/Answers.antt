@@ -1,10 +1,10 @@
 use Rattle.std.proofs.Common.{arith}
 use Rattle.code_emit.proofs.Later.{reference_later, function_later}
-use Rattle.code_emit.proofs.functions.function.Goals as goal
+use Rattle.code_emit.proofs.objects.function.Goals as goal
 
 pub end-requires-clause-kind : goal.end-requires-clause-kind
 end-requires-clause-kind c =
-    reference_later c.type_name.new.self.strings c.text.new.self.strings c.in_ok-doc.ensures.goes.strings c.in_ok-kind.kind c.in_ok-kind.ensures.place
+    reference_later c.numbered.new.self.strings c.text.new.self.strings c.in_ok-doc.ensures.goes.strings c.in_ok-kind.kind c.in_ok-kind.ensures.place
 
 pub returns-then-function-clause-function : goal.returns-then-function-clause-function
 returns-then-function-clause-function c =

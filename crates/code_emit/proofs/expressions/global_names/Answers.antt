@@ -1,5 +1,5 @@
 use Rattle.std.proofs.Common.{arith}
-use Rattle.code_emit.proofs.calls.global_names.Goals as goal
+use Rattle.code_emit.proofs.expressions.global_names.Goals as goal
 
 pub returns-clause-names : goal.returns-clause-names
 returns-clause-names c =

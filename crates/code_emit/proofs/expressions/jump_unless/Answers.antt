@@ -2,7 +2,7 @@ use Rattle.std.proofs.Common.{◌≤◌, sym, subst}
 use Rattle.code_emit.specs.Operands.{needs}
 use Rattle.code_emit.specs.Writing.{Written}
 use Rattle.code_emit.proofs.Data.{one_datum}
-use Rattle.code_emit.proofs.conditions.jump_unless.Goals as goal
+use Rattle.code_emit.proofs.expressions.jump_unless.Goals as goal
 
 pub jump_ahead-requires : goal.jump_ahead-requires
 jump_ahead-requires c =
