@@ -1,7 +1,8 @@
 // Members of two objects, compared by name, whatever their order.
 ghost use Rattle.std.specs.Prelude.{◌≡◌, ◌↔◌, ℕ, List, IsTrue, map, option_map};
 ghost use Rattle.std.specs.List.{All, Any};
-ghost use Rattle.pex_values.specs.Plain.{plain, plain_function, plain_named, plain_object, plain_property, plain_state};
+ghost use Rattle.pex_values.specs.Plain.{PlainFunction, PlainProperty, PlainState, plain, plain_function, plain_named, plain_object, plain_property, plain_state};
+ghost use Rattle.pex_values.specs.declared.values.PexVariable.{PexVariable};
 ghost use Rattle.pex_alike.specs.SameCode.{SameCode, SameEach, SameFunction, SameMembers, SameNamed, SameObject, SameOption, SameProperty, SameState, SameString, SameVariable};
 
 use crate::alike::{same_function, same_operand};
@@ -11,14 +12,22 @@ use pex_values::{Pex, PexFunction, PexObject, PexProperty, PexState, PexVariable
 
 /// What an object or a state has several of, each with a name.
 trait Member {
-    ghost IsLike: { List (List ℕ) → List (List ℕ) → Self → Self → Type 0 };
+    ghost Plain: { Type 0 };
+
+    ghost plain: { Self → Plain };
+
+    ghost IsLike: { List (List ℕ) → List (List ℕ) → Plain → Plain → Type 0 };
 
     /// Whether the two, each with the strings of its file, are the same.
     fn is_like(&self, other: &Self, these: &[Text], those: &[Text]) -> bool
-        ensures { IsTrue result ↔ IsLike these.now those.now self.now other.now };
+        ensures { IsTrue result ↔ IsLike these.now those.now (plain self.now) (plain other.now) };
 }
 
 impl Member for PexVariable {
+    ghost Plain = { PexVariable };
+
+    ghost plain = { λ variable. variable };
+
     ghost IsLike = { SameVariable };
 
     #[tactic(auto, unfolding(crate::specs::SameCode::SameVariable))]
@@ -36,7 +45,11 @@ impl Member for PexVariable {
 }
 
 impl Member for PexProperty {
-    ghost IsLike = { λ v w p q. SameProperty v w (plain_property p) (plain_property q) };
+    ghost Plain = { PlainProperty };
+
+    ghost plain = { plain_property };
+
+    ghost IsLike = { SameProperty };
 
     #[tactic(auto, unfolding(crate::specs::SameCode::SameProperty))]
     fn is_like(&self, other: &PexProperty, these: &[Text], those: &[Text]) -> bool {
@@ -52,7 +65,11 @@ impl Member for PexProperty {
 }
 
 impl Member for (u16, PexFunction) {
-    ghost IsLike = { λ v w f g. SameNamed v w (plain_named f) (plain_named g) };
+    ghost Plain = { ℕ × PlainFunction };
+
+    ghost plain = { plain_named };
+
+    ghost IsLike = { SameNamed };
 
     #[tactic(auto, unfolding(crate::specs::SameCode::SameNamed))]
     fn is_like(&self, other: &(u16, PexFunction), these: &[Text], those: &[Text]) -> bool {
@@ -61,12 +78,16 @@ impl Member for (u16, PexFunction) {
 }
 
 impl Member for PexState {
-    ghost IsLike = { λ v w s t. SameState v w (plain_state s) (plain_state t) };
+    ghost Plain = { PlainState };
+
+    ghost plain = { plain_state };
+
+    ghost IsLike = { SameState };
 
     #[tactic(auto, unfolding(crate::specs::SameCode::SameState))]
     fn is_like(&self, other: &PexState, these: &[Text], those: &[Text]) -> bool {
         same_string(these, those, self.name, other.name)
-            && same_functions(these, those, &self.functions, &other.functions)
+            && same_plain(these, those, &self.functions, &other.functions)
     }
 }
 
@@ -99,7 +120,7 @@ fn same_accessor(
 
 // Whether one of the members is like this one. The one at this place is looked at first.
 fn has_like<T: Member>(member: &T, others: &[T], at: usize, these: &[Text], those: &[Text]) -> bool
-    ensures { IsTrue result ↔ Any (T.IsLike these.now those.now member.now) others.now }
+    ensures { IsTrue result ↔ Any (λ other. T.IsLike these.now those.now (T.plain member.now) (T.plain other)) others.now }
 {
     if at < others.len() && member.is_like(&others[at], these, those) {
         return true;
@@ -117,7 +138,7 @@ fn is_like_one<T: Member>(
     these: &[Text],
     those: &[Text],
 ) -> bool
-    ensures { IsTrue result ↔ Any (λ other. T.IsLike these.now those.now other member.now) others.now }
+    ensures { IsTrue result ↔ Any (λ other. T.IsLike these.now those.now (T.plain other) (T.plain member.now)) others.now }
 {
     if at < others.len() && others[at].is_like(member, these, those) {
         return true;
@@ -128,7 +149,7 @@ fn is_like_one<T: Member>(
 }
 
 fn each_has_like<T: Member>(xs: &[T], ys: &[T], these: &[Text], those: &[Text]) -> bool
-    ensures { IsTrue result ↔ All (λ x. Any (T.IsLike these.now those.now x) ys.now) xs.now }
+    ensures { IsTrue result ↔ All (λ x. Any (λ y. T.IsLike these.now those.now (T.plain x) (T.plain y)) ys.now) xs.now }
 {
     for (at, x) in xs.iter().enumerate() {
         if !has_like(x, ys, at, these, those) {
@@ -139,7 +160,7 @@ fn each_has_like<T: Member>(xs: &[T], ys: &[T], these: &[Text], those: &[Text]) 
 }
 
 fn each_is_like_one<T: Member>(xs: &[T], ys: &[T], these: &[Text], those: &[Text]) -> bool
-    ensures { IsTrue result ↔ All (λ y. Any (λ x. T.IsLike these.now those.now x y) xs.now) ys.now }
+    ensures { IsTrue result ↔ All (λ y. Any (λ x. T.IsLike these.now those.now (T.plain x) (T.plain y)) xs.now) ys.now }
 {
     for (at, y) in ys.iter().enumerate() {
         if !is_like_one(y, xs, at, these, those) {
@@ -151,32 +172,16 @@ fn each_is_like_one<T: Member>(xs: &[T], ys: &[T], these: &[Text], those: &[Text
 
 #[tactic(auto, unfolding(crate::specs::SameCode::SameMembers))]
 fn same_members<T: Member>(these: &[Text], those: &[Text], xs: &[T], ys: &[T]) -> bool
-    ensures { IsTrue result ↔ SameMembers (T.IsLike these.now those.now) xs.now ys.now }
+    ensures { IsTrue result ↔ SameMembers (λ x y. T.IsLike these.now those.now (T.plain x) (T.plain y)) xs.now ys.now }
 {
     xs.len() == ys.len()
         && each_has_like(xs, ys, these, those)
         && each_is_like_one(xs, ys, these, those)
 }
 
-fn same_functions(
-    these: &[Text],
-    those: &[Text],
-    xs: &[(u16, PexFunction)],
-    ys: &[(u16, PexFunction)],
-) -> bool
-    ensures { IsTrue result ↔ SameMembers (SameNamed these.now those.now) (map plain_named xs.now) (map plain_named ys.now) }
-{
-    same_members(these, those, xs, ys)
-}
-
-fn same_properties(these: &[Text], those: &[Text], xs: &[PexProperty], ys: &[PexProperty]) -> bool
-    ensures { IsTrue result ↔ SameMembers (SameProperty these.now those.now) (map plain_property xs.now) (map plain_property ys.now) }
-{
-    same_members(these, those, xs, ys)
-}
-
-fn same_states(these: &[Text], those: &[Text], xs: &[PexState], ys: &[PexState]) -> bool
-    ensures { IsTrue result ↔ SameMembers (SameState these.now those.now) (map plain_state xs.now) (map plain_state ys.now) }
+// The same, said of the members without what holds them.
+fn same_plain<T: Member>(these: &[Text], those: &[Text], xs: &[T], ys: &[T]) -> bool
+    ensures { IsTrue result ↔ SameMembers (T.IsLike these.now those.now) (map T.plain xs.now) (map T.plain ys.now) }
 {
     same_members(these, those, xs, ys)
 }
@@ -191,8 +196,8 @@ fn same_object(these: &[Text], those: &[Text], a: &PexObject, b: &PexObject) -> 
         && a.flags == b.flags
         && same_string(these, those, a.auto_state, b.auto_state)
         && same_members(these, those, &a.variables, &b.variables)
-        && same_properties(these, those, &a.properties, &b.properties)
-        && same_states(these, those, &a.states, &b.states)
+        && same_plain(these, those, &a.properties, &b.properties)
+        && same_plain(these, those, &a.states, &b.states)
 }
 
 #[tactic(auto, unfolding(crate::specs::SameCode::SameEach))]

@@ -1,7 +1,6 @@
 //! Sources of compiled Papyrus files (PEX 3.1 and 3.2), checked by compiling them.
 #![tactic(auto)]
 
-mod compiling;
 mod fault;
 mod lifting;
 

@@ -1,9 +1,28 @@
 // Jumps, read into If and While, and the definitions of locals in them.
-use crate::code::Code;
+use crate::code::{Code, JMP, JMPF};
 use crate::fault::{Found, NOT_FOUND, SourceFault, check};
-use crate::lines::Line;
-use crate::opcodes::{JMP, JMPF};
 use crate::reader::{Outcome, Reader};
+
+/// A line of a function's body, whose expressions are given by their numbers among those of the function.
+#[derive(Clone, Copy)]
+pub(crate) enum Line {
+    /// A definition of a local.
+    Define(usize, usize),
+    /// What is set, as the expression that gets it, and the value.
+    Set(usize, usize),
+    Plain(usize),
+    Return(usize),
+    If(usize),
+    ElseIf(usize),
+    Else,
+    EndIf,
+    While(usize),
+    EndWhile,
+    /// A statement without code.
+    Nothing,
+    /// No line at all.
+    Skipped,
+}
 
 // What a block that is open belongs to, where it ends, how many statements stand in it so far, and the first local that wasn't
 // defined when it began.
@@ -68,8 +87,7 @@ impl<'w, 'f> Blocks<'w, 'f> {
         Err(NOT_FOUND)
     }
 
-    // Each turn goes behind an instruction, ends the right side of And or Or, or ends a block, of which an instruction opens
-    // two at most.
+    // Each turn goes behind an instruction, or ends a block, of which an instruction opens two at most.
     fn attempt(&mut self) -> Found<()> {
         let count = self.code.steps.len();
         self.open_block(BlockKind::Function, count)?;
@@ -87,40 +105,20 @@ impl<'w, 'f> Blocks<'w, 'f> {
         self.open.last().copied().ok_or(NOT_FOUND)
     }
 
-    // What stands at a place is read. Gives the place behind it, and none at the function's end.
+    // What stands at a place is read: the end of a block, or an instruction, with which a statement or a test begins unless one has.
+    // Gives the place behind it, and none at the function's end.
     fn turn(&mut self, at: usize) -> Found<Option<usize>> {
-        if self.reader.side_end() == Some(at) {
-            let outcome = self.reader.end_side(at)?;
-            self.take(outcome, at, at)?;
-            return Ok(Some(at));
-        }
         let block = self.innermost()?;
         if !self.begun && block.end == at {
             return self.end_block(block, at);
         }
-        check(at < block.end)?;
-        self.begin(block, at)?;
-        let outcome = self.reader.step(at, block.end)?;
-        let next = at.saturating_add(1);
-        self.take(outcome, at, next)?;
-        Ok(Some(next))
-    }
-
-    // A statement or a test begins here, unless one has.
-    fn begin(&mut self, block: Block, at: usize) -> Found<()> {
         let back = self.code.jump_to(at, JMP);
-        if self.begun {
-            return check(back.is_none());
-        }
-        check(back.is_none_or(|jump| jump < block.end))?;
+        check(at < block.end && back.is_none_or(|back| !self.begun && back < block.end))?;
         self.begun = true;
-        self.back = back;
-        Ok(())
-    }
-
-    fn put(&mut self, line: Line) -> Found<()> {
-        self.lines.push(line)?;
-        Ok(())
+        self.back = self.back.or(back);
+        let outcome = self.reader.step(at, block.end)?;
+        self.take(outcome, at)?;
+        Ok(Some(at.saturating_add(1)))
     }
 
     // A statement of the innermost block has ended.
@@ -130,57 +128,47 @@ impl<'w, 'f> Blocks<'w, 'f> {
         }
     }
 
-    fn take(&mut self, outcome: Outcome, at: usize, next: usize) -> Found<()> {
+    fn take(&mut self, outcome: Outcome, at: usize) -> Found<()> {
         match outcome {
-            Outcome::Open => return Ok(()),
-            Outcome::Done(line) => {
+            None => return Ok(()),
+            Some(Line::If(test)) => match self.back.take() {
+                Some(back) => self.open_while(test, at, back)?,
+                None => self.open_if(test, at)?,
+            },
+            Some(line) => {
                 check(self.back.is_none())?;
-                self.put(line)?;
+                self.lines.push(line)?;
                 self.count_statement();
             }
-            Outcome::Test(node) => match self.back.take() {
-                Some(back) => self.open_while(node, at, back)?,
-                None => self.open_if(node, at, next)?,
-            },
         }
         self.begun = false;
         Ok(())
     }
 
     // The test of a While ends with the jump at this place.
-    fn open_while(&mut self, node: usize, at: usize, back: usize) -> Found<()> {
+    fn open_while(&mut self, test: usize, at: usize, back: usize) -> Found<()> {
         let target = self.code.step(at)?.target;
         check(at < back && target == Some(back.saturating_add(1)))?;
-        self.put(Line::While(node))?;
+        self.lines.push(Line::While(test))?;
         self.open_block(BlockKind::While, back)
     }
 
-    // The test of an If ends with the jump at this place.
-    fn open_if(&mut self, node: usize, at: usize, next: usize) -> Found<()> {
+    // The test of an If ends with the jump at this place. It has an Else where the jump before the target leads ahead, and belongs to
+    // this If: no test inside has the same target.
+    fn open_if(&mut self, test: usize, at: usize) -> Found<()> {
         let over = self.code.step(at)?.target.ok_or(NOT_FOUND)?;
         let limit = self.innermost()?.end;
         check(over > at && over <= limit)?;
-        self.put(Line::If(node))?;
-        match self.own_exit(at, next, over)? {
-            None => self.open_block(BlockKind::Then, over),
-            Some(end) => {
-                check(end <= limit)?;
-                self.open_block(BlockKind::ThenElse { over, end }, over.saturating_sub(1))
-            }
-        }
-    }
-
-    // Where the jump before the target of a test's jump leads, if it leads ahead and belongs to that If: no test inside has the
-    // same target.
-    fn own_exit(&self, at: usize, next: usize, over: usize) -> Found<Option<usize>> {
+        self.lines.push(Line::If(test))?;
         let last = over.saturating_sub(1);
         let jump = self.code.step(last)?;
-        let is_own = last >= next
-            && jump.opcode == JMP
-            && self.code.jump_to(over, JMPF) == Some(at);
+        let is_own = jump.opcode == JMP && self.code.jump_to(over, JMPF) == Some(at);
         match jump.target {
-            Some(end) if is_own && end >= over => Ok(Some(end)),
-            _ => Ok(None),
+            Some(end) if is_own && last > at && end >= over => {
+                check(end <= limit)?;
+                self.open_block(BlockKind::ThenElse { over, end }, last)
+            }
+            _ => self.open_block(BlockKind::Then, over),
         }
     }
 
@@ -200,11 +188,20 @@ impl<'w, 'f> Blocks<'w, 'f> {
         let mut next = at;
         match block.kind {
             BlockKind::Function => return Ok(None),
-            BlockKind::ThenElse { over, end } => return self.open_else(over, end),
-            BlockKind::Then => self.put(Line::EndIf)?,
+            // An Else whose statements have no code has one that does nothing.
+            BlockKind::ThenElse { over, end } => {
+                let line = self.lines.len();
+                self.lines.push(Line::Else)?;
+                if end == over {
+                    self.lines.push(Line::Nothing)?;
+                }
+                self.open_block(BlockKind::Else { line }, end)?;
+                return Ok(Some(over));
+            }
+            BlockKind::Then => self.lines.push(Line::EndIf)?,
             BlockKind::Else { line } => self.end_else(line, block.statements)?,
             BlockKind::While => {
-                self.put(Line::EndWhile)?;
+                self.lines.push(Line::EndWhile)?;
                 next = at.saturating_add(1);
             }
         }
@@ -212,34 +209,17 @@ impl<'w, 'f> Blocks<'w, 'f> {
         Ok(Some(next))
     }
 
-    // An Else whose statements have no code has one that does nothing.
-    fn open_else(&mut self, over: usize, end: usize) -> Found<Option<usize>> {
-        let line = self.lines.len();
-        self.put(Line::Else)?;
-        if end == over {
-            self.put(Line::Nothing)?;
-        }
-        self.open_block(BlockKind::Else { line }, end)?;
-        Ok(Some(over))
-    }
-
     // An If that is all of an Else is an ElseIf, and the end of that If is the end of this one.
     fn end_else(&mut self, line: usize, statements: usize) -> Found<()> {
-        let behind = line.saturating_add(1);
-        match self.lines.get(behind) {
-            Some(Line::If(test)) if statements == 1 => {
-                let test = *test;
-                self.set(line, Line::Skipped);
-                self.set(behind, Line::ElseIf(test));
-                Ok(())
-            }
-            _ => self.put(Line::EndIf),
+        let behind = self.lines.as_mut_slice().get_mut(line..);
+        if let (1, Some([begin, inner, ..])) = (statements, behind)
+            && let Line::If(test) = *inner
+        {
+            *begin = Line::Skipped;
+            *inner = Line::ElseIf(test);
+            return Ok(());
         }
-    }
-
-    fn set(&mut self, at: usize, line: Line) {
-        if let Some(old) = self.lines.get_mut(at) {
-            *old = line;
-        }
+        self.lines.push(Line::EndIf)?;
+        Ok(())
     }
 }

@@ -1,12 +1,86 @@
 // The code of a function, with its operands resolved, and what is known of it however many locals its source had.
 use crate::fault::{Found, NOT_FOUND};
-use crate::opcodes::{ASSIGN, JMP, JMPF, JMPT, names_of, result_of};
-use crate::script::Script;
-use crate::words::{BOOL, INT, NONE, OWN_INSTANCE, STATE_VARIABLE, STRING};
-use crate::world::World;
-use papy_base::OutOfMemory;
+use crate::world::{BOOL, INT, NONE, OWN_INSTANCE, STATE_VARIABLE, STRING, Script, World};
 use pex_values::{Datum, Instruction, PexFunction};
 use std::collections::HashMap;
+
+// The opcodes that are told apart here, by their codes.
+
+pub(crate) const NOT: u8 = 0x0A;
+
+pub(crate) const INEG: u8 = 0x0B;
+
+pub(crate) const ASSIGN: u8 = 0x0D;
+
+pub(crate) const CAST: u8 = 0x0E;
+
+pub(crate) const CMP_EQ: u8 = 0x0F;
+
+pub(crate) const JMP: u8 = 0x14;
+
+pub(crate) const JMPT: u8 = 0x15;
+
+pub(crate) const JMPF: u8 = 0x16;
+
+pub(crate) const CALL_METHOD: u8 = 0x17;
+
+pub(crate) const CALL_PARENT: u8 = 0x18;
+
+pub(crate) const CALL_STATIC: u8 = 0x19;
+
+pub(crate) const RETURN: u8 = 0x1A;
+
+pub(crate) const STRCAT: u8 = 0x1B;
+
+pub(crate) const PROPGET: u8 = 0x1C;
+
+pub(crate) const PROPSET: u8 = 0x1D;
+
+pub(crate) const ARRAY_CREATE: u8 = 0x1E;
+
+pub(crate) const ARRAY_LENGTH: u8 = 0x1F;
+
+pub(crate) const ARRAY_GETELEMENT: u8 = 0x20;
+
+pub(crate) const ARRAY_SETELEMENT: u8 = 0x21;
+
+pub(crate) const ARRAY_FINDELEMENT: u8 = 0x22;
+
+pub(crate) const ARRAY_RFINDELEMENT: u8 = 0x23;
+
+/// A Not of a `CMP_EQ`, which no opcode is.
+pub(crate) const CMP_NE: u8 = 0xFF;
+
+// The place of the operand that is written, among those that are no names of functions, properties or scripts.
+fn result_of(opcode: u8) -> Option<usize> {
+    match opcode {
+        0x01..=0x13 | STRCAT | ARRAY_CREATE | ARRAY_LENGTH | ARRAY_GETELEMENT => Some(0),
+        CALL_PARENT | CALL_STATIC => Some(0),
+        CALL_METHOD | PROPGET | ARRAY_FINDELEMENT | ARRAY_RFINDELEMENT => Some(1),
+        _ => None,
+    }
+}
+
+/// The sign of an operation on two values, with blanks around it, and the level of its grammar: from 3 on an assignment may also make
+/// it. And and Or have the opcodes of their jumps.
+pub(crate) fn sign_of(opcode: u8) -> Option<(&'static [u8], u8)> {
+    match opcode {
+        JMPT => Some((b" || ", 0)),
+        JMPF => Some((b" && ", 1)),
+        CMP_EQ => Some((b" == ", 2)),
+        CMP_NE => Some((b" != ", 2)),
+        0x10 => Some((b" < ", 2)),
+        0x11 => Some((b" <= ", 2)),
+        0x12 => Some((b" > ", 2)),
+        0x13 => Some((b" >= ", 2)),
+        0x01 | STRCAT => Some((b" + ", 3)),
+        0x03 => Some((b" - ", 3)),
+        0x05 => Some((b" * ", 4)),
+        0x07 => Some((b" / ", 4)),
+        0x09 => Some((b" % ", 4)),
+        _ => None,
+    }
+}
 
 /// What an operand stands for. A slot is a parameter or a local by its place, and a variable one of the script by its place.
 #[derive(Clone, Copy, PartialEq, Eq)]
@@ -41,9 +115,10 @@ pub(crate) struct Code<'w> {
     pub script: &'w Script<'w>,
     pub function: &'w PexFunction,
     pub steps: Vec<Step>,
-    operands: Vec<Operand>,
-    // For each operand that is a slot, whether the next instruction that has the slot reads it.
-    read_next: Vec<bool>,
+    /// References to the names and types of the slots.
+    pub pairs: Vec<(u16, u16)>,
+    // Each operand, and whether it is a slot that the next instruction that has the slot reads.
+    operands: Vec<(Operand, bool)>,
     // By its target and its opcode, the last jump that leads there; of those without test only one from behind.
     jumps: HashMap<(usize, u8), usize>,
     // The first slot of each name.
@@ -63,8 +138,8 @@ impl<'w> Code<'w> {
             script,
             function,
             steps: Vec::new(alloc),
+            pairs: Vec::new(alloc),
             operands: Vec::new(alloc),
-            read_next: Vec::new(alloc),
             jumps: HashMap::new(alloc),
             slots: HashMap::new(alloc),
         }
@@ -76,19 +151,16 @@ impl<'w> Code<'w> {
         for (at, instruction) in self.function.code.iter().enumerate() {
             self.add(at, instruction)?;
         }
-        self.note_uses()?;
-        Ok(())
+        self.note_uses()
     }
 
-    // Notes the first slot of each name.
-    fn add_slots(&mut self) -> Result<(), OutOfMemory> {
-        let function = self.function;
-        let pairs = function.parameters.iter().chain(function.locals.iter());
-        for (slot, (name, _)) in pairs.enumerate() {
-            let name = self.script.number(*name);
-            if !self.slots.contains_key(&name) {
-                self.slots.insert(name, slot)?;
-            }
+    fn add_slots(&mut self) -> Found<()> {
+        let pairs = self.function.parameters.iter();
+        for (slot, pair) in pairs.chain(self.function.locals.iter()).enumerate() {
+            self.pairs.push(*pair)?;
+            self.slots
+                .entry(self.script.number(pair.0))?
+                .or_insert(slot);
         }
         Ok(())
     }
@@ -96,20 +168,30 @@ impl<'w> Code<'w> {
     // Adds an instruction with its operands.
     fn add(&mut self, at: usize, instruction: &Instruction) -> Found<()> {
         let opcode = instruction.opcode;
+        let (names, fixed) = match (opcode, instruction.fixed.as_slice()) {
+            (CALL_STATIC, [Datum::Word(script), Datum::Word(name), fixed @ ..]) => {
+                ((*script, *name), fixed)
+            }
+            (CALL_METHOD | CALL_PARENT | PROPGET | PROPSET, [Datum::Word(name), fixed @ ..]) => {
+                ((0, *name), fixed)
+            }
+            (_, fixed) => ((0, 0), fixed),
+        };
         let first = self.operands.len();
-        let fixed = instruction.fixed.get(names_of(opcode)..);
-        self.add_operands(fixed.ok_or(NOT_FOUND)?)?;
+        self.add_operands(fixed)?;
         let arguments = self.operands.len();
         self.add_operands(&instruction.more)?;
-        let target = target(at, instruction);
-        if let Some(target) = target {
-            if opcode != JMP || target <= at {
-                self.jumps.insert((target, opcode), at)?;
-            }
+        let target = match (opcode, fixed) {
+            (JMP, [Datum::Int(offset)]) => target(at, *offset),
+            (JMPT | JMPF, [_, Datum::Int(offset)]) => target(at, *offset),
+            _ => None,
+        };
+        if let Some(target) = target.filter(|target| opcode != JMP || *target <= at) {
+            self.jumps.insert((target, opcode), at)?;
         }
         self.steps.push(Step {
             opcode,
-            names: names(instruction),
+            names,
             first,
             arguments,
             end: self.operands.len(),
@@ -125,7 +207,7 @@ impl<'w> Code<'w> {
                 Datum::Word(name) => self.variable(self.script.number(name))?,
                 literal => Operand::Literal(literal),
             };
-            self.operands.push(operand)?;
+            self.operands.push((operand, false))?;
         }
         Ok(())
     }
@@ -144,36 +226,25 @@ impl<'w> Code<'w> {
     }
 
     // Which operands are read next, from the last instruction to the first.
-    fn note_uses(&mut self) -> Result<(), OutOfMemory> {
-        let alloc = self.world.alloc;
-        self.read_next = vec![in alloc; false; self.operands.len()]?;
-        let mut reads = vec![in alloc; false; self.slot_count()]?;
+    fn note_uses(&mut self) -> Found<()> {
+        let mut reads = vec![in self.world.alloc; false; self.pairs.len()]?;
         for step in self.steps.iter().rev() {
-            note_step(&self.operands, *step, &mut reads, &mut self.read_next);
+            note_step(*step, &mut self.operands, &mut reads);
         }
         Ok(())
-    }
-
-    /// How many parameters and locals there are.
-    pub(crate) fn slot_count(&self) -> usize {
-        let function = self.function;
-        function
-            .parameters
-            .len()
-            .saturating_add(function.locals.len())
     }
 
     /// The end of the slots that may be locals of the source: those behind the parameters that only assignments write.
     pub(crate) fn locals_end(&self) -> usize {
         let written = self.steps.iter().filter(|step| step.opcode != ASSIGN);
         written
-            .filter_map(|step| match self.operands.get(step.result?) {
-                Some(Operand::Slot(slot)) => Some(*slot),
+            .filter_map(|step| match self.operands.get(step.result?)?.0 {
+                Operand::Slot(slot) => Some(slot),
                 _ => None,
             })
             .filter(|slot| *slot >= self.function.parameters.len())
             .min()
-            .unwrap_or(self.slot_count())
+            .unwrap_or(self.pairs.len())
     }
 
     /// The instruction at a place.
@@ -181,14 +252,9 @@ impl<'w> Code<'w> {
         self.steps.get(at).copied().ok_or(NOT_FOUND)
     }
 
-    /// The operand at a place among those of the function.
-    pub(crate) fn operand(&self, at: usize) -> Found<Operand> {
+    /// The operand at a place among those of the function, and whether the next instruction that has it as its slot reads it.
+    pub(crate) fn operand(&self, at: usize) -> Found<(Operand, bool)> {
         self.operands.get(at).copied().ok_or(NOT_FOUND)
-    }
-
-    /// Whether the slot of this operand is read by the next instruction that has it.
-    pub(crate) fn is_read_next(&self, operand: usize) -> bool {
-        self.read_next.get(operand).copied().unwrap_or(false)
     }
 
     /// The last jump of this opcode that leads to a place; of those without test only one from behind.
@@ -198,12 +264,7 @@ impl<'w> Code<'w> {
 
     /// References to the name and the type of a parameter or a local.
     pub(crate) fn pair(&self, slot: usize) -> Found<(u16, u16)> {
-        let function = self.function;
-        let found = match slot.checked_sub(function.parameters.len()) {
-            None => function.parameters.get(slot),
-            Some(place) => function.locals.get(place),
-        };
-        found.copied().ok_or(NOT_FOUND)
+        self.pairs.get(slot).copied().ok_or(NOT_FOUND)
     }
 
     /// The type of a parameter or a local.
@@ -213,50 +274,32 @@ impl<'w> Code<'w> {
 
     /// The type of what an operand stands for.
     pub(crate) fn type_of(&self, operand: Operand) -> Found<usize> {
-        match operand {
-            Operand::Slot(slot) => self.slot_type(slot),
-            Operand::Variable(place) => {
-                Ok(self.script.number(self.script.variable(place)?.kind))
-            }
-            Operand::OwnInstance => Ok(self.script.name()),
-            Operand::StateText | Operand::Literal(Datum::Quoted(_)) => Ok(STRING),
-            Operand::Literal(Datum::Int(_)) => Ok(INT),
-            Operand::Literal(Datum::Bool(_)) => Ok(BOOL),
-            Operand::Literal(_) => Ok(NONE),
-        }
+        Ok(match operand {
+            Operand::Slot(slot) => self.slot_type(slot)?,
+            Operand::Variable(place) => self.script.number(self.script.variable(place)?.kind),
+            Operand::OwnInstance => self.script.name(),
+            Operand::StateText | Operand::Literal(Datum::Quoted(_)) => STRING,
+            Operand::Literal(Datum::Int(_)) => INT,
+            Operand::Literal(Datum::Bool(_)) => BOOL,
+            Operand::Literal(_) => NONE,
+        })
     }
 }
 
 // Notes which operands of an instruction are read next, where `reads` says it of each slot behind the instruction, and then before
 // it.
-fn note_step(operands: &[Operand], step: Step, reads: &mut Vec<bool>, read_next: &mut Vec<bool>) {
+fn note_step(step: Step, operands: &mut [(Operand, bool)], reads: &mut [bool]) {
     for at in step.first..step.end {
-        let Some(Operand::Slot(slot)) = operands.get(at) else {
-            continue;
-        };
-        if let (Some(noted), Some(is_read)) = (read_next.get_mut(at), reads.get_mut(*slot)) {
-            *noted = *is_read;
+        if let Some((Operand::Slot(slot), is_read_next)) = operands.get_mut(at)
+            && let Some(is_read) = reads.get_mut(*slot)
+        {
+            *is_read_next = *is_read;
             *is_read = step.result != Some(at);
         }
     }
 }
 
-// References to the names of a script, and of a function or a property.
-fn names(instruction: &Instruction) -> (u16, u16) {
-    match (names_of(instruction.opcode), instruction.fixed.as_slice()) {
-        (2, [Datum::Word(script), Datum::Word(name), ..]) => (*script, *name),
-        (1, [Datum::Word(name), ..]) => (0, *name),
-        _ => (0, 0),
-    }
-}
-
-// Where the jump at a place leads.
-fn target(at: usize, instruction: &Instruction) -> Option<usize> {
-    let offset = match (instruction.opcode, instruction.fixed.as_slice()) {
-        (JMP, [Datum::Int(offset)]) => *offset,
-        (JMPT | JMPF, [_, Datum::Int(offset)]) => *offset,
-        _ => return None,
-    };
-    let from = i64::try_from(at).ok()?;
-    usize::try_from(from.checked_add(i64::from(offset))?).ok()
+// Where a jump at a place leads.
+fn target(at: usize, offset: i32) -> Option<usize> {
+    at.checked_add_signed(isize::try_from(offset).ok()?)
 }

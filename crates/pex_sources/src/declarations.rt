@@ -1,16 +1,13 @@
-// The text of a script: its heading, variables, properties, functions and states.
+// The text of a script: its heading, imports, variables, properties, functions and states.
 use crate::blocks::Blocks;
-use crate::code::Code;
+use crate::code::{CALL_STATIC, Code, RETURN};
 use crate::expressions::Speaker;
 use crate::fault::{Found, NOT_FOUND, check};
-use crate::imports::put_imports;
-use crate::opcodes::RETURN;
 use crate::page::Page;
-use crate::script::Script;
-use crate::words::NONE;
-use crate::world::World;
+use crate::world::{NONE, Script, World};
 use papy_base::Text;
-use pex_values::{Datum, PexFunction, PexProperty, PexState, PexVariable};
+use pex_values::{Datum, Instruction, PexFunction, PexProperty, PexState, PexVariable};
+use std::collections::HashSet;
 
 /// The bits of a function.
 const GLOBAL: u8 = 1;
@@ -50,28 +47,61 @@ fn fits(bytes: &[u8]) -> bool {
 
 impl<'a> Author<'a> {
     fn put_script(self, page: &mut Page) -> Found<()> {
-        self.put_heading(page)?;
-        put_imports(page, self.world, self.script)?;
+        let (script, object) = (self.script, self.script.object);
+        page.begin()?;
+        page.put(&[b"ScriptName ", script.text(object.name)])?;
+        if self.has_parent() {
+            page.put(&[b" Extends ", script.text(object.parent)])?;
+        }
+        page.end_heading(script, object.flags, object.doc)?;
+        self.put_imports(page)?;
         page.blank()?;
         self.put_fields(page)?;
-        for (place, state) in self.script.object.states.iter().enumerate() {
+        for (place, state) in object.states.iter().enumerate() {
             self.put_state(page, state, place == 0)?;
         }
         Ok(())
     }
 
-    fn put_heading(self, page: &mut Page) -> Found<()> {
-        let (script, object) = (self.script, self.script.object);
-        page.begin()?;
-        page.put_all(&[b"ScriptName ", script.text(object.name)])?;
-        if self.has_parent() {
-            page.put_all(&[b" Extends ", script.text(object.parent)])?;
-        }
-        page.end_heading(script, object.flags, object.doc)
-    }
-
     fn has_parent(self) -> bool {
         !self.script.text(self.script.object.parent).is_empty()
+    }
+
+    // A line for each import: scripts whose Global functions it calls, and whose names mean something else there.
+    fn put_imports(self, page: &mut Page) -> Found<()> {
+        let object = self.script.object;
+        let properties = object.properties.iter();
+        let accessors = properties.flat_map(|property| property
+            .read
+            .iter()
+            .chain(property.write.iter()));
+        let members = object
+            .states
+            .iter()
+            .flat_map(|state| state.functions.iter());
+        let functions = accessors.chain(members.map(|(_, function)| function));
+        let mut written = HashSet::new(page.alloc);
+        for instruction in functions.flat_map(|function| function.code.iter()) {
+            if let Some(import) = self.import_of(instruction)
+                && written.insert(self.script.number(import))?
+            {
+                page.line(&[b"Import ", self.script.text(import)])?;
+            }
+        }
+        Ok(())
+    }
+
+    // The script that an instruction asks for.
+    fn import_of(self, instruction: &Instruction) -> Option<u16> {
+        match (instruction.opcode, instruction.fixed.as_slice()) {
+            (CALL_STATIC, [Datum::Word(import), Datum::Word(name), ..]) => {
+                let (world, script) = (self.world, self.script);
+                let own = world.find_function(script.name(), script.number(*name));
+                let is_hidden = world.hides(script, script.number(*import));
+                (is_hidden && own.is_none()).then_some(*import)
+            }
+            _ => None,
+        }
     }
 
     // Variables and properties: each variable before the first Auto property whose variable stands behind it.
@@ -108,7 +138,7 @@ impl<'a> Author<'a> {
     fn put_variable(self, page: &mut Page, variable: &PexVariable) -> Found<()> {
         let script = self.script;
         page.begin()?;
-        page.put_all(&[script.text(variable.kind), b" ", script.text(variable.name)])?;
+        page.put(&[script.text(variable.kind), b" ", script.text(variable.name)])?;
         self.put_initial(page, variable)?;
         page.put_flags(variable.flags)?;
         page.end()
@@ -124,7 +154,7 @@ impl<'a> Author<'a> {
     }
 
     fn put_value(self, page: &mut Page, value: Datum) -> Found<()> {
-        page.put(b" = ")?;
+        page.put(&[b" = "])?;
         page.put_literal(self.script, value)
     }
 
@@ -132,21 +162,19 @@ impl<'a> Author<'a> {
         let script = self.script;
         let (kind, name) = (script.text(property.kind), script.text(property.name));
         page.begin()?;
-        page.put_all(&[kind, b" Property ", name])?;
+        page.put(&[kind, b" Property ", name])?;
+        let constant = self.constant(property);
         if let Some(name) = property.variable {
             self.put_initial(page, script.variable(self.variable_place(name)?)?)?;
-            page.put(b" Auto")?;
-        } else if let Some(value) = self.constant(property) {
+            page.put(&[b" Auto"])?;
+        } else if let Some(value) = constant {
             self.put_value(page, value)?;
-            page.put(b" AutoReadOnly")?;
-        } else {
-            page.end_heading(script, property.flags, property.doc)?;
-            return self.put_accessors(page, property);
+            page.put(&[b" AutoReadOnly"])?;
         }
-        page.end_heading(script, property.flags, property.doc)
-    }
-
-    fn put_accessors(self, page: &mut Page, property: &'a PexProperty) -> Found<()> {
+        page.end_heading(script, property.flags, property.doc)?;
+        if property.variable.is_some() || constant.is_some() {
+            return Ok(());
+        }
         page.indent();
         if let Some(function) = &property.read {
             self.put_function(page, b"Get", function)?;
@@ -163,8 +191,8 @@ impl<'a> Author<'a> {
         let read = property.read.as_ref()?;
         match read.code.as_slice() {
             [only] if only.opcode == RETURN && property.write.is_none() && self.is_bare(read) => {
-                let value = *only.fixed.first()?;
-                (!matches!(value, Datum::Word(_))).then_some(value)
+                let value = only.fixed.first().copied();
+                value.filter(|value| !matches!(value, Datum::Word(_)))
             }
             _ => None,
         }
@@ -182,9 +210,8 @@ impl<'a> Author<'a> {
             return self.put_functions(page, state, self.written_count(state));
         }
         let is_auto = name == self.script.text(self.script.object.auto_state);
-        let auto: &[u8] = if is_auto { b"Auto " } else { b"" };
         page.blank()?;
-        page.line(&[auto, b"State ", name])?;
+        page.line(&[if is_auto { b"Auto " } else { b"" }, b"State ", name])?;
         page.indent();
         self.put_functions(page, state, state.functions.len())?;
         page.outdent();
@@ -221,28 +248,30 @@ impl<'a> Author<'a> {
     }
 
     fn put_function(self, page: &mut Page, name: &[u8], function: &'a PexFunction) -> Found<()> {
-        let (begin, end): (&[u8], &[u8]) = if self.is_event(name, function) {
-            (b"Event ", b"EndEvent")
+        let word: &[u8] = if self.is_event(name, function) {
+            b"Event"
         } else {
-            (b"Function ", b"EndFunction")
+            b"Function"
         };
         page.blank()?;
         page.begin()?;
         if self.has_result(function) {
-            page.put_all(&[self.script.text(function.result), b" "])?;
+            page.put(&[self.script.text(function.result), b" "])?;
         }
-        page.put_all(&[begin, name, b"("])?;
+        page.put(&[word, b" ", name, b"("])?;
         self.put_parameters(page, function)?;
-        page.put(b")")?;
+        page.put(&[b")"])?;
         page.put_bits(u32::from(function.bits), [b" Global", b" Native"])?;
         page.end_heading(self.script, function.flags, function.doc)?;
         if function.bits & NATIVE != 0 {
             return Ok(());
         }
         page.indent();
-        self.put_body(page, function)?;
+        let mut code = Code::new(self.world, self.script, function);
+        code.fill()?;
+        put_code(page, &code)?;
         page.outdent();
-        page.line(&[end])
+        page.line(&[b"End", word])
     }
 
     fn has_result(self, function: &PexFunction) -> bool {
@@ -258,16 +287,10 @@ impl<'a> Author<'a> {
     fn put_parameters(self, page: &mut Page, function: &PexFunction) -> Found<()> {
         for (place, pair) in function.parameters.iter().enumerate() {
             let comma: &[u8] = if place > 0 { b", " } else { b"" };
-            page.put_all(&[comma, self.script.text(pair.1), b" "])?;
+            page.put(&[comma, self.script.text(pair.1), b" "])?;
             self.world.put_slot(page, (self.script, *pair, place))?;
         }
         Ok(())
-    }
-
-    fn put_body(self, page: &mut Page, function: &'a PexFunction) -> Found<()> {
-        let mut code = Code::new(self.world, self.script, function);
-        code.fill()?;
-        put_code(page, &code)
     }
 }
 

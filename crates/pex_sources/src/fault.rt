@@ -3,16 +3,13 @@ ghost use Rattle.pex_sources.specs.declared.fault.SourceFault.TheVariants as fau
 
 use papy_base::OutOfMemory;
 use std::alloc::{AllocError, AllocFailed};
-use thiserror::Error;
 
 /// Why files have no sources.
-#[derive(Clone, Copy, Debug, PartialEq, Eq, Error)]
+#[derive(Clone, Copy, Debug, PartialEq, Eq)]
 pub enum SourceFault {
     /// The files aren't what a compiler writes.
-    #[error("no source was found")]
     NotFound,
     /// No memory was found.
-    #[error("out of memory")]
     OutOfMemory,
 }
 

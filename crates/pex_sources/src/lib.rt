@@ -6,17 +6,11 @@ mod code;
 mod declarations;
 mod expressions;
 mod fault;
-mod imports;
-mod lines;
-mod opcodes;
 mod page;
 mod reader;
-mod script;
 mod slots;
 mod source_texts;
-mod statements;
 mod trees;
-mod words;
 mod world;
 
 pub use fault::SourceFault;

@@ -1,6 +1,6 @@
 // The text of a script while it is written.
-use crate::fault::{Found, NOT_FOUND, check};
-use crate::script::Script;
+use crate::fault::{Found, NOT_FOUND};
+use crate::world::Script;
 use pex_values::Datum;
 use std::alloc::Global;
 
@@ -31,16 +31,10 @@ impl Page {
         }
     }
 
-    /// Appends bytes to the line.
-    pub(crate) fn put(&mut self, bytes: &[u8]) -> Found<()> {
-        self.bytes.extend_from_slice(bytes)?;
-        Ok(())
-    }
-
-    /// Appends these bytes one after the other.
-    pub(crate) fn put_all(&mut self, parts: &[&[u8]]) -> Found<()> {
+    /// Appends these bytes to the line, one after the other.
+    pub(crate) fn put(&mut self, parts: &[&[u8]]) -> Found<()> {
         for part in parts {
-            self.put(part)?;
+            self.bytes.extend_from_slice(part)?;
         }
         Ok(())
     }
@@ -48,17 +42,16 @@ impl Page {
     /// Begins a line.
     pub(crate) fn begin(&mut self) -> Found<()> {
         self.is_at_start = false;
-        if self.is_indented {
-            for _ in 0..self.depth {
-                self.put(INDENT)?;
-            }
+        let depth = if self.is_indented { self.depth } else { 0 };
+        for _ in 0..depth {
+            self.bytes.extend_from_slice(INDENT)?;
         }
         Ok(())
     }
 
     /// Ends a line.
     pub(crate) fn end(&mut self) -> Found<()> {
-        self.put(b"\n")
+        self.put(&[b"\n"])
     }
 
     /// An empty line before the next part, unless a block has just begun or the line before is empty.
@@ -73,7 +66,7 @@ impl Page {
     /// A whole line.
     pub(crate) fn line(&mut self, parts: &[&[u8]]) -> Found<()> {
         self.begin()?;
-        self.put_all(parts)?;
+        self.put(parts)?;
         self.end()
     }
 
@@ -88,9 +81,9 @@ impl Page {
             self.end()?;
             self.begin()?;
         } else {
-            self.put(b" ")?;
+            self.put(&[b" "])?;
         }
-        self.put_all(&[b"{", doc, b"}\n"])
+        self.put(&[b"{", doc, b"}\n"])
     }
 
     /// The lines from now on stand in one block more.
@@ -109,48 +102,44 @@ impl Page {
         self.put_bits(flags, [b" Hidden", b" Conditional"])
     }
 
-    /// Appends the words for the two lowest of some bits, which are all that may be set.
+    /// Appends the words for the two lowest of some bits.
     pub(crate) fn put_bits(&mut self, bits: u32, words: [&[u8]; 2]) -> Found<()> {
         let [first, second] = words;
-        check(bits <= 3)?;
-        self.put(if bits & 1 != 0 { first } else { b"" })?;
-        self.put(if bits & 2 != 0 { second } else { b"" })
+        self.put(&[if bits & 1 != 0 { first } else { b"" }])?;
+        self.put(&[if bits & 2 != 0 { second } else { b"" }])
     }
 
     /// Appends a literal of a script, a number below 0 in hexadecimal. `NotFound` comes for what is none.
     pub(crate) fn put_literal(&mut self, script: &Script<'_>, value: Datum) -> Found<()> {
         match value {
-            Datum::NoneValue => self.put(b"None"),
-            Datum::Int(number) => self.put_int(number),
-            Datum::Bool(0) => self.put(b"False"),
-            Datum::Bool(_) => self.put(b"True"),
+            Datum::NoneValue => self.put(&[b"None"]),
+            Datum::Int(number) => {
+                let text = if number < 0 {
+                    format!(in self.alloc; "0x{number:x}")?
+                } else {
+                    format!(in self.alloc; "{number}")?
+                };
+                self.put(&[text.as_bytes()])
+            }
+            Datum::Bool(0) => self.put(&[b"False"]),
+            Datum::Bool(_) => self.put(&[b"True"]),
             Datum::Quoted(text) => self.put_text(script.text(text)),
             Datum::Word(_) | Datum::Float(_) => Err(NOT_FOUND),
         }
     }
 
-    fn put_int(&mut self, number: i32) -> Found<()> {
-        let text = if number < 0 {
-            let bits = i64::from(number) & 0xFFFF_FFFF;
-            format!(in self.alloc; "0x{bits:x}")?
-        } else {
-            format!(in self.alloc; "{number}")?
-        };
-        self.put(text.as_bytes())
-    }
-
     // Appends a text in quotes.
     fn put_text(&mut self, text: &[u8]) -> Found<()> {
-        self.put(b"\"")?;
+        self.bytes.push(b'"')?;
         for byte in text {
             match *byte {
-                b'\\' => self.put(b"\\\\")?,
-                b'"' => self.put(b"\\\"")?,
-                b'\n' => self.put(b"\\n")?,
-                b'\t' => self.put(b"\\t")?,
+                b'\\' => self.put(&[b"\\\\"])?,
+                b'"' => self.put(&[b"\\\""])?,
+                b'\n' => self.put(&[b"\\n"])?,
+                b'\t' => self.put(&[b"\\t"])?,
                 other => self.bytes.push(other)?,
             }
         }
-        self.put(b"\"")
+        self.put(&[b"\""])
     }
 }

@@ -3,7 +3,7 @@ ghost use Rattle.std.specs.Prelude.{◌<◌, length, IfSome};
 
 use crate::code::{Code, Operand};
 use crate::fault::{Found, check};
-use crate::words::NONE;
+use crate::world::NONE;
 use std::collections::HashSet;
 
 /// The slots of a function: parameters, then locals of the source, and from `first` on temporaries.
@@ -41,7 +41,7 @@ impl<'w, 'f> Slots<'w, 'f> {
 
     /// Whether each local was defined and each temporary handed out.
     pub(crate) fn are_all_used(&self) -> bool {
-        self.next_local == self.first && self.next_temporary == self.code.slot_count()
+        self.next_local == self.first && self.next_temporary == self.code.pairs.len()
     }
 
     /// The local that isn't defined in a block that is open, where the operand is such a local.

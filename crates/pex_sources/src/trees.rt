@@ -1,7 +1,6 @@
 // Expressions, all of a function in two lists.
-use crate::code::Operand;
+use crate::code::{CALL_METHOD, CALL_PARENT, CALL_STATIC, Operand, PROPGET, sign_of};
 use crate::fault::{Found, NOT_FOUND};
-use crate::opcodes::{CALL_METHOD, CALL_PARENT, CALL_STATIC, PROPGET, is_arithmetic};
 use std::alloc::Global;
 
 /// What an expression is: a name or a literal, or what an opcode gives, with references to the names of a script and of a function
@@ -12,9 +11,6 @@ pub(crate) enum Form {
     Apply(u8, (u16, u16)),
 }
 
-/// The first and the last of the instructions of an expression, where it has any.
-pub(crate) type Extent = Option<(usize, usize)>;
-
 /// An expression, with the number of its type and its inputs among those of the function.
 #[derive(Clone, Copy)]
 pub(crate) struct Node {
@@ -22,7 +18,8 @@ pub(crate) struct Node {
     pub kind: usize,
     first: usize,
     end: usize,
-    pub code: Extent,
+    /// The first and the last of its instructions, where it has any.
+    pub code: Option<(usize, usize)>,
     /// Whether it comes to an act, in which another stack may change variables.
     pub acts: bool,
 }
@@ -86,11 +83,6 @@ impl Trees {
         self.inputs.get(node.first..node.end).ok_or(NOT_FOUND)
     }
 
-    /// The number of the input at a place, or `NotFound`.
-    pub(crate) fn input(&self, node: Node, place: usize) -> Found<usize> {
-        Ok(self.inputs(node)?.get(place).ok_or(NOT_FOUND)?.node)
-    }
-
     /// Adds an expression, which has this code beside that of its inputs, before which it may begin. Gives its number, or `NotFound`
     /// where an input is no expression of these. The code of what is shared isn't its own.
     pub(crate) fn add(
@@ -98,7 +90,7 @@ impl Trees {
         form: Form,
         kind: usize,
         inputs: &[Input],
-        mut code: Extent,
+        mut code: Option<(usize, usize)>,
     ) -> Found<usize> {
         let first = self.inputs.len();
         let mut acts = is_act(form);
@@ -106,7 +98,8 @@ impl Trees {
             let node = self.node(input.node)?;
             if !input.is_shared {
                 acts = acts || node.acts;
-                code = code.map(|(start, last)| (earlier(start, node.code), last));
+                let (begin, _) = node.code.unwrap_or((usize::MAX, 0));
+                code = code.map(|(start, last)| (start.min(begin), last));
             }
             self.inputs.push(*input)?;
         }
@@ -130,33 +123,25 @@ impl Trees {
             return Ok(None);
         };
         let (old, target) = (self.node(left.node)?, self.node(target)?);
-        let is_old = is_arithmetic(opcode)
+        let mut inputs = self.inputs(old)?.iter().zip(self.inputs(target)?);
+        let is_old = matches!(sign_of(opcode), Some((_, 3..)))
             && old.form == target.form
             && old.kind == node.kind
             && old.is_bare() == target.is_bare()
-            && self.has_inputs(old, self.inputs(target)?)?;
+            && inputs.all(|(input, wanted)| self.is_same(input.node, wanted.node));
         Ok(is_old.then_some((opcode, right.node)))
     }
 
-    fn has_inputs(&self, node: Node, wanted: &[Input]) -> Found<bool> {
-        for (input, wanted) in self.inputs(node)?.iter().zip(wanted) {
-            if !self.is_same(input.node, wanted.node)? {
-                return Ok(false);
-            }
-        }
-        Ok(true)
-    }
-
     // Whether two expressions are one, or the same name or literal.
-    fn is_same(&self, number: usize, other: usize) -> Found<bool> {
-        let (node, same) = (self.node(number)?, self.node(other)?);
-        Ok(number == other || (node.form == same.form && node.is_bare() && same.is_bare()))
+    fn is_same(&self, number: usize, other: usize) -> bool {
+        match (self.nodes.get(number), self.nodes.get(other)) {
+            _ if number == other => true,
+            (Some(node), Some(same)) => {
+                node.form == same.form && node.is_bare() && same.is_bare()
+            }
+            _ => false,
+        }
     }
-}
-
-// The earlier of a place and the first instruction of an expression.
-fn earlier(place: usize, code: Extent) -> usize {
-    code.map_or(place, |(start, _)| start.min(place))
 }
 
 fn is_act(form: Form) -> bool {

@@ -1,13 +1,68 @@
 // The scripts of a set, the prelude's before those of the files, and what is found among them by name.
 use crate::fault::{Found, NOT_FOUND, check};
 use crate::page::Page;
-use crate::script::{Script, Slot};
-use crate::words::{BOOL, INT, NONE, STRING, WORDS, free_infix, is_word, stem};
-use papy_base::OutOfMemory;
-use pex_set::{FileNames, NameTable, Prelude};
-use pex_values::{Pex, PexFunction, PexProperty};
+use papy_base::{OutOfMemory, Text};
+use pex_set::{FileNames, NameTable, Prelude, text_at};
+use pex_values::{Pex, PexFunction, PexObject, PexProperty, PexVariable};
 use std::alloc::Global;
 use std::collections::{HashMap, HashSet};
+
+/// The numbers of the first words.
+pub(crate) const INT: usize = 1;
+
+pub(crate) const BOOL: usize = 2;
+
+pub(crate) const STRING: usize = 3;
+
+pub(crate) const NONE: usize = 4;
+
+pub(crate) const OWN_INSTANCE: usize = 5;
+
+pub(crate) const STATE_VARIABLE: usize = 6;
+
+/// The words that no parameter or local may have, by their numbers from 1 on: the keywords, and the name of the state's variable.
+#[rattlefmt::skip]
+static WORDS: [&str; 35] = [
+    "int", "bool", "string", "none", "self", "::state", "as", "auto", "autoreadonly", "else", "elseif", "endevent",
+    "endfunction", "endif", "endproperty", "endstate", "endwhile", "event", "extends", "false", "float", "function",
+    "global", "if", "import", "length", "native", "new", "parent", "property", "return", "scriptname", "state", "true",
+    "while",
+];
+
+/// A parameter or a local: its script, references to its name and type, and its place.
+pub(crate) type Slot<'a> = (&'a Script<'a>, (u16, u16), usize);
+
+/// A script.
+#[derive(Drop)]
+pub(crate) struct Script<'a> {
+    /// Its place among the scripts of the set.
+    pub place: usize,
+    pub object: &'a PexObject,
+    pub strings: &'a [Text],
+    pub names: FileNames,
+}
+
+impl<'a> Script<'a> {
+    /// The string of a reference, and an empty one where the file has none.
+    pub(crate) fn text(&self, reference: u16) -> &'a [u8] {
+        text_at(self.strings, reference)
+    }
+
+    /// The number of the name at a reference.
+    pub(crate) fn number(&self, reference: u16) -> usize {
+        self.names.number(reference)
+    }
+
+    /// The number of its own name.
+    pub(crate) fn name(&self) -> usize {
+        self.number(self.object.name)
+    }
+
+    /// The variable at a place, or `NotFound`.
+    pub(crate) fn variable(&self, place: usize) -> Found<&'a PexVariable> {
+        self.object.variables.get(place).ok_or(NOT_FOUND)
+    }
+}
 
 /// A script by its place, and a name by its number.
 type Key = (usize, usize);
@@ -21,6 +76,8 @@ pub(crate) struct World<'a> {
     infix: String,
     table: NameTable,
     by_name: HashMap<usize, usize>,
+    // Of each script its own name.
+    names: HashMap<Key, ()>,
     functions: HashMap<Key, &'a PexFunction>,
     // By their names, and Auto properties also by those of their variables.
     properties: HashMap<Key, &'a PexProperty>,
@@ -29,14 +86,6 @@ pub(crate) struct World<'a> {
     taken: HashSet<usize>,
     // What each script without parent has, also where its file doesn't, with references into the prelude's strings.
     members: &'a [(u16, PexFunction)],
-}
-
-// What is looked for from a script upward, by the number of its name.
-#[derive(Clone, Copy)]
-enum Sought {
-    Script(usize),
-    Function(usize),
-    Property(usize),
 }
 
 impl<'a> World<'a> {
@@ -49,6 +98,7 @@ impl<'a> World<'a> {
             infix: String::new(alloc),
             table,
             by_name: HashMap::new(alloc),
+            names: HashMap::new(alloc),
             functions: HashMap::new(alloc),
             properties: HashMap::new(alloc),
             variables: HashMap::new(alloc),
@@ -94,6 +144,7 @@ impl<'a> World<'a> {
     // Adds the members of the next script, and its name.
     fn add_members(&mut self, script: &Script<'a>) -> Result<(), OutOfMemory> {
         self.by_name.insert(script.name(), script.place)?;
+        self.names.insert((script.place, script.name()), ())?;
         self.taken.insert(script.name())?;
         self.add_functions(script)?;
         self.add_properties(script)?;
@@ -153,12 +204,12 @@ impl<'a> World<'a> {
         let (script, (name, kind), place) = slot;
         let own = script.text(name);
         if is_word(own) && !self.taken.contains(&script.number(name)) {
-            return page.put(own);
+            return page.put(&[own]);
         }
         let kind = script.number(kind);
         let (stem, infix) = (stem(kind, self.is_script(kind)), self.infix.as_str());
         let name = format!(in page.alloc; "{stem}{infix}{place}")?;
-        page.put(name.as_bytes())
+        page.put(&[name.as_bytes()])
     }
 
     // The script that is this type.
@@ -170,19 +221,19 @@ impl<'a> World<'a> {
         self.by_name.contains_key(&kind)
     }
 
-    // The nearest script that has it, from the script of this type upward.
-    fn nearest(&self, kind: usize, sought: Sought) -> Option<&Script<'a>> {
+    // The nearest script that has a member of this name, from the script of this type upward, and the member.
+    fn nearest<T: Copy>(
+        &self,
+        members: &HashMap<Key, T>,
+        kind: usize,
+        name: usize,
+    ) -> Option<(&Script<'a>, T)> {
         let mut script = self.script_of(kind)?;
         for _ in 0..self.scripts.len() {
-            let is_found = match sought {
-                Sought::Script(name) => script.name() == name,
-                Sought::Function(name) => self.functions.contains_key(&(script.place, name)),
-                Sought::Property(name) => self.properties.contains_key(&(script.place, name)),
-            };
-            if is_found {
-                return Some(script);
+            if let Some(member) = members.get(&(script.place, name)) {
+                return Some((script, *member));
             }
-            script = self.script_of(script.parent())?;
+            script = self.script_of(script.number(script.object.parent))?;
         }
         None
     }
@@ -194,8 +245,9 @@ impl<'a> World<'a> {
         kind: usize,
         name: usize,
     ) -> Option<(&Script<'a>, &'a PexFunction)> {
-        if let Some(script) = self.nearest(kind, Sought::Function(name)) {
-            return Some((script, *self.functions.get(&(script.place, name))?));
+        let found = self.nearest(&self.functions, kind, name);
+        if found.is_some() {
+            return found;
         }
         let first = self.scripts.first()?;
         let mut members = self.members.iter();
@@ -205,8 +257,8 @@ impl<'a> World<'a> {
 
     /// The nearest property of a name, from the script of this type upward, with the number of its type.
     pub(crate) fn find_property(&self, kind: usize, name: usize) -> Option<usize> {
-        let script = self.nearest(kind, Sought::Property(name))?;
-        Some(script.number(self.property(script, name)?.kind))
+        let (script, property) = self.nearest(&self.properties, kind, name)?;
+        Some(script.number(property.kind))
     }
 
     /// Whether the name of a script means a variable or a property in this one.
@@ -223,12 +275,11 @@ impl<'a> World<'a> {
     /// Whether a value of one type converts to another by itself.
     pub(crate) fn converts(&self, kind: usize, to: usize) -> bool {
         match (kind, to) {
-            _ if kind == to => true,
-            (_, BOOL) => true,
+            _ if kind == to || to == BOOL => true,
             (INT | BOOL | NONE, STRING) => true,
             (_, STRING) => self.is_script(kind),
             (NONE, _) => self.table.name(to).ends_with(b"[]") || self.is_script(to),
-            _ => self.nearest(kind, Sought::Script(to)).is_some(),
+            _ => self.nearest(&self.names, kind, to).is_some(),
         }
     }
 
@@ -241,4 +292,61 @@ impl<'a> World<'a> {
         }
         None
     }
+}
+
+// Whether the bytes are a word.
+fn is_word(name: &[u8]) -> bool {
+    !matches!(name, [] | [b'0'..=b'9', ..])
+        && name.iter().all(|b| *b == b'_' || b.is_ascii_alphanumeric())
+}
+
+/// The beginnings of made up names.
+static STEMS: [&str; 5] = ["number", "flag", "text", "object", "list"];
+
+// The beginning of a made up name for a value of this type.
+fn stem(kind: usize, is_script: bool) -> &'static str {
+    match kind {
+        INT => "number",
+        BOOL => "flag",
+        STRING => "text",
+        _ if is_script => "object",
+        _ => "list",
+    }
+}
+
+/// What stands between the stem and the place in a made up name, so that no string of the files is such a name: nothing, or where
+// one is, a number between two `_`. Of the strings that end with digits it is told what stands before these.
+fn free_infix(alloc: Global, files: &[Pex]) -> Result<String, OutOfMemory> {
+    let mut heads = NameTable::new(alloc)?;
+    for string in files.iter().flat_map(|file| file.strings.iter()) {
+        let string = string.as_bytes();
+        let last = string.iter().rposition(|byte| !byte.is_ascii_digit());
+        let end = last.map_or(string.len(), |last| last.saturating_add(1));
+        if let Some((head, [_, ..])) = string.split_at_checked(end) {
+            heads.number(alloc, head)?;
+        }
+    }
+    least_free(alloc, &heads)
+}
+
+fn least_free(alloc: Global, heads: &NameTable) -> Result<String, OutOfMemory> {
+    let mut infix = String::new(alloc);
+    for number in 0..heads.count() {
+        if is_free(alloc, heads, &infix)? {
+            return Ok(infix);
+        }
+        infix = format!(in alloc; "_{number}_")?;
+    }
+    Ok(infix)
+}
+
+// Whether no stem with this infix is among the heads.
+fn is_free(alloc: Global, heads: &NameTable, infix: &str) -> Result<bool, OutOfMemory> {
+    for stem in STEMS.iter() {
+        let head = format!(in alloc; "{stem}{infix}")?;
+        if heads.find(alloc, head.as_bytes())?.is_some() {
+            return Ok(false);
+        }
+    }
+    Ok(true)
 }

@@ -12,7 +12,7 @@ use Rattle.core_tree.specs.declared.scene.BoundInstance.{BoundInstance}
 use Rattle.core_tree.specs.declared.scene.Scene.{Scene}
 use Rattle.core_tree.specs.declared.scene_tree.SceneInstance.{SceneInstance}
 use Rattle.core_tree.specs.declared.value.Value.{Value}
-use Rattle.scene_binder.specs.declared.members.ScriptMembers.{ScriptMembers}
+use Rattle.scene_binder.specs.declared.scripts.ScriptMembers.{ScriptMembers}
 use Rattle.scene_binder.specs.Bound.{AreBoundNatives, AreOfTypes, IsBound, IsBoundCall, IsBoundInstance, IsOfType, script_of}
 use Rattle.scene_binder.specs.Instances.{tree_script}
 use Rattle.scene_binder.specs.Keys.{function_key, property_key}

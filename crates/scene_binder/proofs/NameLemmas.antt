@@ -15,7 +15,7 @@ use Rattle.std.proofs.lemmas.List.Folds.{find_at, position_or_len-set, position_
 use Rattle.std.proofs.lemmas.List.Quantifiers.{position-Some}
 use Rattle.std.proofs.lemmas.List.Sums.{prefix_len-le-length}
 use Rattle.std.proofs.lemmas.Option.{slice_get-get_or, slice_get_past}
-use Rattle.scene_binder.specs.declared.name_table.NameTable.{NameTable}
+use Rattle.scene_binder.specs.declared.scripts.NameTable.{NameTable}
 use Rattle.scene_binder.specs.Names.{IsTableOf, Notes, first_of, number_in, place_in}
 
 apart : (bs cs ks : List ℕ) → bytes_eq bs cs ≡ false → bytes_eq bs ks ≡ true → bytes_eq cs ks ≡ false

@@ -3,7 +3,7 @@ use Rattle.std.specs.Prelude.{ℕ, ◌≡◌, Bool, List, Option, Some, MatchBoo
 use Rattle.std.specs.List.{find, position}
 use Rattle.std.specs.Str.{bytes_eq}
 use Rattle.std.specs.HashMap.{get_by}
-use Rattle.scene_binder.specs.declared.name_table.NameTable.{NameTable}
+use Rattle.scene_binder.specs.declared.scripts.NameTable.{NameTable}
 
 -- the number that a table has for the name with these folded bytes
 abbrev pub number_in : NameTable → List ℕ → Option ℕ

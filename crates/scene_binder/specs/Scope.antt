@@ -9,7 +9,7 @@ use Rattle.core_tree.specs.declared.scene_tree.SceneInstance.{SceneInstance}
 use Rattle.core_tree.specs.declared.scene_tree.SceneValue.{SceneValue}
 use Rattle.core_tree.specs.declared.scene_tree.SceneValue.TheVariants as written
 use Rattle.core_tree.specs.declared.value.Value.{Value}
-use Rattle.scene_binder.specs.declared.instances.Instances.{Instances}
+use Rattle.scene_binder.specs.declared.binder.Instances.{Instances}
 use Rattle.scene_binder.specs.Keys.{instance_key}
 use Rattle.scene_binder.specs.Meant.{IsCallMeant, IsEntryMeant, IsValueMeant}
 use Rattle.scene_binder.specs.Names.{IsTableOf}

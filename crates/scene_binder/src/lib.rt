@@ -3,13 +3,7 @@
 #![tactic(auto)]
 
 mod binder;
-mod calls;
-mod instances;
-mod members;
-mod name_table;
 mod natives;
 mod scripts;
-mod sets;
-mod values;
 
 pub use binder::bind;

@@ -12,7 +12,7 @@ ghost use Rattle.scene_binder.specs.Meant.{IsNativeMeant, binding_in, default_en
 ghost use Rattle.scene_binder.specs.Names.{number_in};
 ghost use Rattle.scene_binder.specs.NativeList.{Adds, AreBoundBy, AreMeant, AreNatives, IsFunctionOf, IsUnbound};
 
-use crate::name_table::NameTable;
+use crate::scripts::NameTable;
 use core_tree::{Binding, BoundNative, CoreType, Outline, OutlineFunction, OutlineScript};
 use papy_base::{OutOfMemory, Text};
 use scene_reader::{SceneFault, SceneRule};

@@ -1,15 +1,147 @@
 // The scripts of an outline and their members, by name.
-ghost use Rattle.std.specs.Prelude.{◌≡◌, Some, IsTrue, IfOk, IfSome, option_copied, slice_get};
+ghost use Rattle.std.specs.Prelude.{IfOk, IfSome, IsTrue, List, None, OnOk, Some, option_copied, slice_get, ℕ, ◌≡◌};
+ghost use Rattle.std.specs.List.{Contains};
+ghost use Rattle.papy_base.specs.Case.{folded as folded_bytes};
 ghost use Rattle.scene_binder.specs.Instances.{IsInstantiable};
-ghost use Rattle.scene_binder.specs.Keys.{function_key};
-ghost use Rattle.scene_binder.specs.Members.{StandsAbove, HasFunction, HasFunctionNamed, HasProperty, IsNearestProperty, own_function, own_property, parent_in, script_named};
+ghost use Rattle.scene_binder.specs.Keys.{function_key, property_key};
+ghost use Rattle.scene_binder.specs.Members.{HasFunction, HasFunctionNamed, HasProperty, IsNearestProperty, StandsAbove, own_function, own_property, parent_in, script_named};
+ghost use Rattle.scene_binder.specs.Names.{IsTableOf, Notes, Sets, first_of, number_in};
 
-use crate::members::ScriptMembers;
-use crate::name_table::{NameTable, folded};
-use core_tree::{Outline, OutlineFunction, OutlineProperty};
+use core_tree::{Outline, OutlineFunction, OutlineProperty, OutlineScript};
 use papy_base::OutOfMemory;
 use std::alloc::Global;
+use std::collections::HashMap;
 use std::marker::Model;
+
+/// The first number that was noted for each name.
+#[derive(Drop)]
+pub(crate) struct NameTable {
+    numbers: HashMap<Vec<u8>, usize>,
+}
+
+impl NameTable {
+    /// A table of no names.
+    pub(crate) fn new(alloc: Global) -> NameTable
+        ensures { (bytes : List ℕ) → number_in result bytes ≡ None }
+    {
+        NameTable {
+            numbers: HashMap::new(alloc),
+        }
+    }
+
+    /// Notes a number for a name that has none yet, and answers whether that was so.
+    pub(crate) fn note(
+        &mut self,
+        alloc: Global,
+        name: &[u8],
+        number: usize,
+    ) -> Result<bool, OutOfMemory>
+        ensures { IfOk result (Notes self.old self.new (folded_bytes name.now) number) }
+    {
+        let folded = folded(alloc, name)?;
+        if self.find_folded(&folded).is_some() {
+            return Ok(false);
+        }
+        self.set(folded, number)?;
+        Ok(true)
+    }
+
+    // Gives the name of these folded bytes this number.
+    fn set(&mut self, folded: Vec<u8>, number: usize) -> Result<(), OutOfMemory>
+        ensures { OnOk result (Sets self.old self.new folded.items number) }
+    {
+        self.numbers.insert(folded, number)?;
+        Ok(())
+    }
+
+    /// The number of a name.
+    pub(crate) fn find(&self, alloc: Global, name: &[u8]) -> Result<Option<usize>, OutOfMemory>
+        ensures { IfOk result (λ found. found ≡ number_in self.now (folded_bytes name.now)) }
+    {
+        let folded = folded(alloc, name)?;
+        Ok(self.find_folded(&folded))
+    }
+
+    /// The number of the name whose bytes these are once A to Z are read as a to z.
+    pub(crate) fn find_folded(&self, folded: &[u8]) -> Option<usize>
+        ensures { result ≡ number_in self.now folded.now }
+    {
+        self.numbers.get(folded).copied()
+    }
+}
+
+/// The bytes of a name with A to Z read as a to z.
+pub(crate) fn folded(alloc: Global, name: &[u8]) -> Result<Vec<u8>, OutOfMemory>
+    ensures { IfOk result (λ bytes. bytes.items ≡ folded_bytes name.now) }
+{
+    let mut bytes = name.to_vec(alloc)?;
+    bytes.as_mut_slice().make_ascii_lowercase();
+    Ok(bytes)
+}
+
+/// A script with tables of its members. A name that two members bear means the first.
+#[derive(Drop)]
+struct ScriptMembers<'a> {
+    script: &'a OutlineScript,
+    properties: NameTable,
+    functions: NameTable,
+    ghost named_properties: { IsTableOf property_key script.now.properties.items properties },
+    ghost named_functions: { IsTableOf function_key script.now.functions.items functions },
+}
+
+impl<'a> ScriptMembers<'a> {
+    /// The members of this script.
+    fn new(alloc: Global, script: &'a OutlineScript) -> Result<ScriptMembers<'a>, OutOfMemory>
+        ensures { IfOk result (λ members. members.script.now ≡ script.now) }
+    {
+        let properties = property_table(alloc, &script.properties)?;
+        let functions = function_table(alloc, &script.functions)?;
+        Ok(ScriptMembers {
+            script,
+            properties,
+            functions,
+        })
+    }
+
+    /// The Auto property of the name whose bytes these are once A to Z are read as a to z.
+    fn find_property(&self, folded: &[u8]) -> Option<&'a OutlineProperty>
+        ensures there { IfSome result (λ property. Contains self.now.script.now.properties.items property.now) }
+        ensures first { option_copied result ≡ first_of property_key self.now.script.now.properties.items folded.now }
+    {
+        let place = self.properties.find_folded(folded)?;
+        self.script.properties.as_slice().get(place)
+    }
+
+    /// The function of that name in the empty state.
+    fn find_function(&self, folded: &[u8]) -> Option<&'a OutlineFunction>
+        ensures there { IfSome result (λ function. Contains self.now.script.now.functions.items function.now) }
+        ensures named { IfSome result (λ function. function_key function.now ≡ folded.now) }
+        ensures first { option_copied result ≡ first_of function_key self.now.script.now.functions.items folded.now }
+    {
+        let place = self.functions.find_folded(folded)?;
+        self.script.functions.as_slice().get(place)
+    }
+}
+
+fn property_table(alloc: Global, properties: &[OutlineProperty]) -> Result<NameTable, OutOfMemory>
+    ensures { IfOk result (IsTableOf property_key properties.now) }
+{
+    let mut table = NameTable::new(alloc);
+    for (place, property) in properties.iter().enumerate() {
+        table.note(alloc, property.name.as_bytes(), place)?;
+    }
+    Ok(table)
+}
+
+fn function_table(alloc: Global, functions: &[OutlineFunction]) -> Result<NameTable, OutOfMemory>
+    ensures { IfOk result (IsTableOf function_key functions.now) }
+{
+    let mut table = NameTable::new(alloc);
+    for (place, function) in functions.iter().enumerate() {
+        table.note(alloc, function.name.as_bytes(), place)?;
+    }
+    Ok(table)
+}
 
 // The first scripts of a set, Debug, Utility and Scene, have no instances.
 const LIBRARY_COUNT: usize = 3;
@@ -37,10 +169,7 @@ impl<'a> Model for OutlineScripts<'a> {
 
 impl<'a> OutlineScripts<'a> {
     /// The scripts of this outline.
-    pub(crate) fn new(
-        alloc: Global,
-        outline: &'a Outline,
-    ) -> Result<OutlineScripts<'a>, OutOfMemory>
+    pub(crate) fn new(alloc: Global, outline: &'a Outline) -> Result<Self, OutOfMemory>
         ensures { IfOk result (λ scripts. scripts ≡ outline.now.scripts.items) }
     {
         let mut numbers = NameTable::new(alloc);

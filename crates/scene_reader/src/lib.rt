@@ -2,18 +2,12 @@
 //! calls start stacks, what native functions do, and in which order stacks get their turns.
 #![tactic(auto)]
 
-mod binding;
-mod call;
 mod defaults;
 mod fault;
-mod instance;
-mod keys;
-mod limits;
+mod items;
 mod parts;
-mod reader;
 mod scene;
-mod value;
 
 pub use defaults::default_scene;
 pub use fault::{SceneFault, SceneRule};
-pub use reader::{read_scene, upgrade_scene};
+pub use scene::{read_scene, upgrade_scene};

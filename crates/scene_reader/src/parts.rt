@@ -3,12 +3,54 @@ ghost use Rattle.std.specs.Prelude.{◌≡◌, ◌≤◌, ◌≤ℤ◌, length, 
 ghost use Rattle.std.specs.List.{All};
 ghost use Rattle.scene_reader.specs.Limits.{Keeps, IsShort, TapeKeeps, NamedKeeps};
 
-use crate::fault::SceneFault;
-use crate::keys::SHAPE_FAULT;
-use crate::limits::{TAPE_LIMIT, TEXT_LIMIT};
+use crate::fault::{SceneFault, SceneRule};
 use papy_base::Text;
 use serde_json::Value;
 use std::alloc::Global;
+
+// The limits of scenes. A scene that passes one is refused only once its whole shape was read, since a
+// fault of shape anywhere comes first.
+
+/// The most bytes of a scene file.
+pub const FILE_LIMIT: usize = 16 * 1024 * 1024;
+/// The most bytes of a text.
+pub const TEXT_LIMIT: usize = 1024;
+/// The most bytes of an instance's name.
+pub const NAME_LIMIT: usize = 64;
+/// The most instances.
+pub const INSTANCE_LIMIT: usize = 256;
+/// The most calls.
+pub const CALL_LIMIT: usize = 1024;
+/// The most numbers of a tape.
+pub const TAPE_LIMIT: usize = 100_000;
+/// The most entries of an order of stacks.
+pub const ORDER_LIMIT: usize = 1_000_000;
+/// The most turns of a run, of a latency and before a call.
+pub const TURN_LIMIT: u32 = 1_000_000;
+/// The most loop passes of a turn.
+pub const QUANTUM_LIMIT: u32 = 1000;
+
+/// The fault of a form that a scene doesn't have.
+pub(crate) const SHAPE_FAULT: SceneFault = SceneFault::Broken {
+    rule: SceneRule::Shape,
+};
+
+/// Refuses what is no object, and an object with another key than these.
+pub(crate) fn check_keys(value: &Value, keys: &[&str]) -> Result<(), SceneFault> {
+    match value.as_object() {
+        Some(object) if object.keys().all(|key| is_among(key.as_str(), keys)) => Ok(()),
+        _ => Err(SHAPE_FAULT),
+    }
+}
+
+fn is_among(key: &str, keys: &[&str]) -> bool {
+    keys.iter().any(|known| *known == key)
+}
+
+/// The value of a key that must be there.
+pub(crate) fn needed<'v>(value: &'v Value, key: &str) -> Result<&'v Value, SceneFault> {
+    value.get(key).ok_or(SHAPE_FAULT)
+}
 
 /// The versions of the form of scenes. The second has prompt natives and the quantum.
 #[derive(Clone, Copy, PartialEq, Eq)]

@@ -1,5 +1,0 @@
-use Rattle.pex_lift.proofs.FewLines.{few_lines}
-use Rattle.pex_lift.proofs.compiling.lines_of.Goals as goal
-
-pub returns-in-Ok-clause-few : goal.returns-in-Ok-clause-few
-returns-in-Ok-clause-few c = few_lines c.args.text.now _ c.in-Ok.lines.last c.in-Ok.ensures.cut c.in-Ok.ensures.small

@@ -1,0 +1,35 @@
+use Rattle.std.proofs.Common.{◌<◌, ◌∷◌, ◌++◌, [], take, length, sym, subst, arith}
+use Rattle.std.proofs.lemmas.List.{take_more}
+use Rattle.std.proofs.lemmas.List.Elements.{All-get_or, All-push}
+use Rattle.scene_reader.specs.Limits.{ValueKeeps}
+use Rattle.scene_binder.specs.Bound.{AreOfTypes}
+use Rattle.scene_binder.specs.Limits.{IsShortValue}
+use Rattle.scene_binder.specs.Meant.{IsValueMeant}
+use Rattle.scene_binder.proofs.ListLemmas.{AllZip-done, AllZip-next}
+use Rattle.scene_binder.proofs.BoundLemmas.{AreOfTypes-push}
+use Rattle.scene_binder.proofs.binder.bind_arguments.Goals as goal
+
+pub loop-place-preserved : goal.loop-place-preserved
+loop-place-preserved c =
+    let parameters = c.args.parameters.now in
+    let arguments = c.args.arguments.now in
+    let place = c.loop-place.place in
+    let scripts = c.args.scope.scripts.now in
+    let instances = c.args.scope.instances.now.scripts.items in
+    let argument = c.index-arguments-place.result in
+    let value = c.in_ok-value_for.field-0 in
+    let lt : place < length parameters = omega arith in
+    let last = c.in_ok-value_for.ensures in
+    let before = c.loop-place.invariant in
+    rw c.in_ok-push.ensures.items (record {
+      typed = subst (λ ks. AreOfTypes scripts instances ks (c.loop-place.bound.items ++ value ∷ [])) (sym (take_more parameters place _ lt)) (AreOfTypes-push scripts instances (take place parameters) c.loop-place.bound.items _ value before.typed last.typed);
+      short = λ h.
+          let own = subst ValueKeeps (sym c.index-arguments-place.is) (All-get_or ValueKeeps arguments place argument c.loop-place-test.true h) in
+          All-push IsShortValue c.loop-place.bound.items value (before.short h) (last.short own);
+      meant = λ named_instances named.
+          AllZip-next (IsValueMeant named_instances) arguments c.loop-place.bound.items place argument value c.loop-place-test.true c.index-arguments-place.is (before.meant named_instances named) (last.meant named_instances named);
+    })
+
+pub returns-clause-meant : goal.returns-clause-meant
+returns-clause-meant c = λ instances named.
+    AllZip-done (IsValueMeant instances) c.args.arguments.now c.loop-place.bound.items c.loop-place.place c.loop-place-test.false (c.loop-place.invariant.meant instances named)

@@ -1,0 +1,37 @@
+use Rattle.std.proofs.Common.{◌≡◌, ◌<◌, length, get_or, sym, subst, arith}
+use Rattle.std.proofs.lemmas.List.Elements.{All-get_or, All-push}
+use Rattle.scene_reader.specs.Limits.{InstanceKeeps}
+use Rattle.scene_binder.specs.Bound.{IsBoundInstance, instance_name, script_of}
+use Rattle.scene_binder.specs.Instances.{tree_name}
+use Rattle.scene_binder.specs.Limits.{InstanceKeepsLimits}
+use Rattle.scene_binder.specs.Scope.{IsSetOf}
+use Rattle.scene_binder.proofs.ListLemmas.{AllZip-done, AllZip-next, map-push, take-push}
+use Rattle.scene_binder.proofs.binder.bind_instances.Goals as goal
+
+pub loop-number-preserved : goal.loop-number-preserved
+loop-number-preserved c =
+    let scripts = c.args.scope.scripts.now in
+    let instances = c.args.scope.instances.now.scripts.items in
+    let listed = c.args.instances.now in
+    let number = c.loop-number.number in
+    let instance = c.index-instances-number.result in
+    let bound = c.loop-number.bound.items in
+    let last = c.in_ok-bind_instance in
+    let before = c.loop-number.invariant in
+    let lt = c.loop-number-test.true in
+    let inside : number < length instances = omega (arith, c.requires.count) in
+    let at : script_of last.field-0 ≡ get_or instances number (script_of last.field-0) = cc (last.ensures.script, c.index-script.ensures) in
+    rw c.in_ok-push.ensures.items (record {
+      bound = All-push (IsBoundInstance scripts instances) bound last.field-0 before.bound last.ensures.bound;
+      scripts = take-push script_of bound instances number last.field-0 before.scripts inside at;
+      names = map-push instance_name tree_name bound listed number last.field-0 instance before.names lt c.index-instances-number.is last.ensures.name;
+      limits = λ h.
+          let own = subst InstanceKeeps (sym c.index-instances-number.is) (All-get_or InstanceKeeps listed number instance lt h) in
+          All-push InstanceKeepsLimits bound last.field-0 (before.limits h) (last.ensures.limits own);
+      meant = λ named_instances named.
+          AllZip-next (IsSetOf scripts named_instances) listed bound number instance last.field-0 lt c.index-instances-number.is (before.meant named_instances named) (last.ensures.meant named_instances named);
+    })
+
+pub returns-clause-meant : goal.returns-clause-meant
+returns-clause-meant c = λ instances named.
+    AllZip-done (IsSetOf c.args.scope.scripts.now instances) c.args.instances.now c.loop-number.bound.items c.loop-number.number c.loop-number-test.false (c.loop-number.invariant.meant instances named)
