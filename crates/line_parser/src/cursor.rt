@@ -1,9 +1,9 @@
 // Reads the tokens of a line from left to right.
-ghost use Rattle.std.specs.Prelude.{◌≡◌, ◌+◌, ◌<◌, ◌≤◌, length, IsTrue, IsSome, IfSome, OnSome, OnOk};
-ghost use Rattle.line_parser.specs.Blocks.{first_keyword, keyword_of};
+ghost use Rattle.std.specs.Prelude.{◌≡◌, ◌+◌, ◌<◌, ◌≤◌, length, IsTrue, IsSome, IfOk, IfSome, OnSome, OnOk};
+ghost use Rattle.line_parser.specs.Blocks.{first_keyword};
 
 use crate::fault::FormFault;
-use crate::type_words::TypeWords;
+use crate::simple::TypeWords;
 use papy_base::Name;
 use script_lexer::{Keyword, Sign, Spanned, Token};
 use std::alloc::Global;
@@ -17,10 +17,6 @@ pub(crate) struct Cursor<'a> {
 }
 
 impl<'a> Cursor<'a> {
-    pub(crate) fn is_at_end(&self) -> bool {
-        self.rest.is_empty()
-    }
-
     pub(crate) fn next_sign(&self) -> Option<Sign>
         ensures { IsSome result → 0 < length self.now.rest.now }
     {
@@ -31,9 +27,9 @@ impl<'a> Cursor<'a> {
         ensures some { IsSome result → 0 < length self.now.rest.now }
         ensures first { result ≡ first_keyword self.now.rest.now }
     {
-        match self.rest.first() {
-            Some(spanned) => keyword(&spanned.token),
-            None => None,
+        match self.rest.first()?.token {
+            Token::Key(found) => Some(found),
+            _ => None,
         }
     }
 
@@ -179,30 +175,31 @@ impl<'a> Cursor<'a> {
         Some((sign, found))
     }
 
-    /// Takes `-` or `!` where it is next.
-    pub(crate) fn take_unary(&mut self) -> Option<Sign>
+    /// Takes the next token where it is one of these signs.
+    pub(crate) fn take_one_of(&mut self, signs: &[Sign]) -> Option<Sign>
         ensures bound { length self.new.rest.now ≤ length self.old.rest.now }
     {
-        match self.next_sign() {
-            Some(found) if matches!(found, Sign::Minus | Sign::Not) => {
-                self.skip();
-                Some(found)
-            }
-            _ => None,
+        let sign = self.next_sign()?;
+        if !signs.contains(&sign) {
+            return None;
         }
+        self.skip();
+        Some(sign)
     }
 
-    /// Takes a sign of assignment where it is next.
-    pub(crate) fn take_assignment(&mut self) -> Option<Sign>
-        ensures bound { length self.new.rest.now ≤ length self.old.rest.now }
+    /// Whether a list in brackets ends here. Takes its `)`, or else the `,` before an element that isn't the first.
+    pub(crate) fn list_ends(&mut self, is_first: bool) -> Result<bool, FormFault>
+        ensures bound { OnOk result (length self.new.rest.now ≤ length self.old.rest.now) }
+        ensures shorter { IfOk result (λ ends. IsTrue ends → length self.new.rest.now < length self.old.rest.now) }
     {
-        match self.next_sign() {
-            Some(found) if is_assignment(found) => {
-                self.skip();
-                Some(found)
-            }
-            _ => None,
+        if self.take_sign(Sign::CloseParen) {
+            return Ok(true);
         }
+        if is_first {
+            return Ok(false);
+        }
+        self.expect_sign(Sign::Comma)?;
+        Ok(false)
     }
 }
 
@@ -228,9 +225,9 @@ fn precedence(sign: Sign) -> u8
 fn sign_at(tokens: &[Spanned], at: usize) -> Option<Sign>
     ensures { IsSome result → at < length tokens.now }
 {
-    match tokens.get(at) {
-        Some(spanned) => sign(&spanned.token),
-        None => None,
+    match tokens.get(at)?.token {
+        Token::Sign(found) => Some(found),
+        _ => None,
     }
 }
 
@@ -249,32 +246,4 @@ pub(crate) fn is_array_mark_at(tokens: &[Spanned], at: usize) -> bool
     ensures { IsTrue result → at + 2 ≤ length tokens.now }
 {
     is_sign_at(tokens, at, Sign::OpenBracket) && is_sign_at(tokens, at + 1, Sign::CloseBracket)
-}
-
-fn sign(token: &Token) -> Option<Sign> {
-    match token {
-        Token::Sign(found) => Some(*found),
-        _ => None,
-    }
-}
-
-fn keyword(token: &Token) -> Option<Keyword>
-    ensures { result ≡ keyword_of token.now }
-{
-    match token {
-        Token::Key(found) => Some(*found),
-        _ => None,
-    }
-}
-
-fn is_assignment(sign: Sign) -> bool {
-    matches!(
-        sign,
-        Sign::Assign
-            | Sign::PlusAssign
-            | Sign::MinusAssign
-            | Sign::StarAssign
-            | Sign::SlashAssign
-            | Sign::PercentAssign
-    )
 }

@@ -5,12 +5,13 @@ use crate::cursor::{Cursor, is_sign_at};
 use crate::fault::FormFault;
 use crate::simple::{leaf, type_name};
 use crate::tree::{Argument, Expr};
-use papy_base::OutOfMemory;
+use papy_base::{Name, OutOfMemory};
 use script_lexer::{Keyword, Sign};
 use std::alloc::Global;
 
-// The precedence of unary signs.
-const UNARY: u8 = 6;
+const UNARY_SIGNS: [Sign; 2] = [Sign::Minus, Sign::Not];
+
+const UNARY_PRECEDENCE: u8 = 6;
 
 /// An expression. At most `depth` brackets may be open in it.
 #[cycle(expression)]
@@ -20,23 +21,15 @@ pub(crate) fn expression(cursor: &mut Cursor<'_>, depth: u8) -> Result<Expr, For
     operands(cursor, 1, depth)
 }
 
-// Operands with signs of at least this precedence between them. Most are one token.
+// Operands with signs of at least this precedence between them. Most are one token. An operand behind a sign holds
+// only signs that bind tighter, so signs of one precedence group to the left.
 #[cycle(expression)]
 fn operands(cursor: &mut Cursor<'_>, least: u8, depth: u8) -> Result<Expr, FormFault>
     ensures shorter { OnOk result (length cursor.new.rest.now < length cursor.old.rest.now) }
 {
     if cursor.next_is_alone(least) {
-        leaf(cursor)
-    } else {
-        binary(cursor, least, depth)
+        return leaf(cursor);
     }
-}
-
-// An operand behind a sign holds only signs that bind tighter, so signs of one precedence group to the left.
-#[cycle(expression)]
-fn binary(cursor: &mut Cursor<'_>, least: u8, depth: u8) -> Result<Expr, FormFault>
-    ensures shorter { OnOk result (length cursor.new.rest.now < length cursor.old.rest.now) }
-{
     let mut left = unary(cursor, depth)?;
     'signs: while let Some((sign, precedence)) = cursor.take_binary(least) {
         let right = operands(cursor, precedence + 1, depth)?;
@@ -53,10 +46,10 @@ fn binary(cursor: &mut Cursor<'_>, least: u8, depth: u8) -> Result<Expr, FormFau
 fn unary(cursor: &mut Cursor<'_>, depth: u8) -> Result<Expr, FormFault>
     ensures shorter { OnOk result (length cursor.new.rest.now < length cursor.old.rest.now) }
 {
-    if cursor.next_is_alone(UNARY) {
+    if cursor.next_is_alone(UNARY_PRECEDENCE) {
         return leaf(cursor);
     }
-    let Some(sign) = cursor.take_unary() else {
+    let Some(sign) = cursor.take_one_of(&UNARY_SIGNS) else {
         return cast(cursor, depth);
     };
     let of = cast(cursor, depth)?;
@@ -139,33 +132,25 @@ fn atom(cursor: &mut Cursor<'_>, depth: u8) -> Result<Expr, FormFault>
     if cursor.take_sign(Sign::OpenParen) {
         bracketed(cursor, Sign::CloseParen, depth)
     } else if cursor.take_keyword(Keyword::Parent) {
-        parent_call(cursor, depth)
+        cursor.expect_sign(Sign::Dot)?;
+        let (name, arguments) = call(cursor, depth)?;
+        Ok(Expr::ParentCall { name, arguments })
     } else if is_sign_at(cursor.rest, 1, Sign::OpenParen) {
-        call(cursor, depth)
+        let (name, arguments) = call(cursor, depth)?;
+        Ok(Expr::Call { name, arguments })
     } else {
         leaf(cursor)
     }
 }
 
+// A function's name and the arguments of its call.
 #[cycle(expression)]
-fn parent_call(cursor: &mut Cursor<'_>, depth: u8) -> Result<Expr, FormFault>
-    ensures shorter { OnOk result (length cursor.new.rest.now < length cursor.old.rest.now) }
-{
-    cursor.expect_sign(Sign::Dot)?;
-    let name = cursor.expect_word()?;
-    cursor.expect_sign(Sign::OpenParen)?;
-    let arguments = arguments(cursor, depth)?;
-    Ok(Expr::ParentCall { name, arguments })
-}
-
-#[cycle(expression)]
-fn call(cursor: &mut Cursor<'_>, depth: u8) -> Result<Expr, FormFault>
+fn call(cursor: &mut Cursor<'_>, depth: u8) -> Result<(Name, Vec<Argument>), FormFault>
     ensures shorter { OnOk result (length cursor.new.rest.now < length cursor.old.rest.now) }
 {
     let name = cursor.expect_word()?;
     cursor.expect_sign(Sign::OpenParen)?;
-    let arguments = arguments(cursor, depth)?;
-    Ok(Expr::Call { name, arguments })
+    Ok((name, arguments(cursor, depth)?))
 }
 
 // The arguments of a call and the `)` behind them; the `(` is taken.
@@ -175,18 +160,12 @@ fn arguments(cursor: &mut Cursor<'_>, depth: u8) -> Result<Vec<Argument>, FormFa
 {
     let depth = one_deeper(depth)?;
     let mut found = Vec::new(cursor.alloc);
-    if cursor.take_sign(Sign::CloseParen) {
-        return Ok(found);
-    }
-    'commas: loop {
+    'arguments: while !cursor.list_ends(found.is_empty())? {
         let name = cursor.take_argument_name()?;
         let value = expression(cursor, depth)?;
         found.push(Argument { name, value })?;
-        if cursor.take_sign(Sign::CloseParen) {
-            return Ok(found);
-        }
-        cursor.expect_sign(Sign::Comma)?;
     }
+    Ok(found)
 }
 
 // How many brackets may be open behind one more.

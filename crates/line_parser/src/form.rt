@@ -1,5 +1,5 @@
 // The forms of lines, one function for each production.
-ghost use Rattle.std.specs.Prelude.{◌≡◌, ◌↔◌, ◌≢◌, false, IfOk, IfSome, IsErrOf, IsTrue};
+ghost use Rattle.std.specs.Prelude.{◌≡◌, ◌↔◌, ◌≢◌, false, IfOk, IsErrOf, IsTrue};
 ghost use Rattle.line_parser.specs.Blocks.{begins_block, is_block_word, opens_block};
 ghost use Rattle.line_parser.specs.Nesting.{IsTooDeep};
 ghost use Rattle.line_parser.specs.declared.fault.LineFault.TheVariants.{Broken};
@@ -9,12 +9,22 @@ use crate::cursor::Cursor;
 use crate::expression::expression;
 use crate::fault::{FormFault, LineFault, LineRule};
 use crate::nesting::{BRACKET_LIMIT, is_too_deep};
-use crate::simple::{begins_declaration, constant, flags, initial_constant, parameters, type_name};
-use crate::tree::{Heading, LineForm, LineTree, TypeName};
-use crate::type_words::TypeWords;
+use crate::simple::{
+    TypeWords, begins_declaration, flags, initial_constant, parameters, type_name,
+};
+use crate::tree::{Access, Heading, LineForm, LineTree, TypeName};
 use papy_base::{OutOfMemory, Text};
 use script_lexer::{Keyword, Line, Sign, Spanned, Token};
 use std::alloc::Global;
+
+const ASSIGNMENTS: [Sign; 6] = [
+    Sign::Assign,
+    Sign::PlusAssign,
+    Sign::MinusAssign,
+    Sign::StarAssign,
+    Sign::SlashAssign,
+    Sign::PercentAssign,
+];
 
 /// The form that the line grammar gives a logical line, and the documentation text at its end.
 ///
@@ -40,7 +50,7 @@ pub fn parse_line(alloc: Global, types: &TypeWords, line: &Line) -> Result<LineT
         rest: without_doc(tokens),
     };
     let form = form(&mut cursor)?;
-    if cursor.is_at_end() {
+    if cursor.rest.is_empty() {
         Ok(LineTree { form, doc })
     } else {
         drop(form);
@@ -55,13 +65,9 @@ fn without_doc(tokens: &[Spanned]) -> &[Spanned]
     ensures { IsTrue (begins_block result.now) → IsTrue (begins_block tokens.now) }
 {
     match tokens.split_last() {
-        Some((last, others)) if is_doc(&last.token) => others,
+        Some((last, others)) if matches!(last.token, Token::Doc(_)) => others,
         _ => tokens,
     }
-}
-
-fn is_doc(token: &Token) -> bool {
-    matches!(token, Token::Doc(_))
 }
 
 /// The documentation text that is last of a line's tokens, where one is.
@@ -83,7 +89,7 @@ fn form(cursor: &mut Cursor<'_>) -> Result<LineForm, FormFault>
     }
     match cursor.next_keyword() {
         Some(keyword) => keyword_form(cursor, keyword),
-        None if cursor.is_at_end() => Ok(LineForm::DocOnly),
+        None if cursor.rest.is_empty() => Ok(LineForm::DocOnly),
         None => statement(cursor),
     }
 }
@@ -99,29 +105,17 @@ fn keyword_form(cursor: &mut Cursor<'_>, keyword: Keyword) -> Result<LineForm, F
         Keyword::Function | Keyword::Event => function(cursor, keyword, None),
         Keyword::If | Keyword::ElseIf | Keyword::While => test_line(cursor, keyword),
         Keyword::Return => return_line(cursor),
-        _ => match word_form(keyword) {
-            Some(form) => {
-                cursor.take_keyword(keyword);
-                Ok(form)
-            }
-            None => statement(cursor),
-        },
-    }
-}
-
-// The form of a line that is one keyword.
-fn word_form(keyword: Keyword) -> Option<LineForm>
-    ensures { IfSome result (λ form. opens_block form ≡ false) }
-{
-    match keyword {
-        Keyword::EndProperty => Some(LineForm::EndProperty),
-        Keyword::EndFunction => Some(LineForm::EndFunction),
-        Keyword::EndEvent => Some(LineForm::EndEvent),
-        Keyword::EndState => Some(LineForm::EndState),
-        Keyword::Else => Some(LineForm::Else),
-        Keyword::EndIf => Some(LineForm::EndIf),
-        Keyword::EndWhile => Some(LineForm::EndWhile),
-        _ => None,
+        Keyword::Else
+        | Keyword::EndEvent
+        | Keyword::EndFunction
+        | Keyword::EndIf
+        | Keyword::EndProperty
+        | Keyword::EndState
+        | Keyword::EndWhile => {
+            cursor.take_keyword(keyword);
+            Ok(LineForm::Key(keyword))
+        }
+        _ => statement(cursor),
     }
 }
 
@@ -176,7 +170,7 @@ fn return_line(cursor: &mut Cursor<'_>) -> Result<LineForm, FormFault>
     ensures { IfOk result (λ form. opens_block form ≡ false) }
 {
     cursor.expect_keyword(Keyword::Return)?;
-    if cursor.is_at_end() {
+    if cursor.rest.is_empty() {
         return Ok(LineForm::Return(None));
     }
     Ok(LineForm::Return(Some(expression(cursor, BRACKET_LIMIT)?)))
@@ -217,23 +211,26 @@ fn property(cursor: &mut Cursor<'_>, kind: TypeName) -> Result<LineForm, FormFau
 {
     cursor.expect_keyword(Keyword::Property)?;
     let name = cursor.expect_word()?;
-    let value = initial_constant(cursor)?;
-    let is_auto = cursor.take_keyword(Keyword::Auto);
-    if !is_auto && value.is_none() {
-        let flags = flags(cursor)?;
-        return Ok(LineForm::FullProperty { kind, name, flags });
-    }
-    if !is_auto {
-        cursor.expect_keyword(Keyword::AutoReadOnly)?;
-    }
+    let access = access(cursor)?;
     let flags = flags(cursor)?;
-    Ok(LineForm::AutoProperty {
+    Ok(LineForm::Property {
         kind,
         name,
-        value,
-        read_only: !is_auto,
+        access,
         flags,
     })
+}
+
+fn access(cursor: &mut Cursor<'_>) -> Result<Access, FormFault> {
+    let value = initial_constant(cursor)?;
+    if cursor.take_keyword(Keyword::Auto) {
+        return Ok(Access::Auto(value));
+    }
+    let Some(value) = value else {
+        return Ok(Access::Full);
+    };
+    cursor.expect_keyword(Keyword::AutoReadOnly)?;
+    Ok(Access::ReadOnly(value))
 }
 
 // What begins with `Function` or `Event`, whichever the keyword is.
@@ -276,15 +273,12 @@ fn statement(cursor: &mut Cursor<'_>) -> Result<LineForm, FormFault>
     ensures { IfOk result (λ form. opens_block form ≡ false) }
 {
     let target = expression(cursor, BRACKET_LIMIT)?;
-    match cursor.take_assignment() {
-        Some(sign) => {
-            let value = expression(cursor, BRACKET_LIMIT)?;
-            Ok(LineForm::Assign {
-                target,
-                sign,
-                value,
-            })
-        }
-        None => Ok(LineForm::Plain(target)),
-    }
+    let Some(sign) = cursor.take_one_of(&ASSIGNMENTS) else {
+        return Ok(LineForm::Plain(target));
+    };
+    Ok(LineForm::Assign {
+        target,
+        sign,
+        value: expression(cursor, BRACKET_LIMIT)?,
+    })
 }

@@ -9,9 +9,10 @@ mod form;
 mod nesting;
 mod simple;
 mod tree;
-mod type_words;
 
 pub use fault::{LineFault, LineRule};
 pub use form::{doc_at_end, parse_line};
-pub use tree::{Argument, Constant, Expr, Heading, LineForm, LineTree, Parameter, TypeName};
-pub use type_words::TypeWords;
+pub use simple::TypeWords;
+pub use tree::{
+    Access, Argument, Constant, Expr, Heading, LineForm, LineTree, Parameter, TypeName,
+};

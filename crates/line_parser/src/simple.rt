@@ -4,12 +4,31 @@ ghost use Rattle.std.specs.Prelude.{◌<◌, ◌≤◌, length, OnOk};
 use crate::cursor::{Cursor, is_array_mark_at};
 use crate::fault::FormFault;
 use crate::tree::{Constant, Expr, Parameter, TypeName};
-use papy_base::{Name, neg};
+use papy_base::{Name, OutOfMemory, neg};
 use script_lexer::{Keyword, Sign, Spanned, Token};
 use std::alloc::Global;
 
-/// The word of a type: a word, `Int`, `Bool` or `String`.
-pub(crate) fn type_word(cursor: &mut Cursor<'_>) -> Result<Name, FormFault>
+/// The names of the types `Int`, `Bool` and `String`, which are keywords. The lines of a file share them.
+#[derive(Drop)]
+pub struct TypeWords {
+    pub(crate) int: Name,
+    pub(crate) bool: Name,
+    pub(crate) string: Name,
+}
+
+impl TypeWords {
+    /// The names as they are declared.
+    pub fn new(alloc: Global) -> Result<TypeWords, OutOfMemory> {
+        Ok(TypeWords {
+            int: Name::from_bytes(alloc, b"Int")?,
+            bool: Name::from_bytes(alloc, b"Bool")?,
+            string: Name::from_bytes(alloc, b"String")?,
+        })
+    }
+}
+
+// The word of a type: a word, `Int`, `Bool` or `String`.
+fn type_word(cursor: &mut Cursor<'_>) -> Result<Name, FormFault>
     ensures shorter { OnOk result (length cursor.new.rest.now < length cursor.old.rest.now) }
 {
     let types = cursor.types;
@@ -66,12 +85,6 @@ fn new_array(cursor: &mut Cursor<'_>) -> Result<Expr, FormFault>
 }
 
 // A constant without `-`.
-fn plain_constant(cursor: &mut Cursor<'_>) -> Result<Constant, FormFault>
-    ensures shorter { OnOk result (length cursor.new.rest.now < length cursor.old.rest.now) }
-{
-    constant_of(cursor.alloc, cursor.take()?)
-}
-
 fn constant_of(alloc: Global, token: &Token) -> Result<Constant, FormFault> {
     match token {
         Token::Int(number) => Ok(Constant::Int(*number)),
@@ -83,14 +96,14 @@ fn constant_of(alloc: Global, token: &Token) -> Result<Constant, FormFault> {
     }
 }
 
-/// A constant. The least number's negation is itself.
-pub(crate) fn constant(cursor: &mut Cursor<'_>) -> Result<Constant, FormFault>
+// A constant. The least number's negation is itself.
+fn constant(cursor: &mut Cursor<'_>) -> Result<Constant, FormFault>
     ensures shorter { OnOk result (length cursor.new.rest.now < length cursor.old.rest.now) }
 {
     if cursor.take_sign(Sign::Minus) {
         return Ok(Constant::Int(neg(cursor.expect_int()?)));
     }
-    plain_constant(cursor)
+    constant_of(cursor.alloc, cursor.take()?)
 }
 
 /// `=` and a constant, where `=` is next.
@@ -121,16 +134,10 @@ fn parameter(cursor: &mut Cursor<'_>) -> Result<Parameter, FormFault>
 pub(crate) fn parameters(cursor: &mut Cursor<'_>) -> Result<Vec<Parameter>, FormFault> {
     cursor.expect_sign(Sign::OpenParen)?;
     let mut found = Vec::new(cursor.alloc);
-    if cursor.take_sign(Sign::CloseParen) {
-        return Ok(found);
-    }
-    'parameters: loop {
+    'parameters: while !cursor.list_ends(found.is_empty())? {
         found.push(parameter(cursor)?)?;
-        if cursor.take_sign(Sign::CloseParen) {
-            return Ok(found);
-        }
-        cursor.expect_sign(Sign::Comma)?;
     }
+    Ok(found)
 }
 
 const HIDDEN: u32 = 1;

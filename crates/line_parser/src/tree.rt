@@ -1,7 +1,7 @@
 // What a line means: its form, with the trees of its expressions.
 
 use papy_base::{Name, Text};
-use script_lexer::Sign;
+use script_lexer::{Keyword, Sign};
 
 /// A type as a script writes it. `Int`, `Bool` and `String` are words of those spellings.
 #[derive(Drop)]
@@ -112,6 +112,15 @@ pub struct Heading {
     pub flags: u32,
 }
 
+/// How a property is read and written.
+#[derive(Drop)]
+pub enum Access {
+    Auto(Option<Constant>),
+    ReadOnly(Constant),
+    /// By functions, on the lines that follow.
+    Full,
+}
+
 /// The form of a line.
 #[derive(Drop)]
 pub enum LineForm {
@@ -128,33 +137,22 @@ pub enum LineForm {
         value: Option<Expr>,
         flags: u32,
     },
-    AutoProperty {
+    Property {
         kind: TypeName,
         name: Name,
-        value: Option<Constant>,
-        read_only: bool,
+        access: Access,
         flags: u32,
     },
-    FullProperty {
-        kind: TypeName,
-        name: Name,
-        flags: u32,
-    },
-    EndProperty,
     Function(Heading),
-    EndFunction,
-    EndEvent,
     State {
         name: Name,
         is_auto: bool,
     },
-    EndState,
     If(Expr),
     ElseIf(Expr),
-    Else,
-    EndIf,
     While(Expr),
-    EndWhile,
+    /// `Else`, or a keyword that ends a block.
+    Key(Keyword),
     Return(Option<Expr>),
     /// `target = value`, or with another sign of assignment, as `+=`.
     Assign {

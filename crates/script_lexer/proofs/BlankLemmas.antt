@@ -4,7 +4,7 @@ use Rattle.std.proofs.lemmas.Bool.{eqb-true}
 use Rattle.std.specs.List.{prefix_len}
 use Rattle.script_lexer.specs.declared.opening.Opening.TheVariants as opening
 use Rattle.script_lexer.specs.declared.piece.Piece.TheVariants as piece
-use Rattle.script_lexer.specs.declared.progress.Progress.{Progress}
+use Rattle.script_lexer.specs.declared.line.Progress.{Progress}
 use Rattle.script_lexer.specs.declared.fault.LexRule.{LexRule}
 use Rattle.script_lexer.specs.declared.fault.LexRule.TheVariants as rule
 use Rattle.script_lexer.specs.Bytes.{opening_of, is_blank, is_line_end, line_ends}

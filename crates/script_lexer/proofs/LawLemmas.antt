@@ -7,7 +7,7 @@ use Rattle.script_lexer.specs.declared.opening.Opening.TheVariants as opening
 use Rattle.script_lexer.specs.declared.token.Token.{Token}
 use Rattle.script_lexer.specs.declared.token.Token.TheVariants as token
 use Rattle.script_lexer.specs.declared.sign.Sign.{Sign}
-use Rattle.script_lexer.specs.declared.text_item.TextItem.{TextItem}
+use Rattle.script_lexer.specs.declared.quoted.TextItem.{TextItem}
 use Rattle.script_lexer.specs.declared.piece.Piece.{Piece}
 use Rattle.script_lexer.specs.declared.piece.Piece.TheVariants as piece
 use Rattle.script_lexer.specs.declared.fault.LexRule.{LexRule}

@@ -7,7 +7,7 @@ use Rattle.std.proofs.lemmas.Bool.{cases_lt, cases_Bool, eq-eqb, ne_eqb}
 use Rattle.std.proofs.lemmas.List.{append-nil, length-append, length-drop, take-append-drop, take_at, drop_at, take-take, drop_all, length-take-le, flat_map_more}
 use Rattle.std.proofs.lemmas.List.Sums.{sum_by-append, sum_by-cons, count_by-le-length}
 use Rattle.script_lexer.specs.declared.piece.Piece.{Piece}
-use Rattle.script_lexer.specs.declared.progress.Progress.{Progress}
+use Rattle.script_lexer.specs.declared.line.Progress.{Progress}
 use Rattle.script_lexer.specs.declared.fault.LexRule.{LexRule}
 use Rattle.script_lexer.specs.declared.fault.LexRule.TheVariants as rule
 use Rattle.script_lexer.specs.declared.fault.LexFault.{LexFault}

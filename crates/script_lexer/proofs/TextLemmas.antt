@@ -12,8 +12,8 @@ use Rattle.script_lexer.specs.declared.fault.LexRule.TheVariants as rule
 use Rattle.script_lexer.specs.Rules.{rule_number, BreaksFrom}
 use Rattle.script_lexer.specs.Answers.{Opens, Stands, IsLowest}
 use Rattle.script_lexer.proofs.Standing.{stands, lowest}
-use Rattle.script_lexer.specs.declared.text_item.TextItem.{TextItem}
-use Rattle.script_lexer.specs.declared.text_item.TextItem.TheVariants as item
+use Rattle.script_lexer.specs.declared.quoted.TextItem.{TextItem}
+use Rattle.script_lexer.specs.declared.quoted.TextItem.TheVariants as item
 use Rattle.script_lexer.specs.Bytes.{opening_of}
 use Rattle.script_lexer.specs.Pieces.{Completes, IsItem, AreItems, item_bytes, items_bytes, item_value, is_good_item, are_good}
 use Rattle.script_lexer.specs.Rules.{IsUnclosed}

@@ -10,7 +10,7 @@ use Rattle.script_lexer.specs.Words.{sign_of_bytes}
 use Rattle.script_lexer.specs.Bytes.{opening_of}
 use Rattle.script_lexer.specs.Pieces.{IsLongest, is_hexadecimal, IsItem, AreItems, item_bytes, items_bytes, item_value, are_good}
 use Rattle.script_lexer.specs.Rules.{rule_number, Breaks, IsUnclosed}
-use Rattle.script_lexer.specs.declared.text_item.TextItem.{TextItem}
+use Rattle.script_lexer.specs.declared.quoted.TextItem.{TextItem}
 
 -- the first byte opens this
 abbrev pub Opens : Opening → List ℕ → Type 0

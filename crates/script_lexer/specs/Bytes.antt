@@ -3,8 +3,8 @@ use Rattle.std.specs.Prelude.{ℕ, Bool, true, false, List, drop, not, ◌==◌,
 use Rattle.std.specs.List.{prefix_len, take_while, count_by}
 use Rattle.std.specs.Int.{is_in_range}
 use Rattle.std.specs.Char.{is_ascii_digit, is_ascii_hexdigit, is_ascii_alphabetic}
-use Rattle.script_lexer.specs.declared.byte_class.ByteClass.{ByteClass}
-use Rattle.script_lexer.specs.declared.byte_class.ByteClass.TheVariants as class
+use Rattle.script_lexer.specs.declared.opening.ByteClass.{ByteClass}
+use Rattle.script_lexer.specs.declared.opening.ByteClass.TheVariants as class
 use Rattle.script_lexer.specs.declared.opening.Opening.{Opening}
 use Rattle.script_lexer.specs.declared.opening.Opening.TheVariants as opening
 

@@ -13,8 +13,8 @@ use Rattle.script_lexer.specs.declared.token.Token.{Token}
 use Rattle.script_lexer.specs.declared.token.Token.TheVariants as token
 use Rattle.script_lexer.specs.declared.piece.Piece.{Piece}
 use Rattle.script_lexer.specs.declared.piece.Piece.TheVariants as piece
-use Rattle.script_lexer.specs.declared.text_item.TextItem.{TextItem}
-use Rattle.script_lexer.specs.declared.text_item.TextItem.TheVariants as item
+use Rattle.script_lexer.specs.declared.quoted.TextItem.{TextItem}
+use Rattle.script_lexer.specs.declared.quoted.TextItem.TheVariants as item
 use Rattle.script_lexer.specs.Words.{keyword_spelling, sign_spelling}
 use Rattle.script_lexer.specs.Bytes.{opening_of, is_blank, is_comment_byte, is_documentation_byte, is_word_byte, front, behind}
 

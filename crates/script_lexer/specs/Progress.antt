@@ -2,7 +2,7 @@
 use Rattle.std.specs.Prelude.{◌≡◌, ℕ, ◌+◌, ◌<◌, ◌≤◌, List, [], ◌∷◌, ◌++◌, length}
 use Rattle.script_lexer.specs.declared.line.Line.{Line}
 use Rattle.script_lexer.specs.declared.piece.Piece.{Piece}
-use Rattle.script_lexer.specs.declared.progress.Progress.{Progress}
+use Rattle.script_lexer.specs.declared.line.Progress.{Progress}
 use Rattle.script_lexer.specs.Bytes.{line_ends}
 use Rattle.script_lexer.specs.Lines.{LogicalLine, logical_lines, nonempty, Spelled, following}
 

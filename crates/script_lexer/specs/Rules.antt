@@ -7,7 +7,7 @@ use Rattle.script_lexer.specs.declared.opening.Opening.{Opening}
 use Rattle.script_lexer.specs.declared.opening.Opening.TheVariants as opening
 use Rattle.script_lexer.specs.declared.keyword.Keyword.TheVariants as keyword
 use Rattle.script_lexer.specs.declared.sign.Sign.{Sign}
-use Rattle.script_lexer.specs.declared.text_item.TextItem.{TextItem}
+use Rattle.script_lexer.specs.declared.quoted.TextItem.{TextItem}
 use Rattle.script_lexer.specs.declared.fault.LexRule.{LexRule}
 use Rattle.script_lexer.specs.declared.fault.LexRule.TheVariants as rule
 use Rattle.script_lexer.specs.Words.{keyword_spelling, sign_spelling}

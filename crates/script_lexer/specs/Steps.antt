@@ -5,7 +5,7 @@ use Rattle.script_lexer.specs.declared.piece.Piece.{Piece}
 use Rattle.script_lexer.specs.declared.piece.PieceFault.{PieceFault}
 use Rattle.script_lexer.specs.declared.piece.PieceFault.TheVariants as piece_fault
 use Rattle.script_lexer.specs.declared.line.Lines.{Lines}
-use Rattle.script_lexer.specs.declared.progress.Progress.{Progress}
+use Rattle.script_lexer.specs.declared.line.Progress.{Progress}
 use Rattle.script_lexer.specs.declared.fault.LexRule.{LexRule}
 use Rattle.script_lexer.specs.declared.fault.LexRule.TheVariants as rule
 use Rattle.script_lexer.specs.declared.fault.LexFault.{LexFault}

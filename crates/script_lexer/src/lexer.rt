@@ -1,6 +1,6 @@
-ghost use Rattle.std.specs.Prelude.{◌≡◌, ◌+◌, ◌<◌, ◌≤◌, ◌^◌, length, true, MatchOption, IfOk, IfErr, OnOk};
+ghost use Rattle.std.specs.Prelude.{◌≡◌, ◌+◌, ◌<◌, ◌≤◌, ◌^◌, ℕ, List, length, true, MatchOption, IfOk, IfErr, OnOk};
 ghost use Rattle.script_lexer.specs.Bytes.{line_ends, stays_in_line};
-ghost use Rattle.script_lexer.specs.Lines.{mark_len, physical_lines, logical_lines, text_of, IsUnbroken, Lexes};
+ghost use Rattle.script_lexer.specs.Lines.{Answer, mark_len, physical_lines, logical_lines, text_of, IsAnswer, IsUnbroken, Lexes};
 ghost use Rattle.script_lexer.specs.Progress.{IsReady};
 ghost use Rattle.script_lexer.specs.Answers.{Opens, Stands, Answers};
 ghost use Rattle.script_lexer.specs.Spans.{LinesStand};
@@ -8,17 +8,13 @@ ghost use Rattle.script_lexer.specs.Steps.{PassesBlanks, CountsWithin, ends_befo
 ghost use Rattle.script_lexer.specs.declared.opening.Opening.TheVariants as opening;
 ghost use Rattle.script_lexer.specs.declared.piece.Piece.TheVariants as piece;
 
-use crate::byte_class::ByteClass;
 use crate::fault::{LexFault, LexRule};
-use crate::line::Lines;
-use crate::number::number;
-use crate::opening::Opening;
+use crate::in_line::{number, sign, word};
+use crate::line::{Lines, Progress};
+use crate::opening::{ByteClass, Opening};
 use crate::piece::{Found, Piece, PieceFault};
-use crate::progress::Progress;
-use crate::punctuation::sign;
 use crate::quoted::text;
 use crate::trivia::{comment, documentation, join};
-use crate::word::word;
 use papy_base::NamePool;
 use std::alloc::Global;
 
@@ -195,3 +191,8 @@ pub fn lex(alloc: Global, bytes: &[u8]) -> Result<Lines, LexFault>
     let (_, text) = bytes.split_at(start);
     lex_text(alloc, start as u32, text)
 }
+
+/// A file has one answer: two readings of it make the same lines, and none where a rule is broken.
+pub fn one_answer()
+    ensures { (file : List ℕ) (x y : Answer) → IsAnswer file x → IsAnswer file y → x ≡ y }
+{}

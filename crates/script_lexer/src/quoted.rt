@@ -7,13 +7,55 @@ ghost use Rattle.script_lexer.specs.Answers.{Opens, Answers, BeginsItem, Stops, 
 
 use crate::fault::LexRule;
 use crate::piece::{Found, Piece, PieceFault};
-use crate::text_item::TextItem;
 use crate::token::Token;
 use papy_base::{OutOfMemory, Text};
 use std::alloc::Global;
 
 /// The most bytes that a text means.
 pub const TEXT_LIMIT: usize = 1024;
+
+/// What a text is made of.
+#[derive(Clone, Copy)]
+pub enum TextItem {
+    /// A byte that stands for itself.
+    Plain(u8),
+    /// A backslash and this byte.
+    Escaped(u8),
+}
+
+impl TextItem {
+    /// How many bytes it takes.
+    pub fn len(self) -> usize
+        ensures { result ≡ length (item_bytes self) }
+    {
+        match self {
+            TextItem::Plain(_) => 1,
+            TextItem::Escaped(_) => 2,
+        }
+    }
+
+    /// The byte that it means.
+    pub fn value(self) -> u8
+        ensures { result ≡ item_value self }
+    {
+        match self {
+            TextItem::Plain(byte) => byte,
+            TextItem::Escaped(b'n') => b'\n',
+            TextItem::Escaped(b't') => b'\t',
+            TextItem::Escaped(byte) => byte,
+        }
+    }
+
+    /// Whether the backslash may stand before its byte.
+    pub fn is_good(self) -> bool
+        ensures { result ≡ is_good_item self }
+    {
+        match self {
+            TextItem::Plain(_) => true,
+            TextItem::Escaped(byte) => matches!(byte, b'n' | b't' | b'\\' | b'"'),
+        }
+    }
+}
 
 // The next item of a text, if it doesn't stop here.
 fn next_item(rest: &[u8]) -> Option<TextItem>
@@ -27,17 +69,9 @@ fn next_item(rest: &[u8]) -> Option<TextItem>
     }
 }
 
-// What was read behind a quote.
-#[derive(Drop)]
-struct Read {
-    meant: Vec<u8>,
-    good: bool,
-    len: usize,
-}
-
-// The items of a text, up to where it stops.
-fn read_items(alloc: Global, bytes: &[u8]) -> Result<Read, OutOfMemory>
-    ensures { IfOk result (λ r. ReadsItems bytes.now r.meant.items r.good r.len) }
+// The items of a text, up to where it stops: what they mean, whether they are good, and how many bytes they take.
+fn read_items(alloc: Global, bytes: &[u8]) -> Result<(Vec<u8>, bool, usize), OutOfMemory>
+    ensures { IfOk result (λ r. ReadsItems bytes.now r.0.items r.1 r.2) }
 {
     let mut meant = Vec::new(alloc);
     let mut good = true;
@@ -49,7 +83,7 @@ fn read_items(alloc: Global, bytes: &[u8]) -> Result<Read, OutOfMemory>
         rest = after;
     }
     let len = bytes.len() - rest.len();
-    Ok(Read { meant, good, len })
+    Ok((meant, good, len))
 }
 
 /// A text, up to its closing quote.
@@ -59,7 +93,7 @@ pub fn text(alloc: Global, rest: &[u8]) -> Result<Found, PieceFault>
     ensures { Answers rest.now result }
 {
     let (_, behind) = rest.split_at(1);
-    let Read { meant, good, len } = read_items(alloc, behind)?;
+    let (meant, good, len) = read_items(alloc, behind)?;
     if len >= behind.len() || behind[len] != b'"' {
         return Err(PieceFault::Broken(LexRule::OpenText));
     }

@@ -5,8 +5,8 @@ ghost use Rattle.script_lexer.specs.declared.opening.Opening.TheVariants as open
 ghost use Rattle.script_lexer.specs.Pieces.{behind_close};
 ghost use Rattle.script_lexer.specs.Answers.{Opens, Answers, Stands, begins_block};
 
-use crate::byte_class::ByteClass;
 use crate::fault::LexRule;
+use crate::opening::ByteClass;
 use crate::piece::{Found, Piece, PieceFault};
 use crate::token::Token;
 use papy_base::Text;

@@ -6,7 +6,7 @@ ghost use Rattle.script_parser.specs.Reader.{BlockAt, GoesOn, IsBlockFault, bloc
 use crate::fault::BlockFault;
 use crate::reader::Reader;
 use crate::script::{Statement, StatementForm};
-use line_parser::{Expr, LineForm, LineRule};
+use line_parser::{Expr, LineForm, LineRule, LineTree};
 use script_lexer::Keyword;
 
 /// The most `If` and `While` that may be open.
@@ -32,10 +32,11 @@ fn statements(reader: &mut Reader<'_>, depth: u8) -> Result<Block, BlockFault>
     let mut found = Vec::new(reader.alloc);
     'lines: loop {
         let first = reader.next_in_block()?;
-        let found_form = reader.form(&first)?;
+        let LineTree { form, doc } = reader.tree(&first)?;
+        drop(doc);
         let at = first.at;
         let line = first.line.number;
-        let form = match found_form {
+        let form = match form {
             LineForm::Definition {
                 kind,
                 name,
@@ -98,27 +99,22 @@ fn if_block(
     let mut tests = Vec::new(reader.alloc);
     let mut next = (line, test);
     'tests: loop {
-        let Block {
-            statements: body,
-            end,
-            end_at,
-            end_line,
-        } = statements(reader, depth)?;
+        let block = statements(reader, depth)?;
         let (line, test) = next;
-        tests.push((line, test, body))?;
-        match end {
-            LineForm::ElseIf(test) => next = (end_line, test),
-            LineForm::Else => {
+        tests.push((line, test, block.statements))?;
+        match block.end {
+            LineForm::ElseIf(test) => next = (block.end_line, test),
+            LineForm::Key(Keyword::Else) => {
                 let (otherwise, _) = closed_block(reader, Keyword::EndIf, depth)?;
                 return Ok(StatementForm::If { tests, otherwise });
             }
-            LineForm::EndIf => {
+            LineForm::Key(Keyword::EndIf) => {
                 let otherwise = Vec::new(reader.alloc);
                 return Ok(StatementForm::If { tests, otherwise });
             }
             other => {
                 drop(other);
-                return Err(BlockFault::bad_block(end_at));
+                return Err(BlockFault::bad_block(block.end_at));
             }
         }
     }
@@ -136,30 +132,14 @@ pub(crate) fn closed_block(
     ensures onward { OnOk result (GoesOn reader.old reader.new) }
     ensures fault { IfErr result (IsBlockFault reader.old.lines.now) }
 {
-    let Block {
-        statements: body,
-        end,
-        end_at,
-        end_line,
-    } = statements(reader, depth)?;
-    let is_closed = is_keyword(&end, keyword);
-    drop(end);
+    let block = statements(reader, depth)?;
+    let is_closed = matches!(&block.end, LineForm::Key(word) if *word == keyword);
+    drop(block.end);
     if is_closed {
-        Ok((body, end_line))
+        Ok((block.statements, block.end_line))
     } else {
-        drop(body);
-        Err(BlockFault::bad_block(end_at))
-    }
-}
-
-// Whether the form is that of this keyword alone, one that ends a block of statements.
-fn is_keyword(form: &LineForm, keyword: Keyword) -> bool {
-    match form {
-        LineForm::EndIf => keyword == Keyword::EndIf,
-        LineForm::EndWhile => keyword == Keyword::EndWhile,
-        LineForm::EndFunction => keyword == Keyword::EndFunction,
-        LineForm::EndEvent => keyword == Keyword::EndEvent,
-        _ => false,
+        drop(block.statements);
+        Err(BlockFault::bad_block(block.end_at))
     }
 }
 

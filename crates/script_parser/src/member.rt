@@ -8,7 +8,7 @@ use crate::block::{OPEN_LIMIT, closed_block};
 use crate::fault::BlockFault;
 use crate::reader::{LineAt, Reader};
 use crate::script::{Body, Function, Property, PropertyForm, Script, State, Variable};
-use line_parser::{Constant, Expr, Heading, LineForm, LineTree, TypeName};
+use line_parser::{Access, Constant, Expr, Heading, LineForm, LineTree, TypeName};
 use papy_base::{Name, Text, neg};
 use script_lexer::{Keyword, Sign};
 
@@ -43,11 +43,10 @@ pub(crate) fn member(
                 line,
             })?,
         ),
-        LineForm::Function(heading) => Ok(
-            script
-                .functions
-                .push(function(reader, line, heading, doc)?)?,
-        ),
+        LineForm::Function(heading) => {
+            let function = function(reader, line, heading, doc)?;
+            Ok(script.functions.push(function)?)
+        }
         LineForm::State { name, is_auto } => Ok(
             script.states.push(State {
                 name,
@@ -56,11 +55,10 @@ pub(crate) fn member(
                 line,
             })?,
         ),
-        other => Ok(
-            script
-                .properties
-                .push(property(reader, &first, other, doc)?)?,
-        ),
+        other => {
+            let property = property(reader, &first, other, doc)?;
+            Ok(script.properties.push(property)?)
+        }
     }
 }
 
@@ -77,33 +75,42 @@ fn property(
     ensures fault { IfErr result (IsBlockFault reader.old.lines.now) }
     ensures stands { IfOk result (PropertyStands reader.old.lines.now) }
 {
-    let line = first.line.number;
     match form {
-        LineForm::AutoProperty {
+        LineForm::Property {
             kind,
             name,
-            value,
-            read_only,
+            access,
             flags,
-        } => Ok(Property {
-            kind,
-            name,
-            form: auto_form(first.at, value, read_only)?,
-            doc: reader.own_doc(doc)?,
-            flags,
-            line,
-        }),
-        LineForm::FullProperty { kind, name, flags } => Ok(Property {
-            kind,
-            name,
-            doc: reader.own_doc(doc)?,
-            form: PropertyForm::Full(functions_until(reader, Keyword::EndProperty)?),
-            flags,
-            line,
-        }),
+        } => {
+            let doc = reader.own_doc(doc)?;
+            Ok(Property {
+                kind,
+                name,
+                form: property_form(reader, access)?,
+                doc,
+                flags,
+                line: first.line.number,
+            })
+        }
         other => {
             drop(other);
             Err(BlockFault::bad_block(first.at))
+        }
+    }
+}
+
+fn property_form(reader: &mut Reader<'_>, access: Access) -> Result<PropertyForm, BlockFault>
+    ensures bound { OnOk result (left reader.new ≤ left reader.old) }
+    ensures onward { OnOk result (GoesOn reader.old reader.new) }
+    ensures fault { IfErr result (IsBlockFault reader.old.lines.now) }
+    ensures stands { IfOk result (AccessorsStand reader.old.lines.now) }
+{
+    match access {
+        Access::Auto(value) => Ok(PropertyForm::Auto(value)),
+        Access::ReadOnly(value) => Ok(PropertyForm::ReadOnly(value)),
+        Access::Full => {
+            let functions = functions_until(reader, Keyword::EndProperty)?;
+            Ok(PropertyForm::Full(functions))
         }
     }
 }
@@ -145,21 +152,6 @@ fn negated(tree: Expr) -> Option<Constant> {
             drop(other);
             None
         }
-    }
-}
-
-fn auto_form(
-    at: usize,
-    value: Option<Constant>,
-    read_only: bool,
-) -> Result<PropertyForm, BlockFault>
-    ensures fault { (lines : List Line) → IfErr result (IsBlockFault lines) }
-    ensures stands { (lines : List Line) → IfOk result (AccessorsStand lines) }
-{
-    match value {
-        Some(constant) if read_only => Ok(PropertyForm::ReadOnly(constant)),
-        None if read_only => Err(BlockFault::bad_block(at)),
-        value => Ok(PropertyForm::Auto(value)),
     }
 }
 
@@ -215,8 +207,8 @@ fn functions_until(reader: &mut Reader<'_>, end: Keyword) -> Result<Vec<Function
         let line = first.line.number;
         match form {
             LineForm::Function(heading) => functions.push(function(reader, line, heading, doc)?)?,
-            LineForm::EndState if end == Keyword::EndState => return Ok(functions),
-            LineForm::EndProperty if end == Keyword::EndProperty && !functions.is_empty() => {
+            LineForm::Key(word)
+                if word == end && (end == Keyword::EndState || !functions.is_empty()) => {
                 return Ok(functions);
             }
             other => {

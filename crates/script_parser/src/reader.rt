@@ -3,7 +3,7 @@ ghost use Rattle.std.specs.Prelude.{◌≡◌, ◌<◌, ◌≤◌, IfErr, IfOk, 
 ghost use Rattle.line_parser.specs.Blocks.{begins_block, opens_block};
 
 use crate::fault::BlockFault;
-use line_parser::{LineForm, LineTree, TypeWords, doc_at_end, parse_line};
+use line_parser::{LineTree, TypeWords, doc_at_end, parse_line};
 use papy_base::{OutOfMemory, Text};
 use script_lexer::{Line, Spanned, Token};
 use std::alloc::Global;
@@ -49,17 +49,6 @@ impl<'a> Reader<'a> {
             Ok(tree) => Ok(tree),
             Err(fault) => Err(BlockFault::of_line(found.at, fault)),
         }
-    }
-
-    /// The form of a line alone.
-    pub(crate) fn form(&self, found: &LineAt<'_>) -> Result<LineForm, BlockFault>
-        requires { StandsAt self.now.lines.now found.now }
-        ensures block { IfOk result (λ form. IsTrue (opens_block form) → IsTrue (begins_block found.now.line.now.tokens.items)) }
-        ensures fault { IfErr result (IsBlockFault self.now.lines.now) }
-    {
-        let LineTree { form, doc } = self.tree(found)?;
-        drop(doc);
-        Ok(form)
     }
 
     /// The next line, also where it is a documentation text alone, or none at the end.
@@ -110,17 +99,13 @@ impl<'a> Reader<'a> {
         ensures onward { GoesOn self.old self.new }
         ensures fault { IfErr result (IsBlockFault self.old.lines.now) }
     {
-        if at_end.is_some() {
-            return Ok(at_end);
+        match self.lines.get(self.at) {
+            Some(line) if at_end.is_none() && is_doc_only(line.tokens.as_slice()) => {
+                self.at += 1;
+                Ok(doc_at_end(self.alloc, line.tokens.as_slice())?)
+            }
+            _ => Ok(at_end),
         }
-        let Some(line) = self.lines.get(self.at) else {
-            return Ok(None);
-        };
-        if !is_doc_only(line.tokens.as_slice()) {
-            return Ok(None);
-        }
-        self.at += 1;
-        Ok(doc_at_end(self.alloc, line.tokens.as_slice())?)
     }
 }
 

@@ -17,13 +17,13 @@ pub if_block-closed_block-requires : goal.if_block-closed_block-requires
 if_block-closed_block-requires t c =
     let before = c.tests.reader in
     let many = blocks-onward c.args.reader.now before c.args.depth c.tests.invariant.onward c.requires in
-    (omega arith, blocks-onward before c.statements.new.reader c.args.depth c.in_ok-body.ensures.onward many)
+    (omega arith, blocks-onward before c.statements.new.reader c.args.depth c.in_ok-block.ensures.onward many)
 
 pub statements-returns-in_err-inner_depth-in-If-clause-fault : goal.statements-returns-in_err-inner_depth-in-If-clause-fault
 statements-returns-in_err-inner_depth-in-If-clause-fault t c =
     let before = c.lines.reader in
     let many = blocks-onward c.args.reader.now before c.args.depth c.lines.invariant.onward c.requires in
-    let begins = c.in_ok-found_form.ensures.block (rw c.in-If.is refl) in
+    let begins = c.in_ok-form.ensures.block (rw c.in-If.is refl) in
     let block = rw c.lines.invariant.onward.lines at (block-found before c.next_in_block.new.self c.in_ok-first.first c.args.depth c.in_ok-first.ensures.found begins many) in
     let told = err_from_is_err_and c.from_residual-in_err-inner_depth-in-If.result c.from_residual-in_err-inner_depth-in-If.ensures.1 in
     rw (told.1, told.2) (c.in_err-inner_depth-in-If.ensures.fault c.args.reader.now.lines.now block)
@@ -32,7 +32,7 @@ pub statements-if_block-requires : goal.statements-if_block-requires
 statements-if_block-requires t c =
     let before = c.lines.reader in
     let many = blocks-onward c.args.reader.now before c.args.depth c.lines.invariant.onward c.requires in
-    let begins = c.in_ok-found_form.ensures.block (rw c.in-If.is refl) in
+    let begins = c.in_ok-form.ensures.block (rw c.in-If.is refl) in
     let inner = c.in_ok-inner_depth-in-If in
     (omega (arith, inner.ensures.inner), block-inside before c.next_in_block.new.self c.in_ok-first.first c.args.depth inner.field-0 c.in_ok-first.ensures.onward c.in_ok-first.ensures.found begins many inner.ensures.inner)
 
@@ -40,7 +40,7 @@ pub statements-returns-in_err-inner_depth-in-While-clause-fault : goal.statement
 statements-returns-in_err-inner_depth-in-While-clause-fault t c =
     let before = c.lines.reader in
     let many = blocks-onward c.args.reader.now before c.args.depth c.lines.invariant.onward c.requires in
-    let begins = c.in_ok-found_form.ensures.block (rw c.in-While.is refl) in
+    let begins = c.in_ok-form.ensures.block (rw c.in-While.is refl) in
     let block = rw c.lines.invariant.onward.lines at (block-found before c.next_in_block.new.self c.in_ok-first.first c.args.depth c.in_ok-first.ensures.found begins many) in
     let told = err_from_is_err_and c.from_residual-in_err-inner_depth-in-While.result c.from_residual-in_err-inner_depth-in-While.ensures.1 in
     rw (told.1, told.2) (c.in_err-inner_depth-in-While.ensures.fault c.args.reader.now.lines.now block)
@@ -49,6 +49,6 @@ pub statements-while_block-requires : goal.statements-while_block-requires
 statements-while_block-requires t c =
     let before = c.lines.reader in
     let many = blocks-onward c.args.reader.now before c.args.depth c.lines.invariant.onward c.requires in
-    let begins = c.in_ok-found_form.ensures.block (rw c.in-While.is refl) in
+    let begins = c.in_ok-form.ensures.block (rw c.in-While.is refl) in
     let inner = c.in_ok-inner_depth-in-While in
     (omega (arith, inner.ensures.inner), block-inside before c.next_in_block.new.self c.in_ok-first.first c.args.depth inner.field-0 c.in_ok-first.ensures.onward c.in_ok-first.ensures.found begins many inner.ensures.inner)

@@ -46,7 +46,7 @@ returns-in_ok-push-in-Function-clause-stands c = λ s.
       imports = s.imports;
       variables = s.variables;
       properties = s.properties;
-      functions = functions-push lines c.args.script.now.functions.items c.push-in-Function.new.self.items c.in_ok-function-in-Function.field-0 c.args.first.line.now.number c.in_ok-push-in-Function.ensures.items c.in_ok-function-in-Function.ensures.line here s.functions;
+      functions = functions-push lines c.args.script.now.functions.items c.push-in-Function.new.self.items c.in_ok-function-in-Function.function c.args.first.line.now.number c.in_ok-push-in-Function.ensures.items c.in_ok-function-in-Function.ensures.line here s.functions;
       states = s.states;
     }
 

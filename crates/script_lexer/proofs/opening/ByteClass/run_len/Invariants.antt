@@ -1,7 +1,7 @@
 use Rattle.std.proofs.Common.{◌≡◌, ◌+◌, drop}
 use Rattle.std.specs.List.{prefix_len}
 use Rattle.script_lexer.specs.Bytes.{class_test}
-use Rattle.script_lexer.proofs.byte_class.ByteClass.run_len.Given as goal
+use Rattle.script_lexer.proofs.opening.ByteClass.run_len.Given as goal
 
 -- the bytes so far are of the class, and the rest's front follows them
 abbrev pub invariant-loop-at : goal.invariant-loop-at

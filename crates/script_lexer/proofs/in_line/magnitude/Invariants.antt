@@ -1,6 +1,6 @@
 use Rattle.std.proofs.Common.{◌≡◌, ◌<◌, ◌^◌, take}
 use Rattle.std.specs.Str.Parse.{digits_value}
-use Rattle.script_lexer.proofs.number.magnitude.Given as goal
+use Rattle.script_lexer.proofs.in_line.magnitude.Given as goal
 
 -- the number of the digits so far
 abbrev pub invariant-loop-byte : goal.invariant-loop-byte

@@ -1,4 +1,4 @@
-//! Numbers, in decimal digits or behind `0x` in hexadecimal ones.
+//! Words, numbers and signs, which hold no line end.
 
 ghost use Rattle.std.specs.Prelude.{◌≡◌, ◌<◌, ◌≤◌, ◌^◌, ◌↔◌, IsTrue, length, MatchOption, true, false, ⊤};
 ghost use Rattle.std.specs.Char.{digit_value};
@@ -7,12 +7,42 @@ ghost use Rattle.script_lexer.specs.declared.opening.Opening.TheVariants as open
 ghost use Rattle.script_lexer.specs.Pieces.{is_hexadecimal};
 ghost use Rattle.script_lexer.specs.Rules.{IsFraction, BeginsWith};
 ghost use Rattle.script_lexer.specs.Bytes.{is_word_start};
-ghost use Rattle.script_lexer.specs.Answers.{Opens, Answers, is_hexadecimal_at};
+ghost use Rattle.script_lexer.specs.Answers.{Opens, Answers, is_hexadecimal_at, pair_at};
 
-use crate::byte_class::{ByteClass, is_word_start};
 use crate::fault::LexRule;
+use crate::keyword::Keyword;
+use crate::opening::{ByteClass, is_word_start};
 use crate::piece::{Found, Piece, PieceFault};
+use crate::sign::Sign;
 use crate::token::Token;
+use papy_base::NamePool;
+
+/// The most bytes of a name.
+pub const NAME_LIMIT: usize = 255;
+
+/// A word.
+pub fn word(names: &mut NamePool, rest: &[u8]) -> Result<Found, PieceFault>
+    requires nonempty { 0 < length rest.now }
+    requires opens { Opens opening.Word rest.now }
+    ensures { Answers rest.now result }
+{
+    let (_, behind) = rest.split_at(1);
+    let len = 1 + ByteClass::Word.run_len(behind);
+    if len > NAME_LIMIT {
+        return Err(PieceFault::Broken(LexRule::TextTooLong));
+    }
+    let (bytes, _) = rest.split_at(len);
+    match Keyword::of(bytes) {
+        Some(keyword) => match keyword {
+            Keyword::Float => Err(PieceFault::Broken(LexRule::FloatWord)),
+            _ => Ok((Piece::Token(Token::Key(keyword)), len)),
+        },
+        None => {
+            let name = names.name(bytes)?;
+            Ok((Piece::Token(Token::Word(name)), len))
+        }
+    }
+}
 
 /// The greatest decimal number.
 const DECIMAL_LIMIT: u32 = 2147483647;
@@ -114,5 +144,30 @@ pub fn number(rest: &[u8]) -> Result<Found, PieceFault>
         hexadecimal(rest)
     } else {
         decimal(rest)
+    }
+}
+
+// The sign of two bytes that stands here.
+fn pair(rest: &[u8]) -> Option<Sign>
+    ensures { result ≡ pair_at rest.now }
+{
+    match rest {
+        [first, second, ..] => Sign::of_bytes(*first, *second),
+        _ => None,
+    }
+}
+
+/// A sign, the longest that stands here.
+pub fn sign(rest: &[u8]) -> Result<Found, PieceFault>
+    requires nonempty { 0 < length rest.now }
+    requires opens { Opens opening.Sign rest.now }
+    ensures { Answers rest.now result }
+{
+    match pair(rest) {
+        Some(sign) => Ok((Piece::Token(Token::Sign(sign)), 2)),
+        None => match Sign::of_byte(rest[0]) {
+            Some(sign) => Ok((Piece::Token(Token::Sign(sign)), 1)),
+            None => Err(PieceFault::Broken(LexRule::BadByte)),
+        },
     }
 }

@@ -3,7 +3,7 @@ use Rattle.std.proofs.lemmas.Int.Digits.{digits_value_more}
 use Rattle.std.proofs.lemmas.Str.Parse.{digits_value-take-le}
 use Rattle.std.specs.Str.Parse.{digits_value}
 use Rattle.std.specs.Char.{digit_value}
-use Rattle.script_lexer.proofs.number.magnitude.Goals as goal
+use Rattle.script_lexer.proofs.in_line.magnitude.Goals as goal
 
 -- the number with one digit more
 more : (base i number digit : ℕ) (ds : List ℕ) → i < length ds → number ≡ digits_value base (take i ds) → digit ≡ digit_value (get_or ds i 0) → number * base + digit ≡ digits_value base (take (i + 1) ds)

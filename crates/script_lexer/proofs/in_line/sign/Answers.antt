@@ -1,6 +1,6 @@
 use Rattle.std.proofs.Common.{sym, ◌∙◌}
 use Rattle.script_lexer.proofs.SignLemmas.{two_byte_sign, one_byte_sign}
-use Rattle.script_lexer.proofs.punctuation.sign.Goals as goal
+use Rattle.script_lexer.proofs.in_line.sign.Goals as goal
 
 pub returns-in-Some : goal.returns-in-Some
 returns-in-Some c = two_byte_sign c.args.rest.now c.in-Some.sign c.requires.opens (sym c.pair.ensures ∙ c.in-Some.is)

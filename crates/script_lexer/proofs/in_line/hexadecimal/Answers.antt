@@ -7,7 +7,7 @@ use Rattle.script_lexer.specs.declared.piece.Piece.TheVariants as piece
 use Rattle.script_lexer.specs.Answers.{Stands}
 use Rattle.script_lexer.proofs.NumberLemmas.{hexadecimal_stands}
 use Rattle.std.proofs.lemmas.Bool.{false≢true}
-use Rattle.script_lexer.proofs.number.hexadecimal.Goals as goal
+use Rattle.script_lexer.proofs.in_line.hexadecimal.Goals as goal
 
 pub returns : goal.returns
 returns c =

@@ -6,7 +6,7 @@ use Rattle.script_lexer.specs.Answers.{Stands}
 use Rattle.script_lexer.specs.declared.keyword.Keyword.TheVariants as keyword
 use Rattle.script_lexer.proofs.KeywordLemmas.{same_keyword}
 use Rattle.script_lexer.proofs.WordLemmas.{word_stands, word_too_long}
-use Rattle.script_lexer.proofs.word.word.Goals as goal
+use Rattle.script_lexer.proofs.in_line.word.Goals as goal
 
 pub returns-then-len-gt-NAME_LIMIT : goal.returns-then-len-gt-NAME_LIMIT
 returns-then-len-gt-NAME_LIMIT c = word_too_long c.args.rest.now c.split_at.result.1.now c.run_len-len.result c.requires.opens c.split_at.ensures.back c.run_len-len.ensures.run (omega arith)

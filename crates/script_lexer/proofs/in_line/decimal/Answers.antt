@@ -3,8 +3,8 @@ use Rattle.script_lexer.proofs.NumberLemmas.{decimal_stands, decimal_refused}
 use Rattle.std.proofs.lemmas.Bool.{false≢true}
 use Rattle.std.specs.Prelude.{◌<◌}
 use Rattle.std.specs.Str.Parse.{digits_value}
-use Rattle.script_lexer.proofs.number.decimal.Goals.{then-number-gt-DECIMAL_LIMIT-via-then-number-gt-DECIMAL_LIMIT, then-number-gt-DECIMAL_LIMIT-via-else-number-gt-DECIMAL_LIMIT+then-begins_word}
-use Rattle.script_lexer.proofs.number.decimal.Goals as goal
+use Rattle.script_lexer.proofs.in_line.decimal.Goals.{then-number-gt-DECIMAL_LIMIT-via-then-number-gt-DECIMAL_LIMIT, then-number-gt-DECIMAL_LIMIT-via-else-number-gt-DECIMAL_LIMIT+then-begins_word}
+use Rattle.script_lexer.proofs.in_line.decimal.Goals as goal
 
 pub returns : goal.returns
 returns c = decimal_stands c.args.rest.now c.split_at.result.1.now c.split_at-2.result.0.now c.split_at-2.result.1.now c.run_len-len.result c.in-Some.number c.requires.opens c.requires.prefix c.split_at.ensures.back c.run_len-len.ensures.run c.split_at-2.ensures.front c.split_at-2.ensures.back
