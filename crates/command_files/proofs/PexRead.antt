@@ -13,7 +13,7 @@ use Rattle.pex_values.specs.declared.values.Pex.{Pex}
 use Rattle.pex_values.specs.Plain.{PlainPex, plain}
 use Rattle.command_files.specs.declared.file_fault.FileFault.{FileFault}
 use Rattle.command_files.specs.declared.file_fault.FileFault.TheVariants.{ReadFault, OutOfMemory, Refused}
-use Rattle.command_files.specs.PexFile.{IsRefusalOf, Reads, ReadsBytes, ReadsPex, ReadsKept, CountsPex}
+use Rattle.command_files.specs.PexFile.{IsRefusalOf, Reads, ReadsBytes, ReadsPex, CountsPex}
 
 -- a value and the bytes that spell it
 pub spelled_by : (v : PlainPex) (bytes : List ℕ) → Spells v bytes → IsSpelledBy (length bytes) v
@@ -46,15 +46,10 @@ read_refused {T} Says (Some files) name bytes (pex.Broken offset rule) told read
     )
 
 -- a file that was read and spells a value
-pub read_decoded : (holds : Option Files) (name : List ℕ) (bytes : Vec ℕ Global) (value : Pex) (size : ℕ) → ReadsBytes holds name (Ok bytes) → Spells (plain value) bytes.items → size ≡ length bytes.items
-    → ReadsPex holds name (Ok (record { value = value; size = size }))
-read_decoded None name bytes value size read spells is = tt
-read_decoded (Some files) name bytes value size read spells is = (bytes.items, read.1, record { spelled = spells; size = is })
-
-pub read_kept : (holds : Option Files) (name : List ℕ) (bytes : Vec ℕ Global) (value : Pex) → ReadsBytes holds name (Ok bytes) → Spells (plain value) bytes.items
-    → ReadsKept holds name (Ok (record { value = value; bytes = bytes }))
-read_kept None name bytes value read spells = tt
-read_kept (Some files) name bytes value read spells = (bytes.items, read.1, record { spelled = spells; kept = refl })
+pub read_decoded : (holds : Option Files) (name : List ℕ) (bytes : Vec ℕ Global) (value : Pex) → ReadsBytes holds name (Ok bytes) → Spells (plain value) bytes.items
+    → ReadsPex holds name (Ok (record { value = value; bytes = bytes }))
+read_decoded None name bytes value read spells = tt
+read_decoded (Some files) name bytes value read spells = (bytes.items, read.1, record { spelled = spells; kept = refl })
 
 pub read_counted : (holds : Option Files) (name : List ℕ) (bytes : Vec ℕ Global) (size : ℕ) → ReadsBytes holds name (Ok bytes) → IsSpelling bytes.items → size ≡ length bytes.items
     → CountsPex holds name (Ok size)

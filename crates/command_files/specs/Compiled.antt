@@ -6,9 +6,6 @@ use Rattle.pex_values.specs.Plain.{plain}
 use Rattle.pex_values.specs.Spelling.{spelling}
 use Rattle.pex_values.specs.declared.values.Pex.{Pex}
 use Rattle.pex_verify.specs.Files.{IsFile}
-use Rattle.pex_verify.specs.Sets.{AreSoundOutlines}
-use Rattle.pex_verify.specs.Sources.{script_count}
-use Rattle.command_files.specs.declared.compiled.CompiledFiles.{CompiledFiles}
 use Rattle.command_files.specs.declared.compiled.CompiledSet.{CompiledSet}
 
 abbrev pub bytes_of : Vec ℕ Global → List ℕ
@@ -27,9 +24,3 @@ pub record AreFilesOf (values : List Pex) (files : List (List ℕ)) : Type 0 whe
 pub record HasFiles (count : ℕ) (set : CompiledSet) : Type 0 where
   pub number : length set.loaded.files ≡ count
   pub files : AreFilesOf set.loaded.files (map bytes_of set.files.items)
-
--- so many files, with the values whose bytes they have, and the outline of the scripts of these values
-pub record HasValues (count : ℕ) (set : CompiledFiles) : Type 0 where
-  pub number : length set.values.items ≡ count
-  pub files : AreFilesOf set.values.items (map bytes_of set.files.items)
-  pub outline : AreSoundOutlines (script_count set.values.items) set.outline.scripts.items

@@ -12,7 +12,6 @@ use Rattle.pex_codec.specs.Spells.{Spells}
 use Rattle.pex_values.specs.Plain.{plain}
 use Rattle.command_files.specs.declared.file_fault.FileFault.{FileFault}
 use Rattle.command_files.specs.declared.file_fault.FileFault.TheVariants.{ReadFault, OutOfMemory, Refused}
-use Rattle.command_files.specs.declared.pex_file.KeptPex.{KeptPex}
 use Rattle.command_files.specs.declared.pex_file.PexFile.{PexFile}
 use Rattle.command_files.specs.declared.refusal.Place.{Place}
 use Rattle.command_files.specs.declared.refusal.Place.TheVariants.{Offset}
@@ -57,10 +56,10 @@ Reads Says (Some files) name (Err (Refused place rule)) = (bytes : List ℕ) × 
 Reads Says (Some files) name (Err ReadFault) = Unit {0}
 Reads Says (Some files) name (Err OutOfMemory) = Unit {0}
 
--- the value that the bytes spell, and their number
+-- the value that the bytes spell, and the bytes
 pub record IsRead (file : PexFile) (bytes : List ℕ) : Type 0 where
   pub spelled : Spells (plain file.value) bytes
-  pub size : file.size ≡ length bytes
+  pub kept : file.bytes.items ≡ bytes
 
 abbrev pub ReadsPex : Option Files → List ℕ → Result PexFile FileFault → Type 0
 ReadsPex holds name result = Reads IsRead holds name result
@@ -72,11 +71,3 @@ pub record IsCounted (n : ℕ) (bytes : List ℕ) : Type 0 where
 
 abbrev pub CountsPex : Option Files → List ℕ → Result ℕ FileFault → Type 0
 CountsPex holds name result = Reads IsCounted holds name result
-
--- the value that the bytes spell, and the bytes
-pub record IsKept (file : KeptPex) (bytes : List ℕ) : Type 0 where
-  pub spelled : Spells (plain file.value) bytes
-  pub kept : file.bytes.items ≡ bytes
-
-abbrev pub ReadsKept : Option Files → List ℕ → Result KeptPex FileFault → Type 0
-ReadsKept holds name result = Reads IsKept holds name result

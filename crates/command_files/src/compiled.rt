@@ -3,14 +3,14 @@ ghost use Rattle.std.specs.Prelude.{◌≡◌, ◌-◌, ◌≤◌, IfOk, map, ve
 ghost use Rattle.std.specs.List.{AllByRecursion};
 ghost use Rattle.pex_values.specs.Plain.{plain};
 ghost use Rattle.pex_values.specs.Shape.{IsWellShaped};
-ghost use Rattle.command_files.specs.Compiled.{AreFilesOf, HasFiles, HasValues, bytes_of};
+ghost use Rattle.command_files.specs.Compiled.{AreFilesOf, HasFiles, bytes_of};
 
 use crate::compile_fault::CompileFault;
 use code_emit::emit;
-use core_tree::{CoreSet, Outline};
+use core_tree::CoreSet;
 use pex_codec::encode;
 use pex_values::Pex;
-use pex_verify::{Loaded, judge, verify};
+use pex_verify::{Loaded, verify};
 use std::alloc::Global;
 
 /// The compiled files of a set of scripts, one for each script, in the order of the scripts.
@@ -18,17 +18,6 @@ use std::alloc::Global;
 pub struct CompiledSet {
     /// The values of the files, which break no rule of files that run together.
     pub loaded: Loaded,
-    /// The bytes that spell each value.
-    pub files: Vec<Vec<u8>>,
-}
-
-/// The compiled files of a set of scripts that nothing is to run, one for each script, in the order of the scripts.
-#[derive(Drop)]
-pub struct CompiledFiles {
-    /// The members of the scripts of the prelude and of the files, which break no rule of files that run together.
-    pub outline: Outline,
-    /// The values of the files.
-    pub values: Vec<Pex>,
     /// The bytes that spell each value.
     pub files: Vec<Vec<u8>>,
 }
@@ -58,35 +47,8 @@ pub fn compile_set(alloc: Global, set: &CoreSet) -> Result<CompiledSet, CompileF
     requires { vec_len set.now.scripts ≤ 65535 }
     ensures { IfOk result (HasFiles (vec_len set.now.scripts - 6)) }
 {
-    let (values, files) = spelled_values(alloc, set)?;
-    let loaded = verify(alloc, values)?;
-    Ok(CompiledSet { loaded, files })
-}
-
-/// The compiled files of a set of accepted scripts, as `compile_set` makes them, with nothing that runs them.
-///
-/// # Errors
-///
-/// Those of `compile_set`, in the same cases.
-pub fn compile_files(alloc: Global, set: &CoreSet) -> Result<CompiledFiles, CompileFault>
-    requires { vec_len set.now.scripts ≤ 65535 }
-    ensures { IfOk result (HasValues (vec_len set.now.scripts - 6)) }
-{
-    let (values, files) = spelled_values(alloc, set)?;
-    let outline = judge(alloc, &values)?;
-    Ok(CompiledFiles {
-        outline,
-        values,
-        files,
-    })
-}
-
-// The values of a set of scripts with their bytes, before they are judged together.
-fn spelled_values(alloc: Global, set: &CoreSet) -> Result<(Vec<Pex>, Vec<Vec<u8>>), CompileFault>
-    ensures count { IfOk result (λ made. vec_len made.0 ≡ vec_len set.now.scripts - 6) }
-    ensures files { IfOk result (λ made. AreFilesOf made.0.items (map bytes_of made.1.items)) }
-{
     let values = emit(alloc, set)?;
     let files = encode_each(alloc, &values)?;
-    Ok((values, files))
+    let loaded = verify(alloc, values)?;
+    Ok(CompiledSet { loaded, files })
 }

@@ -14,10 +14,10 @@ mod source_texts;
 mod text_file;
 
 pub use compile_fault::CompileFault;
-pub use compiled::{CompiledFiles, CompiledSet, compile_files, compile_set};
+pub use compiled::{CompiledSet, compile_set};
 pub use ending::Ending;
 pub use file_fault::FileFault;
-pub use pex_file::{KeptPex, PexFile, count_pex, read_kept_pex, read_pex};
+pub use pex_file::{PexFile, count_pex, read_pex};
 pub use refusal::{Place, Rule, refusal_line};
 pub use scene_file::{KeptScene, load_kept_scene, load_scene, read_scene_text};
 pub use scripts::accept;

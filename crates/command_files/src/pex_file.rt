@@ -3,7 +3,7 @@ ghost use Rattle.std.specs.Prelude.{◌≡◌, ◌≤◌, vec_len, IfOk};
 ghost use Rattle.papy_io.specs.Activity.{Idle};
 ghost use Rattle.pex_codec.specs.Decoding.{Decodes, IsDecoded, SpellOne};
 ghost use Rattle.command_files.specs.FileFault.{CountsFile, MissesFile};
-ghost use Rattle.command_files.specs.PexFile.{CountsPex, IsRefusalOf, ReadsBytes, ReadsKept, ReadsPex};
+ghost use Rattle.command_files.specs.PexFile.{CountsPex, IsRefusalOf, ReadsBytes, ReadsPex};
 
 use crate::file_fault::FileFault;
 use crate::refusal::{Place, Rule};
@@ -13,18 +13,9 @@ use pex_codec::{PexFault, PexRule, decode, judge};
 use pex_values::{FILE_LIMIT, Pex};
 use std::alloc::Global;
 
-/// A compiled file that was read.
-#[derive(Drop)]
-pub struct PexFile {
-    /// What it spells.
-    pub value: Pex,
-    /// The number of its bytes.
-    pub size: usize,
-}
-
 /// A compiled file that was read, with its bytes.
 #[derive(Drop)]
-pub struct KeptPex {
+pub struct PexFile {
     /// What it spells.
     pub value: Pex,
     /// Its bytes.
@@ -76,45 +67,13 @@ pub fn read_pex<D: Desk>(alloc: Global, desk: &mut D, name: &[u8]) -> Result<Pex
     ensures write_faults { D.write_faults desk.new ≡ D.write_faults desk.old }
     ensures read_faults { CountsFile result (D.read_faults desk.old) (D.read_faults desk.new) }
     ensures missed { MissesFile name.now result (D.missed desk.new) }
-    ensures decoded { IfOk result (λ file. IsDecoded file.size file.value) }
-    ensures read { ReadsPex (D.holds desk.old) name.now result }
-{
-    let bytes = match read_bytes(alloc, desk, name) {
-        Ok(bytes) => bytes,
-        Err(fault) => return Err(fault),
-    };
-    let size = bytes.len();
-    let decoded = decode(alloc, &bytes);
-    drop(bytes);
-    match decoded {
-        Ok(value) => Ok(PexFile { value, size }),
-        Err(fault) => Err(refused(fault)),
-    }
-}
-
-/// Reads a compiled file as `read_pex` does, and gives its bytes too.
-#[tactic(auto, using(crate::proofs::PexRead::read_unread, crate::proofs::PexRead::read_refused, crate::proofs::PexRead::read_kept, crate::proofs::PexRead::spelled_by))]
-pub fn read_kept_pex<D: Desk>(
-    alloc: Global,
-    desk: &mut D,
-    name: &[u8],
-) -> Result<KeptPex, FileFault>
-    requires { D.busy desk.old ≡ Idle }
-    ensures holds { D.holds desk.new ≡ D.holds desk.old }
-    ensures busy { D.busy desk.new ≡ Idle }
-    ensures write_faults { D.write_faults desk.new ≡ D.write_faults desk.old }
-    ensures read_faults { CountsFile result (D.read_faults desk.old) (D.read_faults desk.new) }
-    ensures missed { MissesFile name.now result (D.missed desk.new) }
     ensures decoded { IfOk result (λ file. IsDecoded (vec_len file.bytes) file.value) }
     ensures small { IfOk result (λ file. vec_len file.bytes ≤ 16777216) }
-    ensures read { ReadsKept (D.holds desk.old) name.now result }
+    ensures read { ReadsPex (D.holds desk.old) name.now result }
 {
-    let bytes = match read_bytes(alloc, desk, name) {
-        Ok(bytes) => bytes,
-        Err(fault) => return Err(fault),
-    };
+    let bytes = read_bytes(alloc, desk, name)?;
     match decode(alloc, &bytes) {
-        Ok(value) => Ok(KeptPex { value, bytes }),
+        Ok(value) => Ok(PexFile { value, bytes }),
         Err(fault) => {
             drop(bytes);
             Err(refused(fault))
@@ -135,10 +94,7 @@ pub fn count_pex<D: Desk>(alloc: Global, desk: &mut D, name: &[u8]) -> Result<us
     ensures spelled { IfOk result SpellOne }
     ensures read { CountsPex (D.holds desk.old) name.now result }
 {
-    let bytes = match read_bytes(alloc, desk, name) {
-        Ok(bytes) => bytes,
-        Err(fault) => return Err(fault),
-    };
+    let bytes = read_bytes(alloc, desk, name)?;
     let size = bytes.len();
     let judged = judge(alloc, &bytes);
     drop(bytes);

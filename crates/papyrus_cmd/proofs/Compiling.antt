@@ -6,17 +6,17 @@ use Rattle.std.proofs.lemmas.List.{length-map}
 use Rattle.papy_io.specs.declared.fault.IoFault.{IoFault}
 use Rattle.papy_io.specs.declared.fault.IoFault.TheVariants as io
 use Rattle.papy_io.specs.Files.{Files}
-use Rattle.command_files.specs.declared.compiled.CompiledFiles.{CompiledFiles}
+use Rattle.command_files.specs.declared.compiled.CompiledSet.{CompiledSet}
 use Rattle.papyrus_cmd.specs.Compile.{CompileLeaves, HaveFiles}
-use Rattle.command_files.specs.Compiled.{HasValues, bytes_of, spelled}
+use Rattle.command_files.specs.Compiled.{HasFiles, bytes_of, spelled}
 use Rattle.command_files.specs.Ending.{write_ending}
 use Rattle.papyrus_cmd.specs.Written.{WritesEach}
 
 -- a file for each script
-pub have_files : (count : ℕ) (scripts : List (String Global)) (set : CompiledFiles) → count ≡ length scripts → HasValues count set → HaveFiles (map string_bytes scripts) (map bytes_of set.files.items)
+pub have_files : (count : ℕ) (scripts : List (String Global)) (set : CompiledSet) → count ≡ length scripts → HasFiles count set → HaveFiles (map string_bytes scripts) (map bytes_of set.files.items)
 have_files count scripts set counted has = record {
-  values = set.values.items;
-  one_each = ap length has.files.bytes ∙ length-map set.values.items spelled ∙ has.number ∙ counted ∙ sym (length-map scripts string_bytes);
+  values = set.loaded.files;
+  one_each = ap length has.files.bytes ∙ length-map set.loaded.files spelled ∙ has.number ∙ counted ∙ sym (length-map scripts string_bytes);
   spelled = has.files;
 }
 

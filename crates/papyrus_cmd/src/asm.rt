@@ -2,7 +2,6 @@
 ghost use Rattle.std.specs.Prelude.{◌≡◌, ◌≢◌, ◌≤◌, length, map, take, IfOk};
 ghost use Rattle.std.specs.String.{string_bytes};
 ghost use Rattle.papy_io.specs.Activity.{Idle};
-ghost use Rattle.pex_codec.specs.Spells.{Spells};
 ghost use Rattle.pex_values.specs.Fit.{Fits};
 ghost use Rattle.pex_values.specs.Plain.{plain};
 ghost use Rattle.pex_values.specs.Shape.{IsWellShaped};
@@ -13,7 +12,6 @@ ghost use Rattle.command_files.specs.Ending.{CountsReads, CountsWrites, IsWordBe
 ghost use Rattle.command_files.specs.FileFault.{CountsFile, MissesFile};
 
 use command_files::{Ending, FileFault, Place, Rule, read_text};
-use papy_base::OutOfMemory;
 use papy_io::{Desk, write_file};
 use pex_codec::{EncodeFault, encode};
 use pex_listing::{ListingFault, ListingRule, assemble};
@@ -24,26 +22,15 @@ use std::alloc::Global;
 const LISTING_LIMIT: u32 = 1 << 27;
 
 /// The bytes that spell a value which fits a file.
-fn spelling_of(alloc: Global, value: &Pex) -> Result<Vec<u8>, OutOfMemory>
-    requires shaped { IsWellShaped (plain value.now) }
-    requires fits { Fits (plain value.now) }
-    ensures { IfOk result (λ bytes. Spells (plain value.now) bytes.items) }
-{
-    match encode(alloc, value) {
-        Ok(bytes) => Ok(bytes),
-        Err(EncodeFault::OutOfMemory) => Err(OutOfMemory),
-        Err(EncodeFault::TooManyItems) => unreachable!(),
-    }
-}
-
 fn spelled(alloc: Global, value: &Pex) -> Result<Vec<u8>, FileFault>
     requires shaped { IsWellShaped (plain value.now) }
     requires fits { Fits (plain value.now) }
     ensures { SpellsValue (plain value.now) result }
 {
-    match spelling_of(alloc, value) {
+    match encode(alloc, value) {
         Ok(bytes) => Ok(bytes),
-        Err(_) => Err(FileFault::OutOfMemory),
+        Err(EncodeFault::OutOfMemory) => Err(FileFault::OutOfMemory),
+        Err(EncodeFault::TooManyItems) => unreachable!(),
     }
 }
 

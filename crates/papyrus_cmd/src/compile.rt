@@ -8,7 +8,7 @@ ghost use Rattle.papyrus_cmd.specs.Compile.{CompileLeaves};
 ghost use Rattle.command_files.specs.Ending.{CountsReads, CountsWrites, IsWordBelow, MissesScript};
 
 use crate::written::write_each;
-use command_files::{Ending, accept, compile_files};
+use command_files::{Ending, accept, compile_set};
 use papy_io::Desk;
 use std::alloc::Global;
 use std::mem;
@@ -31,7 +31,7 @@ pub fn compile<D: Desk>(alloc: Global, scripts: &[String], desk: &mut D) -> Endi
         Ok(set) => set,
         Err(ending) => return ending,
     };
-    let compiled = match compile_files(alloc, &set) {
+    let compiled = match compile_set(alloc, &set) {
         Ok(compiled) => compiled,
         Err(fault) => return Ending::from(fault),
     };

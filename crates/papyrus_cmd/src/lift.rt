@@ -33,7 +33,7 @@ fn lifted(alloc: Global, values: &Vec<Pex>) -> Result<Vec<Text>, Ending>
     }
 }
 
-/// Reads compiled files, judges them together, and writes a source of each under its name with `.lift.psc` in the place of
+/// Reads compiled files, verifies them together, and writes a source of each under its name with `.lift.psc` in the place of
 /// `.pex`, in their order. Nothing is written before all of them have their sources.
 pub fn lift<D: Desk>(alloc: Global, files: &[String], desk: &mut D) -> Ending
     requires idle { D.busy desk.old ≡ Idle }
@@ -48,13 +48,13 @@ pub fn lift<D: Desk>(alloc: Global, files: &[String], desk: &mut D) -> Ending
     ensures word { IsWordBelow (length files.now + 1) result }
     ensures output { EndsUnprinted (LiftAnswersTo (map string_bytes files.now)) (D.holds desk.old) result }
 {
-    let values = match read_set(alloc, files, desk) {
-        Ok(values) => values,
+    let set = match read_set(alloc, files, desk) {
+        Ok(set) => set,
         Err(ending) => return ending,
     };
-    let found = lifted(alloc, &values);
-    // The end of the program gives their memory back at once, and taking them apart doesn't.
-    mem::forget(values);
+    let found = lifted(alloc, set.files());
+    // The end of the program gives its memory back at once, and taking it apart doesn't.
+    mem::forget(set);
     let texts = match found {
         Ok(texts) => texts,
         Err(ending) => return ending,

@@ -17,10 +17,7 @@ use std::alloc::Global;
 fn upgraded(alloc: Global, text: &[u8]) -> Result<Vec<u8>, FileFault>
     ensures { Upgraded result }
 {
-    match upgrade_scene(alloc, text) {
-        Ok(text) => Ok(text),
-        Err(fault) => Err(FileFault::from(fault)),
-    }
+    Ok(upgrade_scene(alloc, text)?)
 }
 
 /// Reads a scene, and gives its text in the current version.
@@ -33,10 +30,7 @@ fn read_upgraded<D: Desk>(alloc: Global, desk: &mut D, name: &[u8]) -> Result<Ve
     ensures missed { MissesFile name.now result (D.missed desk.new) }
     ensures read { ReadsUpgraded (D.holds desk.old) name.now result }
 {
-    let text = match read_scene_text(alloc, desk, name) {
-        Ok(text) => text,
-        Err(fault) => return Err(fault),
-    };
+    let text = read_scene_text(alloc, desk, name)?;
     upgraded(alloc, &text)
 }
 

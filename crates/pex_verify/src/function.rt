@@ -9,8 +9,8 @@ ghost use Rattle.pex_verify.specs.Places.{bounds_of};
 ghost use Rattle.pex_verify.specs.Types.{IsTypeAmong, IsValueTypeAmong};
 ghost use Rattle.pex_verify.specs.Soundness.{IsSoundFunction, AreSoundInstructions};
 
-use crate::fault::{Judged, Refusal, VerifyRule};
-use crate::instruction::{Operands, judge_instruction, load_instruction};
+use crate::fault::{Refusal, VerifyRule};
+use crate::instruction::{Operands, load_instruction};
 use crate::loaded::{LoadedFunction, LoadedInstruction};
 use crate::scope::{FunctionScope, Home, NamedList};
 use crate::scripts::{GLOBAL, NATIVE};
@@ -169,7 +169,7 @@ fn judged_slot(
     Ok(found)
 }
 
-// The code of a function with its operands resolved, none where it isn't kept.
+// The code of a function with its operands resolved.
 fn load_code(
     scope: &FunctionScope<'_>,
     code: &[Instruction],
@@ -178,10 +178,6 @@ fn load_code(
     ensures sound { IfOk result (λ loaded. AreSoundInstructions (bounds_of scope.now.home.now) (vec_len scope.now.slots.now.list) (vec_len loaded) loaded.items) }
     ensures typed { IfOk result (λ loaded. AreTypedIn scope.now loaded.items) }
 {
-    if !scope.home.keeps_code {
-        judge_code(scope, code, operands)?;
-        return Ok(Vec::new(scope.home.alloc));
-    }
     let mut loaded = Vec::with_capacity(scope.home.alloc, code.len())?;
     for (place, instruction) in code.iter().enumerate() {
         match load_instruction(scope, place, code.len(), instruction, operands) {
@@ -190,17 +186,4 @@ fn load_code(
         }
     }
     Ok(loaded)
-}
-
-fn judge_code(
-    scope: &FunctionScope<'_>,
-    code: &[Instruction],
-    operands: &mut Operands,
-) -> Judged<()> {
-    for (place, instruction) in code.iter().enumerate() {
-        if let Err(refusal) = judge_instruction(scope, place, code.len(), instruction, operands) {
-            return Err(refusal.at(place));
-        }
-    }
-    Ok(())
 }

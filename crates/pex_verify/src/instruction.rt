@@ -132,7 +132,7 @@ pub(crate) fn load_instruction(
 
 /// Judges the instruction at this place of so many, and gives where it leads, or the lowest rule that it breaks. Its resolved
 /// operands stand in the place of those that are handed in.
-pub(crate) fn judge_instruction(
+fn judge_instruction(
     scope: &FunctionScope<'_>,
     place: usize,
     count: usize,

@@ -28,4 +28,4 @@ pub use loaded::{
     PropertyPlace,
 };
 pub use typed_sets::verified_sets_are_typed;
-pub use verifier::{judge, verify};
+pub use verifier::verify;

@@ -47,8 +47,6 @@ pub(crate) struct Loader<'a> {
     pub(crate) set: &'a ScriptSet,
     /// The members of every script without parent.
     pub(crate) members: &'a DefaultMembers<'a>,
-    /// Whether the code of functions is kept, once it was judged.
-    pub(crate) keeps_code: bool,
 }
 
 /// Lists that the objects of a set use one after the other.
@@ -94,15 +92,13 @@ pub(crate) fn load_object(
         alloc: loader.alloc,
         set: loader.set,
         members: loader.members,
-        keeps_code: loader.keeps_code,
         here,
         source,
         lines,
         object,
         variables: &lists.variables,
     };
-    let loaded = load_script(&home, &mut lists.functions)?;
-    Ok(loaded)
+    load_script(&home, &mut lists.functions)
 }
 
 // The object's script and outline, once its variables were judged.

@@ -76,8 +76,6 @@ pub(crate) struct Home<'a> {
     pub(crate) set: &'a ScriptSet,
     /// The members of every script without parent.
     pub(crate) members: &'a DefaultMembers<'a>,
-    /// Whether the code of functions is kept, once it was judged.
-    pub(crate) keeps_code: bool,
     /// The script's number.
     pub(crate) here: u16,
     pub(crate) source: &'a SetFile<'a>,

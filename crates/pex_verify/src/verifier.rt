@@ -42,7 +42,7 @@ pub fn verify(alloc: Global, files: Vec<Pex>) -> Result<Loaded, VerifyFault>
     ensures count { IfOk result (λ loaded. length loaded.scripts ≡ script_count files.items) }
 {
     let mut table = NameTable::new(alloc)?;
-    let tables = load_all(alloc, &mut table, files.as_slice(), true)?;
+    let tables = load_all(alloc, &mut table, files.as_slice())?;
     Ok(Loaded {
         outline: Outline {
             scripts: tables.parts.outlines,
@@ -51,21 +51,6 @@ pub fn verify(alloc: Global, files: Vec<Pex>) -> Result<Loaded, VerifyFault>
         scripts: tables.parts.scripts,
         table,
         members: tables.members,
-    })
-}
-
-/// The outline of the set of these files, of which no code is kept. Each has the shape and the size of a file.
-///
-/// `Broken` comes where a rule is broken, with the place and the rule that `verify` gives.
-pub fn judge(alloc: Global, files: &[Pex]) -> Result<Outline, VerifyFault>
-    requires few { length files.now < 65536 }
-    requires valid { All IsFile files.now }
-    ensures { IfOk result (λ outline. AreSoundOutlines (script_count files.now) outline.scripts.items) }
-{
-    let mut table = NameTable::new(alloc)?;
-    let tables = load_all(alloc, &mut table, files, false)?;
-    Ok(Outline {
-        scripts: tables.parts.outlines,
     })
 }
 
@@ -83,8 +68,8 @@ struct Tables {
     members: MemberTable,
 }
 
-// All scripts of these files, behind those of the prelude. Their code is empty unless it is to be kept.
-fn load_all(alloc: Global, table: &mut NameTable, files: &[Pex], keeps_code: bool) -> Valid<Tables>
+// All scripts of these files, behind those of the prelude.
+fn load_all(alloc: Global, table: &mut NameTable, files: &[Pex]) -> Valid<Tables>
     requires few { length files.now < 65536 }
     requires valid { All IsFile files.now }
     ensures count { IfOk result (λ tables. vec_len tables.parts.scripts ≡ script_count files.now) }
@@ -92,7 +77,7 @@ fn load_all(alloc: Global, table: &mut NameTable, files: &[Pex], keeps_code: boo
     ensures judged { IfOk result (λ tables. IsJudged files.now tables.parts.scripts.items tables.parts.outlines.items) }
 {
     let prelude = Prelude::new(alloc)?;
-    load_behind(alloc, table, &prelude, files, keeps_code)
+    load_behind(alloc, table, &prelude, files)
 }
 
 // The same behind this prelude.
@@ -101,7 +86,6 @@ fn load_behind(
     table: &mut NameTable,
     prelude: &Prelude,
     files: &[Pex],
-    keeps_code: bool,
 ) -> Valid<Tables>
     requires few { length files.now < 65536 }
     requires valid { All IsFile files.now }
@@ -120,7 +104,7 @@ fn load_behind(
         list: prelude.members.as_slice(),
         source: &first,
     };
-    load_set(alloc, table, files, &members, all.as_slice(), keeps_code)
+    load_set(alloc, table, files, &members, all.as_slice())
 }
 
 // The scripts of these files, the first of which is the prelude.
@@ -130,7 +114,6 @@ fn load_set(
     files: &[Pex],
     members: &DefaultMembers<'_>,
     sources: &[SetFile<'_>],
-    keeps_code: bool,
 ) -> Valid<Tables>
     ensures count { IfOk result (λ tables. vec_len tables.parts.scripts ≡ object_count sources.now) }
     ensures sound { IfOk result (λ tables. AreSoundScripts (vec_len tables.parts.scripts) tables.parts.outlines.items tables.parts.scripts.items) }
@@ -142,7 +125,6 @@ fn load_set(
         alloc,
         set: &set,
         members,
-        keeps_code,
     };
     let mut lists = ObjectLists::new(alloc, table.count())?;
     let parts = load_files(&loader, &mut lists, sources)?;

@@ -14,15 +14,14 @@ use Rattle.command_files.specs.declared.ending.Ending.{Ending}
 use Rattle.command_files.specs.declared.ending.Ending.TheVariants.{Done, OutOfMemory, Usage, ReadFault, WriteFault, Refused, NotBuilt}
 use Rattle.command_files.specs.declared.file_fault.FileFault.{FileFault}
 use Rattle.command_files.specs.declared.file_fault.FileFault.TheVariants as file
-use Rattle.command_files.specs.declared.pex_file.KeptPex.{KeptPex}
 use Rattle.command_files.specs.declared.pex_file.PexFile.{PexFile}
 use Rattle.command_files.specs.declared.scene_file.KeptScene.{KeptScene}
 use Rattle.command_files.specs.Compiled.{bytes_of}
 use Rattle.command_files.specs.Ending.{CountsReads, IsWordBelow, MissesScript, word_at}
 use Rattle.command_files.specs.FileFault.{CountsFile, MissesFile, ending_at}
 use Rattle.command_files.specs.Held.{AreHeld, Hold}
-use Rattle.command_files.specs.PexFile.{ReadsKept, ReadsPex}
-use Rattle.command_files.specs.SceneFile.{ReadsKeptScene}
+use Rattle.command_files.specs.PexFile.{ReadsPex}
+use Rattle.command_files.specs.SceneFile.{ReadsPexScene}
 use Rattle.command_files.specs.Scripts.{CountsScripts}
 use Rattle.command_files.proofs.HeldScripts.{held-more}
 use Rattle.run_commands.specs.Program.{AreKept, AreSmall, AreSpelled, BreaksTogether, EndsOnProgram, EndsOnSet, EndsOnValues, EndsTogether, IsHeldProgram, IsSpelled, MissesRead, MissesValue, ReadsValue, Verifies, files_from, scene_of}
@@ -33,18 +32,18 @@ use Rattle.run_commands.specs.declared.program.Program.{Program}
 pub is_file : (size : ℕ) (value : Pex) → IsDecoded size value → IsFile value
 is_file size value decoded = record { shaped = decoded.shaped; fits = decoded.fits }
 
-pub kept_is_file : (result : Result KeptPex FileFault) → IfOk result (λ found. IsDecoded (vec_len found.bytes) found.value) → IfOk result (λ found. IsFile found.value)
+pub kept_is_file : (result : Result PexFile FileFault) → IfOk result (λ found. IsDecoded (vec_len found.bytes) found.value) → IfOk result (λ found. IsFile found.value)
 kept_is_file (Ok found) decoded = is_file (vec_len found.bytes) found.value decoded
 kept_is_file (Err fault) decoded = tt
 
-pub kept_reads : (holds : Option Files) (name : List ℕ) (result : Result KeptPex FileFault) → ReadsKept holds name result → ReadsValue true holds name result
+pub kept_reads : (holds : Option Files) (name : List ℕ) (result : Result PexFile FileFault) → ReadsPex holds name result → ReadsValue true holds name result
 kept_reads None name result read = tt
 kept_reads (Some files) name (Ok found) (bytes, held, kept) = rw kept.kept held
 kept_reads (Some files) name (Err (file.Refused place rule)) read = read
 kept_reads (Some files) name (Err file.ReadFault) read = tt
 kept_reads (Some files) name (Err file.OutOfMemory) read = tt
 
-pub part_reads : (holds : Option Files) (name : List ℕ) (found : PexFile) (kept : KeptPex) → ReadsPex holds name (Ok found) → ReadsValue false holds name (Ok kept)
+pub part_reads : (holds : Option Files) (name : List ℕ) (found : PexFile) (kept : PexFile) → ReadsPex holds name (Ok found) → ReadsValue false holds name (Ok kept)
 part_reads None name found kept read = tt
 part_reads (Some files) name found kept (bytes, held, read) = (bytes, held)
 
@@ -55,7 +54,7 @@ part_unread (Some files) name file.ReadFault read = tt
 part_unread (Some files) name file.OutOfMemory read = tt
 
 -- the bytes spell the value, whether they were kept or not
-pub kept_spelled : (holds : Option Files) (name : List ℕ) (result : Result KeptPex FileFault) → ReadsKept holds name result → IfOk result (λ found. IfSome holds (IsSpelled name found.value))
+pub kept_spelled : (holds : Option Files) (name : List ℕ) (result : Result PexFile FileFault) → ReadsPex holds name result → IfOk result (λ found. IfSome holds (IsSpelled name found.value))
 kept_spelled None name (Ok found) read = tt
 kept_spelled (Some files) name (Ok found) (bytes, held, kept) = (bytes, held, kept.spelled)
 kept_spelled holds name (Err fault) read = tt
@@ -83,7 +82,7 @@ value_ends keep (Some files) first names place name (file.Refused p rule) within
     record { at = place; bytes = bytes; within = omega arith; word_is = refl; held = here; refused = refused }
 
 pub value_missed : (first : ℕ) (names : List (String Global)) (place : ℕ) (name : String Global) (fault : FileFault) (missed : Option (List ℕ)) → place < length names → name ≡ slice_index_or names place name →
-    (bytes : List ℕ) → bytes ≡ string_bytes name → MissesFile {T = KeptPex} bytes (Err fault) missed → MissesValue first (map string_bytes names) (ending_at (first + place) fault) missed
+    (bytes : List ℕ) → bytes ≡ string_bytes name → MissesFile {T = PexFile} bytes (Err fault) missed → MissesValue first (map string_bytes names) (ending_at (first + place) fault) missed
 value_missed first names place name file.ReadFault missed within is bytes bytes_are misses =
     let size : length (map string_bytes names) ≡ length names = length-map names string_bytes in
     (place, refl, omega arith, misses ∙ ap Some (bytes_are ∙ sym (named names place name within is)))
@@ -95,7 +94,7 @@ value_word first count place file.ReadFault within = omega arith
 value_word first count place file.OutOfMemory within = tt
 value_word first count place (file.Refused p rule) within = omega arith
 
-pub value_counts : (word : ℕ) (fault : FileFault) (before now : ℕ) → CountsFile {T = KeptPex} (Err fault) before now → CountsReads (ending_at word fault) before now
+pub value_counts : (word : ℕ) (fault : FileFault) (before now : ℕ) → CountsFile {T = PexFile} (Err fault) before now → CountsReads (ending_at word fault) before now
 value_counts word file.ReadFault before now counts = counts
 value_counts word file.OutOfMemory before now counts = counts
 value_counts word (file.Refused p rule) before now counts = counts
@@ -118,7 +117,7 @@ hold-more files (n ∷ names) [] name bytes hold held = absurd hold
 hold-more files (n ∷ names) (c ∷ contents) name bytes hold held = (hold.0, hold-more files names contents name bytes hold.1 held)
 
 -- the files so far and one more
-pub kept_more : (keep : Bool) (holds : Option Files) (names : List (List ℕ)) (kept : List (Vec ℕ Global)) (name : List ℕ) (found : KeptPex) → IfSome holds (AreKept keep names kept) → ReadsValue keep holds name (Ok found) →
+pub kept_more : (keep : Bool) (holds : Option Files) (names : List (List ℕ)) (kept : List (Vec ℕ Global)) (name : List ℕ) (found : PexFile) → IfSome holds (AreKept keep names kept) → ReadsValue keep holds name (Ok found) →
     IfSome holds (AreKept keep (names ++ name ∷ []) (kept ++ found.bytes ∷ []))
 kept_more keep None names kept name found are read = tt
 kept_more true (Some files) names kept name found are read =
@@ -186,7 +185,7 @@ scene_below count word file.ReadFault within = within
 scene_below count word file.OutOfMemory within = tt
 scene_below count word (file.Refused p rule) within = within
 
-pub scene_ends : (words : List (List ℕ)) (number first : ℕ) (holds : Option Files) (fault : FileFault) → ReadsKeptScene holds (scene_of number words) (Err fault) → EndsOnProgram number first words holds (ending_at number fault)
+pub scene_ends : (words : List (List ℕ)) (number first : ℕ) (holds : Option Files) (fault : FileFault) → ReadsPexScene holds (scene_of number words) (Err fault) → EndsOnProgram number first words holds (ending_at number fault)
 scene_ends words number first None (file.Refused place rule) read = tt
 scene_ends words number first (Some files) (file.Refused place rule) read = (read.0, inl (record { word_is = refl; refusal = read.1 }))
 scene_ends words number first holds file.ReadFault read = tt
@@ -194,7 +193,7 @@ scene_ends words number first holds file.OutOfMemory read = tt
 
 -- ---- files behind it
 
-pub values_end : (words : List (List ℕ)) (number first : ℕ) (holds : Option Files) (scene : KeptScene) (ending : Ending) → ReadsKeptScene holds (scene_of number words) (Ok scene) → EndsOnValues first (files_from first words) holds ending →
+pub values_end : (words : List (List ℕ)) (number first : ℕ) (holds : Option Files) (scene : KeptScene) (ending : Ending) → ReadsPexScene holds (scene_of number words) (Ok scene) → EndsOnValues first (files_from first words) holds ending →
     EndsOnProgram number first words holds ending
 values_end words number first None scene (Refused word place rule) read ends = tt
 values_end words number first (Some files) scene (Refused word place rule) read ends = ((scene.text.items, read), inr (inl ends))
@@ -220,7 +219,7 @@ values_miss words number first NotBuilt missed above misses = tt
 
 -- ---- files together
 
-pub together_ends : (words : List (List ℕ)) (number first count : ℕ) (holds : Option Files) (scene : KeptScene) (result : Result Program Ending) → count ≡ length (files_from first words) → ReadsKeptScene holds (scene_of number words) (Ok scene) →
+pub together_ends : (words : List (List ℕ)) (number first count : ℕ) (holds : Option Files) (scene : KeptScene) (result : Result Program Ending) → count ≡ length (files_from first words) → ReadsPexScene holds (scene_of number words) (Ok scene) →
     IfSome holds (AreHeld (files_from first words)) → Verifies first count result → IfErr result (EndsOnProgram number first words holds)
 together_ends words number first count holds scene (Ok program) is read held ends = tt
 together_ends words number first count None scene (Err (Refused word place rule)) is read held ends = tt
@@ -306,7 +305,7 @@ together_word first count size (Err ending) within ends = apart_below first coun
 -- ---- what was read
 
 pub program_held : (keep : Bool) (words : List (List ℕ)) (number first : ℕ) (holds : Option Files) (scene : KeptScene) (kept : Vec (Vec ℕ Global) Global) (result : Result Program Ending) → IfOk result (λ program. program.text ≡ scene.text) → IfOk result (λ program. program.kept ≡ kept) →
-    ReadsKeptScene holds (scene_of number words) (Ok scene) → IfSome holds (AreKept keep (files_from first words) kept.items) → IfOk result (λ program. IfSome holds (IsHeldProgram number first keep words program))
+    ReadsPexScene holds (scene_of number words) (Ok scene) → IfSome holds (AreKept keep (files_from first words) kept.items) → IfOk result (λ program. IfSome holds (IsHeldProgram number first keep words program))
 program_held keep words number first holds scene kept (Err ending) text files read are = tt
 program_held keep words number first None scene kept (Ok program) text files read are = tt
 program_held keep words number first (Some held) scene kept (Ok program) text files read are =

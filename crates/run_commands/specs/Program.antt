@@ -13,7 +13,7 @@ use Rattle.command_files.specs.declared.ending.Ending.{Ending}
 use Rattle.command_files.specs.declared.ending.Ending.TheVariants.{Done, OutOfMemory, Usage, ReadFault, WriteFault, Refused, NotBuilt}
 use Rattle.command_files.specs.declared.file_fault.FileFault.{FileFault}
 use Rattle.command_files.specs.declared.file_fault.FileFault.TheVariants as file
-use Rattle.command_files.specs.declared.pex_file.KeptPex.{KeptPex}
+use Rattle.command_files.specs.declared.pex_file.PexFile.{PexFile}
 use Rattle.command_files.specs.declared.refusal.Place.{Place}
 use Rattle.command_files.specs.declared.refusal.Place.TheVariants.{Member}
 use Rattle.command_files.specs.declared.refusal.Rule.{Rule}
@@ -113,7 +113,7 @@ abbrev pub IsSpelled : List ℕ → Pex → Files → Type 0
 IsSpelled name value files = (bytes : List ℕ) × (told_bytes (Some files) name ≡ Some bytes) × Spells (plain value) bytes
 
 -- what reading one file gives
-abbrev pub ReadsValue : Bool → Option Files → List ℕ → Result KeptPex FileFault → Type 0
+abbrev pub ReadsValue : Bool → Option Files → List ℕ → Result PexFile FileFault → Type 0
 ReadsValue keep None name result = Unit {0}
 ReadsValue keep (Some files) name (Ok file) = IsKept keep name file.bytes files
 ReadsValue keep (Some files) name (Err (file.Refused place rule)) = (bytes : List ℕ) × (told_bytes (Some files) name ≡ Some bytes) × RefusesPex bytes place rule

@@ -11,13 +11,13 @@ ghost use Rattle.command_files.specs.Scripts.{CountsScripts};
 ghost use Rattle.run_commands.specs.Program.{AreKept, AreSmall, AreSpelled, EndsOnProgram, EndsOnSet, EndsOnValues, EndsTogether, IsHeldProgram, IsSpelled, MissesRead, MissesValue, ReadsValue, Verifies};
 
 use command_files::{
-    Ending, FileFault, KeptPex, KeptScene, Place, Rule, load_kept_scene, read_kept_pex, read_pex,
+    Ending, FileFault, KeptScene, PexFile, Place, Rule, load_kept_scene, read_pex,
 };
 use core_tree::SceneTree;
 use papy_base::OutOfMemory;
 use papy_io::Desk;
 use pex_values::Pex;
-use pex_verify::{Loaded, VerifyFault, judge, verify};
+use pex_verify::{Loaded, VerifyFault, verify};
 use std::alloc::Global;
 
 /// What a command runs.
@@ -46,7 +46,7 @@ fn read_value<D: Desk>(
     desk: &mut D,
     name: &[u8],
     keep: bool,
-) -> Result<KeptPex, FileFault>
+) -> Result<PexFile, FileFault>
     requires { D.busy desk.old ≡ Idle }
     ensures holds { D.holds desk.new ≡ D.holds desk.old }
     ensures busy { D.busy desk.new ≡ Idle }
@@ -59,10 +59,10 @@ fn read_value<D: Desk>(
     ensures spelled { IfOk result (λ file. IfSome (D.holds desk.old) (IsSpelled name.now file.value)) }
 {
     if keep {
-        return read_kept_pex(alloc, desk, name);
+        return read_pex(alloc, desk, name);
     }
     match read_pex(alloc, desk, name) {
-        Ok(file) => Ok(KeptPex {
+        Ok(file) => Ok(PexFile {
             value: file.value,
             bytes: Vec::new(alloc),
         }),
@@ -70,7 +70,7 @@ fn read_value<D: Desk>(
     }
 }
 
-fn keep_file(files: &mut ReadFiles, file: KeptPex) -> Result<(), OutOfMemory>
+fn keep_file(files: &mut ReadFiles, file: PexFile) -> Result<(), OutOfMemory>
     ensures values { IfOk result (λ _. files.new.values.items ≡ files.old.values.items ++ file.value ∷ []) }
     ensures kept { IfOk result (λ _. files.new.kept.items ≡ files.old.kept.items ++ file.bytes ∷ []) }
 {
@@ -157,7 +157,8 @@ fn load_values(alloc: Global, values: Vec<Pex>, first: usize) -> Result<Loaded, 
     requires few { vec_len values ≤ 256 }
     requires near { first ≤ 4 }
     requires valid { All IsFile values.items }
-    ensures { Verifies first (vec_len values) result }
+    ensures files { IfOk result (λ loaded. loaded.files ≡ values.items) }
+    ensures verifies { Verifies first (vec_len values) result }
 {
     let count = values.len();
     match verify(alloc, values) {
@@ -166,27 +167,9 @@ fn load_values(alloc: Global, values: Vec<Pex>, first: usize) -> Result<Loaded, 
     }
 }
 
-// Whether these compiled files could run together.
-fn judge_values(alloc: Global, values: &[Pex], first: usize) -> Result<(), Ending>
-    requires some { 0 < length values.now }
-    requires few { length values.now ≤ 256 }
-    requires near { first ≤ 4 }
-    requires valid { All IsFile values.now }
-    ensures { Verifies first (length values.now) result }
-{
-    match judge(alloc, values) {
-        Ok(outline) => {
-            drop(outline);
-            Ok(())
-        }
-        Err(fault) => Err(unfit_ending(fault, first, values.len())),
-    }
-}
-
-/// Reads compiled files in order, up to the first that isn't read or breaks a rule, and judges them together. Nothing is
-/// made of them that could run. The values are those that the files spell, one by one. The first name is the word behind the
-/// command's own.
-pub fn read_set<D: Desk>(alloc: Global, names: &[String], desk: &mut D) -> Result<Vec<Pex>, Ending>
+/// Reads compiled files in order, up to the first that isn't read or breaks a rule, and verifies them together. The
+/// values of the set are those that the files spell, one by one. The first name is the word behind the command's own.
+pub fn read_set<D: Desk>(alloc: Global, names: &[String], desk: &mut D) -> Result<Loaded, Ending>
     requires idle { D.busy desk.old ≡ Idle }
     requires some { 0 < length names.now }
     requires few { length names.now ≤ 256 }
@@ -197,10 +180,9 @@ pub fn read_set<D: Desk>(alloc: Global, names: &[String], desk: &mut D) -> Resul
     ensures missed { IfErr result (λ ending. MissesScript (map string_bytes names.now) ending (D.missed desk.new)) }
     ensures ends { IfErr result (EndsOnSet 1 (map string_bytes names.now) (D.holds desk.old)) }
     ensures word { IfErr result (IsWordBelow (length names.now + 1)) }
-    ensures count { IfOk result (λ values. vec_len values ≡ length names.now) }
-    ensures valid { IfOk result (λ values. All IsFile values.items) }
+    ensures count { IfOk result (λ set. length set.files ≡ length names.now) }
     ensures held { IfOk result (λ _. IfSome (D.holds desk.old) (AreHeld (map string_bytes names.now))) }
-    ensures spelled { IfOk result (λ values. IfSome (D.holds desk.old) (AreSpelled (map string_bytes names.now) values.items)) }
+    ensures spelled { IfOk result (λ set. IfSome (D.holds desk.old) (AreSpelled (map string_bytes names.now) set.files)) }
 {
     let files = match read_values(alloc, names, 1, desk, false) {
         Ok(files) => files,
@@ -208,12 +190,9 @@ pub fn read_set<D: Desk>(alloc: Global, names: &[String], desk: &mut D) -> Resul
     };
     let ReadFiles { values, kept } = files;
     drop(kept);
-    match judge_values(alloc, &values, 1) {
-        Ok(()) => Ok(values),
-        Err(ending) => {
-            drop(values);
-            Err(ending)
-        }
+    match load_values(alloc, values, 1) {
+        Ok(set) => Ok(set),
+        Err(ending) => Err(ending),
     }
 }
 

@@ -1,7 +1,7 @@
 use crate::files::files_of;
 use papy_base::OutOfMemory;
 use pex_verify::VerifyRule::*;
-use pex_verify::{Loaded, VerifyFault, VerifyRule, judge, verify};
+use pex_verify::{Loaded, VerifyFault, VerifyRule, verify};
 use std::alloc::Global;
 use std::test::Fail;
 
@@ -26,17 +26,15 @@ const NO_VARIABLE: &[u8] = b"pex 2 0\nsource \"\"\nuser \"\"\nmachine \"\"\n\
 /// The file, the object, the member and the instruction that break a rule.
 type Place<'a> = (u16, &'a [u8], Option<&'a [u8]>, Option<u16>, VerifyRule);
 
-// Whether `judge` and `verify` both tell of this place.
+// Whether `verify` tells of this place.
 fn is_refused(alloc: Global, set: &[u8], place: Place<'_>) -> Result<bool, Fail> {
     let files = files_of(alloc, set)?;
     if files.len() > 9 {
         return Err("a set of more than nine files".into());
     }
-    let judged = judge(alloc, files.as_slice());
-    let verified = verify(alloc, files);
-    match (&judged, &verified) {
-        (Err(first), Err(second)) => Ok(is_at(first, place) && is_at(second, place)),
-        _ => Ok(false),
+    match verify(alloc, files) {
+        Err(fault) => Ok(is_at(&fault, place)),
+        Ok(_) => Ok(false),
     }
 }
 
@@ -75,8 +73,6 @@ fn what_a_set_holds(rt: HostRuntime) -> Result<(), Fail> {
     if files.len() > 9 {
         return Err("a set of more than nine files".into());
     }
-    let judged = judge(alloc, files.as_slice());
-    assert!(rt; matches!(&judged, Ok(outline) if outline.scripts.len() == 7));
     let verified = verify(alloc, files);
     assert!(rt; holds_that(alloc, &verified)?);
     Ok(())

@@ -1,4 +1,4 @@
-use Rattle.std.proofs.Common.{arith, ◌≡◌, length, map}
+use Rattle.std.proofs.Common.{arith, ◌≡◌, ap, length, map}
 use Rattle.std.specs.String.{string_bytes}
 use Rattle.std.proofs.lemmas.List.{length-map}
 use Rattle.pex_values.specs.Plain.{plain}
@@ -27,37 +27,37 @@ returns-in-Err-clause-output g c = set_output (map string_bytes c.args.files.now
 pub returns-in-Err-found-clause-holds : goal.returns-in-Err-found-clause-holds
 returns-in-Err-found-clause-holds g c =
     let lifts = rw c.in-Err-found.is at c.lifted-found.ensures in
-    early_leaves (map string_bytes c.args.files.now) c.in-Err-found.ending _ _ (unlifted_early (map plain c.in-Ok.values.items) c.in-Err-found.ending lifts) c.in-Ok.ensures.holds
+    early_leaves (map string_bytes c.args.files.now) c.in-Err-found.ending _ _ (unlifted_early (map plain c.files.result.now.items) c.in-Err-found.ending lifts) c.in-Ok.ensures.holds
 
 pub returns-in-Err-found-clause-write_faults : goal.returns-in-Err-found-clause-write_faults
 returns-in-Err-found-clause-write_faults g c =
     let lifts = rw c.in-Err-found.is at c.lifted-found.ensures in
-    early_writes c.in-Err-found.ending _ _ (unlifted_early (map plain c.in-Ok.values.items) c.in-Err-found.ending lifts) c.in-Ok.ensures.write_faults
+    early_writes c.in-Err-found.ending _ _ (unlifted_early (map plain c.files.result.now.items) c.in-Err-found.ending lifts) c.in-Ok.ensures.write_faults
 
 pub returns-in-Err-found-clause-read_faults : goal.returns-in-Err-found-clause-read_faults
 returns-in-Err-found-clause-read_faults g c =
     let lifts = rw c.in-Err-found.is at c.lifted-found.ensures in
-    unlifted_reads (map plain c.in-Ok.values.items) c.in-Err-found.ending _ _ lifts c.in-Ok.ensures.read_faults
+    unlifted_reads (map plain c.files.result.now.items) c.in-Err-found.ending _ _ lifts c.in-Ok.ensures.read_faults
 
 pub returns-in-Err-found-clause-missed : goal.returns-in-Err-found-clause-missed
 returns-in-Err-found-clause-missed g c =
     let lifts = rw c.in-Err-found.is at c.lifted-found.ensures in
-    unlifted_misses (map string_bytes c.args.files.now) (map plain c.in-Ok.values.items) c.in-Err-found.ending _ lifts
+    unlifted_misses (map string_bytes c.args.files.now) (map plain c.files.result.now.items) c.in-Err-found.ending _ lifts
 
 pub returns-in-Err-found-clause-never_usage : goal.returns-in-Err-found-clause-never_usage
 returns-in-Err-found-clause-never_usage g c =
     let lifts = rw c.in-Err-found.is at c.lifted-found.ensures in
-    early_usage c.in-Err-found.ending (unlifted_early (map plain c.in-Ok.values.items) c.in-Err-found.ending lifts)
+    early_usage c.in-Err-found.ending (unlifted_early (map plain c.files.result.now.items) c.in-Err-found.ending lifts)
 
 pub returns-in-Err-found-clause-word : goal.returns-in-Err-found-clause-word
 returns-in-Err-found-clause-word g c =
     let lifts = rw c.in-Err-found.is at c.lifted-found.ensures in
-    unlifted_word (length c.args.files.now) (map plain c.in-Ok.values.items) c.in-Err-found.ending c.requires.some lifts
+    unlifted_word (length c.args.files.now) (map plain c.files.result.now.items) c.in-Err-found.ending c.requires.some lifts
 
 pub returns-in-Err-found-clause-output : goal.returns-in-Err-found-clause-output
 returns-in-Err-found-clause-output g c =
     let lifts = rw c.in-Err-found.is at c.lifted-found.ensures in
-    unlifted_output (map string_bytes c.args.files.now) (g.D.Desk.holds c.args.desk.now) (map plain c.in-Ok.values.items) c.in-Err-found.ending c.in-Ok.ensures.held lifts
+    unlifted_output (map string_bytes c.args.files.now) (g.D.Desk.holds c.args.desk.now) (map plain c.files.result.now.items) c.in-Err-found.ending c.in-Ok.ensures.held lifts
 
 -- ---- sources
 
@@ -66,7 +66,7 @@ returns-in-Ok-write_sources-clause-holds g c =
     let names = map string_bytes c.args.files.now in
     let lifts = rw c.in-Ok-found.is at c.lifted-found.ensures in
     let same : length names ≡ length c.args.files.now = length-map c.args.files.now string_bytes in
-    let counted : length c.in-Ok.values.items ≡ length names = omega (arith, same, c.in-Ok.ensures.count, c.in-Ok.values.ok.0) in
-    let have = have_sources names (g.D.Desk.holds c.args.desk.now) c.in-Ok.values.items c.in-Ok-found.texts c.in-Ok.ensures.valid c.in-Ok.ensures.spelled counted lifts in
+    let counted : length c.files.result.now.items ≡ length names = omega (arith, same, c.in-Ok.ensures.count, ap length c.files.ensures.files) in
+    let have = have_sources names (g.D.Desk.holds c.args.desk.now) c.files.result.now.items c.in-Ok-found.texts c.files.ensures.sound (rw c.files.ensures.files c.in-Ok.ensures.spelled) counted lifts in
     let writes = rw (c.deref.ensures.value, c.in-Ok.ensures.holds) at c.in-Ok-write_sources.ensures.holds in
     (c.in-Ok-found.texts.items, have, writes)
