@@ -1,5 +1,6 @@
-use crate::memory_desk::MemoryDesk;
-use papy_io::{FolderDesk, IoFault, MemorySink, ReadAllFault, Sink, read_all, write_file};
+use papy_io::{
+    FolderDesk, IoFault, MemoryDesk, MemorySink, ReadAllFault, Sink, read_all, write_file,
+};
 use std::alloc::Global;
 use std::fs;
 use std::test::Fail;

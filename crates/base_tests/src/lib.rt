@@ -1,13 +1,7 @@
 //! Tests of what the other crates stand on, through public calls: desks and sinks of which a call fails, names of compiled files, devices,
 //! and the calls of `papy_base`, `core_tree`, `jump_patch`, `instance_store` and `lock_queue` with ample memory. What the program shows stands
-//! in `cases/`. They stand in a crate of their own, so that the proofs of those crates aren't made twice. The desk in memory is for the tests
-//! of other crates too.
+//! in `cases/`. They stand in a crate of their own, so that the proofs of those crates aren't made twice.
 #![tactic(auto)]
-
-mod memory_desk;
-mod memory_files;
-
-pub use memory_desk::MemoryDesk;
 
 #[cfg(test)]
 mod desks;

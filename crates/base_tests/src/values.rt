@@ -35,7 +35,7 @@ fn a_jump_leads_back(rt: HostRuntime) -> Result<(), Fail> {
     let mut buffer = CodeBuffer::new(rt.alloc());
     let start = buffer.mark();
     buffer.jump_to(JumpKind::IfFalse(Datum::Word(7)), start, 3)?;
-    let code = buffer.take()?;
+    let code = buffer.finish();
     assert_eq!(rt; code.code.len(), 1);
     assert_eq!(rt; code.lines.as_slice(), [3].as_slice());
     Ok(())

@@ -2,9 +2,8 @@
 ghost use Rattle.std.specs.Prelude.{◌≡◌, IfOk, vec_len};
 ghost use Rattle.papy_io.specs.Activity.{Idle};
 
-use base_tests::MemoryDesk;
 use latent_natives::{Device, Dice, Latch, Sum, Tape};
-use papy_io::MemorySink;
+use papy_io::{MemoryDesk, MemorySink};
 use papyrus_cmd::papyrus;
 use std::alloc::{AllocError, Global};
 use std::test::Fail;

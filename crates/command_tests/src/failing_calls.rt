@@ -2,10 +2,9 @@ ghost use Rattle.std.specs.Prelude.{◌≡◌, IfOk};
 ghost use Rattle.papy_io.specs.Activity.{Idle};
 
 use crate::calls::{Answer, call_failing, words_of};
-use base_tests::MemoryDesk;
 use command_files::{Ending, Place, Rule};
 use latent_natives::Device;
-use papy_io::MemorySink;
+use papy_io::{MemoryDesk, MemorySink};
 use run_commands::sample;
 use scene_reader::SceneRule;
 use std::alloc::Global;

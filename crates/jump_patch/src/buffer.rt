@@ -159,6 +159,18 @@ impl CodeBuffer {
         remove(&mut self.ahead, place);
     }
 
+    /// Ends the buffer. Every jump must have landed.
+    pub fn finish(self) -> Code
+        requires { self.ahead ≡ [] }
+        ensures code { map plain_instruction result.code.items ≡ self.code }
+        ensures lines { result.lines.items ≡ self.lines }
+    {
+        Code {
+            code: self.code,
+            lines: self.lines,
+        }
+    }
+
     /// Takes the code out, in vectors of just its length. Every jump must have landed. The buffer has no instruction
     /// then, and keeps its room for the next code.
     ///

@@ -1,2 +1,4 @@
 pub mod Progress
 pub mod Changes
+pub mod FileMap
+pub mod DeskSteps

@@ -5,6 +5,9 @@ pub mod Desk
 pub mod Sink
 pub mod ReadAll
 pub mod WriteFile
+pub mod MemoryFiles
+pub mod MemoryWork
+pub mod MemoryDesk
 pub mod MemorySink
 pub mod StreamSink
 pub mod DeskState

@@ -8,6 +8,8 @@
 mod desk;
 mod fault;
 mod folder_desk;
+mod memory_desk;
+mod memory_files;
 mod numbers;
 mod sink;
 mod whole_file;
@@ -15,5 +17,6 @@ mod whole_file;
 pub use desk::Desk;
 pub use fault::{Failed, IoFault};
 pub use folder_desk::FolderDesk;
+pub use memory_desk::MemoryDesk;
 pub use sink::{MemorySink, Sink, StreamSink};
 pub use whole_file::{ReadAllFault, read_all, write_file};

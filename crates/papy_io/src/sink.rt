@@ -1,5 +1,5 @@
 //! What takes bytes one piece after another: a trait, a sink in memory, and a sink over a writer of std.
-ghost use Rattle.std.specs.Prelude.{◌≡◌, ◌↔◌, ℕ, List, [], Contains, IsTrue, IsErrOf, OnOk, None, Some, Option};
+ghost use Rattle.std.specs.Prelude.{◌≡◌, ◌↔◌, ℕ, List, [], Contains, IsErrOf, OnOk, None, Some, Option};
 ghost use Rattle.std.specs.Io.KnownBytes.{Appends};
 ghost use Rattle.papy_io.specs.declared.fault.IoFault.TheVariants as io;
 ghost use Rattle.papy_io.specs.Count.{CountsFaults};
@@ -7,7 +7,7 @@ ghost use Rattle.papy_io.specs.MemorySink.{MemoryWrites};
 ghost use Rattle.papy_io.specs.Sink.{SinkWrites};
 
 use crate::fault::IoFault;
-use crate::numbers::counted;
+use crate::numbers::{counted, is_listed};
 use std::alloc::Global;
 use std::io;
 use std::io::Write;
@@ -27,13 +27,6 @@ pub trait Sink {
     fn write(&mut self, bytes: &[u8]) -> Result<(), IoFault>
         ensures written { SinkWrites result bytes.now (written self.old) (written self.new) }
         ensures faults { CountsFaults result (faults self.old) (faults self.new) };
-}
-
-/// Tells whether a number is listed.
-fn is_listed(numbers: &[u32], number: u64) -> bool
-    ensures { IsTrue result ↔ Contains numbers.now number }
-{
-    numbers.iter().any(|listed| u64::from(*listed) == number)
 }
 
 /// A sink in memory, whose calls of `write` fail where their numbers are listed.

@@ -28,5 +28,7 @@ mod world;
 
 pub use lines::append_escaped;
 pub use machine::Machine;
+pub use machine_state::{BodyPlace, FrameState, MachineState, Way};
 pub use restore_fault::RestoreFault;
+pub use run_replay::LockMove;
 pub use status::{Status, TurnEnd, TurnFault};

@@ -18,6 +18,7 @@ use crate::store::Store;
 use crate::threads::Threads;
 use crate::world::World;
 use core_tree::{Outline, Scene, TurnOrder, Value};
+use instance_store::Arrays;
 use latent_natives::{Device, load_device};
 use papy_base::{OutOfMemory, Text};
 use papy_io::Sink;
@@ -280,6 +281,19 @@ impl Machine {
         &self.setting.plan.no_state
     }
 
+    /// The value of an instance's Auto property of this number, where those of the root script come first, each
+    /// script's in order of declaration.
+    ///
+    /// # Errors
+    ///
+    /// `OutOfMemory` comes only of a text.
+    pub fn property_at(&self, instance: u16, property: u32) -> Result<Value, OutOfMemory> {
+        match self.setting.property_place(instance, property) {
+            Some((script, variable)) => self.world.store.variable(instance, script, variable),
+            None => Ok(Value::NoneValue),
+        }
+    }
+
     /// The value of an instance's variable of this number, among the variables of this script. None where the
     /// instance has no such variable.
     ///
@@ -305,6 +319,11 @@ impl Machine {
         ensures { IfOk result (IsTextOf self.now.outline self.now.scene value.now) }
     {
         text_of(self.world.alloc, &self.setting, &self.world.store, value)
+    }
+
+    /// The arrays that scripts have made.
+    pub fn arrays(&self) -> &Arrays {
+        &self.world.store.arrays
     }
 }
 

@@ -250,3 +250,38 @@ pub fn name_of(way: &Way) -> &Name
         | Way::Set(name) => name,
     }
 }
+
+impl Setting {
+    /// The script and the variable of an instance's Auto property of this number, in the order of the report.
+    pub fn property_place(&self, instance: u16, property: u32) -> Option<(u16, u16)> {
+        let scripts = &self.loaded.outline().scripts;
+        let (mut script, property) = (self.script_of(instance)?, property as usize);
+        let mut above = self.properties_upward(script);
+        for _ in 0..scripts.len() {
+            let found = scripts.get(usize::from(script))?;
+            above = above.saturating_sub(found.properties.len());
+            if property >= above {
+                return Some((script, found.properties.get(property - above)?.variable));
+            }
+            script = found.parent?;
+        }
+        None
+    }
+
+    // How many Auto properties a script and those above it have.
+    fn properties_upward(&self, script: u16) -> usize {
+        let scripts = &self.loaded.outline().scripts;
+        let (mut count, mut next) = (0usize, Some(script));
+        for _ in 0..scripts.len() {
+            let Some(number) = next else {
+                break;
+            };
+            let Some(found) = scripts.get(usize::from(number)) else {
+                break;
+            };
+            count = count.saturating_add(found.properties.len());
+            next = found.parent;
+        }
+        count
+    }
+}

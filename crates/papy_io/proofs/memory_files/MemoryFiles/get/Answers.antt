@@ -1,8 +1,8 @@
 use Rattle.std.proofs.Common.{sym, ap, ◌∙◌, Some, Vec, Global, ℕ}
 use Rattle.std.specs.Option.{option_map}
 use Rattle.std.specs.FinMap.{get}
-use Rattle.base_tests.proofs.FileMap.{get_files_of}
-use Rattle.base_tests.proofs.memory_files.MemoryFiles.get.Goals as goal
+use Rattle.papy_io.proofs.FileMap.{get_files_of}
+use Rattle.papy_io.proofs.memory_files.MemoryFiles.get.Goals as goal
 
 pub returns-in-Some : goal.returns-in-Some
 returns-in-Some c =

@@ -2,8 +2,8 @@
 use Rattle.std.specs.Prelude.{◌≡◌, ℕ, ◌≤◌, List, true, false, length, drop, Option, None, Some, IsSome}
 use Rattle.std.specs.Option.{option_map}
 use Rattle.std.specs.FinMap.{get}
-use Rattle.base_tests.specs.declared.memory_desk.Work.{Work}
-use Rattle.base_tests.specs.declared.memory_desk.Work.TheVariants as work
+use Rattle.papy_io.specs.declared.memory_desk.Work.{Work}
+use Rattle.papy_io.specs.declared.memory_desk.Work.TheVariants as work
 use Rattle.papy_io.specs.Activity.{Activity, Idle, Reading, Writing}
 use Rattle.papy_io.specs.Files.{Files}
 

@@ -2,9 +2,9 @@ use Rattle.std.proofs.Common.{◌≡◌, ◌++◌, ap, ◌∙◌, sym, subst, co
 use Rattle.std.specs.Prelude.{IsSome, is_ok}
 use Rattle.std.specs.Option.{option_copied_mut}
 use Rattle.std.specs.FinMap.{insert, get}
-use Rattle.base_tests.specs.MemoryFiles.{files_of, bytes_in}
-use Rattle.base_tests.proofs.FileMap.{get_files_of, is_some-items, is_some_copied, bytes_in_found, files_after, insert_held, after_ok, after_err, held_bytes}
-use Rattle.base_tests.proofs.memory_files.MemoryFiles.append.Goals as goal
+use Rattle.papy_io.specs.MemoryFiles.{files_of, bytes_in}
+use Rattle.papy_io.proofs.FileMap.{get_files_of, is_some-items, is_some_copied, bytes_in_found, files_after, insert_held, after_ok, after_err, held_bytes}
+use Rattle.papy_io.proofs.memory_files.MemoryFiles.append.Goals as goal
 
 pub unwrap-held-requires : goal.unwrap-held-requires
 unwrap-held-requires c =

@@ -1,8 +1,8 @@
 use Rattle.std.proofs.Common.{subst, sym}
 use Rattle.papy_io.specs.Activity.{IsReading}
-use Rattle.base_tests.specs.MemoryDesk.{MemoryState}
-use Rattle.base_tests.proofs.DeskSteps.{reads_missed}
-use Rattle.base_tests.proofs.memory_desk.MemoryDeskDesk.read.Goals as goal
+use Rattle.papy_io.specs.MemoryDesk.{MemoryState}
+use Rattle.papy_io.proofs.DeskSteps.{reads_missed}
+use Rattle.papy_io.proofs.memory_desk.MemoryDeskDesk.read.Goals as goal
 
 pub invariant_of-self : goal.invariant_of-self
 invariant_of-self c = c.miss.ensures.place c.self.inside.files c.self.invariant

@@ -16,7 +16,7 @@ use Rattle.std.specs.BTreeMap.{insert_entry, is_at}
 use Rattle.std.specs.declared.alloc.Global.{Global}
 use Rattle.std.specs.declared.vec.Vec.{Vec}
 use Rattle.papy_io.specs.Files.{Files}
-use Rattle.base_tests.specs.MemoryFiles.{entry_of, files_of, bytes_in}
+use Rattle.papy_io.specs.MemoryFiles.{entry_of, files_of, bytes_in}
 
 abbrev pub names : List ℕ → List ℕ → Ordering
 names = slice_cmp nat_cmp

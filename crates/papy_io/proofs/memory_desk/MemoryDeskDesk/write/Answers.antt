@@ -1,8 +1,8 @@
 use Rattle.std.proofs.Common.{Ok, Some, ap, sym, subst}
 use Rattle.papy_io.specs.Desk.{WritesOn}
-use Rattle.base_tests.specs.MemoryWork.{WorksOn, activity_in}
-use Rattle.base_tests.proofs.DeskSteps.{append_changes, is_held}
-use Rattle.base_tests.proofs.memory_desk.MemoryDeskDesk.write.Goals as goal
+use Rattle.papy_io.specs.MemoryWork.{WorksOn, activity_in}
+use Rattle.papy_io.proofs.DeskSteps.{append_changes, is_held}
+use Rattle.papy_io.proofs.memory_desk.MemoryDeskDesk.write.Goals as goal
 
 pub invariant_of-self-2 : goal.invariant_of-self-2
 invariant_of-self-2 c =

@@ -2,9 +2,9 @@ use Rattle.std.proofs.Common.{[], ap, ◌∙◌, sym, subst, refl}
 use Rattle.std.specs.Prelude.{IsSome}
 use Rattle.std.specs.FinMap.{get}
 use Rattle.papy_io.specs.Desk.{Empties}
-use Rattle.base_tests.specs.MemoryDesk.{MemoryState}
-use Rattle.base_tests.proofs.DeskSteps.{insert_changes, is_held}
-use Rattle.base_tests.proofs.memory_desk.MemoryDeskDesk.start_write.Goals as goal
+use Rattle.papy_io.specs.MemoryDesk.{MemoryState}
+use Rattle.papy_io.proofs.DeskSteps.{insert_changes, is_held}
+use Rattle.papy_io.proofs.memory_desk.MemoryDeskDesk.start_write.Goals as goal
 
 pub invariant_of-self-2 : goal.invariant_of-self-2
 invariant_of-self-2 c =

@@ -1,42 +1,23 @@
 //! A desk in memory, for tests.
-ghost use Rattle.std.specs.Prelude.{◌≡◌, ◌↔◌, ◌⊎◌, ◌≢◌, ℕ, ◌<◌, min, take, length, List, Option, None, Some, Ok, Err, IsSome, IsTrue, IsErrOf, IsErr, OnOk, OnErr, Contains};
+ghost use Rattle.std.specs.Prelude.{◌≡◌, ◌↔◌, ◌⊎◌, ◌≢◌, ℕ, ◌<◌, min, take, length, List, Option, None, Some, Ok, Err, IsSome, IsErrOf, IsErr, OnOk, OnErr};
 ghost use Rattle.std.specs.Option.{option_copied};
 ghost use Rattle.std.specs.FinMap as map;
 ghost use Rattle.papy_io.specs.declared.fault.IoFault.TheVariants as io;
 ghost use Rattle.papy_io.specs.Activity.{Idle, IsReading, IsWriting};
-ghost use Rattle.papy_io.specs.Count.{CountsFaults, CountsFailures, counted, counted_by};
+ghost use Rattle.papy_io.specs.Count.{CountsFaults, CountsFailures};
 ghost use Rattle.papy_io.specs.Desk.{CountsReadFinish, CountsTaken, CountsWriteFinish, ReadsOn, StartsFile, WritesOn};
 ghost use Rattle.papy_io.specs.Files.{Files};
-ghost use Rattle.base_tests.specs.MemoryDesk.{IsToFail, StartsReadIn, ReadsIn, StartsWriteIn, WritesIn, FinishesIn, empty_desk};
-ghost use Rattle.base_tests.specs.MemoryWork.{activity_in, missed_in, IsReadingWork, MissesFailed, WorksOn};
+ghost use Rattle.papy_io.specs.MemoryDesk.{IsToFail, StartsReadIn, ReadsIn, StartsWriteIn, WritesIn, FinishesIn, empty_desk};
+ghost use Rattle.papy_io.specs.MemoryWork.{activity_in, missed_in, IsReadingWork, MissesFailed, WorksOn};
 
+use crate::desk::Desk;
+use crate::fault::{Failed, IoFault};
 use crate::memory_files::MemoryFiles;
+use crate::numbers::{counted, counted_by, is_listed};
 use papy_base::OutOfMemory;
-use papy_io::{Desk, Failed, IoFault};
 use std::alloc::Global;
 use std::marker::Model;
 use std::mem;
-
-/// Tells whether a number is listed.
-fn is_listed(numbers: &[u32], number: u64) -> bool
-    ensures { IsTrue result ↔ Contains numbers.now number }
-{
-    numbers.iter().any(|listed| u64::from(*listed) == number)
-}
-
-/// The count after one more.
-fn counted(count: u64) -> u64
-    ensures { result ≡ counted count }
-{
-    count.saturating_add(1)
-}
-
-/// The count after so many more.
-fn counted_by(count: u64, more: u64) -> u64
-    ensures { result ≡ counted_by count more }
-{
-    count.saturating_add(more)
-}
 
 /// What the desk works on.
 #[derive(Drop)]
@@ -125,13 +106,13 @@ impl Model for MemoryDesk {
     ghost use Rattle.std.specs.Prelude.{List, ℕ};
     ghost use Rattle.std.specs.Option.{option_map};
     ghost use Rattle.std.specs.FinMap as map;
-    ghost use Rattle.base_tests.specs.MemoryDesk.{MemoryState, coded_state};
+    ghost use Rattle.papy_io.specs.MemoryDesk.{MemoryState, coded_state};
 
     ghost Value = { MemoryState };
 
     ghost coded = { coded_state };
 
-    ghost use Rattle.base_tests.specs.MemoryWork.{activity_in, missed_in, WorksOn};
+    ghost use Rattle.papy_io.specs.MemoryWork.{activity_in, missed_in, WorksOn};
 
     ghost view = { λ d. record {
       files = d.files;

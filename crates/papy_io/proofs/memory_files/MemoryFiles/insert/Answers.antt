@@ -1,8 +1,8 @@
 use Rattle.std.proofs.Common.{ap, ◌∙◌}
 use Rattle.std.specs.FinMap.{insert}
-use Rattle.base_tests.specs.MemoryFiles.{files_of}
-use Rattle.base_tests.proofs.FileMap.{files_of-insert}
-use Rattle.base_tests.proofs.memory_files.MemoryFiles.insert.Goals as goal
+use Rattle.papy_io.specs.MemoryFiles.{files_of}
+use Rattle.papy_io.proofs.FileMap.{files_of-insert}
+use Rattle.papy_io.proofs.memory_files.MemoryFiles.insert.Goals as goal
 
 pub returns-clause-ok : goal.returns-clause-ok
 returns-clause-ok c =

@@ -9,7 +9,7 @@ use Rattle.papy_io.specs.declared.fault.Failed as unit
 use Rattle.papy_io.specs.Activity.{Activity, Idle, Reading, Writing, coded_name, coded_activity}
 use Rattle.papy_io.specs.Count.{counted, counted_by}
 use Rattle.papy_io.specs.Files.{Files}
-use Rattle.base_tests.specs.MemoryFiles.{bytes_in}
+use Rattle.papy_io.specs.MemoryFiles.{bytes_in}
 
 -- the files held, what the desk is busy with, the bytes taken, how many reads and writes failed, the name missed last,
 -- the numbers of the calls that fail and the number of the next call

@@ -2,7 +2,7 @@
 ghost use Rattle.std.specs.Prelude.{◌≡◌, ◌++◌, List, ℕ, IsSome, OnOk, OnErr};
 ghost use Rattle.std.specs.Option.{option_copied, option_map};
 ghost use Rattle.std.specs.FinMap as map;
-ghost use Rattle.base_tests.specs.MemoryFiles.{bytes_in};
+ghost use Rattle.papy_io.specs.MemoryFiles.{bytes_in};
 
 use std::alloc::{AllocError, Global};
 use std::collections::BTreeMap;
@@ -23,7 +23,7 @@ impl Model for MemoryFiles {
 
     ghost coded = { map.code (coded_list coded_ℕ) (coded_list coded_ℕ) };
 
-    ghost use Rattle.base_tests.specs.MemoryFiles.{files_of};
+    ghost use Rattle.papy_io.specs.MemoryFiles.{files_of};
 
     ghost view = { λ f. files_of f.tree.entries };
 }

@@ -11,10 +11,10 @@ use Rattle.papy_io.specs.Activity.{Activity, Idle, Reading, Writing, IsReading}
 use Rattle.papy_io.specs.Count.{counted}
 use Rattle.papy_io.specs.Files.{Files, ChangesFile}
 use Rattle.papy_io.specs.Desk.{Appends}
-use Rattle.base_tests.specs.MemoryFiles.{bytes_in}
-use Rattle.base_tests.specs.MemoryWork.{MissesFailed}
-use Rattle.base_tests.specs.MemoryDesk.{MemoryState, ReadsIn}
-use Rattle.base_tests.proofs.FileMap.{names, same_name, held_bytes}
+use Rattle.papy_io.specs.MemoryFiles.{bytes_in}
+use Rattle.papy_io.specs.MemoryWork.{MissesFailed}
+use Rattle.papy_io.specs.MemoryDesk.{MemoryState, ReadsIn}
+use Rattle.papy_io.proofs.FileMap.{names, same_name, held_bytes}
 
 pub get_inserted : (m : Files) (name bytes : List ℕ) → get (insert m name bytes) name ≡ Some bytes
 get_inserted m name bytes =

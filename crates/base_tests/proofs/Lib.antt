@@ -1,2 +1,0 @@
-pub mod FileMap
-pub mod DeskSteps

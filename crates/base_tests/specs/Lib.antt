@@ -1,3 +1,0 @@
-pub mod MemoryFiles
-pub mod MemoryWork
-pub mod MemoryDesk
