@@ -9,7 +9,7 @@ ghost use Rattle.pex_verify.specs.Places.{bounds_of};
 ghost use Rattle.pex_verify.specs.Types.{IsTypeAmong, IsValueTypeAmong};
 ghost use Rattle.pex_verify.specs.Soundness.{IsSoundFunction, AreSoundInstructions};
 
-use crate::fault::{Refusal, VerifyRule};
+use crate::fault::{Judged, Refusal, VerifyRule};
 use crate::instruction::{Operands, load_instruction};
 use crate::loaded::{LoadedFunction, LoadedInstruction};
 use crate::scope::{FunctionScope, Home, NamedList};
