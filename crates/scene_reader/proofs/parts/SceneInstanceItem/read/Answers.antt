@@ -1,4 +1,4 @@
-use Rattle.scene_reader.proofs.items.SceneInstanceItem.read.Goals as goal
+use Rattle.scene_reader.proofs.parts.SceneInstanceItem.read.Goals as goal
 
 pub returns : goal.returns
 returns c = λ h.
