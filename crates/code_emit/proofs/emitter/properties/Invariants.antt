@@ -3,7 +3,7 @@ use Rattle.std.specs.List.{AllByRecursion}
 use Rattle.pex_values.specs.Plain.{plain_property}
 use Rattle.pex_values.specs.Shape.{IsShapedProperty}
 use Rattle.code_emit.specs.Writing.{Advances}
-use Rattle.code_emit.proofs.objects.properties.Given as goal
+use Rattle.code_emit.proofs.emitter.properties.Given as goal
 
 abbrev pub invariant-loop-property : goal.invariant-loop-property
 invariant-loop-property l = record {

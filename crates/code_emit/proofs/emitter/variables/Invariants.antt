@@ -1,7 +1,7 @@
 use Rattle.std.specs.List.{AllByRecursion}
 use Rattle.pex_values.specs.Shape.{IsShapedVariable}
 use Rattle.code_emit.specs.Writing.{GoesOn}
-use Rattle.code_emit.proofs.objects.variables.Given as goal
+use Rattle.code_emit.proofs.emitter.variables.Given as goal
 
 abbrev pub invariant-loop-variable : goal.invariant-loop-variable
 invariant-loop-variable l = record {

@@ -2,7 +2,7 @@ use Rattle.std.proofs.Common.{map, arith}
 use Rattle.code_emit.proofs.Later.{reference_later, variable_later, property_later, all_later}
 use Rattle.pex_values.specs.Shape.{IsShapedVariable, IsShapedProperty}
 use Rattle.pex_values.specs.Plain.{plain_property}
-use Rattle.code_emit.proofs.objects.object.Goals as goal
+use Rattle.code_emit.proofs.emitter.object.Goals as goal
 
 pub returns-clause-object : goal.returns-clause-object
 returns-clause-object c =

@@ -3,7 +3,7 @@ use Rattle.std.specs.List.{AllByRecursion}
 use Rattle.pex_values.specs.Plain.{plain_state}
 use Rattle.pex_values.specs.Shape.{IsShapedState}
 use Rattle.code_emit.specs.Writing.{Advances}
-use Rattle.code_emit.proofs.objects.states.Given as goal
+use Rattle.code_emit.proofs.emitter.states.Given as goal
 
 abbrev pub invariant-loop-state : goal.invariant-loop-state
 invariant-loop-state l = record {

@@ -5,7 +5,7 @@ use Rattle.code_emit.proofs.Goes.{advances_from, advances_further}
 use Rattle.pex_values.specs.Plain.{plain_named}
 use Rattle.pex_values.specs.declared.values.PexFunction.{PexFunction}
 use Rattle.std.specs.List.{AllByRecursion}
-use Rattle.code_emit.proofs.objects.state_functions.Goals as goal
+use Rattle.code_emit.proofs.emitter.state_functions.Goals as goal
 
 pub loop-each-preserved : goal.loop-each-preserved
 loop-each-preserved c =

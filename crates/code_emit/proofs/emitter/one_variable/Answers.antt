@@ -4,7 +4,7 @@ use Rattle.pex_values.specs.Shape.{IsShapedDatum}
 use Rattle.pex_values.specs.declared.values.Datum.{Datum}
 use Rattle.code_emit.specs.Operands.{IsWithin}
 use Rattle.code_emit.proofs.Data.{datum_shaped}
-use Rattle.code_emit.proofs.objects.one_variable.Goals as goal
+use Rattle.code_emit.proofs.emitter.one_variable.Goals as goal
 
 pub returns-clause-variable : goal.returns-clause-variable
 returns-clause-variable c =

@@ -2,7 +2,7 @@ use Rattle.std.proofs.Common.{◌≡◌, Option, Some, None, refl, sym, ◌∙�
 use Rattle.std.specs.Prelude.{is_some, option_map}
 use Rattle.pex_values.specs.Plain.{plain_function}
 use Rattle.code_emit.proofs.Later.{accessor_later, reference_later}
-use Rattle.code_emit.proofs.objects.one_property.Goals as goal
+use Rattle.code_emit.proofs.emitter.one_property.Goals as goal
 
 is_some_map : {A B : Type 0} (f : A → B) (o : Option A) → is_some (option_map f o) ≡ is_some o
 is_some_map f None = refl

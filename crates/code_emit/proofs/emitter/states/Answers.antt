@@ -5,7 +5,7 @@ use Rattle.code_emit.proofs.Goes.{advances_further}
 use Rattle.pex_values.specs.Plain.{plain_state}
 use Rattle.pex_values.specs.declared.values.PexState.{PexState}
 use Rattle.std.specs.List.{AllByRecursion}
-use Rattle.code_emit.proofs.objects.states.Goals as goal
+use Rattle.code_emit.proofs.emitter.states.Goals as goal
 
 pub loop-state-preserved : goal.loop-state-preserved
 loop-state-preserved c =
@@ -13,6 +13,6 @@ loop-state-preserved c =
     let m = c.one_state.new.writer.strings in
     let P : List PexState → Type 0 = λ xs. AllByRecursion (IsShapedState m) (map plain_state xs) in
     record {
-      goes = advances_further c.args.writer.now c.loop-state.writer c.one_state.new.writer c.loop-state.invariant.goes c.in_ok-written.ensures.advances;
-      each = subst P (sym c.in_ok-push.ensures.items) (each_grown (IsShapedState n) (IsShapedState m) plain_state (state_later n m c.in_ok-written.ensures.advances.strings) c.loop-state.found.items c.in_ok-written.written c.loop-state.invariant.each c.in_ok-written.ensures.state);
+      goes = advances_further c.args.writer.now c.loop-state.writer c.one_state.new.writer c.loop-state.invariant.goes c.in_ok-one_state.ensures.advances;
+      each = subst P (sym c.in_ok-push.ensures.items) (each_grown (IsShapedState n) (IsShapedState m) plain_state (state_later n m c.in_ok-one_state.ensures.advances.strings) c.loop-state.found.items c.in_ok-one_state.field-0 c.loop-state.invariant.each c.in_ok-one_state.ensures.state);
     }

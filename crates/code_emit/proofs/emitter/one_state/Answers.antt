@@ -1,5 +1,5 @@
 use Rattle.code_emit.proofs.Later.{reference_later}
-use Rattle.code_emit.proofs.objects.one_state.Goals as goal
+use Rattle.code_emit.proofs.emitter.one_state.Goals as goal
 
 pub returns-clause-state : goal.returns-clause-state
 returns-clause-state c = record {
