@@ -2,7 +2,7 @@
 use Rattle.std.proofs.Common.{◌≤◌}
 use Rattle.script_parser.specs.Reader.{GoesOn, left}
 use Rattle.script_parser.specs.Stands.{FunctionsStand}
-use Rattle.script_parser.proofs.member.functions_until.Given as goal
+use Rattle.script_parser.proofs.parser.functions_until.Given as goal
 
 abbrev pub invariant-functions : goal.invariant-functions
 invariant-functions l = record {

@@ -1,7 +1,7 @@
 use Rattle.std.proofs.Common.{arith}
 use Rattle.script_parser.proofs.Depth.{goes-further}
 use Rattle.script_parser.proofs.Standing.{found-number, functions-push}
-use Rattle.script_parser.proofs.member.functions_until.Goals as goal
+use Rattle.script_parser.proofs.parser.functions_until.Goals as goal
 
 pub functions-preserved : goal.functions-preserved
 functions-preserved c =

@@ -1,5 +1,5 @@
 use Rattle.script_parser.proofs.Standing.{number-stands}
-use Rattle.script_parser.proofs.member.property.Goals as goal
+use Rattle.script_parser.proofs.parser.property.Goals as goal
 
 pub returns-in_ok-property_form-in-Property-clause-stands : goal.returns-in_ok-property_form-in-Property-clause-stands
 returns-in_ok-property_form-in-Property-clause-stands c =

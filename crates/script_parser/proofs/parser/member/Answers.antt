@@ -4,7 +4,7 @@ use Rattle.script_parser.proofs.Standing.{functions-push, number-stands}
 use Rattle.script_parser.specs.Faults.{IsNumberOf}
 use Rattle.script_parser.specs.Lines.{import_line}
 use Rattle.script_parser.specs.Stands.{PropertyStands, StateStands}
-use Rattle.script_parser.proofs.member.member.Goals as goal
+use Rattle.script_parser.proofs.parser.member.Goals as goal
 
 pub returns-in_err-initial_value-in-Definition-clause-fault : goal.returns-in_err-initial_value-in-Definition-clause-fault
 returns-in_err-initial_value-in-Definition-clause-fault c =
