@@ -1,7 +1,7 @@
 use Rattle.std.proofs.Common.{arith}
 use Rattle.std.proofs.lemmas.Grind.{common_steps}
 use Rattle.instance_store.proofs.StoreLemmas.{upward-step}
-use Rattle.instance_store.proofs.start.lineage.Goals as goal
+use Rattle.instance_store.proofs.instances.lineage.Goals as goal
 
 pub loop-left-preserved : goal.loop-left-preserved
 loop-left-preserved c =

@@ -1,6 +1,6 @@
 use Rattle.std.proofs.Common.{◌≡◌, ℕ, ◌<◌, ◌%◌, ℤ, pos, ◌+ℤ◌, ◌-ℤ◌, to_z, of_z, w32, w64, FitsSigned, arith, ◌∙◌, ap}
 use Rattle.std.proofs.lemmas.Int.{ints, to_z-of_z}
-use Rattle.latent_natives.proofs.dice.choose.Goals as goal
+use Rattle.latent_natives.proofs.devices.choose.Goals as goal
 
 -- an offset within the range takes the sum past no width
 offset_fits : (low high : ℤ) (offset size : ℕ) → FitsSigned w32 low → FitsSigned w32 high → offset < size → pos size ≡ high -ℤ low +ℤ pos 1 → to_z w32 (of_z w32 (to_z w64 (of_z w64 (to_z w64 (of_z w64 low) +ℤ to_z w64 offset)))) ≡ low +ℤ pos offset

@@ -1,7 +1,7 @@
 use Rattle.std.proofs.Common.{arith}
 use Rattle.std.proofs.lemmas.Grind.{common_steps}
 use Rattle.instance_store.proofs.StoreLemmas.{start_state-step}
-use Rattle.instance_store.proofs.start.start_state.Goals as goal
+use Rattle.instance_store.proofs.instances.start_state.Goals as goal
 
 pub returns-in-Some : goal.returns-in-Some
 returns-in-Some c =
