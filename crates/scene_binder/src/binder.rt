@@ -8,7 +8,6 @@ ghost use Rattle.scene_binder.specs.Instances.{IsInstantiable, tree_call_parts, 
 ghost use Rattle.scene_binder.specs.Kept.{IsOfTree};
 ghost use Rattle.scene_binder.specs.Limits.{CallKeepsLimits, InstanceKeepsLimits, IsShortEntry, IsShortValue, NativeKeepsLimits, SceneKeepsLimits};
 ghost use Rattle.scene_binder.specs.Meant.{IsMeant, IsNativeMeant};
-ghost use Rattle.scene_binder.specs.Members.{script_named};
 ghost use Rattle.scene_binder.specs.Names.{number_in};
 ghost use Rattle.scene_binder.specs.Scope.{AreNamed, CallIs, CallsAre, EntriesAre, EntryIs, InstanceIs, SetIs, SetsAre, ValueIs, ValuesAre};
 
@@ -53,9 +52,9 @@ pub fn bind(
         scripts: &scripts,
         instances: &instances,
     };
-    let bound = bind_instances(scope, &tree.instances)?;
+    let bound = scope.bind_instances(&tree.instances)?;
     let natives = bind_natives(alloc, &tree, outline, devices)?;
-    let calls = bind_calls(scope, &tree.calls)?;
+    let calls = scope.bind_calls(&tree.calls)?;
     Ok(Scene {
         instances: bound,
         calls,
@@ -98,24 +97,21 @@ struct Instances {
 impl Instances {
     /// The instances of a scene. `DuplicateName` and `NoScript` come by the first instance that breaks
     /// one of them.
-    fn new(alloc: Global, scripts: &OutlineScripts<'_>, instances: &[SceneInstance]) -> Bound<Self>
+    fn new(alloc: Global, outline: &OutlineScripts<'_>, instances: &[SceneInstance]) -> Bound<Self>
         ensures count { IfOk result (λ found. length found.scripts.items ≡ length instances.now) }
-        ensures scripts { IfOk result (λ found. All (IsInstantiable scripts.now) found.scripts.items) }
+        ensures scripts { IfOk result (λ found. All (IsInstantiable outline.now) found.scripts.items) }
         ensures named { IfOk result (λ found. AreNamed found instances.now) }
-        ensures scripts_named { IfOk result (λ found. map Some found.scripts.items ≡ map (tree_script scripts.now) instances.now) }
+        ensures scripts_named { IfOk result (λ found. map Some found.scripts.items ≡ map (tree_script outline.now) instances.now) }
     {
         let mut names = NameTable::new(alloc);
-        let mut numbers = Vec::with_capacity(alloc, instances.len())?;
+        let mut scripts = Vec::with_capacity(alloc, instances.len())?;
         for (number, instance) in instances.iter().enumerate() {
             if !names.note(alloc, instance.name.as_bytes(), number)? {
                 return Err(SceneFault::of(SceneRule::DuplicateName));
             }
-            numbers.push(script_for(alloc, scripts, instance)?)?;
+            scripts.push(outline.find_instantiable(alloc, instance.script.as_bytes())?)?;
         }
-        Ok(Instances {
-            names,
-            scripts: numbers,
-        })
+        Ok(Instances { names, scripts })
     }
 
     /// The number of the instance of this name.
@@ -134,175 +130,177 @@ impl Instances {
     }
 }
 
-fn script_for(alloc: Global, scripts: &OutlineScripts<'_>, instance: &SceneInstance) -> Bound<u16>
-    ensures there { IfOk result (IsInstantiable scripts.now) }
-    ensures named { IfOk result (λ script. script_named scripts.now instance.now.script ≡ Some script) }
-{
-    let script = scripts.find_instantiable(alloc, instance.script.as_bytes())?;
-    script.ok_or(SceneFault::of(SceneRule::NoScript))
-}
-
-/// The instances, each with the values that it sets. `DuplicateName`, `NoProperty` and `Arguments` come by
-/// the first entry that breaks one of them.
-fn bind_instances(scope: Known<'_>, instances: &[SceneInstance]) -> Bound<Vec<BoundInstance>>
-    requires count { length scope.instances.now.scripts.items ≡ length instances.now }
-    requires scripts { All (IsInstantiable scope.scripts.now) scope.instances.now.scripts.items }
-    ensures bound { IfOk result (λ bound. All (IsBoundInstance scope.entry.scripts.now scope.entry.instances.now.scripts.items) bound.items) }
-    ensures scripts { IfOk result (λ bound. map script_of bound.items ≡ scope.entry.instances.now.scripts.items) }
-    ensures names { IfOk result (λ bound. map instance_name bound.items ≡ map tree_name instances.now) }
-    ensures limits { IfOk result (λ bound. All InstanceKeeps instances.now → All InstanceKeepsLimits bound.items) }
-    ensures meant { IfOk result (λ bound. SetsAre scope.entry.scripts.now scope.entry.instances.now instances.now bound.items) }
-{
-    let mut bound = Vec::with_capacity(scope.alloc, instances.len())?;
-    for (number, instance) in instances.iter().enumerate() {
-        let script = scope.instances.scripts[number];
-        bound.push(bind_instance(scope, script, instance)?)?;
-    }
-    Ok(bound)
-}
-
-fn bind_instance(scope: Known<'_>, script: u16, instance: &SceneInstance) -> Bound<BoundInstance>
-    requires { IsInstantiable scope.scripts.now script }
-    ensures bound { IfOk result (IsBoundInstance scope.entry.scripts.now scope.entry.instances.now.scripts.items) }
-    ensures script { IfOk result (λ bound. script_of bound ≡ script) }
-    ensures name { IfOk result (λ bound. instance_name bound ≡ tree_name instance.now) }
-    ensures limits { IfOk result (λ bound. InstanceKeeps instance.now → InstanceKeepsLimits bound) }
-    ensures meant { IfOk result (SetIs scope.entry.scripts.now scope.entry.instances.now instance.now) }
-{
-    Ok(BoundInstance {
-        name: instance.name.try_clone(scope.alloc)?,
-        script,
-        set: bind_entries(scope, script, &instance.set)?,
-    })
-}
-
-fn bind_entries(
-    scope: Known<'_>,
-    script: u16,
-    entries: &[(Text, SceneValue)],
-) -> Bound<Vec<(u16, u16, Value)>>
-    ensures bound { IfOk result (λ bound. All (IsBoundEntry scope.entry.scripts.now scope.entry.instances.now.scripts.items script) bound.items) }
-    ensures short { IfOk result (λ bound. All EntryKeeps entries.now → All IsShortEntry bound.items) }
-    ensures meant { IfOk result (λ bound. EntriesAre scope.entry.scripts.now scope.entry.instances.now script entries.now bound.items) }
-{
-    let mut names = NameTable::new(scope.alloc);
-    let mut bound = Vec::with_capacity(scope.alloc, entries.len())?;
-    for (place, entry) in entries.iter().enumerate() {
-        if !names.note(scope.alloc, entry.0.as_bytes(), place)? {
-            return Err(SceneFault::of(SceneRule::DuplicateName));
-        }
-        bound.push(bind_entry(scope, script, &entry.0, &entry.1)?)?;
-    }
-    Ok(bound)
-}
-
-fn bind_entry(
-    scope: Known<'_>,
-    script: u16,
-    name: &Text,
-    value: &SceneValue,
-) -> Bound<(u16, u16, Value)>
-    ensures bound { IfOk result (IsBoundEntry scope.entry.scripts.now scope.entry.instances.now.scripts.items script) }
-    ensures short { IfOk result (λ bound. ValueKeeps value.now → IsShortEntry bound) }
-    ensures meant { IfOk result (EntryIs scope.entry.scripts.now scope.entry.instances.now script (name.now, value.now)) }
-{
-    let name = name.as_bytes();
-    let found = scope.scripts.find_property(scope.alloc, script, name)?;
-    let Some((owner, property)) = found else {
-        return Err(SceneFault::of(SceneRule::NoProperty));
-    };
-    let value = value_for(scope, property.kind, value)?;
-    Ok((owner, property.variable, value))
-}
-
-/// The calls. `NoFunction` and `Arguments` come by the first call that breaks one of them.
-fn bind_calls(scope: Known<'_>, calls: &[SceneCall]) -> Bound<Vec<BoundCall>>
-    ensures bound { IfOk result (λ bound. All (IsBoundCall scope.entry.scripts.now scope.entry.instances.now.scripts.items) bound.items) }
-    ensures parts { IfOk result (λ bound. map call_parts bound.items ≡ map tree_call_parts calls.now) }
-    ensures limits { IfOk result (λ bound. All CallKeeps calls.now → All CallKeepsLimits bound.items) }
-    ensures meant { IfOk result (λ bound. CallsAre scope.entry.instances.now calls.now bound.items) }
-{
-    let mut bound = Vec::with_capacity(scope.alloc, calls.len())?;
-    for call in calls {
-        bound.push(bind_call(scope, call)?)?;
-    }
-    Ok(bound)
-}
-
-fn bind_call(scope: Known<'_>, call: &SceneCall) -> Bound<BoundCall>
-    ensures bound { IfOk result (IsBoundCall scope.entry.scripts.now scope.entry.instances.now.scripts.items) }
-    ensures parts { IfOk result (λ bound. call_parts bound ≡ tree_call_parts call.now) }
-    ensures limits { IfOk result (λ bound. CallKeeps call.now → CallKeepsLimits bound) }
-    ensures meant { IfOk result (CallIs scope.entry.instances.now call.now) }
-{
-    let Some(instance) = scope.instances.find(scope.alloc, &call.instance)? else {
-        return Err(SceneFault::of(SceneRule::NoFunction));
-    };
-    let name = call.function.as_bytes();
-    let function = called_function(scope, instance, name)?;
-    let arguments = bind_arguments(scope, &function.parameters, &call.arguments)?;
-    Ok(BoundCall {
-        turn: call.turn,
-        instance,
-        function: Name::from_bytes(scope.alloc, name)?,
-        arguments,
-    })
-}
-
-/// The function that a call of this name on the instance means.
-fn called_function<'a>(scope: Known<'a>, instance: u16, name: &[u8]) -> Bound<&'a OutlineFunction>
-    ensures { IfOk result (λ function. IsCallableOn scope.entry.scripts.now scope.entry.instances.now.scripts.items instance name.now function.now) }
-{
-    let fault = SceneFault::of(SceneRule::NoFunction);
-    let script = scope.instances.script_of(instance).ok_or(fault)?;
-    match scope.scripts.find_function(scope.alloc, script, name)? {
-        Some(function) if !function.is_native && !function.is_global => Ok(function),
-        _ => Err(fault),
-    }
-}
-
-fn bind_arguments(
-    scope: Known<'_>,
-    parameters: &[CoreType],
-    arguments: &[SceneValue],
-) -> Bound<Vec<Value>>
-    ensures typed { IfOk result (λ values. AreOfTypes scope.entry.scripts.now scope.entry.instances.now.scripts.items parameters.now values.items) }
-    ensures short { IfOk result (λ values. All ValueKeeps arguments.now → All IsShortValue values.items) }
-    ensures meant { IfOk result (λ values. ValuesAre scope.entry.instances.now arguments.now values.items) }
-{
-    if arguments.len() != parameters.len() {
-        return Err(SceneFault::of(SceneRule::Arguments));
-    }
-    let mut bound = Vec::with_capacity(scope.alloc, arguments.len())?;
-    for (place, value) in arguments.iter().enumerate() {
-        bound.push(value_for(scope, parameters[place], value)?)?;
-    }
-    Ok(bound)
-}
-
 /// What values may name.
 #[derive(Clone, Copy)]
-struct Known<'a> {
+struct Known<'s, 'a> {
     alloc: Global,
-    scripts: &'a OutlineScripts<'a>,
-    instances: &'a Instances,
+    scripts: &'s OutlineScripts<'a>,
+    instances: &'s Instances,
 }
 
-/// The value where a type is asked for. `Arguments` comes where it isn't of the type.
-fn value_for(scope: Known<'_>, kind: CoreType, value: &SceneValue) -> Bound<Value>
-    ensures typed { IfOk result (IsOfType scope.entry.scripts.now scope.entry.instances.now.scripts.items kind) }
-    ensures short { IfOk result (λ bound. ValueKeeps value.now → IsShortValue bound) }
-    ensures meant { IfOk result (ValueIs scope.entry.instances.now value.now) }
-{
-    match (kind, value) {
-        (CoreType::Int, SceneValue::Int(number)) => Ok(Value::Int(*number)),
-        (CoreType::Bool, SceneValue::Bool(truth)) => Ok(Value::Bool(*truth)),
-        (CoreType::Text, SceneValue::Text(text)) => Ok(Value::Text(text.try_clone(scope.alloc)?)),
-        (CoreType::Script(script), SceneValue::Instance(name)) => {
-            instance_for(scope, script, name)
+impl<'s, 'a> Known<'s, 'a> {
+    /// The instances, each with the values that it sets. `DuplicateName`, `NoProperty` and `Arguments` come by
+    /// the first entry that breaks one of them.
+    fn bind_instances(self, instances: &[SceneInstance]) -> Bound<Vec<BoundInstance>>
+        requires count { length self.instances.now.scripts.items ≡ length instances.now }
+        requires scripts { All (IsInstantiable self.scripts.now) self.instances.now.scripts.items }
+        ensures bound { IfOk result (λ bound. All (IsBoundInstance self.entry.scripts.now self.entry.instances.now.scripts.items) bound.items) }
+        ensures scripts { IfOk result (λ bound. map script_of bound.items ≡ self.entry.instances.now.scripts.items) }
+        ensures names { IfOk result (λ bound. map instance_name bound.items ≡ map tree_name instances.now) }
+        ensures limits { IfOk result (λ bound. All InstanceKeeps instances.now → All InstanceKeepsLimits bound.items) }
+        ensures meant { IfOk result (λ bound. SetsAre self.entry.scripts.now self.entry.instances.now instances.now bound.items) }
+    {
+        let mut bound = Vec::with_capacity(self.alloc, instances.len())?;
+        for (number, instance) in instances.iter().enumerate() {
+            let script = self.instances.scripts[number];
+            bound.push(self.bind_instance(script, instance)?)?;
         }
-        (_, SceneValue::NoneValue) if may_be_none(kind) => Ok(Value::NoneValue),
-        _ => Err(SceneFault::of(SceneRule::Arguments)),
+        Ok(bound)
+    }
+
+    fn bind_instance(self, script: u16, instance: &SceneInstance) -> Bound<BoundInstance>
+        requires { IsInstantiable self.scripts.now script }
+        ensures bound { IfOk result (IsBoundInstance self.entry.scripts.now self.entry.instances.now.scripts.items) }
+        ensures script { IfOk result (λ bound. script_of bound ≡ script) }
+        ensures name { IfOk result (λ bound. instance_name bound ≡ tree_name instance.now) }
+        ensures limits { IfOk result (λ bound. InstanceKeeps instance.now → InstanceKeepsLimits bound) }
+        ensures meant { IfOk result (SetIs self.entry.scripts.now self.entry.instances.now instance.now) }
+    {
+        Ok(BoundInstance {
+            name: instance.name.try_clone(self.alloc)?,
+            script,
+            set: self.bind_entries(script, &instance.set)?,
+        })
+    }
+
+    fn bind_entries(self, script: u16, set: &[(Text, SceneValue)]) -> Bound<Vec<(u16, u16, Value)>>
+        ensures bound { IfOk result (λ bound. All (IsBoundEntry self.entry.scripts.now self.entry.instances.now.scripts.items script) bound.items) }
+        ensures short { IfOk result (λ bound. All EntryKeeps set.now → All IsShortEntry bound.items) }
+        ensures meant { IfOk result (λ bound. EntriesAre self.entry.scripts.now self.entry.instances.now script set.now bound.items) }
+    {
+        let mut names = NameTable::new(self.alloc);
+        let mut bound = Vec::with_capacity(self.alloc, set.len())?;
+        for (place, entry) in set.iter().enumerate() {
+            if !names.note(self.alloc, entry.0.as_bytes(), place)? {
+                return Err(SceneFault::of(SceneRule::DuplicateName));
+            }
+            bound.push(self.bind_entry(script, &entry.0, &entry.1)?)?;
+        }
+        Ok(bound)
+    }
+
+    fn bind_entry(self, script: u16, name: &Text, value: &SceneValue) -> Bound<(u16, u16, Value)>
+        ensures bound { IfOk result (IsBoundEntry self.entry.scripts.now self.entry.instances.now.scripts.items script) }
+        ensures short { IfOk result (λ bound. ValueKeeps value.now → IsShortEntry bound) }
+        ensures meant { IfOk result (EntryIs self.entry.scripts.now self.entry.instances.now script (name.now, value.now)) }
+    {
+        let name = name.as_bytes();
+        let found = self.scripts.find_property(self.alloc, script, name)?;
+        let Some((owner, property)) = found else {
+            return Err(SceneFault::of(SceneRule::NoProperty));
+        };
+        let value = self.value_for(property.kind, value)?;
+        Ok((owner, property.variable, value))
+    }
+
+    /// The calls. `NoFunction` and `Arguments` come by the first call that breaks one of them.
+    fn bind_calls(self, calls: &[SceneCall]) -> Bound<Vec<BoundCall>>
+        ensures bound { IfOk result (λ bound. All (IsBoundCall self.entry.scripts.now self.entry.instances.now.scripts.items) bound.items) }
+        ensures parts { IfOk result (λ bound. map call_parts bound.items ≡ map tree_call_parts calls.now) }
+        ensures limits { IfOk result (λ bound. All CallKeeps calls.now → All CallKeepsLimits bound.items) }
+        ensures meant { IfOk result (λ bound. CallsAre self.entry.instances.now calls.now bound.items) }
+    {
+        let mut bound = Vec::with_capacity(self.alloc, calls.len())?;
+        for call in calls {
+            bound.push(self.bind_call(call)?)?;
+        }
+        Ok(bound)
+    }
+
+    fn bind_call(self, call: &SceneCall) -> Bound<BoundCall>
+        ensures bound { IfOk result (IsBoundCall self.entry.scripts.now self.entry.instances.now.scripts.items) }
+        ensures parts { IfOk result (λ bound. call_parts bound ≡ tree_call_parts call.now) }
+        ensures limits { IfOk result (λ bound. CallKeeps call.now → CallKeepsLimits bound) }
+        ensures meant { IfOk result (CallIs self.entry.instances.now call.now) }
+    {
+        let Some(instance) = self.instances.find(self.alloc, &call.instance)? else {
+            return Err(SceneFault::of(SceneRule::NoFunction));
+        };
+        let name = call.function.as_bytes();
+        let function = self.called_function(instance, name)?;
+        let arguments = self.bind_arguments(&function.parameters, &call.arguments)?;
+        Ok(BoundCall {
+            turn: call.turn,
+            instance,
+            function: Name::from_bytes(self.alloc, name)?,
+            arguments,
+        })
+    }
+
+    /// The function that a call of this name on the instance means.
+    fn called_function(self, instance: u16, name: &[u8]) -> Bound<&'a OutlineFunction>
+        ensures { IfOk result (λ function. IsCallableOn self.entry.scripts.now self.entry.instances.now.scripts.items instance name.now function.now) }
+    {
+        let fault = SceneFault::of(SceneRule::NoFunction);
+        let script = self.instances.script_of(instance).ok_or(fault)?;
+        match self.scripts.find_function(self.alloc, script, name)? {
+            Some(function) if !function.is_native && !function.is_global => Ok(function),
+            _ => Err(fault),
+        }
+    }
+
+    fn bind_arguments(self, parameters: &[CoreType], arguments: &[SceneValue]) -> Bound<Vec<Value>>
+        ensures typed { IfOk result (λ values. AreOfTypes self.entry.scripts.now self.entry.instances.now.scripts.items parameters.now values.items) }
+        ensures short { IfOk result (λ values. All ValueKeeps arguments.now → All IsShortValue values.items) }
+        ensures meant { IfOk result (λ values. ValuesAre self.entry.instances.now arguments.now values.items) }
+    {
+        if arguments.len() != parameters.len() {
+            return Err(SceneFault::of(SceneRule::Arguments));
+        }
+        let mut bound = Vec::with_capacity(self.alloc, arguments.len())?;
+        for (place, value) in arguments.iter().enumerate() {
+            bound.push(self.value_for(parameters[place], value)?)?;
+        }
+        Ok(bound)
+    }
+
+    /// The value where a type is asked for. `Arguments` comes where it isn't of the type.
+    fn value_for(self, kind: CoreType, value: &SceneValue) -> Bound<Value>
+        ensures typed { IfOk result (IsOfType self.entry.scripts.now self.entry.instances.now.scripts.items kind) }
+        ensures short { IfOk result (λ bound. ValueKeeps value.now → IsShortValue bound) }
+        ensures meant { IfOk result (ValueIs self.entry.instances.now value.now) }
+    {
+        match (kind, value) {
+            (CoreType::Int, SceneValue::Int(number)) => Ok(Value::Int(*number)),
+            (CoreType::Bool, SceneValue::Bool(truth)) => Ok(Value::Bool(*truth)),
+            (CoreType::Text, SceneValue::Text(text)) => Ok(Value::Text(text.try_clone(
+                self.alloc,
+            )?)),
+            (CoreType::Script(kind), SceneValue::Instance(name)) => self.instance_for(kind, name),
+            (_, SceneValue::NoneValue) if may_be_none(kind) => Ok(Value::NoneValue),
+            _ => Err(SceneFault::of(SceneRule::Arguments)),
+        }
+    }
+
+    /// The instance of this name, where it is one of the script or of one below it.
+    fn instance_for(self, script: u16, name: &Text) -> Bound<Value>
+        ensures typed { IfOk result (IsOfType self.entry.scripts.now self.entry.instances.now.scripts.items (CoreType.Script script)) }
+        ensures short { IfOk result IsShortValue }
+        ensures meant { IfOk result (InstanceIs self.entry.instances.now name.now) }
+    {
+        match self.instances.find(self.alloc, name)? {
+            Some(number) if self.is_instance_of(number, script) => Ok(Value::Instance(number)),
+            _ => Err(SceneFault::of(SceneRule::Arguments)),
+        }
+    }
+
+    fn is_instance_of(self, instance: u16, script: u16) -> bool
+        ensures { IsTrue result → IsInstanceOf self.entry.scripts.now self.entry.instances.now.scripts.items instance script }
+    {
+        match self.instances.script_of(instance) {
+            Some(child) => self.scripts.is_child(child, script),
+            None => false,
+        }
     }
 }
 
@@ -310,25 +308,4 @@ fn may_be_none(kind: CoreType) -> bool
     ensures { IsTrue result ↔ MayBeNone kind }
 {
     !matches!(kind, CoreType::Int | CoreType::Bool | CoreType::Text)
-}
-
-/// The instance of this name, where it is one of the script or of one below it.
-fn instance_for(scope: Known<'_>, script: u16, name: &Text) -> Bound<Value>
-    ensures typed { IfOk result (IsOfType scope.entry.scripts.now scope.entry.instances.now.scripts.items (CoreType.Script script)) }
-    ensures short { IfOk result IsShortValue }
-    ensures meant { IfOk result (InstanceIs scope.entry.instances.now name.now) }
-{
-    match scope.instances.find(scope.alloc, name)? {
-        Some(instance) if is_instance_of(scope, instance, script) => Ok(Value::Instance(instance)),
-        _ => Err(SceneFault::of(SceneRule::Arguments)),
-    }
-}
-
-fn is_instance_of(scope: Known<'_>, instance: u16, script: u16) -> bool
-    ensures { IsTrue result → IsInstanceOf scope.entry.scripts.now scope.entry.instances.now.scripts.items instance script }
-{
-    match scope.instances.script_of(instance) {
-        Some(child) => scope.scripts.is_child(child, script),
-        None => false,
-    }
 }

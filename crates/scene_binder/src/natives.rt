@@ -7,14 +7,14 @@ ghost use Rattle.core_tree.specs.declared.scene_tree.Binding.{Binding as NativeB
 ghost use Rattle.scene_reader.specs.Limits.{BindingKeeps, NativeKeeps};
 ghost use Rattle.scene_binder.specs.Bound.{AreBoundNatives};
 ghost use Rattle.scene_binder.specs.Limits.{NativeKeepsLimits, NativesKeepLimits};
-ghost use Rattle.scene_binder.specs.Natives.{AllowsBinding, HasDevice, IsCell, IsReply, MayCall, MaySleep, MayTrace, native_place_here, native_places_from, native_places_in};
+ghost use Rattle.scene_binder.specs.Natives.{AllowsBinding, HasDevice, IsCell, IsReply, native_place_here, native_places_from, native_places_in};
 ghost use Rattle.scene_binder.specs.Meant.{IsNativeMeant, binding_in, default_entries, full_name as named_in};
 ghost use Rattle.scene_binder.specs.Names.{number_in};
 ghost use Rattle.scene_binder.specs.NativeList.{Adds, AreBoundBy, AreMeant, AreNatives, IsFunctionOf, IsUnbound};
 
 use crate::scripts::NameTable;
 use core_tree::{Binding, BoundNative, CoreType, Outline, OutlineFunction, OutlineScript};
-use papy_base::{OutOfMemory, Text};
+use papy_base::{Name, OutOfMemory, Text};
 use scene_reader::{SceneFault, SceneRule};
 use std::alloc::Global;
 
@@ -41,7 +41,7 @@ impl<'a> Natives<'a> {
         alloc: Global,
         outline: &'a Outline,
         devices: u16,
-    ) -> Result<Natives<'a>, OutOfMemory>
+    ) -> Result<Self, OutOfMemory>
         ensures natives { IfOk result (AreNatives outline.now.scripts.items) }
         ensures unbound { IfOk result (λ natives. All IsUnbound natives.natives.items) }
         ensures devices { IfOk result (λ natives. natives.devices ≡ devices) }
@@ -95,7 +95,7 @@ impl<'a> Natives<'a> {
             return Ok(());
         }
         let alloc = *self.natives.allocator();
-        let name = full_name(alloc, script, function)?;
+        let name = full_name(alloc, &script.name, &function.name)?;
         self.names.note(alloc, &name, self.natives.len())?;
         self.natives.push(Native {
             script: number,
@@ -126,6 +126,7 @@ impl<'a> Natives<'a> {
         ensures devices { self.new.devices ≡ self.old.devices }
         ensures limits { BindingKeeps binding → NativesKeepLimits self.old → NativesKeepLimits self.new }
         ensures bound { OnOk result ((scripts : List OutlineScript) (entries : List (List ℕ × NativeBinding)) → AreNatives scripts self.old → AreBoundBy scripts entries self.old → AreBoundBy scripts (entries ++ (name.now, binding) ∷ []) self.new) }
+        ensures meant { (scripts : List OutlineScript) (entries : List (List ℕ × NativeBinding)) → binding_in default_entries (folded name.now) ≡ Some binding → AreNatives scripts self.old → AreMeant scripts entries self.old → AreMeant scripts entries self.new }
     {
         let Some(number) = self.find(name)? else {
             return Err(SceneFault::of(SceneRule::NoFunction));
@@ -171,25 +172,17 @@ impl<'a> Natives<'a> {
         self.bind_default(b"Utility.RandomInt", dice)
     }
 
+    // What an entry has bound stays, and so does a native of other types.
     fn bind_default(&mut self, name: &[u8], binding: Binding) -> Result<(), SceneFault>
         ensures natives { (scripts : List OutlineScript) → AreNatives scripts self.old → AreNatives scripts self.new }
         ensures devices { self.new.devices ≡ self.old.devices }
         ensures limits { BindingKeeps binding → NativesKeepLimits self.old → NativesKeepLimits self.new }
         ensures meant { (scripts : List OutlineScript) (entries : List (List ℕ × NativeBinding)) → binding_in default_entries (folded name.now) ≡ Some binding → AreNatives scripts self.old → AreMeant scripts entries self.old → AreMeant scripts entries self.new }
     {
-        let Some(number) = self.find(name)? else {
-            return Ok(());
-        };
-        if self.natives[number].binding.is_some() {
-            return Ok(());
+        match self.bind(name, binding) {
+            Err(SceneFault::Broken { rule }) if rule != SceneRule::NoDevice => Ok(()),
+            bound => bound,
         }
-        if !has_device(binding, self.devices) {
-            return Err(SceneFault::of(SceneRule::NoDevice));
-        }
-        if types_allow(self.natives[number].function, binding) {
-            self.natives[number].binding = Some(binding);
-        }
-        Ok(())
     }
 
     /// The natives with their bindings. `UnboundNative` comes where one has none.
@@ -215,16 +208,12 @@ impl<'a> Natives<'a> {
 }
 
 // `Script.Function`, as scenes name a native.
-fn full_name(
-    alloc: Global,
-    script: &OutlineScript,
-    function: &OutlineFunction,
-) -> Result<Vec<u8>, OutOfMemory>
-    ensures { IfOk result (λ name. name.items ≡ named_in script.now.name function.now.name) }
+fn full_name(alloc: Global, script: &Name, function: &Name) -> Result<Vec<u8>, OutOfMemory>
+    ensures { IfOk result (λ name. name.items ≡ named_in script.now function.now) }
 {
-    let mut name = script.name.as_bytes().to_vec(alloc)?;
+    let mut name = script.as_bytes().to_vec(alloc)?;
     name.push(b'.')?;
-    name.extend_from_slice(function.name.as_bytes())?;
+    name.extend_from_slice(function.as_bytes())?;
     Ok(name)
 }
 
@@ -242,37 +231,15 @@ fn types_allow(function: &OutlineFunction, binding: Binding) -> bool
     ensures { IsTrue result → AllowsBinding function.now.parameters.items function.now.result binding }
 {
     let parameters = function.parameters.as_slice();
-    let outcome = function.result;
     match binding {
-        Binding::Sleep => may_sleep(parameters, outcome),
-        Binding::Trace { .. } | Binding::PromptTrace => may_trace(parameters, outcome),
-        Binding::Device { .. } | Binding::PromptDevice { .. } => may_call(parameters, outcome),
+        Binding::Sleep => matches!((parameters, function.result), ([CoreType::Int], None)),
+        Binding::Trace { .. } | Binding::PromptTrace => {
+            matches!((parameters, function.result), ([CoreType::Text, ..], None))
+        }
+        Binding::Device { .. } | Binding::PromptDevice { .. } => {
+            parameters.iter().all(|kind| is_cell(*kind)) && is_reply(function.result)
+        }
     }
-}
-
-fn may_sleep(parameters: &[CoreType], outcome: Option<CoreType>) -> bool
-    ensures { IsTrue result → MaySleep parameters.now outcome }
-{
-    matches!((parameters, outcome), ([CoreType::Int], None))
-}
-
-fn may_trace(parameters: &[CoreType], outcome: Option<CoreType>) -> bool
-    ensures { IsTrue result → MayTrace parameters.now outcome }
-{
-    matches!((parameters, outcome), ([CoreType::Text, ..], None))
-}
-
-// Whether a device may be called with these.
-fn may_call(parameters: &[CoreType], outcome: Option<CoreType>) -> bool
-    ensures { IsTrue result → MayCall parameters.now outcome }
-{
-    are_cells(parameters) && is_reply(outcome)
-}
-
-fn are_cells(parameters: &[CoreType]) -> bool
-    ensures { IsTrue result → All IsCell parameters.now }
-{
-    parameters.iter().all(|kind| is_cell(*kind))
 }
 
 // Devices know whole numbers and truth values.

@@ -1,14 +1,15 @@
 // The scripts of an outline and their members, by name.
-ghost use Rattle.std.specs.Prelude.{IfOk, IfSome, IsTrue, List, None, OnOk, Some, option_copied, slice_get, ℕ, ◌≡◌};
+ghost use Rattle.std.specs.Prelude.{IfOk, IfSome, IsTrue, List, None, Some, option_copied, slice_get, ℕ, ◌≡◌};
 ghost use Rattle.std.specs.List.{Contains};
 ghost use Rattle.papy_base.specs.Case.{folded as folded_bytes};
 ghost use Rattle.scene_binder.specs.Instances.{IsInstantiable};
 ghost use Rattle.scene_binder.specs.Keys.{function_key, property_key};
 ghost use Rattle.scene_binder.specs.Members.{HasFunction, HasFunctionNamed, HasProperty, IsNearestProperty, StandsAbove, own_function, own_property, parent_in, script_named};
-ghost use Rattle.scene_binder.specs.Names.{IsTableOf, Notes, Sets, first_of, number_in};
+ghost use Rattle.scene_binder.specs.Names.{IsTableOf, Notes, first_of, number_in};
 
 use core_tree::{Outline, OutlineFunction, OutlineProperty, OutlineScript};
 use papy_base::OutOfMemory;
+use scene_reader::{SceneFault, SceneRule};
 use std::alloc::Global;
 use std::collections::HashMap;
 use std::marker::Model;
@@ -42,16 +43,8 @@ impl NameTable {
         if self.find_folded(&folded).is_some() {
             return Ok(false);
         }
-        self.set(folded, number)?;
-        Ok(true)
-    }
-
-    // Gives the name of these folded bytes this number.
-    fn set(&mut self, folded: Vec<u8>, number: usize) -> Result<(), OutOfMemory>
-        ensures { OnOk result (Sets self.old self.new folded.items number) }
-    {
         self.numbers.insert(folded, number)?;
-        Ok(())
+        Ok(true)
     }
 
     /// The number of a name.
@@ -94,12 +87,10 @@ impl<'a> ScriptMembers<'a> {
     fn new(alloc: Global, script: &'a OutlineScript) -> Result<ScriptMembers<'a>, OutOfMemory>
         ensures { IfOk result (λ members. members.script.now ≡ script.now) }
     {
-        let properties = property_table(alloc, &script.properties)?;
-        let functions = function_table(alloc, &script.functions)?;
         Ok(ScriptMembers {
             script,
-            properties,
-            functions,
+            properties: property_table(alloc, &script.properties)?,
+            functions: function_table(alloc, &script.functions)?,
         })
     }
 
@@ -181,20 +172,16 @@ impl<'a> OutlineScripts<'a> {
         Ok(OutlineScripts { scripts, numbers })
     }
 
-    /// The number of the script of this name, where it may have instances.
-    pub(crate) fn find_instantiable(
-        &self,
-        alloc: Global,
-        name: &[u8],
-    ) -> Result<Option<u16>, OutOfMemory>
-        ensures there { IfOk result (λ found. IfSome found (IsInstantiable self.now)) }
-        ensures named { IfOk result (λ found. IfSome found (λ n. script_named self.now name.now ≡ Some n)) }
+    /// The number of the script of this name. `NoScript` comes where there is none that may have instances.
+    pub(crate) fn find_instantiable(&self, alloc: Global, name: &[u8]) -> Result<u16, SceneFault>
+        ensures there { IfOk result (IsInstantiable self.now) }
+        ensures named { IfOk result (λ n. script_named self.now name.now ≡ Some n) }
     {
         match self.numbers.find(alloc, name)? {
             Some(number) if LIBRARY_COUNT <= number && number < self.scripts.len() => {
-                Ok(u16::try_from(number).ok())
+                u16::try_from(number).map_err(|_| SceneFault::of(SceneRule::NoScript))
             }
-            _ => Ok(None),
+            _ => Err(SceneFault::of(SceneRule::NoScript)),
         }
     }
 

@@ -7,8 +7,8 @@ use Rattle.scene_binder.proofs.binder.Instances.new.Given as goal
 
 abbrev pub invariant-loop-number : goal.invariant-loop-number
 invariant-loop-number l = record {
-  count : length l.numbers.items ≡ l.number;
-  scripts : All (IsInstantiable l.scripts) l.numbers.items;
+  count : length l.scripts.items ≡ l.number;
+  scripts : All (IsInstantiable l.outline) l.scripts.items;
   named : IsTableOf instance_key (take l.number l.instances) l.names;
-  scripts_named : map Some l.numbers.items ≡ map (tree_script l.scripts) (take l.number l.instances);
+  scripts_named : map Some l.scripts.items ≡ map (tree_script l.outline) (take l.number l.instances);
 }

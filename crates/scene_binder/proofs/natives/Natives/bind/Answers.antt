@@ -5,7 +5,7 @@ use Rattle.papy_base.specs.Case.{folded}
 use Rattle.scene_binder.specs.Names.{number_in}
 use Rattle.scene_binder.specs.NativeList.{MayDo}
 use Rattle.scene_binder.proofs.ListLemmas.{same_item}
-use Rattle.scene_binder.proofs.NativeLemmas.{AreBoundBy-bind, AreNatives-bind, none_from}
+use Rattle.scene_binder.proofs.NativeLemmas.{AreBoundBy-bind, AreMeant-bind, AreNatives-bind, none_from}
 use Rattle.scene_binder.proofs.natives.Natives.bind.Goals as goal
 
 pub returns-clause-natives : goal.returns-clause-natives
@@ -41,3 +41,18 @@ returns-clause-bound c =
     let clear : is_some tested.binding ≡ false = cc in
     let none = subst (λ x. x.binding ≡ None) (same_item natives number tested native lt also is) (none_from tested.binding clear) in
     λ scripts entries h bound. AreBoundBy-bind scripts entries old _ number native c.args.name.now c.args.binding lt is refl refl found none h.tabled bound
+
+pub returns-clause-meant : goal.returns-clause-meant
+returns-clause-meant c =
+    let old = c.args.self.now in
+    let natives = old.natives.items in
+    let number = c.in-Some.number in
+    let native = c.index_mut.result.now in
+    let tested = c.index.result.now in
+    let lt = subst (λ o. IfSome o (λ n. n < length natives)) c.in-Some.is c.in_ok-number.ensures.there in
+    let found = subst (λ o. IfSome o (λ n. number_in old.names (folded c.args.name.now) ≡ Some n)) c.in-Some.is c.in_ok-number.ensures.named in
+    let is : native ≡ get_or natives number native = cc in
+    let also : tested ≡ get_or natives number tested = cc in
+    let clear : is_some tested.binding ≡ false = cc in
+    let none = subst (λ x. x.binding ≡ None) (same_item natives number tested native lt also is) (none_from tested.binding clear) in
+    λ scripts entries default h meant. AreMeant-bind scripts entries old _ number native c.args.name.now c.args.binding lt is refl refl found none h.tabled default meant

@@ -6,12 +6,12 @@ use Rattle.scene_binder.specs.Instances.{tree_call_parts}
 use Rattle.scene_binder.specs.Limits.{CallKeepsLimits}
 use Rattle.scene_binder.specs.Meant.{IsCallMeant}
 use Rattle.scene_binder.proofs.ListLemmas.{AllZip-done, AllZip-next, map-push}
-use Rattle.scene_binder.proofs.binder.bind_calls.Goals as goal
+use Rattle.scene_binder.proofs.binder.Known.bind_calls.Goals as goal
 
 pub loop-call-preserved : goal.loop-call-preserved
 loop-call-preserved c =
-    let scripts = c.args.scope.scripts.now in
-    let instances = c.args.scope.instances.now.scripts.items in
+    let scripts = c.args.self.scripts.now in
+    let instances = c.args.self.instances.now.scripts.items in
     let calls = c.args.calls.now in
     let call = c.call-item.result in
     let place = c.loop-call.call-index in

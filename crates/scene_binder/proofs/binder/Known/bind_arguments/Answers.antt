@@ -7,15 +7,15 @@ use Rattle.scene_binder.specs.Limits.{IsShortValue}
 use Rattle.scene_binder.specs.Meant.{IsValueMeant}
 use Rattle.scene_binder.proofs.ListLemmas.{AllZip-done, AllZip-next}
 use Rattle.scene_binder.proofs.BoundLemmas.{AreOfTypes-push}
-use Rattle.scene_binder.proofs.binder.bind_arguments.Goals as goal
+use Rattle.scene_binder.proofs.binder.Known.bind_arguments.Goals as goal
 
 pub loop-place-preserved : goal.loop-place-preserved
 loop-place-preserved c =
     let parameters = c.args.parameters.now in
     let arguments = c.args.arguments.now in
     let place = c.loop-place.place in
-    let scripts = c.args.scope.scripts.now in
-    let instances = c.args.scope.instances.now.scripts.items in
+    let scripts = c.args.self.scripts.now in
+    let instances = c.args.self.instances.now.scripts.items in
     let argument = c.index-arguments-place.result in
     let value = c.in_ok-value_for.field-0 in
     let lt : place < length parameters = omega arith in

@@ -5,12 +5,12 @@ use Rattle.scene_binder.specs.Bound.{IsBoundCall, call_parts}
 use Rattle.scene_binder.specs.Instances.{tree_call_parts}
 use Rattle.scene_binder.specs.Limits.{CallKeepsLimits}
 use Rattle.scene_binder.specs.Scope.{CallsAre}
-use Rattle.scene_binder.proofs.binder.bind_calls.Given as goal
+use Rattle.scene_binder.proofs.binder.Known.bind_calls.Given as goal
 
 abbrev pub invariant-loop-call : goal.invariant-loop-call
 invariant-loop-call l = record {
-  bound : All (IsBoundCall l.scope.scripts.now l.scope.instances.now.scripts.items) l.bound.items;
+  bound : All (IsBoundCall l.self.scripts.now l.self.instances.now.scripts.items) l.bound.items;
   parts : map call_parts l.bound.items ≡ map tree_call_parts (take l.call-index l.calls);
   limits : All CallKeeps l.calls → All CallKeepsLimits l.bound.items;
-  meant : CallsAre l.scope.instances.now (take l.call-index l.calls) l.bound.items;
+  meant : CallsAre l.self.instances.now (take l.call-index l.calls) l.bound.items;
 }

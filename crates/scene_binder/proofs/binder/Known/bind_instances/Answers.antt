@@ -6,12 +6,12 @@ use Rattle.scene_binder.specs.Instances.{tree_name}
 use Rattle.scene_binder.specs.Limits.{InstanceKeepsLimits}
 use Rattle.scene_binder.specs.Scope.{IsSetOf}
 use Rattle.scene_binder.proofs.ListLemmas.{AllZip-done, AllZip-next, map-push, take-push}
-use Rattle.scene_binder.proofs.binder.bind_instances.Goals as goal
+use Rattle.scene_binder.proofs.binder.Known.bind_instances.Goals as goal
 
 pub loop-number-preserved : goal.loop-number-preserved
 loop-number-preserved c =
-    let scripts = c.args.scope.scripts.now in
-    let instances = c.args.scope.instances.now.scripts.items in
+    let scripts = c.args.self.scripts.now in
+    let instances = c.args.self.instances.now.scripts.items in
     let listed = c.args.instances.now in
     let number = c.loop-number.number in
     let instance = c.index-instances-number.result in
@@ -34,4 +34,4 @@ loop-number-preserved c =
 
 pub returns-clause-meant : goal.returns-clause-meant
 returns-clause-meant c = λ instances named.
-    AllZip-done (IsSetOf c.args.scope.scripts.now instances) c.args.instances.now c.loop-number.bound.items c.loop-number.number c.loop-number-test.false (c.loop-number.invariant.meant instances named)
+    AllZip-done (IsSetOf c.args.self.scripts.now instances) c.args.instances.now c.loop-number.bound.items c.loop-number.number c.loop-number-test.false (c.loop-number.invariant.meant instances named)

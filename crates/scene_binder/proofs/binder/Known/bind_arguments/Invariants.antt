@@ -4,11 +4,11 @@ use Rattle.scene_reader.specs.Limits.{ValueKeeps}
 use Rattle.scene_binder.specs.Bound.{AreOfTypes}
 use Rattle.scene_binder.specs.Limits.{IsShortValue}
 use Rattle.scene_binder.specs.Scope.{ValuesAre}
-use Rattle.scene_binder.proofs.binder.bind_arguments.Given as goal
+use Rattle.scene_binder.proofs.binder.Known.bind_arguments.Given as goal
 
 abbrev pub invariant-loop-place : goal.invariant-loop-place
 invariant-loop-place l = record {
-  typed : AreOfTypes l.scope.scripts.now l.scope.instances.now.scripts.items (take l.place l.parameters) l.bound.items;
+  typed : AreOfTypes l.self.scripts.now l.self.instances.now.scripts.items (take l.place l.parameters) l.bound.items;
   short : All ValueKeeps l.arguments → All IsShortValue l.bound.items;
-  meant : ValuesAre l.scope.instances.now (take l.place l.arguments) l.bound.items;
+  meant : ValuesAre l.self.instances.now (take l.place l.arguments) l.bound.items;
 }

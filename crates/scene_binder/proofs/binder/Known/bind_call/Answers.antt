@@ -5,12 +5,12 @@ use Rattle.scene_binder.specs.Bound.{AreOfTypes, IsCallableOn}
 use Rattle.papy_base.specs.Case.{folded}
 use Rattle.scene_binder.specs.Meant.{IsValueMeant}
 use Rattle.scene_binder.specs.Names.{number_in}
-use Rattle.scene_binder.proofs.binder.bind_call.Goals as goal
+use Rattle.scene_binder.proofs.binder.Known.bind_call.Goals as goal
 
 pub returns-clause-bound : goal.returns-clause-bound
 returns-clause-bound c =
-    let scripts = c.args.scope.scripts.now in
-    let instances = c.args.scope.instances.now.scripts.items in
+    let scripts = c.args.self.scripts.now in
+    let instances = c.args.self.instances.now.scripts.items in
     let function = c.in_ok-function.function.now in
     record {
       function = function;
@@ -28,7 +28,7 @@ returns-clause-limits c = λ h. record {
 pub returns-clause-meant : goal.returns-clause-meant
 returns-clause-meant c = λ instances named.
     let bytes = folded c.args.call.now.instance in
-    let found = subst (λ o. IfSome o (λ n. number_in c.args.scope.instances.now.names bytes ≡ Some n)) c.in-Some.is c.in_ok-instance.ensures in
+    let found = subst (λ o. IfSome o (λ n. number_in c.args.self.instances.now.names bytes ≡ Some n)) c.in-Some.is c.in_ok-instance.ensures in
     record {
       instance = sym (named bytes) ∙ found;
       arguments = subst (λ written. AllZip (IsValueMeant instances) written c.in_ok-arguments.arguments.items) c.deref-2.ensures.value (c.in_ok-arguments.ensures.meant instances named);

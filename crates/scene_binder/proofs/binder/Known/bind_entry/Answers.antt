@@ -1,10 +1,10 @@
 use Rattle.std.proofs.Common.{IfSome, refl, subst}
 use Rattle.scene_binder.specs.Members.{IsNearestProperty}
-use Rattle.scene_binder.proofs.binder.bind_entry.Goals as goal
+use Rattle.scene_binder.proofs.binder.Known.bind_entry.Goals as goal
 
 pub returns-clause-meant : goal.returns-clause-meant
 returns-clause-meant c =
-    let scripts = c.args.scope.scripts.now in
+    let scripts = c.args.self.scripts.now in
     let property = c.in-Some.property.now in
     let found = subst (λ o. IfSome o (λ f. IsNearestProperty scripts c.as_bytes-name.result.now c.args.script f.0 f.1.now)) c.in-Some.is c.in_ok-found.ensures.nearest in
     let nearest = subst (λ name. IsNearestProperty scripts name c.args.script c.in-Some.owner property) c.as_bytes-name.ensures found in
