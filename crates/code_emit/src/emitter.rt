@@ -286,8 +286,7 @@ fn state_functions(
             name: each.name.as_bytes(),
             kind: STATE_FUNCTION,
         };
-        let written = function(writer, each, place)?;
-        found.push((name, written))?;
+        found.push((name, function(writer, each, place)?))?;
     }
     Ok(found)
 }

@@ -9,16 +9,6 @@ use papy_base::OutOfMemory;
 use pex_values::Datum;
 use std::alloc::Global;
 
-pub(crate) const IADD: u8 = 0x01;
-
-pub(crate) const ISUB: u8 = 0x03;
-
-pub(crate) const IMUL: u8 = 0x05;
-
-pub(crate) const IDIV: u8 = 0x07;
-
-pub(crate) const IMOD: u8 = 0x09;
-
 pub(crate) const NOT: u8 = 0x0A;
 
 pub(crate) const INEG: u8 = 0x0B;
@@ -28,14 +18,6 @@ pub(crate) const ASSIGN: u8 = 0x0D;
 pub(crate) const CAST: u8 = 0x0E;
 
 pub(crate) const CMP_EQ: u8 = 0x0F;
-
-pub(crate) const CMP_LT: u8 = 0x10;
-
-pub(crate) const CMP_LE: u8 = 0x11;
-
-pub(crate) const CMP_GT: u8 = 0x12;
-
-pub(crate) const CMP_GE: u8 = 0x13;
 
 pub(crate) const CALL_METHOD: u8 = 0x17;
 
@@ -63,29 +45,29 @@ pub(crate) const ARRAY_FINDELEMENT: u8 = 0x22;
 
 pub(crate) const ARRAY_RFINDELEMENT: u8 = 0x23;
 
-/// The opcode of an operation on two values.
+/// The opcode of an operation on two values: iadd, isub, imul, idiv, imod or strcat.
 pub(crate) fn arith_opcode(operation: Arith) -> u8
     ensures { operands_of result ≡ Some (3, false) }
 {
     match operation {
-        Arith::Add => IADD,
-        Arith::Sub => ISUB,
-        Arith::Mul => IMUL,
-        Arith::Div => IDIV,
-        Arith::Rem => IMOD,
+        Arith::Add => 0x01,
+        Arith::Sub => 0x03,
+        Arith::Mul => 0x05,
+        Arith::Div => 0x07,
+        Arith::Rem => 0x09,
         Arith::Join => STRCAT,
     }
 }
 
-/// The opcode of a comparison.
+/// The opcode of a comparison: cmp_lt, cmp_le, cmp_gt or cmp_ge.
 pub(crate) fn order_opcode(order: Order) -> u8
     ensures { operands_of result ≡ Some (3, false) }
 {
     match order {
-        Order::Less => CMP_LT,
-        Order::LessEqual => CMP_LE,
-        Order::Greater => CMP_GT,
-        Order::GreaterEqual => CMP_GE,
+        Order::Less => 0x10,
+        Order::LessEqual => 0x11,
+        Order::Greater => 0x12,
+        Order::GreaterEqual => 0x13,
     }
 }
 
