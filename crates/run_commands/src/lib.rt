@@ -1,5 +1,5 @@
 //! The commands that run scripts: from their text by `run` and `once`, from compiled files by `exec`, `journal` and
-//! `hold`, a held run by `resume`, and the scripts of `sample`; and how compiled files are read and judged together.
+//! `hold`, a held run by `resume`, and the scripts of `sample`; and how compiled files are read and verified together.
 #![tactic(auto)]
 
 mod exec_command;
