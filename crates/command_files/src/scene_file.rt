@@ -56,14 +56,8 @@ pub fn read_scene_text<D: Desk>(
     ensures small { IfOk result (λ text. vec_len text ≤ 16777216) }
     ensures read { ReadsText (D.holds desk.old) name.now 16777216 Place.Whole (Rule.Scene SceneRule.Limit) result }
 {
-    read_text(
-        alloc,
-        desk,
-        name,
-        SCENE_LIMIT,
-        Place::Whole,
-        Rule::Scene(SceneRule::Limit),
-    )
+    let rule = Rule::Scene(SceneRule::Limit);
+    read_text(alloc, desk, name, SCENE_LIMIT, Place::Whole, rule)
 }
 
 /// A scene that was read, with its text.

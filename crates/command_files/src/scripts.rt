@@ -83,14 +83,8 @@ fn read_script<D: Desk>(alloc: Global, desk: &mut D, name: &[u8]) -> Result<Vec<
     ensures missed { MissesFile name.now result (D.missed desk.new) }
     ensures read { ReadsText (D.holds desk.old) name.now 1048576 (Place.Line 0) (Rule.Lexical LexRule.TooLarge) result }
 {
-    read_text(
-        alloc,
-        desk,
-        name,
-        SCRIPT_LIMIT,
-        Place::Line(0),
-        Rule::Lexical(LexRule::TooLarge),
-    )
+    let rule = Rule::Lexical(LexRule::TooLarge);
+    read_text(alloc, desk, name, SCRIPT_LIMIT, Place::Line(0), rule)
 }
 
 fn read_source<D: Desk>(alloc: Global, desk: &mut D, name: &[u8]) -> Result<SourceFile, FileFault>

@@ -63,14 +63,8 @@ fn read_held<D: Desk>(alloc: Global, desk: &mut D, name: &[u8]) -> Result<Held, 
     ensures ready { IfOk result IsReady }
     ensures read { ReadsHeld (D.holds desk.old) name.now result }
 {
-    let bytes = match read_text(
-        alloc,
-        desk,
-        name,
-        HELD_LIMIT,
-        Place::Whole,
-        Rule::Held(HeldRule::TooLarge),
-    ) {
+    let rule = Rule::Held(HeldRule::TooLarge);
+    let bytes = match read_text(alloc, desk, name, HELD_LIMIT, Place::Whole, rule) {
         Ok(bytes) => bytes,
         Err(fault) => return Err(fault),
     };
