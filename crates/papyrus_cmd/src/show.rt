@@ -33,19 +33,12 @@ pub fn show<D: Desk, S: Sink>(alloc: Global, files: &[String], desk: &mut D, out
         Ok(pex) => pex,
         Err(fault) => return fault.at_word(1),
     };
-    match write_listing(alloc, &pex.value, out) {
-        Ok(()) => {
-            // The end of the program gives the value's memory back at once, and taking it apart doesn't.
-            mem::forget(pex);
-            Ending::Done
-        }
-        Err(ShowFault::WriteFault) => {
-            drop(pex);
-            Ending::WriteFault
-        }
-        Err(ShowFault::OutOfMemory) => {
-            drop(pex);
-            Ending::OutOfMemory
-        }
+    let shown = write_listing(alloc, &pex.value, out);
+    // The end of the program gives the value's memory back at once, and taking it apart doesn't.
+    mem::forget(pex);
+    match shown {
+        Ok(()) => Ending::Done,
+        Err(ShowFault::WriteFault) => Ending::WriteFault,
+        Err(ShowFault::OutOfMemory) => Ending::OutOfMemory,
     }
 }
