@@ -11,7 +11,7 @@ ghost use Rattle.run_commands.specs.Play.{HasFewParts};
 ghost use Rattle.run_commands.specs.Program.{MissesRead};
 
 use crate::play::{start_machine, turns_ending};
-use crate::program::{Program, read_program};
+use crate::program::read_program;
 use crate::turns::noted_run;
 use command_files::Ending;
 use core_tree::SceneTree;
@@ -77,15 +77,9 @@ pub fn journal<D: Desk, S: Sink>(
         Ok(program) => program,
         Err(ending) => return ending,
     };
-    let Program {
-        tree,
-        text,
-        loaded,
-        kept,
-    } = program;
-    drop(text);
-    drop(kept);
-    let journal = match play_noted(alloc, loaded, tree, out, devices) {
+    drop(program.text);
+    drop(program.kept);
+    let journal = match play_noted(alloc, program.loaded, program.tree, out, devices) {
         Ok(journal) => journal,
         Err(ending) => return ending,
     };

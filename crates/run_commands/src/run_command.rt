@@ -10,7 +10,7 @@ ghost use Rattle.run_commands.specs.Play.{HasFewParts, PlaysSet};
 ghost use Rattle.run_commands.specs.Program.{MissesRead};
 
 use crate::play::play;
-use crate::program::{Program, read_program};
+use crate::program::read_program;
 use command_files::{Ending, accept, compile_set, load_scene};
 use core_tree::{CoreSet, SceneTree};
 use latent_natives::Device;
@@ -143,13 +143,7 @@ pub fn exec<D: Desk, S: Sink>(
         Ok(program) => program,
         Err(ending) => return ending,
     };
-    let Program {
-        tree,
-        text,
-        loaded,
-        kept,
-    } = program;
-    drop(text);
-    drop(kept);
-    play(alloc, loaded, tree, 1, out, devices)
+    drop(program.text);
+    drop(program.kept);
+    play(alloc, program.loaded, program.tree, 1, out, devices)
 }
