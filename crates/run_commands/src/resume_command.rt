@@ -64,10 +64,7 @@ fn read_held<D: Desk>(alloc: Global, desk: &mut D, name: &[u8]) -> Result<Held, 
     ensures read { ReadsHeld (D.holds desk.old) name.now result }
 {
     let rule = Rule::Held(HeldRule::TooLarge);
-    let bytes = match read_text(alloc, desk, name, HELD_LIMIT, Place::Whole, rule) {
-        Ok(bytes) => bytes,
-        Err(fault) => return Err(fault),
-    };
+    let bytes = read_text(alloc, desk, name, HELD_LIMIT, Place::Whole, rule)?;
     loaded_held(alloc, &bytes)
 }
 
