@@ -64,10 +64,7 @@ fn read_listing<D: Desk>(alloc: Global, desk: &mut D, name: &[u8]) -> Result<Vec
     ensures read { ReadsListing (D.holds desk.old) name.now result }
 {
     let rule = Rule::Listing(ListingRule::BadLine);
-    let text = match read_text(alloc, desk, name, LISTING_LIMIT, Place::Line(0), rule) {
-        Ok(text) => text,
-        Err(fault) => return Err(fault),
-    };
+    let text = read_text(alloc, desk, name, LISTING_LIMIT, Place::Line(0), rule)?;
     file_of(alloc, &text)
 }
 

@@ -49,10 +49,7 @@ fn read_waits<D: Desk>(
     ensures read { ReadsWaits (D.holds desk.old) name.now result }
 {
     let rule = Rule::Journal(JournalRule::BadLine);
-    let journal = match read_text(alloc, desk, name, JOURNAL_LIMIT, Place::Line(0), rule) {
-        Ok(journal) => journal,
-        Err(fault) => return Err(fault),
-    };
+    let journal = read_text(alloc, desk, name, JOURNAL_LIMIT, Place::Line(0), rule)?;
     checked(alloc, &journal)
 }
 
