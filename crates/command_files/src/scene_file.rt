@@ -101,10 +101,7 @@ pub fn load_kept_scene<D: Desk>(
     ensures small { IfOk result (λ scene. vec_len scene.text ≤ 16777216) }
     ensures read { ReadsKeptScene (D.holds desk.old) name.now result }
 {
-    let text = match read_scene_text(alloc, desk, name) {
-        Ok(text) => text,
-        Err(fault) => return Err(fault),
-    };
+    let text = read_scene_text(alloc, desk, name)?;
     match parsed(alloc, &text) {
         Ok(tree) => Ok(KeptScene { tree, text }),
         Err(fault) => Err(fault),
@@ -126,8 +123,6 @@ pub fn load_scene<D: Desk>(alloc: Global, desk: &mut D, name: &[u8]) -> Result<S
     ensures limits { IfOk result KeepsLimits }
     ensures read { ReadsScene (D.holds desk.old) name.now result }
 {
-    match load_kept_scene(alloc, desk, name) {
-        Ok(scene) => Ok(scene.tree),
-        Err(fault) => Err(fault),
-    }
+    let scene = load_kept_scene(alloc, desk, name)?;
+    Ok(scene.tree)
 }

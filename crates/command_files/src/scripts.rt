@@ -96,10 +96,7 @@ fn read_source<D: Desk>(alloc: Global, desk: &mut D, name: &[u8]) -> Result<Sour
     ensures missed { MissesFile name.now result (D.missed desk.new) }
     ensures read { ReadsScript (D.holds desk.old) name.now result }
 {
-    let text = match read_script(alloc, desk, name) {
-        Ok(text) => text,
-        Err(fault) => return Err(fault),
-    };
+    let text = read_script(alloc, desk, name)?;
     source_of(alloc, name, &text)
 }
 
