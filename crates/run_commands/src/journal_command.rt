@@ -38,15 +38,11 @@ fn play_noted<S: Sink>(
         Ok(machine) => machine,
         Err(ending) => return Err(ending),
     };
-    match noted_run(alloc, &mut machine, out, devices) {
-        Ok(journal) => {
-            drop(machine);
-            Ok(journal)
-        }
-        Err(fault) => {
-            drop(machine);
-            Err(turns_ending(fault))
-        }
+    let noted = noted_run(alloc, &mut machine, out, devices);
+    drop(machine);
+    match noted {
+        Ok(journal) => Ok(journal),
+        Err(fault) => Err(turns_ending(fault)),
     }
 }
 
