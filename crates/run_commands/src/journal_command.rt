@@ -34,10 +34,7 @@ fn play_noted<S: Sink>(
     ensures plays { PlaysNoted tree 1 result (S.written out.old) (S.written out.new) }
     ensures kinds { SameKinds (map (λ d. device_state d) devices.old.items) (map (λ d. device_state d) devices.new.items) }
 {
-    let mut machine = match start_machine(alloc, loaded, tree, 1, devices) {
-        Ok(machine) => machine,
-        Err(ending) => return Err(ending),
-    };
+    let mut machine = start_machine(alloc, loaded, tree, 1, devices)?;
     let noted = noted_run(alloc, &mut machine, out, devices);
     drop(machine);
     match noted {

@@ -138,10 +138,7 @@ fn report_of(
             return Err(Ending::OutOfMemory);
         }
     };
-    let mut machine = match start_machine(alloc, loaded, tree, 0, devices) {
-        Ok(machine) => machine,
-        Err(ending) => return Err(ending),
-    };
+    let mut machine = start_machine(alloc, loaded, tree, 0, devices)?;
     let closing = closing_of(alloc, &mut machine, devices);
     drop(machine);
     match closing {
