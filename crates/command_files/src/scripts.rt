@@ -203,10 +203,7 @@ pub fn accept<D: Desk>(alloc: Global, scripts: &[String], desk: &mut D) -> Resul
     ensures ends { Accepts (map string_bytes scripts.now) (D.holds desk.old) result }
     ensures scripts { IfOk result (λ set. vec_len set.scripts ≡ length scripts.now + 6) }
 {
-    let files = match read_sources(alloc, scripts, desk) {
-        Ok(files) => files,
-        Err(ending) => return Err(ending),
-    };
+    let files = read_sources(alloc, scripts, desk)?;
     match core_set(alloc, files) {
         Ok(core) => Ok(core),
         Err(ending) => Err(ending),
