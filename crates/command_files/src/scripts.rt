@@ -44,10 +44,7 @@ fn lines_of(alloc: Global, text: &[u8]) -> Result<Lines, FileFault>
 fn script_of(alloc: Global, text: &[u8]) -> Result<Script, FileFault>
     ensures { ParsesScript text.now result }
 {
-    let lines = match lines_of(alloc, text) {
-        Ok(lines) => lines,
-        Err(fault) => return Err(fault),
-    };
+    let lines = lines_of(alloc, text)?;
     match parse_script(alloc, &lines) {
         Ok(script) => Ok(script),
         Err(ParseFault::Broken { line, rule }) => Err(FileFault::Refused {
@@ -63,14 +60,9 @@ fn script_of(alloc: Global, text: &[u8]) -> Result<Script, FileFault>
 pub(crate) fn source_of(alloc: Global, name: &[u8], text: &[u8]) -> Result<SourceFile, FileFault>
     ensures { ParsesSource text.now result }
 {
-    let name = match Text::try_from_bytes(alloc, name) {
-        Ok(name) => name,
-        Err(_) => return Err(FileFault::OutOfMemory),
-    };
-    match script_of(alloc, text) {
-        Ok(script) => Ok(SourceFile { name, script }),
-        Err(fault) => Err(fault),
-    }
+    let name = Text::try_from_bytes(alloc, name)?;
+    let script = script_of(alloc, text)?;
+    Ok(SourceFile { name, script })
 }
 
 /// Reads the text of a script. One of more than 1 MiB breaks L9 at line 0.
