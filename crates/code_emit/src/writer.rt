@@ -11,10 +11,9 @@ ghost use Rattle.code_emit.specs.Operands.{needs};
 ghost use Rattle.code_emit.specs.Temporaries.{TakenFrom};
 ghost use Rattle.code_emit.specs.Writing.{GoesOn, Leaps, AreThere, Takes, landed};
 
+use crate::emitter::DebugName;
 use crate::faults::{EmitFault, Result};
-use crate::objects::DebugName;
-use crate::opcodes::ASSIGN;
-use crate::operand::{Operand, data};
+use crate::operand::{ASSIGN, Operand, data};
 use crate::strings::{Numbered, Strings, name_bytes};
 use core_tree::{CoreFunction, CoreScript, CoreSet, CoreType, CoreVariable};
 use jump_patch::{Ahead, Code, CodeBuffer, JumpKind, Mark};
@@ -518,7 +517,7 @@ impl<'a> Writer<'a> {
             result: kind,
             doc,
             flags: flag_bits(function.flags),
-            bits: function_bits(function.is_global, function.is_native),
+            bits: u8::from(function.is_global) * GLOBAL | u8::from(function.is_native) * NATIVE,
             parameters,
             locals,
             code,
@@ -567,10 +566,6 @@ pub(crate) fn flag_bits(flags: u32) -> u32
     ensures within { result < 2 ^ 32 }
 {
     flags
-}
-
-fn function_bits(is_global: bool, is_native: bool) -> u8 {
-    u8::from(is_global) * GLOBAL | u8::from(is_native) * NATIVE
 }
 
 fn name_at(pairs: &[(u16, u16)], place: usize) -> Result<u16>

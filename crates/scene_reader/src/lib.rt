@@ -2,12 +2,9 @@
 //! calls start stacks, what native functions do, and in which order stacks get their turns.
 #![tactic(auto)]
 
-mod defaults;
 mod fault;
-mod items;
 mod parts;
 mod scene;
 
-pub use defaults::default_scene;
 pub use fault::{SceneFault, SceneRule};
-pub use scene::{read_scene, upgrade_scene};
+pub use scene::{default_scene, read_scene, upgrade_scene};

@@ -1,9 +1,11 @@
 // The parts of a scene that JSON values are read as.
 ghost use Rattle.std.specs.Prelude.{◌≡◌, ◌≤◌, ◌≤ℤ◌, length, IfOk, OnOk};
-ghost use Rattle.std.specs.List.{All};
-ghost use Rattle.scene_reader.specs.Limits.{Keeps, IsShort, TapeKeeps, NamedKeeps};
+ghost use Rattle.std.specs.List.{All, list_all};
+ghost use Rattle.std.specs.Option.{ForSome};
+ghost use Rattle.scene_reader.specs.Limits.{BindingKeeps, CallKeeps, InstanceKeeps, IsInstanceName, IsShort, IsTurns, Keeps, NamedKeeps, TapeKeeps, ValueKeeps, is_name_byte};
 
 use crate::fault::{SceneFault, SceneRule};
+use core_tree::{Binding, SceneCall, SceneInstance, SceneValue};
 use papy_base::Text;
 use serde_json::Value;
 use std::alloc::Global;
@@ -14,15 +16,15 @@ use std::alloc::Global;
 /// The most bytes of a scene file.
 pub const FILE_LIMIT: usize = 16 * 1024 * 1024;
 /// The most bytes of a text.
-pub const TEXT_LIMIT: usize = 1024;
+const TEXT_LIMIT: usize = 1024;
 /// The most bytes of an instance's name.
-pub const NAME_LIMIT: usize = 64;
+const NAME_LIMIT: usize = 64;
 /// The most instances.
 pub const INSTANCE_LIMIT: usize = 256;
 /// The most calls.
 pub const CALL_LIMIT: usize = 1024;
 /// The most numbers of a tape.
-pub const TAPE_LIMIT: usize = 100_000;
+const TAPE_LIMIT: usize = 100_000;
 /// The most entries of an order of stacks.
 pub const ORDER_LIMIT: usize = 1_000_000;
 /// The most turns of a run, of a latency and before a call.
@@ -38,13 +40,9 @@ pub(crate) const SHAPE_FAULT: SceneFault = SceneFault::Broken {
 /// Refuses what is no object, and an object with another key than these.
 pub(crate) fn check_keys(value: &Value, keys: &[&str]) -> Result<(), SceneFault> {
     match value.as_object() {
-        Some(object) if object.keys().all(|key| is_among(key.as_str(), keys)) => Ok(()),
+        Some(object) if object.keys().all(|key| keys.contains(&key.as_str())) => Ok(()),
         _ => Err(SHAPE_FAULT),
     }
-}
-
-fn is_among(key: &str, keys: &[&str]) -> bool {
-    keys.iter().any(|known| *known == key)
 }
 
 /// The value of a key that must be there.
@@ -192,5 +190,119 @@ impl Item for Vec<i32> {
 
     fn read(reader: &mut Reader, value: &Value) -> Result<Vec<i32>, SceneFault> {
         reader.list::<i32>(Some(value), TAPE_LIMIT)
+    }
+}
+
+impl Item for SceneCall {
+    ghost keeps = { CallKeeps };
+
+    fn read(reader: &mut Reader, value: &Value) -> Result<SceneCall, SceneFault> {
+        check_keys(value, &["turn", "instance", "function", "arguments"])?;
+        Ok(SceneCall {
+            turn: reader.count(needed(value, "turn")?, 0, TURN_LIMIT)?,
+            instance: reader.text(needed(value, "instance")?)?,
+            function: reader.text(needed(value, "function")?)?,
+            arguments: reader.list::<SceneValue>(value.get("arguments"), usize::MAX)?,
+        })
+    }
+}
+
+impl Item for SceneInstance {
+    ghost keeps = { InstanceKeeps };
+
+    fn read(reader: &mut Reader, value: &Value) -> Result<SceneInstance, SceneFault> {
+        check_keys(value, &["name", "script", "set"])?;
+        let name = instance_name(reader.alloc, needed(value, "name")?)?;
+        let script = reader.text(needed(value, "script")?)?;
+        let set = reader.entries::<SceneValue>(value.get("set"))?;
+        Ok(SceneInstance { name, script, set })
+    }
+}
+
+// 1 to 64 letters, digits or `_`.
+fn instance_name(alloc: Global, value: &Value) -> Result<Text, SceneFault>
+    ensures { IfOk result IsInstanceName }
+{
+    let name = value.as_str().ok_or(SHAPE_FAULT)?.as_bytes();
+    if name.is_empty() || name.len() > NAME_LIMIT || !are_name_bytes(name) {
+        return Err(SHAPE_FAULT);
+    }
+    Ok(Text::try_from_bytes(alloc, name)?)
+}
+
+fn are_name_bytes(bytes: &[u8]) -> bool
+    ensures { result ≡ list_all is_name_byte bytes.now }
+{
+    bytes.iter().all(|byte| is_name_byte(*byte))
+}
+
+fn is_name_byte(byte: u8) -> bool
+    ensures { result ≡ is_name_byte byte }
+{
+    byte.is_ascii_alphanumeric() || byte == b'_'
+}
+
+impl Item for SceneValue {
+    ghost keeps = { ValueKeeps };
+
+    fn read(reader: &mut Reader, value: &Value) -> Result<SceneValue, SceneFault> {
+        match value {
+            Value::Null => Ok(SceneValue::NoneValue),
+            Value::Bool(truth) => Ok(SceneValue::Bool(*truth)),
+            Value::Number(_) => Ok(SceneValue::Int(i32::read(reader, value)?)),
+            Value::String(text) => Ok(SceneValue::Text(reader.text_of(text.as_str())?)),
+            Value::Array(_) | Value::Object(_) => {
+                check_keys(value, &["instance"])?;
+                let name = reader.text(needed(value, "instance")?)?;
+                Ok(SceneValue::Instance(name))
+            }
+        }
+    }
+}
+
+impl Item for Binding {
+    ghost keeps = { BindingKeeps };
+
+    fn read(reader: &mut Reader, value: &Value) -> Result<Binding, SceneFault> {
+        match needed(value, "kind")?.as_str() {
+            Some("sleep") => {
+                check_keys(value, &["kind"])?;
+                Ok(Binding::Sleep)
+            }
+            Some("trace") => {
+                check_keys(value, &["kind", "latency", "prompt"])?;
+                Ok(match latency_of(reader, value)? {
+                    None => Binding::PromptTrace,
+                    Some(latency) => Binding::Trace { latency },
+                })
+            }
+            Some("device") => {
+                check_keys(value, &["kind", "device", "latency", "prompt"])?;
+                let device = u16::read(reader, needed(value, "device")?)?;
+                Ok(match latency_of(reader, value)? {
+                    None => Binding::PromptDevice { device },
+                    Some(latency) => Binding::Device { device, latency },
+                })
+            }
+            _ => Err(SHAPE_FAULT),
+        }
+    }
+}
+
+// How many turns later a native's effect lets its caller go on, or none where it does in the same turn.
+fn latency_of(reader: &mut Reader, value: &Value) -> Result<Option<u32>, SceneFault>
+    ensures { IfOk result (λ latency. Keeps reader.old.broken reader.new.broken (ForSome latency IsTurns)) }
+{
+    // The key belongs to version 2.
+    let is_prompt = match value.get("prompt") {
+        None => false,
+        Some(_) if reader.version == Version::One => return Err(SHAPE_FAULT),
+        Some(prompt) => prompt.as_bool().ok_or(SHAPE_FAULT)?,
+    };
+    match value.get("latency") {
+        Some(_) if is_prompt => Err(SHAPE_FAULT),
+        Some(latency) => Ok(Some(reader.count(latency, 0, TURN_LIMIT)?)),
+        None if is_prompt => Ok(None),
+        None => Ok(Some(0)),
     }
 }

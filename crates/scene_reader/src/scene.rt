@@ -1,5 +1,6 @@
-// From the bytes of a scene file to its scene, the JSON object of which has these keys.
+// From the bytes of a scene file to its scene, and the scene of a script without a file.
 ghost use Rattle.std.specs.Prelude.{◌≡◌, IfOk};
+ghost use Rattle.scene_reader.specs.Default.{IsDefaultScene};
 ghost use Rattle.scene_reader.specs.Limits.{Keeps, KeepsLimits, IsQuantum, OrderKeeps};
 
 use crate::fault::{SceneFault, SceneRule};
@@ -7,10 +8,12 @@ use crate::parts::{
     CALL_LIMIT, FILE_LIMIT, INSTANCE_LIMIT, ORDER_LIMIT, QUANTUM_LIMIT, Reader, SHAPE_FAULT,
     TURN_LIMIT, Version, check_keys, needed,
 };
-use core_tree::{Binding, SceneCall, SceneInstance, SceneTree, TurnOrder};
+use core_tree::{SceneCall, SceneInstance, SceneTree, TurnOrder};
+use papy_base::{Name, OutOfMemory, Text};
 use serde_json::Value;
 use std::alloc::Global;
 
+// The keys of a scene's object.
 #[rattlefmt::skip]
 const KEYS: [&str; 8] = [
     "version", "instances", "calls", "order", "turns", "natives", "tapes", "quantum",
@@ -75,23 +78,14 @@ fn scene_of(alloc: Global, value: &Value) -> Result<SceneTree, SceneFault>
 fn parts_of(reader: &mut Reader, value: &Value) -> Result<SceneTree, SceneFault>
     ensures { IfOk result (λ scene. Keeps reader.old.broken reader.new.broken (KeepsLimits scene)) }
 {
-    let quantum = quantum_of(reader, value.get("quantum"))?;
-    let turns = reader.count(needed(value, "turns")?, 0, TURN_LIMIT)?;
-    let order = order_of(reader, needed(value, "order")?)?;
-    let listed = needed(value, "instances")?;
-    let instances = reader.list::<SceneInstance>(Some(listed), INSTANCE_LIMIT)?;
-    let listed = needed(value, "calls")?;
-    let calls = reader.list::<SceneCall>(Some(listed), CALL_LIMIT)?;
-    let natives = reader.entries::<Binding>(value.get("natives"))?;
-    let tapes = reader.list::<Vec<i32>>(value.get("tapes"), usize::MAX)?;
     Ok(SceneTree {
-        instances,
-        calls,
-        natives,
-        tapes,
-        order,
-        turns,
-        quantum,
+        quantum: quantum_of(reader, value.get("quantum"))?,
+        turns: reader.count(needed(value, "turns")?, 0, TURN_LIMIT)?,
+        order: order_of(reader, needed(value, "order")?)?,
+        instances: reader.list(Some(needed(value, "instances")?), INSTANCE_LIMIT)?,
+        calls: reader.list(Some(needed(value, "calls")?), CALL_LIMIT)?,
+        natives: reader.entries(value.get("natives"))?,
+        tapes: reader.list(value.get("tapes"), usize::MAX)?,
     })
 }
 
@@ -122,4 +116,38 @@ fn order_of(reader: &mut Reader, value: &Value) -> Result<TurnOrder, SceneFault>
         Some("round") => Ok(TurnOrder::Round),
         _ => Ok(TurnOrder::List(reader.list::<u16>(Some(value), ORDER_LIMIT)?)),
     }
+}
+
+// The name of the one instance.
+const INSTANCE: &[u8] = b"it";
+
+/// The scene of one instance `it` of the script, with one call of `OnInit` at turn 0 without arguments,
+/// round order, 10,000 turns and quantum 1.
+///
+/// # Errors
+///
+/// `OutOfMemory` comes where there is no room.
+pub fn default_scene(alloc: Global, script: &Name) -> Result<SceneTree, OutOfMemory>
+    ensures { IfOk result (IsDefaultScene script.now) }
+{
+    let instance = SceneInstance {
+        name: Text::try_from_bytes(alloc, INSTANCE)?,
+        script: Text::try_from_bytes(alloc, script.as_bytes())?,
+        set: Vec::new(alloc),
+    };
+    let call = SceneCall {
+        turn: 0,
+        instance: Text::try_from_bytes(alloc, INSTANCE)?,
+        function: Text::try_from_bytes(alloc, b"OnInit")?,
+        arguments: Vec::new(alloc),
+    };
+    Ok(SceneTree {
+        instances: vec![in alloc; instance]?,
+        calls: vec![in alloc; call]?,
+        natives: Vec::new(alloc),
+        tapes: Vec::new(alloc),
+        order: TurnOrder::Round,
+        turns: 10_000,
+        quantum: 1,
+    })
 }
