@@ -3,7 +3,7 @@ use Rattle.std.specs.List.{list_all}
 use Rattle.std.proofs.lemmas.Int.Digits.{digits_value_more}
 use Rattle.pex_listing.specs.Numbers.{is_hex_digit}
 use Rattle.pex_listing.proofs.Digits.{list_all_step, hex_below_eight, hex_digit}
-use Rattle.pex_listing.proofs.fields.hex_number.Goals as goal
+use Rattle.pex_listing.proofs.listing.hex_number.Goals as goal
 
 pub loop-digit-preserved : goal.loop-digit-preserved
 loop-digit-preserved c =

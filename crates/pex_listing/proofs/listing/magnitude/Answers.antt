@@ -9,7 +9,7 @@ use Rattle.std.proofs.lemmas.Int.Digits.{digits_value_more}
 use Rattle.std.proofs.lemmas.Str.Parse.{digits_value-take-le}
 use Rattle.pex_listing.specs.Numbers.{decimal_number}
 use Rattle.pex_listing.proofs.Digits.{list_all_step, list_all_fails}
-use Rattle.pex_listing.proofs.fields.magnitude.Goals as goal
+use Rattle.pex_listing.proofs.listing.magnitude.Goals as goal
 
 -- where the first digits don't fit, the whole doesn't
 too_large : (ds : List ℕ) (i : ℕ) → i < length ds → 2 ^ 64 ≤ digits_value 10 (take i ds) * 10 + digit_value (get_or ds i 0) → None ≡ decimal_number ds
