@@ -8,15 +8,9 @@ use Rattle.std.proofs.lemmas.List.Quantifiers.{position-Some}
 use Rattle.std.proofs.lemmas.Option.{slice_get-get_or, get_or_from_slice_get, slice_get_within}
 use Rattle.jump_patch.specs.Jumps.{Buffer}
 use Rattle.pex_values.specs.declared.debug.PexLines.{PexLines}
-use Rattle.pex_values.specs.Shape.{ArePair}
 use Rattle.code_emit.specs.Temporaries.{TakenFrom}
 use Rattle.code_emit.specs.Writing.{IsWriting}
 use Rattle.code_emit.proofs.Writings.{without_spare}
-
-pub name_below : (n : ℕ) (pairs : List (ℕ × ℕ)) (at : ℕ) (other : ℕ × ℕ) → at < length pairs → AllByRecursion (ArePair n) pairs → (get_or pairs at other).0 < n
-name_below n pairs at other within are =
-    let is : ArePair n (get_or pairs at other) = All-from_recursion (ArePair n) pairs are at other within in
-    is.name.below
 
 module _ (n count : ℕ) (code : Buffer) (debug : List PexLines) (variables spare : List (ℕ × ℕ)) (none : Option ℕ) (is : IsWriting n count code debug variables spare none) where
   pub spare_left : (kind : ℕ) (found : Option ℕ) (after : List (ℕ × ℕ)) → TakenFrom kind spare found after → IsWriting n count code debug variables after none
