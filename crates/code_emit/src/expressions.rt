@@ -10,13 +10,11 @@ ghost use Rattle.code_emit.specs.Operands.{needs};
 ghost use Rattle.code_emit.specs.Writing.{GoesOn, AreThere, Leaps, Takes};
 
 use crate::faults::{EmitFault, Result};
-use crate::forms::{contains_call, first_operand, spine, up_to_last_call};
-use crate::opcodes::{
+use crate::operand::{
     ARRAY_CREATE, ARRAY_FINDELEMENT, ARRAY_GETELEMENT, ARRAY_LENGTH, ARRAY_RFINDELEMENT, ASSIGN,
-    CALL_METHOD, CALL_PARENT, CALL_STATIC, CAST, CMP_EQ, INEG, NOT, PROPGET, STRCAT, arith_opcode,
-    order_opcode,
+    CALL_METHOD, CALL_PARENT, CALL_STATIC, CAST, CMP_EQ, INEG, NOT, Operand, PROPGET, STRCAT,
+    arith_opcode, order_opcode,
 };
-use crate::operand::Operand;
 use crate::strings::{Numbered, script_at};
 use crate::writer::Writer;
 use core_tree::{Core, CoreType, FunctionPlace, Value};
@@ -24,6 +22,9 @@ use jump_patch::{Ahead, JumpKind};
 use papy_base::Name;
 use pex_values::Datum;
 use std::alloc::Global;
+
+/// How many first operands may stand inside each other. An expression of an accepted script has no more.
+const MOST_FORMS: usize = 4_000;
 
 /// How many may stand inside one more.
 pub(crate) fn one_deeper(depth: u16) -> Result<u16>
@@ -119,7 +120,7 @@ fn call_value(writer: &mut Writer<'_>, form: &Core, target: Operand, depth: u16)
     };
     match form {
         Core::CallMethod { name, .. } => {
-            let of = writer.kept(target, up_to_last_call(called.arguments, depth) > 0)?;
+            let of = writer.kept(target, up_to_last_call(called.0, depth) > 0)?;
             let name = Operand::Word(writer.string(name.as_bytes())?);
             call(writer, CALL_METHOD, &[name, of], called, depth)
         }
@@ -160,11 +161,7 @@ fn called_by(form: &Core) -> Option<Called<'_>> {
             places,
             result: kind,
             ..
-        } => Some(Called {
-            arguments,
-            places,
-            kind: *kind,
-        }),
+        } => Some((arguments, places, *kind)),
         _ => None,
     }
 }
@@ -310,13 +307,8 @@ pub(crate) fn get_property(
 
 // ---- calls: the arguments in order of writing, each placed at its parameter
 
-/// What a call has besides what is called.
-#[derive(Clone, Copy)]
-struct Called<'a> {
-    arguments: &'a [Core],
-    places: &'a [u16],
-    kind: Option<CoreType>,
-}
+/// What a call has besides what is called: its arguments, their places, and the type of its result.
+type Called<'a> = (&'a [Core], &'a [u16], Option<CoreType>);
 
 /// Appends the code of a call's arguments, and the call behind them. Its operands are evaluated.
 #[cycle(expression)]
@@ -332,9 +324,10 @@ fn call(
     ensures operand { IfOk result (λ operand. needs operand ≤ writer.new.strings) }
     ensures goes { GoesOn writer.old writer.new }
 {
-    let values = argument_values(writer, called.arguments, depth)?;
-    let more = placed(writer.alloc(), &values, called.places)?;
-    let given = writer.call(opcode, operands, called.kind, more)?;
+    let (arguments, places, kind) = called;
+    let values = argument_values(writer, arguments, depth)?;
+    let more = placed(writer.alloc(), &values, places)?;
+    let given = writer.call(opcode, operands, kind, more)?;
     writer.give_all_back(&values)?;
     Ok(given)
 }
@@ -349,8 +342,7 @@ fn argument_values(writer: &mut Writer<'_>, arguments: &[Core], depth: u16) -> R
     let mut values = Vec::with_capacity(writer.alloc(), arguments.len())?;
     for (place, argument) in arguments.iter().enumerate() {
         let is_before = calling > 0 && place < calling - 1;
-        let kept = kept_value(writer, argument, is_before, depth)?;
-        values.push(kept)?;
+        values.push(kept_value(writer, argument, is_before, depth)?)?;
     }
     Ok(values)
 }
@@ -442,4 +434,80 @@ pub(crate) fn jump_unless(writer: &mut Writer<'_>, test: &Core, depth: u16) -> R
     writer.give_back(test)?;
     let over = writer.jump_ahead(jump_where(false, test.datum()))?;
     Ok(over)
+}
+
+// ---- first operands, and which expressions contain calls
+
+/// The first operand of a form, which is evaluated before what else the form has.
+#[inline(always)]
+pub(crate) fn first_operand(form: &Core) -> Option<&Core> {
+    match form {
+        Core::Neg(first)
+        | Core::Not(first)
+        | Core::Cast(_, first)
+        | Core::Length(first)
+        | Core::CallMethod { of: first, .. }
+        | Core::PropGet { of: first, .. }
+        | Core::Arith(_, first, _)
+        | Core::Join(first, _)
+        | Core::Equal(first, _)
+        | Core::Order(_, first, _)
+        | Core::And(first, _)
+        | Core::Or(first, _)
+        | Core::Element(first, _, _)
+        | Core::Find(first, _, _)
+        | Core::FindBack(first, _, _) => Some(first),
+        _ => None,
+    }
+}
+
+/// The expression, its first operand, that one's first operand and so on, down to a form without operands or a call
+/// without a target.
+pub(crate) fn spine<'a>(alloc: Global, expression: &'a Core) -> Result<Vec<&'a Core>> {
+    let mut forms = Vec::new(alloc);
+    let mut form = expression;
+    for _ in 0..MOST_FORMS {
+        forms.push(form)?;
+        match first_operand(form) {
+            Some(first) => form = first,
+            None => return Ok(forms),
+        }
+    }
+    Err(EmitFault::TooLarge)
+}
+
+/// Whether an expression contains a call or the use of a property, in which another stack may change variables. One
+/// that is nested too deep for its code counts as one that does.
+pub(crate) fn contains_call(expression: &Core, depth: u16) -> bool {
+    let Some(depth) = depth.checked_sub(1) else {
+        return true;
+    };
+    let behind_first = match expression {
+        Core::CallMethod { .. }
+        | Core::CallParent { .. }
+        | Core::CallGlobal { .. }
+        | Core::CallNative { .. }
+        | Core::PropGet { .. } => true,
+        Core::Arith(_, _, right)
+        | Core::Join(_, right)
+        | Core::Equal(_, right)
+        | Core::Order(_, _, right)
+        | Core::And(_, right)
+        | Core::Or(_, right)
+        | Core::Element(_, right, _) => contains_call(right, depth),
+        Core::Find(_, value, start) | Core::FindBack(_, value, start) => {
+            contains_call(value, depth) || contains_call(start, depth)
+        }
+        _ => false,
+    };
+    match first_operand(expression) {
+        Some(first) => behind_first || contains_call(first, depth),
+        None => behind_first,
+    }
+}
+
+/// How many of a call's arguments stand up to the last that contains a call, itself counted.
+pub(crate) fn up_to_last_call(arguments: &[Core], depth: u16) -> usize {
+    let last = arguments.iter().rposition(|of| contains_call(of, depth));
+    last.map_or(0, |last| last.saturating_add(1))
 }

@@ -6,9 +6,6 @@
 mod emitter;
 mod expressions;
 mod faults;
-mod forms;
-mod objects;
-mod opcodes;
 mod operand;
 mod statements;
 mod strings;

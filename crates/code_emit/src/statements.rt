@@ -5,12 +5,11 @@ ghost use Rattle.std.specs.Prelude.{◌≡◌, ◌≤◌, ◌∷◌, [], IfOk, O
 ghost use Rattle.code_emit.specs.Writing.{GoesOn, AreThere, Leaps};
 
 use crate::expressions::{
-    field, get_property, jump_unless, kept_value, one_deeper, state_text, store_value, value,
+    contains_call, field, get_property, jump_unless, kept_value, one_deeper, state_text,
+    store_value, value,
 };
 use crate::faults::Result;
-use crate::forms::contains_call;
-use crate::opcodes::{ARRAY_GETELEMENT, ARRAY_SETELEMENT, PROPSET, RETURN, arith_opcode};
-use crate::operand::Operand;
+use crate::operand::{ARRAY_GETELEMENT, ARRAY_SETELEMENT, Operand, PROPSET, RETURN, arith_opcode};
 use crate::writer::Writer;
 use core_tree::{Arith, Core, CoreLine, CoreStatement, CoreType};
 use jump_patch::{Ahead, JumpKind, Mark};

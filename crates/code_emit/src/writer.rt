@@ -1,20 +1,19 @@
 // What is written of a file: its strings and debug entries, and the function that is being written.
 #![tactic(auto, using(crate::proofs::Goes::going))]
 
-ghost use Rattle.std.specs.Prelude.{◌≡◌, ℕ, ◌<◌, ◌≤◌, ◌^◌, ◌==◌, [], pos, length, suc, map, position, vec_len, IfOk, IfSome, OnErr, Contains};
+ghost use Rattle.std.specs.Prelude.{◌≡◌, ◌<◌, ◌≤◌, ◌^◌, ◌==◌, [], pos, length, suc, map, position, vec_len, IfOk, IfSome, OnErr, Contains};
 ghost use Rattle.std.specs.List.{AllByRecursion};
 ghost use Rattle.jump_patch.specs.Jumps.{jump};
 ghost use Rattle.pex_values.specs.Opcodes.{operands_of};
 ghost use Rattle.pex_values.specs.Plain.{plain_function, plain_instruction, plain_lines};
-ghost use Rattle.pex_values.specs.Shape.{ArePair, IsReference, AgreesWith, IsShapedDatum, IsShapedFunction, IsShapedInstruction, IsShapedLines};
+ghost use Rattle.pex_values.specs.Shape.{IsReference, AgreesWith, IsShapedDatum, IsShapedFunction, IsShapedInstruction, IsShapedLines};
 ghost use Rattle.code_emit.specs.Operands.{needs};
 ghost use Rattle.code_emit.specs.Temporaries.{TakenFrom};
 ghost use Rattle.code_emit.specs.Writing.{GoesOn, Leaps, AreThere, Takes, landed};
 
+use crate::emitter::DebugName;
 use crate::faults::{EmitFault, Result};
-use crate::objects::DebugName;
-use crate::opcodes::ASSIGN;
-use crate::operand::{Operand, data};
+use crate::operand::{ASSIGN, Operand, data};
 use crate::strings::{Numbered, Strings, name_bytes};
 use core_tree::{CoreFunction, CoreScript, CoreSet, CoreType, CoreVariable};
 use jump_patch::{Ahead, Code, CodeBuffer, JumpKind, Mark};
@@ -170,10 +169,10 @@ impl<'a> Writer<'a> {
         ensures { IfOk result (λ name. name < self.now.strings) }
     {
         let number = usize::from(number);
-        if number >= self.numbered {
+        if number >= self.numbered || number >= self.variables.len() {
             return Err(EmitFault::OutOfRange);
         }
-        name_at(&self.variables, number)
+        Ok(self.variables[number].0)
     }
 
     fn next_name(&mut self) -> Result<u16>
@@ -268,18 +267,9 @@ impl<'a> Writer<'a> {
         }
         let name = self.string(b"::NoneVar")?;
         let kind = self.numbered(Numbered::Type(None))?;
-        self.add_none(name, kind)?;
-        Ok(name)
-    }
-
-    fn add_none(&mut self, name: u16, kind: u16) -> Result<()>
-        requires name { IsReference self.old.strings name }
-        requires kind { IsReference self.old.strings kind }
-        ensures { self.new ≡ self.old }
-    {
         self.add_variable(name, kind)?;
         self.none_variable = Some(name);
-        Ok(())
+        Ok(name)
     }
 
     #[inline(always)]
@@ -518,7 +508,7 @@ impl<'a> Writer<'a> {
             result: kind,
             doc,
             flags: flag_bits(function.flags),
-            bits: function_bits(function.is_global, function.is_native),
+            bits: u8::from(function.is_global) * GLOBAL | u8::from(function.is_native) * NATIVE,
             parameters,
             locals,
             code,
@@ -567,20 +557,6 @@ pub(crate) fn flag_bits(flags: u32) -> u32
     ensures within { result < 2 ^ 32 }
 {
     flags
-}
-
-fn function_bits(is_global: bool, is_native: bool) -> u8 {
-    u8::from(is_global) * GLOBAL | u8::from(is_native) * NATIVE
-}
-
-fn name_at(pairs: &[(u16, u16)], place: usize) -> Result<u16>
-    ensures { IfOk result (λ name. (strings : ℕ) → AllByRecursion (ArePair strings) pairs.now → name < strings) }
-{
-    if place >= pairs.len() {
-        return Err(EmitFault::OutOfRange);
-    }
-    let (name, _) = pairs[place];
-    Ok(name)
 }
 
 // Hands a temporary of this type out, which is then no longer free. None where there is none.

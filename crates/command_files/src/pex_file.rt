@@ -34,14 +34,8 @@ fn read_bytes<D: Desk>(alloc: Global, desk: &mut D, name: &[u8]) -> Result<Vec<u
     ensures read { ReadsBytes (D.holds desk.old) name.now result }
 {
     let place = Place::Offset(FILE_LIMIT);
-    read_text(
-        alloc,
-        desk,
-        name,
-        FILE_LIMIT,
-        place,
-        Rule::Pex(PexRule::TooLarge),
-    )
+    let rule = Rule::Pex(PexRule::TooLarge);
+    read_text(alloc, desk, name, FILE_LIMIT, place, rule)
 }
 
 /// Why a file that was read gave nothing.

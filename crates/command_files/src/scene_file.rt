@@ -56,14 +56,8 @@ pub fn read_scene_text<D: Desk>(
     ensures small { IfOk result (λ text. vec_len text ≤ 16777216) }
     ensures read { ReadsText (D.holds desk.old) name.now 16777216 Place.Whole (Rule.Scene SceneRule.Limit) result }
 {
-    read_text(
-        alloc,
-        desk,
-        name,
-        SCENE_LIMIT,
-        Place::Whole,
-        Rule::Scene(SceneRule::Limit),
-    )
+    let rule = Rule::Scene(SceneRule::Limit);
+    read_text(alloc, desk, name, SCENE_LIMIT, Place::Whole, rule)
 }
 
 /// A scene that was read, with its text.
@@ -107,10 +101,7 @@ pub fn load_kept_scene<D: Desk>(
     ensures small { IfOk result (λ scene. vec_len scene.text ≤ 16777216) }
     ensures read { ReadsKeptScene (D.holds desk.old) name.now result }
 {
-    let text = match read_scene_text(alloc, desk, name) {
-        Ok(text) => text,
-        Err(fault) => return Err(fault),
-    };
+    let text = read_scene_text(alloc, desk, name)?;
     match parsed(alloc, &text) {
         Ok(tree) => Ok(KeptScene { tree, text }),
         Err(fault) => Err(fault),
@@ -132,8 +123,6 @@ pub fn load_scene<D: Desk>(alloc: Global, desk: &mut D, name: &[u8]) -> Result<S
     ensures limits { IfOk result KeepsLimits }
     ensures read { ReadsScene (D.holds desk.old) name.now result }
 {
-    match load_kept_scene(alloc, desk, name) {
-        Ok(scene) => Ok(scene.tree),
-        Err(fault) => Err(fault),
-    }
+    let scene = load_kept_scene(alloc, desk, name)?;
+    Ok(scene.tree)
 }

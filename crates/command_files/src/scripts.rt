@@ -44,10 +44,7 @@ fn lines_of(alloc: Global, text: &[u8]) -> Result<Lines, FileFault>
 fn script_of(alloc: Global, text: &[u8]) -> Result<Script, FileFault>
     ensures { ParsesScript text.now result }
 {
-    let lines = match lines_of(alloc, text) {
-        Ok(lines) => lines,
-        Err(fault) => return Err(fault),
-    };
+    let lines = lines_of(alloc, text)?;
     match parse_script(alloc, &lines) {
         Ok(script) => Ok(script),
         Err(ParseFault::Broken { line, rule }) => Err(FileFault::Refused {
@@ -63,14 +60,9 @@ fn script_of(alloc: Global, text: &[u8]) -> Result<Script, FileFault>
 pub(crate) fn source_of(alloc: Global, name: &[u8], text: &[u8]) -> Result<SourceFile, FileFault>
     ensures { ParsesSource text.now result }
 {
-    let name = match Text::try_from_bytes(alloc, name) {
-        Ok(name) => name,
-        Err(_) => return Err(FileFault::OutOfMemory),
-    };
-    match script_of(alloc, text) {
-        Ok(script) => Ok(SourceFile { name, script }),
-        Err(fault) => Err(fault),
-    }
+    let name = Text::try_from_bytes(alloc, name)?;
+    let script = script_of(alloc, text)?;
+    Ok(SourceFile { name, script })
 }
 
 /// Reads the text of a script. One of more than 1 MiB breaks L9 at line 0.
@@ -83,14 +75,8 @@ fn read_script<D: Desk>(alloc: Global, desk: &mut D, name: &[u8]) -> Result<Vec<
     ensures missed { MissesFile name.now result (D.missed desk.new) }
     ensures read { ReadsText (D.holds desk.old) name.now 1048576 (Place.Line 0) (Rule.Lexical LexRule.TooLarge) result }
 {
-    read_text(
-        alloc,
-        desk,
-        name,
-        SCRIPT_LIMIT,
-        Place::Line(0),
-        Rule::Lexical(LexRule::TooLarge),
-    )
+    let rule = Rule::Lexical(LexRule::TooLarge);
+    read_text(alloc, desk, name, SCRIPT_LIMIT, Place::Line(0), rule)
 }
 
 fn read_source<D: Desk>(alloc: Global, desk: &mut D, name: &[u8]) -> Result<SourceFile, FileFault>
@@ -102,10 +88,7 @@ fn read_source<D: Desk>(alloc: Global, desk: &mut D, name: &[u8]) -> Result<Sour
     ensures missed { MissesFile name.now result (D.missed desk.new) }
     ensures read { ReadsScript (D.holds desk.old) name.now result }
 {
-    let text = match read_script(alloc, desk, name) {
-        Ok(text) => text,
-        Err(fault) => return Err(fault),
-    };
+    let text = read_script(alloc, desk, name)?;
     source_of(alloc, name, &text)
 }
 
@@ -212,10 +195,7 @@ pub fn accept<D: Desk>(alloc: Global, scripts: &[String], desk: &mut D) -> Resul
     ensures ends { Accepts (map string_bytes scripts.now) (D.holds desk.old) result }
     ensures scripts { IfOk result (λ set. vec_len set.scripts ≡ length scripts.now + 6) }
 {
-    let files = match read_sources(alloc, scripts, desk) {
-        Ok(files) => files,
-        Err(ending) => return Err(ending),
-    };
+    let files = read_sources(alloc, scripts, desk)?;
     match core_set(alloc, files) {
         Ok(core) => Ok(core),
         Err(ending) => Err(ending),

@@ -55,10 +55,7 @@ pub fn accept_texts(alloc: Global, texts: &[NamedText]) -> Result<CoreSet, Endin
     ensures ends { AcceptsTexts (map text_of texts.now) result }
     ensures scripts { IfOk result (λ set. vec_len set.scripts ≡ length texts.now + 6) }
 {
-    let files = match sources_of(alloc, texts) {
-        Ok(files) => files,
-        Err(ending) => return Err(ending),
-    };
+    let files = sources_of(alloc, texts)?;
     match core_set(alloc, files) {
         Ok(set) => Ok(set),
         Err(ending) => Err(ending),

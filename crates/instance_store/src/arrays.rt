@@ -6,7 +6,7 @@ ghost use Rattle.instance_store.specs.declared.arrays.StoreFault.TheVariants.{Ou
 ghost use Rattle.instance_store.specs.Values.{is_array_type, default_value};
 ghost use Rattle.instance_store.specs.Arrays.{array_at, length_of, read, write_answer, arrays_with, found, item_of, write_answer_of, array_with, found_place, place_number, IsRefusal, IsCreated};
 
-use crate::values::{copy_of, default_value, found_place, place_in, place_number};
+use crate::values::{Made, copy_of, default_value, found_place, place_in, place_number};
 use core_tree::{CoreType, Value};
 use papy_base::{OutOfMemory, StackFault};
 use std::alloc::Global;
@@ -87,7 +87,7 @@ impl ValueArray {
 }
 
 /// So many defaults of a type.
-fn defaults(alloc: Global, kind: CoreType, count: u8) -> Result<Vec<Value>, OutOfMemory>
+fn defaults(alloc: Global, kind: CoreType, count: u8) -> Made<Vec<Value>>
     ensures { IfOk result (λ items. items.items ≡ replicate count (default_value kind)) }
 {
     let mut items = Vec::with_capacity(alloc, usize::from(count))?;
@@ -176,7 +176,7 @@ impl Arrays {
     /// # Errors
     ///
     /// `OutOfMemory` comes where there is no room. Then nothing has changed.
-    pub fn add(&mut self, kind: CoreType, items: Vec<Value>) -> Result<(), OutOfMemory>
+    pub fn add(&mut self, kind: CoreType, items: Vec<Value>) -> Made<()>
         requires room { length self.old < 4096 }
         requires at_most { vec_len items ≤ 128 }
         ensures ok { OnOk result (self.new ≡ self.old ++ record { kind = kind; items = items.items } ∷ []) }

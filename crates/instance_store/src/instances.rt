@@ -1,13 +1,13 @@
 //! The instances of a world, and their variables.
 
-ghost use Rattle.std.specs.Prelude.{◌≡◌, ◌↔◌, ◌<◌, List, ℕ, IfOk, OnErr, IsTrue, length, map, slice_set};
+ghost use Rattle.std.specs.Prelude.{◌≡◌, ◌↔◌, ◌<◌, List, ℕ, IfOk, OnErr, IsTrue, length, map, slice_get, slice_set};
+ghost use Rattle.std.specs.Option.{option_copied};
 ghost use Rattle.instance_store.specs.Values.{is_text};
-ghost use Rattle.instance_store.specs.Instances.{instance_at, place_of, values_of, variable_of, scripts_with, instance_with, started};
+ghost use Rattle.instance_store.specs.Instances.{instance_at, place_of, values_of, variable_of, scripts_with, instance_with, lineage, parent_of, auto_state_of, initial_values, initial_values_of, start_state, started};
 
-use crate::start::start_instance;
-use crate::values::copy_of;
-use core_tree::{Outline, Scene, Value};
-use papy_base::{OutOfMemory, Text};
+use crate::values::{Made, copy_of};
+use core_tree::{BoundInstance, Outline, OutlineScript, OutlineVariable, Scene, Value};
+use papy_base::{Name, Text};
 use std::alloc::Global;
 use std::marker::Model;
 
@@ -75,7 +75,7 @@ impl Instance {
     }
 
     /// A copy of a variable's value.
-    pub fn get(&self, alloc: Global, script: u16, variable: u16) -> Result<Value, OutOfMemory>
+    pub fn get(&self, alloc: Global, script: u16, variable: u16) -> Made<Value>
         requires { variable < length (values_of self.now.scripts script) }
         ensures value { IfOk result (λ value. value ≡ variable_of self.now script variable) }
         ensures memory { OnErr result (IsTrue (is_text (variable_of self.now script variable))) }
@@ -130,7 +130,7 @@ impl Instances {
     /// # Errors
     ///
     /// `OutOfMemory` comes where there is no room.
-    pub fn create(alloc: Global, outline: &Outline, scene: &Scene) -> Result<Instances, OutOfMemory>
+    pub fn create(alloc: Global, outline: &Outline, scene: &Scene) -> Made<Instances>
         ensures { IfOk result (λ instances. instances ≡ map (started outline.now.scripts.items) scene.now.instances.items) }
     {
         let mut instances = Vec::with_capacity(alloc, scene.instances.len())?;
@@ -165,7 +165,7 @@ impl Instances {
     }
 
     /// The value of a variable that the script declares. `OutOfMemory` comes only of a text.
-    pub fn get(&self, instance: u16, script: u16, variable: u16) -> Result<Value, OutOfMemory>
+    pub fn get(&self, instance: u16, script: u16, variable: u16) -> Made<Value>
         requires instance_in { instance < length self.now }
         requires variable_in { variable < length (values_of (instance_at self.now instance).scripts script) }
         ensures value { IfOk result (λ value. value ≡ variable_of (instance_at self.now instance) script variable) }
@@ -200,4 +200,98 @@ impl Instances {
     {
         self.instances[usize::from(instance)].state = state;
     }
+}
+
+// ---- as they are at the start
+
+/// An instance with the initial values of its scripts, then those of the scene.
+fn start_instance(
+    alloc: Global,
+    scripts: &[OutlineScript],
+    instance: &BoundInstance,
+) -> Made<Instance>
+    ensures { IfOk result (λ found. found ≡ started scripts.now instance.now) }
+{
+    let above = lineage(alloc, scripts, instance.script)?;
+    let state = start_state(alloc, scripts, &above)?;
+    let mut variables = all_initial_values(alloc, scripts, &above)?;
+    for entry in &instance.set {
+        write(&mut variables, entry.0, entry.1, copy_of(alloc, &entry.2)?);
+    }
+    Ok(Instance::new(state, variables))
+}
+
+/// A script and its parents, upward.
+pub fn lineage(alloc: Global, scripts: &[OutlineScript], script: u16) -> Made<Vec<u16>>
+    ensures { IfOk result (λ above. above.items ≡ lineage scripts.now script) }
+{
+    let mut above = Vec::new(alloc);
+    let mut next = Some(script);
+    let mut left = scripts.len();
+    while left > 0 {
+        left -= 1;
+        let Some(script) = next else {
+            break;
+        };
+        above.push(script)?;
+        next = parent_of(scripts, script);
+    }
+    Ok(above)
+}
+
+fn parent_of(scripts: &[OutlineScript], script: u16) -> Option<u16>
+    ensures { result ≡ parent_of (slice_get scripts.now script) }
+{
+    scripts.get(usize::from(script))?.parent
+}
+
+fn start_state(alloc: Global, scripts: &[OutlineScript], above: &[u16]) -> Made<Text>
+    ensures { IfOk result (λ state. state ≡ start_state scripts.now above.now) }
+{
+    for script in above {
+        if let Some(name) = auto_state_of(scripts, *script) {
+            return Text::try_from_bytes(alloc, name.as_bytes());
+        }
+    }
+    Text::try_from_bytes(alloc, &[])
+}
+
+fn auto_state_of(scripts: &[OutlineScript], script: u16) -> Option<&Name>
+    ensures { option_copied result ≡ auto_state_of (slice_get scripts.now script) }
+{
+    scripts.get(usize::from(script))?.auto_state.as_ref()
+}
+
+fn all_initial_values(
+    alloc: Global,
+    scripts: &[OutlineScript],
+    above: &[u16],
+) -> Made<Vec<ScriptVariables>>
+    ensures { IfOk result (λ found. found.items ≡ map (initial_values scripts.now) above.now) }
+{
+    let mut found = Vec::with_capacity(alloc, above.len())?;
+    for script in above {
+        let values = script_initial_values(alloc, scripts, *script)?;
+        found.push(ScriptVariables::new(*script, values))?;
+    }
+    Ok(found)
+}
+
+fn script_initial_values(alloc: Global, scripts: &[OutlineScript], script: u16) -> Made<Vec<Value>>
+    ensures { IfOk result (λ values. values.items ≡ initial_values_of (slice_get scripts.now script)) }
+{
+    match scripts.get(usize::from(script)) {
+        None => Ok(Vec::new(alloc)),
+        Some(outline) => values_of(alloc, &outline.variables),
+    }
+}
+
+fn values_of(alloc: Global, variables: &[OutlineVariable]) -> Made<Vec<Value>>
+    ensures { IfOk result (λ values. values.items ≡ map (λ variable. variable.value) variables.now) }
+{
+    let mut values = Vec::with_capacity(alloc, variables.len())?;
+    for variable in variables {
+        values.push(copy_of(alloc, &variable.value)?)?;
+    }
+    Ok(values)
 }

@@ -3,8 +3,8 @@
 
 mod arrays;
 mod instances;
-mod start;
 mod values;
 
 pub use arrays::{Arrays, StoreFault};
-pub use instances::{Instance, Instances, ScriptVariables};
+pub use instances::{Instance, Instances, ScriptVariables, lineage};
+pub use values::equals;

@@ -9,8 +9,11 @@ use core_tree::{CoreType, Value};
 use papy_base::{OutOfMemory, Text};
 use std::alloc::Global;
 
+/// What was made, where there was room for it.
+pub type Made<T> = Result<T, OutOfMemory>;
+
 /// An equal value. Only the copy of a text takes memory.
-pub fn copy_of(alloc: Global, value: &Value) -> Result<Value, OutOfMemory>
+pub fn copy_of(alloc: Global, value: &Value) -> Made<Value>
     ensures copy { IfOk result (λ copy. copy ≡ value.now) }
     ensures memory { OnErr result (IsTrue (is_text value.now)) }
 {
@@ -24,8 +27,9 @@ pub fn copy_of(alloc: Global, value: &Value) -> Result<Value, OutOfMemory>
     })
 }
 
-/// What a script's `==` says of two values.
-fn equals(value: &Value, other: &Value) -> bool
+/// Whether two values are equal, as `==` of a script says: texts with the case of A to Z ignored, instances and arrays where
+/// they are the same one.
+pub fn equals(value: &Value, other: &Value) -> bool
     ensures { result ≡ equals value.now other.now }
 {
     match (value, other) {
@@ -40,7 +44,7 @@ fn equals(value: &Value, other: &Value) -> bool
 }
 
 /// The value with which elements of a type begin.
-pub fn default_value(alloc: Global, kind: CoreType) -> Result<Value, OutOfMemory>
+pub fn default_value(alloc: Global, kind: CoreType) -> Made<Value>
     ensures { IfOk result (λ value. value ≡ default_value kind) }
 {
     Ok(match kind {

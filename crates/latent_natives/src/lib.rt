@@ -3,10 +3,8 @@
 
 mod device;
 mod devices;
-mod dice;
 mod sleepers;
 
 pub use device::{Device, call_device, load_device};
-pub use devices::{Latch, Sum, Tape};
-pub use dice::Dice;
+pub use devices::{Dice, Latch, Sum, Tape};
 pub use sleepers::Sleepers;

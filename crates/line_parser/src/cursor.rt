@@ -235,10 +235,7 @@ fn sign_at(tokens: &[Spanned], at: usize) -> Option<Sign>
 pub(crate) fn is_sign_at(tokens: &[Spanned], at: usize, wanted: Sign) -> bool
     ensures { IsTrue result → at < length tokens.now }
 {
-    match sign_at(tokens, at) {
-        Some(found) => found == wanted,
-        None => false,
-    }
+    matches!(sign_at(tokens, at), Some(found) if found == wanted)
 }
 
 /// Whether `[` and `]` stand at a place of the tokens.

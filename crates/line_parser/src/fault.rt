@@ -5,26 +5,23 @@ use papy_base::OutOfMemory;
 use std::alloc::AllocFailed;
 use thiserror::Error;
 
-/// The rules of lines and blocks.
-#[derive(Clone, Copy, Debug, PartialEq, Eq, Error)]
+/// The rules of lines and blocks, S1 to S3.
+#[derive(Clone, Copy, Debug, PartialEq, Eq)]
 pub enum LineRule {
-    /// The line has no form.
-    #[error("S1 BadLine")]
+    /// S1: the line has no form.
     BadLine,
-    /// Over 64 brackets are open at once in the line, it has over 8,000 tokens, or its block would be
+    /// S2: over 64 brackets are open at once in the line, it has over 8,000 tokens, or its block would be
     /// the 65th `If` or `While` that is open.
-    #[error("S2 TooDeep")]
     TooDeep,
-    /// The innermost open block doesn't admit the line, or the file ends with a block open or without
+    /// S3: the innermost open block doesn't admit the line, or the file ends with a block open or without
     /// lines.
-    #[error("S3 BadBlock")]
     BadBlock,
 }
 
 /// Why [`parse_line`](crate::parse_line) gives no form.
 #[derive(Clone, Copy, Debug, PartialEq, Eq, Error)]
 pub enum LineFault {
-    #[error("{rule}")]
+    #[error("{rule:?}")]
     Broken { rule: LineRule },
     #[error("out of memory")]
     OutOfMemory,

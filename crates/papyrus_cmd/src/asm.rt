@@ -63,17 +63,8 @@ fn read_listing<D: Desk>(alloc: Global, desk: &mut D, name: &[u8]) -> Result<Vec
     ensures spelled { IfOk result (λ bytes. IsAssembled name.now (D.holds desk.old) bytes.items) }
     ensures read { ReadsListing (D.holds desk.old) name.now result }
 {
-    let text = match read_text(
-        alloc,
-        desk,
-        name,
-        LISTING_LIMIT,
-        Place::Line(0),
-        Rule::Listing(ListingRule::BadLine),
-    ) {
-        Ok(text) => text,
-        Err(fault) => return Err(fault),
-    };
+    let rule = Rule::Listing(ListingRule::BadLine);
+    let text = read_text(alloc, desk, name, LISTING_LIMIT, Place::Line(0), rule)?;
     file_of(alloc, &text)
 }
 

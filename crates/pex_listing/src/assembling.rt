@@ -10,8 +10,7 @@ ghost use Rattle.pex_listing.specs.Opened.{BeginsWith, Opens, TakesLines};
 ghost use Rattle.pex_listing.specs.Reading.{ReadsAll, HoldsLines, ReadsDebug, debug_rest};
 
 use crate::faults::{BAD_LINE, ListingFault, Read};
-use crate::item::{Item, Room, check_place, read_all};
-use crate::listing::{FirstWord, Listing};
+use crate::listing::{FirstWord, Item, Listing, Room, check_place, read_all};
 use crate::strings::Strings;
 use papy_base::Text;
 use pex_values::{Pex, PexDebug, PexLines};
@@ -54,8 +53,7 @@ fn read_strings(listing: &mut Listing, room: &mut Room) -> Read<Vec<Text>>
     'strings: while listing.is_at(FirstWord::Word(b"string")) {
         check_place(strings.len())?;
         room.spend(2)?;
-        let text = read_string(listing, room, b"string")?;
-        strings.push(text)?;
+        strings.push(read_string(listing, room, b"string")?)?;
     }
     Ok(strings)
 }

@@ -3,8 +3,6 @@
 
 mod assembling;
 mod faults;
-mod fields;
-mod item;
 mod listing;
 mod objects;
 mod showing;

@@ -1,18 +1,29 @@
-//! A listing as lines, and a line as fields.
+//! A listing as lines, a line as fields, and what the parts of a listing have in common.
 
-ghost use Rattle.std.specs.Prelude.{◌≡◌, ◌<◌, ◌≤◌, ◌^◌, ◌&&◌, not, [], ◌∷◌, ◌++◌, Some, length, vec_len, ◌↔◌, IfOk, IfSome, IsTrue, unwrap_or, option_map, if◌then◌else◌};
+ghost use Rattle.std.specs.Prelude.{◌≡◌, ℕ, List, ◌+◌, ◌<◌, ◌≤◌, ◌^◌, ◌&&◌, not, [], ◌∷◌, ◌++◌, Some, length, vec_len, ◌↔◌, IfOk, OnOk, IfSome, IsTrue, unwrap_or, option_map, if◌then◌else◌};
+ghost use Rattle.std.specs.Char.{is_ascii_digit};
 ghost use Rattle.std.specs.Fmt.{decimal};
+ghost use Rattle.std.specs.List.{list_all};
 ghost use Rattle.pex_values.specs.Shape.{IsReference};
-ghost use Rattle.pex_listing.specs.Lines.{quoted};
-ghost use Rattle.pex_listing.specs.Numbers.{has_leading_zero};
+ghost use Rattle.pex_listing.specs.Lines.{escaped, quoted};
+ghost use Rattle.pex_listing.specs.Numbers.{are_digits, decimal_number, has_leading_zero, hex_value, hex_number};
 ghost use Rattle.pex_listing.specs.Opened.{Opens, TakesField, SameWord, fields_left, word_of};
+ghost use Rattle.pex_listing.specs.Reading.{Reads, ReadsAll};
 
 use crate::faults::{BAD_LINE, LineFault, ListingRule, Read};
-use crate::fields::{has_leading_zero, hex_number, is_digits, magnitude, unquote};
 use crate::strings::{Strings, is_word};
 use papy_base::Text;
-use pex_values::{OPCODES, SizeForm};
+use pex_values::{FILE_LIMIT, OPCODES, SizeForm};
 use std::alloc::Global;
+
+/// The most bytes of a string.
+const LONGEST: usize = 65_535;
+
+/// The most items of a list.
+const MOST_ITEMS: usize = 65_535;
+
+/// The bytes of a value with empty strings and lists and without debug information.
+const LEAST: u32 = 29;
 
 /// What a line begins with.
 #[derive(Clone, Copy)]
@@ -304,4 +315,205 @@ impl<'a> Listing<'a> {
 fn with_sign(is_negative: bool, magnitude: u64) -> Option<i32> {
     let magnitude = i64::try_from(magnitude).ok()?;
     i32::try_from(if is_negative { -magnitude } else { magnitude }).ok()
+}
+
+// ---- the forms of fields: decimal and hexadecimal numbers, and strings in quotes
+
+/// Whether the bytes are one or more decimal digits.
+pub(crate) fn is_digits(bytes: &[u8]) -> bool
+    ensures { result ≡ are_digits bytes.now }
+{
+    !bytes.is_empty() && each_is_digit(bytes)
+}
+
+fn each_is_digit(bytes: &[u8]) -> bool
+    ensures { result ≡ list_all is_ascii_digit bytes.now }
+{
+    bytes.iter().all(|byte| byte.is_ascii_digit())
+}
+
+/// The number that decimal digits spell. None where it doesn't fit 64 bits, or where a byte is no digit.
+pub(crate) fn magnitude(digits: &[u8]) -> Option<u64>
+    ensures { result ≡ decimal_number digits.now }
+{
+    let mut number: u64 = 0;
+    for digit in digits {
+        if !digit.is_ascii_digit() {
+            return None;
+        }
+        number = number
+            .checked_mul(10)?
+            .checked_add(u64::from(*digit - b'0'))?;
+    }
+    Some(number)
+}
+
+/// Whether digits have a zero in front that they don't need.
+pub(crate) fn has_leading_zero(digits: &[u8]) -> bool
+    ensures { result ≡ has_leading_zero digits.now }
+{
+    digits.len() > 1 && digits.first() == Some(&b'0')
+}
+
+/// The value of a hexadecimal digit of either case.
+fn hex_value(digit: u8) -> Option<u8>
+    ensures value { result ≡ hex_value digit }
+    ensures below { IfSome result (λ n. n < 16) }
+{
+    match digit {
+        b'0'..=b'9' => Some(digit - b'0'),
+        b'a'..=b'f' => Some(digit - b'a' + 10),
+        b'A'..=b'F' => Some(digit - b'A' + 10),
+        _ => None,
+    }
+}
+
+/// The number that eight hexadecimal digits of either case spell. None where the bytes are no such.
+pub(crate) fn hex_number(digits: &[u8]) -> Option<u32>
+    ensures { result ≡ hex_number digits.now }
+{
+    if digits.len() != 8 {
+        return None;
+    }
+    let mut number: u32 = 0;
+    for digit in digits {
+        let value = hex_value(*digit)?;
+        number = number.wrapping_mul(16).wrapping_add(u32::from(value));
+    }
+    Some(number)
+}
+
+/// The byte that `\x` and these two digits spell. It has this form only where it isn't from 20h to 7Eh.
+fn hex_escape(high: u8, low: u8) -> Option<(u8, bool)>
+    ensures { IfSome result (λ p. IsTrue p.1 → escaped p.0 ≡ 92 ∷ 120 ∷ high ∷ low ∷ []) }
+{
+    let byte = hex_value(high)? * 16 + hex_value(low)?;
+    let is_plain = matches!(byte, 0x20..=0x7E);
+    let is_canonical = !is_plain && !high.is_ascii_uppercase() && !low.is_ascii_uppercase();
+    Some((byte, is_canonical))
+}
+
+/// The first byte that is spelled, whether this is its one spelling, and what follows it. None where the bytes spell
+/// none.
+fn first_byte(bytes: &[u8]) -> Option<(u8, bool, &[u8])>
+    ensures shorter { IfSome result (λ s. length s.2.now < length bytes.now) }
+    ensures canonical { IfSome result (λ s. IsTrue s.1 → bytes.now ≡ escaped s.0 ++ s.2.now) }
+{
+    match bytes {
+        [b'\\', b'x', high, low, rest @ ..] => {
+            let (byte, is_canonical) = hex_escape(*high, *low)?;
+            Some((byte, is_canonical, rest))
+        }
+        [b'\\', byte @ (b'"' | b'\\'), rest @ ..] => Some((*byte, true, rest)),
+        [byte @ (0x20 | 0x21 | 0x23..=0x5B | 0x5D..=0x7E), rest @ ..] => Some((*byte, true, rest)),
+        _ => None,
+    }
+}
+
+/// A string, and whether this is its one spelling.
+#[derive(Drop)]
+pub(crate) struct Quoted {
+    pub text: Text,
+    pub is_canonical: bool,
+}
+
+/// What stands between the quotes at both ends.
+fn between_quotes(field: &[u8]) -> Option<&[u8]>
+    ensures { IfSome result (λ inner. field.now ≡ 34 ∷ inner.now ++ 34 ∷ []) }
+{
+    match field {
+        [b'"', inner @ .., b'"'] => Some(inner),
+        _ => None,
+    }
+}
+
+/// The string that a field in quotes spells. It has at most 65,535 bytes.
+pub(crate) fn unquote(alloc: Global, field: &[u8]) -> Read<Quoted>
+    ensures short { IfOk result (λ q. length q.text < 2 ^ 16) }
+    ensures canonical { IfOk result (λ q. IsTrue q.is_canonical → field.now ≡ quoted q.text) }
+{
+    let mut bytes = Vec::new(alloc);
+    let mut is_canonical = true;
+    let mut rest = between_quotes(field).ok_or(BAD_LINE)?;
+    while !rest.is_empty() {
+        let (byte, is_spelled_so, behind) = first_byte(rest).ok_or(BAD_LINE)?;
+        if bytes.len() >= LONGEST {
+            return Err(BAD_LINE);
+        }
+        bytes.push(byte)?;
+        is_canonical = is_canonical && is_spelled_so;
+        rest = behind;
+    }
+    let text = Text::try_from_bytes(alloc, &bytes)?;
+    Ok(Quoted { text, is_canonical })
+}
+
+// ---- the parts of a value, and the bytes that they take
+
+/// The bytes that no part of the value has taken yet. The parts that every value has are taken at the start.
+#[derive(Clone, Copy)]
+pub(crate) struct Room {
+    pub left: u32,
+    ghost within: { left ≤ 16777216 },
+}
+
+impl Room {
+    pub(crate) fn new() -> Room
+        ensures { result.left + 29 ≡ 16777216 }
+    {
+        Room {
+            left: FILE_LIMIT - LEAST,
+        }
+    }
+
+    /// Takes so many bytes. The value no longer fits where fewer are left.
+    pub(crate) fn spend(&mut self, bytes: u32) -> Read<()>
+        ensures { OnOk result (self.new.left + bytes ≡ self.old.left) }
+    {
+        if bytes > self.left {
+            return Err(BAD_LINE);
+        }
+        self.left -= bytes;
+        Ok(())
+    }
+}
+
+/// A part of a value, which a listing has as one line or as several.
+pub(crate) trait Item: Drop {
+    /// Whether a value with so many strings may have it.
+    ghost holds: { ℕ → Self → Type 0 };
+
+    /// Its bytes in a file.
+    ghost spelling: { Self → List ℕ };
+
+    /// Reads the part. The open line begins with its first word.
+    fn read(listing: &mut Listing, names: &Strings, room: &mut Room) -> Read<Self>
+        ensures { IfOk result (λ part. Reads (holds (vec_len names.now.spelled)) spelling room.old.left room.new.left part) };
+}
+
+/// A list of this length has a place for one item more.
+pub(crate) fn check_place(length: usize) -> Read<()>
+    ensures { OnOk result (length + 1 < 2 ^ 16) }
+{
+    if length >= MOST_ITEMS {
+        return Err(BAD_LINE);
+    }
+    Ok(())
+}
+
+/// All parts that follow, which begin with this first word.
+pub(crate) fn read_all<T: Item>(
+    listing: &mut Listing,
+    names: &Strings,
+    room: &mut Room,
+    first_word: FirstWord,
+) -> Read<Vec<T>>
+    ensures { IfOk result (λ parts. ReadsAll (T.holds (vec_len names.now.spelled)) T.spelling room.old.left room.new.left parts.items) }
+{
+    let mut parts = Vec::new(listing.alloc);
+    'parts: while listing.is_at(first_word) {
+        check_place(parts.len())?;
+        parts.push(T::read(listing, names, room)?)?;
+    }
+    Ok(parts)
 }

@@ -8,8 +8,7 @@ ghost use Rattle.pex_values.specs.Spelling as spell;
 ghost use Rattle.pex_listing.specs.Reading.{Reads, ReadsData, ReadsMore, ReadsAccessor, HoldsInstruction, HoldsFunction, HoldsNamed, HoldsProperty, HoldsState, HoldsObject, least_function};
 
 use crate::faults::{BAD_LINE, BAD_NAME, Read};
-use crate::item::{Item, Room, read_all};
-use crate::listing::{FirstWord, Listing};
+use crate::listing::{FirstWord, Item, Listing, Room, read_all};
 use crate::strings::Strings;
 use pex_values::{
     Datum, Instruction, PexFunction, PexObject, PexProperty, PexState, PexVariable, has_read,
@@ -201,8 +200,7 @@ fn read_accessor(
         return Ok(None);
     }
     listing.expect(word)?;
-    let function = read_function(listing, names, room, true)?;
-    Ok(Some(function))
+    Ok(Some(read_function(listing, names, room, true)?))
 }
 
 impl Item for PexVariable {

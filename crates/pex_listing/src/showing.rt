@@ -108,12 +108,6 @@ impl<'a> Lines<'a> {
         function.put(self)
     }
 
-    /// The line that a state begins with.
-    fn put_state_line(&mut self, state: &PexState) -> Result<(), AllocError> {
-        self.put_names("state", &[state.name])?;
-        self.text.push('\n')
-    }
-
     /// The lines of an object but for its states.
     fn put_object(&mut self, object: &PexObject) -> Result<(), AllocError> {
         self.put_names("object", &[object.name])?;
@@ -339,7 +333,8 @@ fn show_states<S: Sink>(lines: &mut Lines, states: &[PexState], sink: &mut S) ->
     ensures appended { AppendsSome (S.written sink.old) (S.written sink.new) }
 {
     for state in states {
-        lines.put_state_line(state)?;
+        lines.put_names("state", &[state.name])?;
+        lines.text.push('\n')?;
         show_all(lines, &state.functions, sink)?;
     }
     Ok(())

@@ -70,11 +70,8 @@ pub(crate) fn reference_words<'a>(
     let spelled = Strings::new(alloc, strings)?.spelled;
     let mut words = Vec::with_capacity(alloc, strings.len())?;
     for (text, is_spelled) in strings.iter().zip(&spelled) {
-        words.push(if *is_spelled {
-            str::from_utf8(text.as_bytes()).ok()
-        } else {
-            None
-        })?;
+        let word = str::from_utf8(text.as_bytes()).ok();
+        words.push(word.filter(|_| *is_spelled))?;
     }
     Ok(words)
 }

@@ -50,7 +50,6 @@ enum BlockKind {
 /// The body of a function as it is read: its lines, with its expressions in the reader.
 #[derive(Drop)]
 pub(crate) struct Blocks<'w, 'f> {
-    code: &'f Code<'w>,
     pub reader: Reader<'w, 'f>,
     pub lines: Vec<Line>,
     open: Vec<Block>,
@@ -64,7 +63,6 @@ impl<'w, 'f> Blocks<'w, 'f> {
     pub(crate) fn new(code: &'f Code<'w>, first: usize) -> Blocks<'w, 'f> {
         let alloc = code.world.alloc;
         Blocks {
-            code,
             reader: Reader::new(code, first),
             lines: Vec::new(alloc),
             open: Vec::new(alloc),
@@ -76,7 +74,7 @@ impl<'w, 'f> Blocks<'w, 'f> {
     /// Reads the function. A file doesn't tell how many of its locals were locals of the source, so the numbers are tried in turn,
     /// the least first: it has the fewest lines. `NotFound` comes where none of them gives a body.
     pub(crate) fn read(&mut self) -> Found<()> {
-        let code = self.code;
+        let code = self.reader.code;
         for first in code.function.parameters.len()..code.locals_end().saturating_add(1) {
             *self = Blocks::new(code, first);
             match self.attempt() {
@@ -89,7 +87,7 @@ impl<'w, 'f> Blocks<'w, 'f> {
 
     // Each turn goes behind an instruction, or ends a block, of which an instruction opens two at most.
     fn attempt(&mut self) -> Found<()> {
-        let count = self.code.steps.len();
+        let count = self.reader.code.steps.len();
         self.open_block(BlockKind::Function, count)?;
         let mut at = 0usize;
         for _ in 0..count.saturating_mul(4).saturating_add(8) {
@@ -112,7 +110,7 @@ impl<'w, 'f> Blocks<'w, 'f> {
         if !self.begun && block.end == at {
             return self.end_block(block, at);
         }
-        let back = self.code.jump_to(at, JMP);
+        let back = self.reader.code.jump_to(at, JMP);
         check(at < block.end && back.is_none_or(|back| !self.begun && back < block.end))?;
         self.begun = true;
         self.back = self.back.or(back);
@@ -147,7 +145,7 @@ impl<'w, 'f> Blocks<'w, 'f> {
 
     // The test of a While ends with the jump at this place.
     fn open_while(&mut self, test: usize, at: usize, back: usize) -> Found<()> {
-        let target = self.code.step(at)?.target;
+        let target = self.reader.code.step(at)?.target;
         check(at < back && target == Some(back.saturating_add(1)))?;
         self.lines.push(Line::While(test))?;
         self.open_block(BlockKind::While, back)
@@ -156,13 +154,13 @@ impl<'w, 'f> Blocks<'w, 'f> {
     // The test of an If ends with the jump at this place. It has an Else where the jump before the target leads ahead, and belongs to
     // this If: no test inside has the same target.
     fn open_if(&mut self, test: usize, at: usize) -> Found<()> {
-        let over = self.code.step(at)?.target.ok_or(NOT_FOUND)?;
+        let over = self.reader.code.step(at)?.target.ok_or(NOT_FOUND)?;
         let limit = self.innermost()?.end;
         check(over > at && over <= limit)?;
         self.lines.push(Line::If(test))?;
         let last = over.saturating_sub(1);
-        let jump = self.code.step(last)?;
-        let is_own = jump.opcode == JMP && self.code.jump_to(over, JMPF) == Some(at);
+        let jump = self.reader.code.step(last)?;
+        let is_own = jump.opcode == JMP && self.reader.code.jump_to(over, JMPF) == Some(at);
         match jump.target {
             Some(end) if is_own && last > at && end >= over => {
                 check(end <= limit)?;
@@ -177,7 +175,7 @@ impl<'w, 'f> Blocks<'w, 'f> {
             kind,
             end,
             statements: 0,
-            defined_end: self.reader.slots.defined_end(),
+            defined_end: self.reader.slots.next_local,
         })?;
         Ok(())
     }
@@ -211,15 +209,21 @@ impl<'w, 'f> Blocks<'w, 'f> {
 
     // An If that is all of an Else is an ElseIf, and the end of that If is the end of this one.
     fn end_else(&mut self, line: usize, statements: usize) -> Found<()> {
-        let behind = self.lines.as_mut_slice().get_mut(line..);
-        if let (1, Some([begin, inner, ..])) = (statements, behind)
-            && let Line::If(test) = *inner
-        {
-            *begin = Line::Skipped;
-            *inner = Line::ElseIf(test);
-            return Ok(());
+        let behind = line.saturating_add(1);
+        match self.lines.get(behind) {
+            Some(Line::If(test)) if statements == 1 => {
+                let test = *test;
+                self.set(line, Line::Skipped);
+                self.set(behind, Line::ElseIf(test));
+            }
+            _ => self.lines.push(Line::EndIf)?,
         }
-        self.lines.push(Line::EndIf)?;
         Ok(())
+    }
+
+    fn set(&mut self, at: usize, line: Line) {
+        if let Some(old) = self.lines.get_mut(at) {
+            *old = line;
+        }
     }
 }

@@ -182,8 +182,7 @@ impl<'w> Code<'w> {
         let arguments = self.operands.len();
         self.add_operands(&instruction.more)?;
         let target = match (opcode, fixed) {
-            (JMP, [Datum::Int(offset)]) => target(at, *offset),
-            (JMPT | JMPF, [_, Datum::Int(offset)]) => target(at, *offset),
+            (JMP | JMPT | JMPF, [.., Datum::Int(offset)]) => target(at, *offset),
             _ => None,
         };
         if let Some(target) = target.filter(|target| opcode != JMP || *target <= at) {
@@ -239,10 +238,9 @@ impl<'w> Code<'w> {
         let written = self.steps.iter().filter(|step| step.opcode != ASSIGN);
         written
             .filter_map(|step| match self.operands.get(step.result?)?.0 {
-                Operand::Slot(slot) => Some(slot),
+                Operand::Slot(slot) if slot >= self.function.parameters.len() => Some(slot),
                 _ => None,
             })
-            .filter(|slot| *slot >= self.function.parameters.len())
             .min()
             .unwrap_or(self.pairs.len())
     }
@@ -290,10 +288,11 @@ impl<'w> Code<'w> {
 // it.
 fn note_step(step: Step, operands: &mut [(Operand, bool)], reads: &mut [bool]) {
     for at in step.first..step.end {
-        if let Some((Operand::Slot(slot), is_read_next)) = operands.get_mut(at)
-            && let Some(is_read) = reads.get_mut(*slot)
-        {
-            *is_read_next = *is_read;
+        let Some((Operand::Slot(slot), _)) = operands.get(at).copied() else {
+            continue;
+        };
+        if let (Some(operand), Some(is_read)) = (operands.get_mut(at), reads.get_mut(slot)) {
+            operand.1 = *is_read;
             *is_read = step.result != Some(at);
         }
     }

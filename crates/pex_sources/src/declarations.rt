@@ -33,23 +33,18 @@ pub(crate) fn script_text(world: &World<'_>, number: usize) -> Found<Text> {
     let author = Author { world, script };
     let mut page = Page::new(world.alloc, true);
     author.put_script(&mut page)?;
-    if !fits(&page.bytes) {
+    let lines = page.bytes.iter().filter(|byte| **byte == b'\n').count();
+    if page.bytes.len() > BYTE_LIMIT || lines > LINE_LIMIT {
         page = Page::new(world.alloc, false);
         author.put_script(&mut page)?;
     }
     Ok(Text::try_from_bytes(world.alloc, &page.bytes)?)
 }
 
-// Whether a script may have so many bytes and lines.
-fn fits(bytes: &[u8]) -> bool {
-    bytes.len() <= BYTE_LIMIT && bytes.iter().filter(|byte| **byte == b'\n').count() <= LINE_LIMIT
-}
-
 impl<'a> Author<'a> {
     fn put_script(self, page: &mut Page) -> Found<()> {
         let (script, object) = (self.script, self.script.object);
-        page.begin()?;
-        page.put(&[b"ScriptName ", script.text(object.name)])?;
+        page.begin(&[b"ScriptName ", script.text(object.name)])?;
         if self.has_parent() {
             page.put(&[b" Extends ", script.text(object.parent)])?;
         }
@@ -70,15 +65,9 @@ impl<'a> Author<'a> {
     // A line for each import: scripts whose Global functions it calls, and whose names mean something else there.
     fn put_imports(self, page: &mut Page) -> Found<()> {
         let object = self.script.object;
-        let properties = object.properties.iter();
-        let accessors = properties.flat_map(|property| property
-            .read
-            .iter()
-            .chain(property.write.iter()));
-        let members = object
-            .states
-            .iter()
-            .flat_map(|state| state.functions.iter());
+        let (properties, states) = (object.properties.iter(), object.states.iter());
+        let accessors = properties.flat_map(|of| of.read.iter().chain(of.write.iter()));
+        let members = states.flat_map(|state| state.functions.iter());
         let functions = accessors.chain(members.map(|(_, function)| function));
         let mut written = HashSet::new(page.alloc);
         for instruction in functions.flat_map(|function| function.code.iter()) {
@@ -125,23 +114,19 @@ impl<'a> Author<'a> {
 
     // The variables from one place up to another, but for those of Auto properties.
     fn put_variables(self, page: &mut Page, from: usize, to: usize) -> Found<()> {
+        let script = self.script;
         for place in from..to {
-            let variable = self.script.variable(place)?;
-            let name = self.script.number(variable.name);
-            if self.world.property(self.script, name).is_none() {
-                self.put_variable(page, variable)?;
+            let variable = script.variable(place)?;
+            let (kind, name) = (script.text(variable.kind), script.text(variable.name));
+            let number = script.number(variable.name);
+            if self.world.property(script, number).is_none() {
+                page.begin(&[kind, b" ", name])?;
+                self.put_initial(page, variable)?;
+                page.put_flags(variable.flags)?;
+                page.end()?;
             }
         }
         Ok(())
-    }
-
-    fn put_variable(self, page: &mut Page, variable: &PexVariable) -> Found<()> {
-        let script = self.script;
-        page.begin()?;
-        page.put(&[script.text(variable.kind), b" ", script.text(variable.name)])?;
-        self.put_initial(page, variable)?;
-        page.put_flags(variable.flags)?;
-        page.end()
     }
 
     // The value with which a variable begins, unless it is that of its type.
@@ -161,8 +146,7 @@ impl<'a> Author<'a> {
     fn put_property(self, page: &mut Page, property: &'a PexProperty) -> Found<()> {
         let script = self.script;
         let (kind, name) = (script.text(property.kind), script.text(property.name));
-        page.begin()?;
-        page.put(&[kind, b" Property ", name])?;
+        page.begin(&[kind, b" Property ", name])?;
         let constant = self.constant(property);
         if let Some(name) = property.variable {
             self.put_initial(page, script.variable(self.variable_place(name)?)?)?;
@@ -248,17 +232,17 @@ impl<'a> Author<'a> {
     }
 
     fn put_function(self, page: &mut Page, name: &[u8], function: &'a PexFunction) -> Found<()> {
-        let word: &[u8] = if self.is_event(name, function) {
-            b"Event"
+        let (begin, end): (&[u8], &[u8]) = if self.is_event(name, function) {
+            (b"Event ", b"EndEvent")
         } else {
-            b"Function"
+            (b"Function ", b"EndFunction")
         };
         page.blank()?;
-        page.begin()?;
+        page.begin(&[])?;
         if self.has_result(function) {
             page.put(&[self.script.text(function.result), b" "])?;
         }
-        page.put(&[word, b" ", name, b"("])?;
+        page.put(&[begin, name, b"("])?;
         self.put_parameters(page, function)?;
         page.put(&[b")"])?;
         page.put_bits(u32::from(function.bits), [b" Global", b" Native"])?;
@@ -271,7 +255,7 @@ impl<'a> Author<'a> {
         code.fill()?;
         put_code(page, &code)?;
         page.outdent();
-        page.line(&[b"End", word])
+        page.line(&[end])
     }
 
     fn has_result(self, function: &PexFunction) -> bool {

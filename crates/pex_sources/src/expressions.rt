@@ -55,7 +55,7 @@ impl<'w, 'f> Speaker<'w, 'f> {
             Line::EndIf | Line::EndWhile | Line::Else | Line::ElseIf(_) => page.outdent(),
             _ => {}
         }
-        page.begin()?;
+        page.begin(&[])?;
         match line {
             Line::If(test) => self.put_value(page, b"If ", test, BOOL)?,
             Line::ElseIf(test) => self.put_value(page, b"ElseIf ", test, BOOL)?,
@@ -146,8 +146,7 @@ impl<'w, 'f> Speaker<'w, 'f> {
         }
         parts.push(Item::Bytes(b"("))?;
         self.expand_bare(node, parts)?;
-        parts.push(Item::Bytes(b")"))?;
-        Ok(())
+        add(parts, &[Item::Bytes(b")")])
     }
 
     fn expand_bare(self, node: Node, parts: &mut Items<'w>) -> Found<()> {

@@ -39,14 +39,13 @@ impl Page {
         Ok(())
     }
 
-    /// Begins a line.
-    pub(crate) fn begin(&mut self) -> Found<()> {
+    /// Begins a line with these bytes.
+    pub(crate) fn begin(&mut self, parts: &[&[u8]]) -> Found<()> {
         self.is_at_start = false;
-        let depth = if self.is_indented { self.depth } else { 0 };
-        for _ in 0..depth {
+        for _ in 0..self.depth {
             self.bytes.extend_from_slice(INDENT)?;
         }
-        Ok(())
+        self.put(parts)
     }
 
     /// Ends a line.
@@ -65,8 +64,7 @@ impl Page {
 
     /// A whole line.
     pub(crate) fn line(&mut self, parts: &[&[u8]]) -> Found<()> {
-        self.begin()?;
-        self.put(parts)?;
+        self.begin(parts)?;
         self.end()
     }
 
@@ -79,16 +77,14 @@ impl Page {
         }
         if self.is_indented {
             self.end()?;
-            self.begin()?;
-        } else {
-            self.put(&[b" "])?;
+            return self.line(&[b"{", doc, b"}"]);
         }
-        self.put(&[b"{", doc, b"}\n"])
+        self.put(&[b" {", doc, b"}\n"])
     }
 
     /// The lines from now on stand in one block more.
     pub(crate) fn indent(&mut self) {
-        self.depth = self.depth.saturating_add(1);
+        self.depth = self.depth.saturating_add(usize::from(self.is_indented));
         self.is_at_start = true;
     }
 
@@ -113,14 +109,10 @@ impl Page {
     pub(crate) fn put_literal(&mut self, script: &Script<'_>, value: Datum) -> Found<()> {
         match value {
             Datum::NoneValue => self.put(&[b"None"]),
-            Datum::Int(number) => {
-                let text = if number < 0 {
-                    format!(in self.alloc; "0x{number:x}")?
-                } else {
-                    format!(in self.alloc; "{number}")?
-                };
-                self.put(&[text.as_bytes()])
+            Datum::Int(number) if number < 0 => {
+                self.put(&[format!(in self.alloc; "0x{number:x}")?.as_bytes()])
             }
+            Datum::Int(number) => self.put(&[format!(in self.alloc; "{number}")?.as_bytes()]),
             Datum::Bool(0) => self.put(&[b"False"]),
             Datum::Bool(_) => self.put(&[b"True"]),
             Datum::Quoted(text) => self.put_text(script.text(text)),

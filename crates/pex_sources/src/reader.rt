@@ -27,7 +27,7 @@ struct Side {
 /// The state of reading.
 #[derive(Drop)]
 pub(crate) struct Reader<'w, 'f> {
-    code: &'f Code<'w>,
+    pub code: &'f Code<'w>,
     pub trees: Trees,
     pub slots: Slots<'w, 'f>,
     // The expressions whose values temporaries have that are still to be read, and whether they were read before.
@@ -300,7 +300,8 @@ impl<'w, 'f> Reader<'w, 'f> {
         self.end()?;
         let value = self.inputs.pop().ok_or(NOT_FOUND)?.node;
         let world = self.code.world;
-        let of = self.trees.node(self.only_input()?.node)?.kind;
+        let first = self.only_input()?.node;
+        let of = self.trees.node(first)?.kind;
         let (opcode, kind) = if step.opcode == ARRAY_SETELEMENT {
             (ARRAY_GETELEMENT, world.element(of)?)
         } else {

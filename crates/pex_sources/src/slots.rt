@@ -11,8 +11,9 @@ use std::collections::HashSet;
 pub(crate) struct Slots<'w, 'f> {
     code: &'f Code<'w>,
     first: usize,
-    // The next local to be defined, and those that are defined in a block that is open.
-    next_local: usize,
+    /// The next local to be defined.
+    pub next_local: usize,
+    // The locals that are defined in a block that is open.
     defined: HashSet<usize>,
     // The next temporary that wasn't handed out yet, and those that may be handed out again, each with the number of its type, in
     // this order. That of the type of no value is never in use.
@@ -51,11 +52,6 @@ impl<'w, 'f> Slots<'w, 'f> {
         };
         let is_local = slot >= self.code.function.parameters.len() && slot < self.first;
         (is_local && !self.defined.contains(&slot)).then_some(slot)
-    }
-
-    /// How many slots are parameters and locals that have been defined.
-    pub(crate) fn defined_end(&self) -> usize {
-        self.next_local
     }
 
     /// Defines a local. They are defined in the order of their slots.

@@ -93,7 +93,10 @@ impl Trees {
         mut code: Option<(usize, usize)>,
     ) -> Found<usize> {
         let first = self.inputs.len();
-        let mut acts = is_act(form);
+        let mut acts = matches!(
+            form,
+            Form::Apply(PROPGET | CALL_METHOD | CALL_PARENT | CALL_STATIC, _)
+        );
         for input in inputs {
             let node = self.node(input.node)?;
             if !input.is_shared {
@@ -142,11 +145,4 @@ impl Trees {
             _ => false,
         }
     }
-}
-
-fn is_act(form: Form) -> bool {
-    matches!(
-        form,
-        Form::Apply(PROPGET | CALL_METHOD | CALL_PARENT | CALL_STATIC, _)
-    )
 }

@@ -207,18 +207,25 @@ impl<'a> World<'a> {
             return page.put(&[own]);
         }
         let kind = script.number(kind);
-        let (stem, infix) = (stem(kind, self.is_script(kind)), self.infix.as_str());
+        let (stem, infix) = (self.stem(kind), self.infix.as_str());
         let name = format!(in page.alloc; "{stem}{infix}{place}")?;
         page.put(&[name.as_bytes()])
+    }
+
+    // The beginning of a made up name for a value of this type.
+    fn stem(&self, kind: usize) -> &'static str {
+        match kind {
+            INT => "number",
+            BOOL => "flag",
+            STRING => "text",
+            _ if self.script_of(kind).is_some() => "object",
+            _ => "list",
+        }
     }
 
     // The script that is this type.
     fn script_of(&self, kind: usize) -> Option<&Script<'a>> {
         self.scripts.get(*self.by_name.get(&kind)?)
-    }
-
-    fn is_script(&self, kind: usize) -> bool {
-        self.by_name.contains_key(&kind)
     }
 
     // The nearest script that has a member of this name, from the script of this type upward, and the member.
@@ -277,8 +284,8 @@ impl<'a> World<'a> {
         match (kind, to) {
             _ if kind == to || to == BOOL => true,
             (INT | BOOL | NONE, STRING) => true,
-            (_, STRING) => self.is_script(kind),
-            (NONE, _) => self.table.name(to).ends_with(b"[]") || self.is_script(to),
+            (_, STRING) => self.script_of(kind).is_some(),
+            (NONE, _) => self.table.name(to).ends_with(b"[]") || self.script_of(to).is_some(),
             _ => self.nearest(&self.names, kind, to).is_some(),
         }
     }
@@ -302,17 +309,6 @@ fn is_word(name: &[u8]) -> bool {
 
 /// The beginnings of made up names.
 static STEMS: [&str; 5] = ["number", "flag", "text", "object", "list"];
-
-// The beginning of a made up name for a value of this type.
-fn stem(kind: usize, is_script: bool) -> &'static str {
-    match kind {
-        INT => "number",
-        BOOL => "flag",
-        STRING => "text",
-        _ if is_script => "object",
-        _ => "list",
-    }
-}
 
 /// What stands between the stem and the place in a made up name, so that no string of the files is such a name: nothing, or where
 // one is, a number between two `_`. Of the strings that end with digits it is told what stands before these.

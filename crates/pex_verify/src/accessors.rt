@@ -10,9 +10,9 @@ ghost use Rattle.pex_verify.specs.Signatures.{number_at};
 ghost use Rattle.pex_verify.specs.Properties.{Reads, Writes, IsAccessor, AreAccessors, IsOfKind, IsProperty};
 
 use crate::fault::{Judged, Refusal, VerifyRule, check};
-use crate::function::{FunctionLists, has_too_many_slots, known_type, load_function};
+use crate::function::{has_too_many_slots, known_type, load_function};
 use crate::loaded::{LoadedFunction, LoadedProperty};
-use crate::scope::Home;
+use crate::scope::{Home, SlotList};
 use crate::scripts::KIND_BITS;
 use crate::sources::{OF_READ, OF_WRITE};
 use crate::value_type::ValueType;
@@ -23,7 +23,7 @@ use pex_values::{PexFunction, PexProperty};
 /// The property at this place of the object, or the first rule that it and its functions break.
 pub(crate) fn load_property(
     home: &Home<'_>,
-    lists: &mut FunctionLists,
+    slots: &mut SlotList,
     place: usize,
     property: &PexProperty,
 ) -> Judged<LoadedProperty>
@@ -33,8 +33,8 @@ pub(crate) fn load_property(
     let kind = judged_type(home, place, property)?;
     let variable = judged_variable(home, property)?;
     let name = home.source.title(home.alloc, property.name)?;
-    let read = load_reader(home, lists, property)?;
-    let write = load_writer(home, lists, property)?;
+    let read = load_reader(home, slots, property)?;
+    let write = load_writer(home, slots, property)?;
     Ok(LoadedProperty {
         name,
         kind,
@@ -102,7 +102,7 @@ fn variable_place(home: &Home<'_>, property: &PexProperty, reference: u16) -> Op
 // The function that reads a property, if there is one.
 fn load_reader(
     home: &Home<'_>,
-    lists: &mut FunctionLists,
+    slots: &mut SlotList,
     property: &PexProperty,
 ) -> Judged<Option<LoadedFunction>>
     ensures sound { IfOk result (λ function. IfSome function (IsSoundFunction (bounds_of home.now))) }
@@ -112,13 +112,13 @@ fn load_reader(
         return Ok(None);
     };
     let is_right = reads(home, property, function);
-    Ok(Some(load_accessor(home, lists, property, function, OF_READ, is_right)?))
+    Ok(Some(load_accessor(home, slots, property, function, OF_READ, is_right)?))
 }
 
 // The function that writes a property, if there is one.
 fn load_writer(
     home: &Home<'_>,
-    lists: &mut FunctionLists,
+    slots: &mut SlotList,
     property: &PexProperty,
 ) -> Judged<Option<LoadedFunction>>
     ensures sound { IfOk result (λ function. IfSome function (IsSoundFunction (bounds_of home.now))) }
@@ -128,14 +128,14 @@ fn load_writer(
         return Ok(None);
     };
     let is_right = writes(home, property, function);
-    Ok(Some(load_accessor(home, lists, property, function, OF_WRITE, is_right)?))
+    Ok(Some(load_accessor(home, slots, property, function, OF_WRITE, is_right)?))
 }
 
 // A function that reads or writes a property and has its name: V13, then V14 where it hasn't the form that its place
 // asks for, or is global or native.
 fn load_accessor(
     home: &Home<'_>,
-    lists: &mut FunctionLists,
+    slots: &mut SlotList,
     property: &PexProperty,
     function: &PexFunction,
     purpose: u8,
@@ -152,7 +152,7 @@ fn load_accessor(
     let object = names.number(home.object.name);
     let name = names.number(property.name);
     let lines = home.lines.find(purpose, object, EMPTY_NAME, name);
-    load_function(home, home.source, lists, property.name, function, lines)
+    load_function(home, home.source, slots, property.name, function, lines)
 }
 
 // To read it no parameters, and a result of the property's type.

@@ -10,40 +10,18 @@ ghost use Rattle.pex_verify.specs.Types.{IsTypeAmong, IsValueTypeAmong};
 ghost use Rattle.pex_verify.specs.Soundness.{IsSoundFunction, AreSoundInstructions};
 
 use crate::fault::{Judged, Refusal, VerifyRule};
-use crate::instruction::{Operands, load_instruction};
+use crate::instruction::load_instruction;
 use crate::loaded::{LoadedFunction, LoadedInstruction};
-use crate::scope::{FunctionScope, Home, NamedList};
+use crate::scope::{FunctionScope, Home, SlotList};
 use crate::scripts::{GLOBAL, NATIVE};
 use crate::sources::{SetFile, lines_of};
 use crate::value_type::ValueType;
 use core_tree::CoreType;
 use papy_base::Name;
-use pex_set::Made;
 use pex_values::{Instruction, PexFunction};
-use std::alloc::Global;
 
 /// How many parameters and locals a function may have.
 const SLOT_LIMIT: usize = 8192;
-
-/// Lists that the functions of a set use one after the other.
-#[derive(Drop)]
-pub(crate) struct FunctionLists {
-    slots: NamedList<ValueType>,
-    operands: Operands,
-}
-
-impl FunctionLists {
-    /// Empty lists, in a set with so many names.
-    pub(crate) fn new(alloc: Global, names: usize) -> Made<FunctionLists> {
-        Ok(FunctionLists {
-            slots: NamedList::new(alloc, names)?,
-            operands: Operands {
-                fixed: Vec::new(alloc),
-                more: Vec::new(alloc),
-            },
-        })
-    }
-}
 
 /// Whether a function has too many parameters and locals.
 pub(crate) fn has_too_many_slots(function: &PexFunction) -> bool {
@@ -56,7 +34,7 @@ pub(crate) fn has_too_many_slots(function: &PexFunction) -> bool {
 pub(crate) fn load_function(
     home: &Home<'_>,
     source: &SetFile<'_>,
-    lists: &mut FunctionLists,
+    slots: &mut SlotList,
     name: u16,
     function: &PexFunction,
     lines: &[u16],
@@ -67,7 +45,6 @@ pub(crate) fn load_function(
     let alloc = home.alloc;
     let answer = home.set.result_type(source.names.number(function.result));
     let result = known_type(answer)?;
-    let slots = &mut lists.slots;
     slots.clear();
     let parameters = load_parameters(home, source, slots, function.parameters.as_slice())?;
     let locals = load_locals(home, source, slots, function.locals.as_slice())?;
@@ -75,11 +52,11 @@ pub(crate) fn load_function(
     let scope = FunctionScope {
         home,
         source,
-        slots: &lists.slots,
+        slots,
         is_global,
         answer,
     };
-    let code = load_code(&scope, function.code.as_slice(), &mut lists.operands)?;
+    let code = load_code(&scope, function.code.as_slice())?;
     let lines = lines_of(alloc, lines, code.len())?;
     Ok(LoadedFunction {
         name: source.title(alloc, name)?,
@@ -109,7 +86,7 @@ pub(crate) fn known_type(declared: ValueType) -> Judged<Option<CoreType>>
 fn load_parameters(
     home: &Home<'_>,
     source: &SetFile<'_>,
-    slots: &mut NamedList<ValueType>,
+    slots: &mut SlotList,
     pairs: &[(u16, u16)],
 ) -> Judged<Vec<(Name, CoreType)>>
     ensures count { IfOk result (λ parameters. vec_len slots.new.list ≡ vec_len slots.old.list + vec_len parameters) }
@@ -131,7 +108,7 @@ fn load_parameters(
 fn load_locals(
     home: &Home<'_>,
     source: &SetFile<'_>,
-    slots: &mut NamedList<ValueType>,
+    slots: &mut SlotList,
     pairs: &[(u16, u16)],
 ) -> Judged<Vec<(Name, Option<CoreType>)>>
     ensures count { IfOk result (λ locals. vec_len slots.new.list ≡ vec_len slots.old.list + vec_len locals) }
@@ -151,7 +128,7 @@ fn load_locals(
 // Adds a parameter or local of this type, unless it breaks a rule: V2, V5, then V7.
 fn judged_slot(
     source: &SetFile<'_>,
-    slots: &mut NamedList<ValueType>,
+    slots: &mut SlotList,
     pair: (u16, u16),
     declared: ValueType,
 ) -> Judged<Option<CoreType>>
@@ -170,17 +147,13 @@ fn judged_slot(
 }
 
 // The code of a function with its operands resolved.
-fn load_code(
-    scope: &FunctionScope<'_>,
-    code: &[Instruction],
-    operands: &mut Operands,
-) -> Judged<Vec<LoadedInstruction>>
+fn load_code(scope: &FunctionScope<'_>, code: &[Instruction]) -> Judged<Vec<LoadedInstruction>>
     ensures sound { IfOk result (λ loaded. AreSoundInstructions (bounds_of scope.now.home.now) (vec_len scope.now.slots.now.list) (vec_len loaded) loaded.items) }
     ensures typed { IfOk result (λ loaded. AreTypedIn scope.now loaded.items) }
 {
     let mut loaded = Vec::with_capacity(scope.home.alloc, code.len())?;
     for (place, instruction) in code.iter().enumerate() {
-        match load_instruction(scope, place, code.len(), instruction, operands) {
+        match load_instruction(scope, place, code.len(), instruction) {
             Ok(found) => loaded.push_reserved(found),
             Err(refusal) => return Err(refusal.at(place)),
         }

@@ -18,30 +18,16 @@ use crate::scope::FunctionScope;
 use papy_base::{TEXT_LIMIT, Text};
 use pex_values::{Datum, Instruction};
 
-/// The operands that an instruction's opcode always has, and the arguments of a call behind them. One value serves all
-/// instructions that are judged, one after the other.
-#[derive(Drop)]
-pub(crate) struct Operands {
-    pub(crate) fixed: Vec<Operand>,
-    pub(crate) more: Vec<Operand>,
-}
-
-// Puts operands that are used so in place of those of the list. Those behind the last use are read.
-fn resolve_all(
-    scope: &FunctionScope<'_>,
-    uses: &[Use],
-    data: &[Datum],
-    operands: &mut Vec<Operand>,
-) -> Judged<()>
-    ensures resolved { OnOk result (AreResolved (vec_len scope.now.slots.now.list) (vec_len scope.now.home.now.variables.now.list) uses.now operands.new.items) }
-    ensures told { OnOk result (AreTold scope.now uses.now «data».now operands.new.items) }
+// The operands that are used so. Those behind the last use are read.
+fn resolve_all(scope: &FunctionScope<'_>, uses: &[Use], data: &[Datum]) -> Judged<Vec<Operand>>
+    ensures resolved { IfOk result (λ operands. AreResolved (vec_len scope.now.slots.now.list) (vec_len scope.now.home.now.variables.now.list) uses.now operands.items) }
+    ensures told { IfOk result (λ operands. AreTold scope.now uses.now «data».now operands.items) }
 {
-    operands.clear();
-    operands.reserve_exact(data.len())?;
+    let mut operands = Vec::with_capacity(scope.home.alloc, data.len())?;
     for (place, datum) in data.iter().enumerate() {
-        operands.push(resolve(scope, use_at(uses, place), *datum)?)?;
+        operands.push_reserved(resolve(scope, use_at(uses, place), *datum)?);
     }
-    Ok(())
+    Ok(operands)
 }
 
 fn use_at(uses: &[Use], place: usize) -> Use
@@ -96,69 +82,31 @@ fn is_long_text(operand: &Operand) -> bool {
     matches!(operand, Operand::Quoted(text) if text.as_bytes().len() > TEXT_LIMIT)
 }
 
-/// What an instruction leads to and looks up.
-#[derive(Clone, Copy)]
-pub(crate) struct Link {
-    jump: Option<u16>,
-    // The number of the name that the machine looks up each time.
-    name: Option<usize>,
-    // The global function that a callstatic calls.
-    function: Option<MethodPlace>,
-}
-
-/// The instruction at this place of so many with its operands resolved, or the lowest rule that it breaks. The operands that
-/// are handed in are those of an earlier instruction.
+/// The instruction at this place of so many with its operands resolved, or the lowest rule that it breaks.
 pub(crate) fn load_instruction(
     scope: &FunctionScope<'_>,
     place: usize,
     count: usize,
     instruction: &Instruction,
-    operands: &mut Operands,
 ) -> Judged<LoadedInstruction>
     ensures sound { IfOk result (IsSoundInstruction (bounds_of scope.now.home.now) (vec_len scope.now.slots.now.list) count place) }
     ensures typed { IfOk result (IsTypedIn scope.now) }
 {
-    let link = judge_instruction(scope, place, count, instruction, operands)?;
-    let alloc = scope.home.alloc;
-    Ok(LoadedInstruction {
-        opcode: instruction.opcode,
-        fixed: std::mem::replace(&mut operands.fixed, Vec::new(alloc)),
-        more: std::mem::replace(&mut operands.more, Vec::new(alloc)),
-        jump: link.jump,
-        name: link.name,
-        function: link.function,
-    })
-}
-
-/// Judges the instruction at this place of so many, and gives where it leads, or the lowest rule that it breaks. Its resolved
-/// operands stand in the place of those that are handed in.
-fn judge_instruction(
-    scope: &FunctionScope<'_>,
-    place: usize,
-    count: usize,
-    instruction: &Instruction,
-    operands: &mut Operands,
-) -> Judged<Link>
-    ensures fixed { OnOk result (AreResolved (vec_len scope.now.slots.now.list) (vec_len scope.now.home.now.variables.now.list) (uses_by (action_by instruction.now.opcode)) operands.new.fixed.items) }
-    ensures more { OnOk result (All (IsResolved (vec_len scope.now.slots.now.list) (vec_len scope.now.home.now.variables.now.list) Read) operands.new.more.items) }
-    ensures jump { IfOk result (λ link. Leads (action_by instruction.now.opcode) place count operands.new.fixed.items link.jump) }
-    ensures function { IfOk result (λ link. IfSome link.function (λ f. f.script < vec_len scope.now.home.now.set.now.heads)) }
-    ensures judged { OnOk result (IsJudged scope.now instruction.now operands.new.fixed.items operands.new.more.items) }
-{
     let action = judged_action(instruction)?;
     let data = instruction.fixed.as_slice();
-    resolve_all(scope, uses_of(action), data, &mut operands.fixed)?;
-    resolve_all(scope, &[], instruction.more.as_slice(), &mut operands.more)?;
-    let fixed = operands.fixed.as_slice();
-    let more = operands.more.as_slice();
-    let found = look_up(scope, action, data, fixed);
-    if let Some(rule) = broken_rule(scope, action, fixed, more, found) {
+    let fixed = resolve_all(scope, uses_of(action), data)?;
+    let more = resolve_all(scope, &[], instruction.more.as_slice())?;
+    let found = look_up(scope, action, data, fixed.as_slice());
+    if let Some(rule) = broken_rule(scope, action, fixed.as_slice(), more.as_slice(), found) {
         return Err(Refusal::of(rule));
     }
-    let jump = jump_of(action, fixed, place, count)?;
-    check(!has_long_text(fixed), VerifyRule::TextTooLong)?;
-    check(!has_long_text(more), VerifyRule::TextTooLong)?;
-    Ok(Link {
+    let jump = jump_of(action, fixed.as_slice(), place, count)?;
+    let has_long = has_long_text(fixed.as_slice()) || has_long_text(more.as_slice());
+    check(!has_long, VerifyRule::TextTooLong)?;
+    Ok(LoadedInstruction {
+        opcode: instruction.opcode,
+        fixed,
+        more,
         jump,
         name: looked_up_name(scope, action, data),
         function: static_function(action, found),

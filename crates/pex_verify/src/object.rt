@@ -17,10 +17,10 @@ ghost use Rattle.pex_verify.specs.Variables.{variable_type, type_of_variable};
 
 use crate::accessors::load_property;
 use crate::fault::{Judged, Refusal, Valid, VerifyRule, check};
-use crate::function::{FunctionLists, has_too_many_slots, known_type, load_function};
+use crate::function::{has_too_many_slots, known_type, load_function};
 use crate::loaded::{LoadedFunction, LoadedProperty, LoadedScript};
 use crate::outlining::outline_script;
-use crate::scope::{Home, NamedList};
+use crate::scope::{Home, NamedList, SlotList};
 use crate::scripts::{KIND_BITS, ScriptSet, Signature};
 use crate::sources::{DefaultMembers, FileLines, OF_STATE, SetFile};
 use crate::value_type::ValueType;
@@ -53,7 +53,7 @@ pub(crate) struct Loader<'a> {
 #[derive(Drop)]
 pub(crate) struct ObjectLists {
     variables: NamedList<OutlineVariable>,
-    functions: FunctionLists,
+    slots: SlotList,
 }
 
 impl ObjectLists {
@@ -61,7 +61,7 @@ impl ObjectLists {
     pub(crate) fn new(alloc: Global, names: usize) -> Made<ObjectLists> {
         Ok(ObjectLists {
             variables: NamedList::new(alloc, names)?,
-            functions: FunctionLists::new(alloc, names)?,
+            slots: NamedList::new(alloc, names)?,
         })
     }
 }
@@ -98,18 +98,18 @@ pub(crate) fn load_object(
         object,
         variables: &lists.variables,
     };
-    load_script(&home, &mut lists.functions)
+    load_script(&home, &mut lists.slots)
 }
 
 // The object's script and outline, once its variables were judged.
-fn load_script(home: &Home<'_>, lists: &mut FunctionLists) -> Valid<LoadedObject>
+fn load_script(home: &Home<'_>, slots: &mut SlotList) -> Valid<LoadedObject>
     requires { AreTyped (vec_len home.now.set.now.heads) home.now.variables.now.list.items }
     ensures sound { IfOk result (IsSoundObject (vec_len home.now.set.now.heads)) }
     ensures object { IfOk result (λ loaded. IsObjectOf (judged_in home.now) home.now.here (placed_at home.now) loaded.script loaded.outline) }
     ensures variables { IfOk result (λ loaded. loaded.outline.variables.items ≡ home.now.variables.now.list.items) }
 {
-    let properties = load_properties(home, lists)?;
-    let states = load_states(home, lists)?;
+    let properties = load_properties(home, slots)?;
+    let states = load_states(home, slots)?;
     let script = LoadedScript { properties, states };
     let outline = outline_script(home, &script)?;
     Ok(LoadedObject { script, outline })
@@ -199,13 +199,13 @@ fn default_value(alloc: Global, kind: CoreType) -> Made<Value> {
     })
 }
 
-fn load_properties(home: &Home<'_>, lists: &mut FunctionLists) -> Valid<Vec<LoadedProperty>>
+fn load_properties(home: &Home<'_>, slots: &mut SlotList) -> Valid<Vec<LoadedProperty>>
     ensures sound { IfOk result (λ properties. All (IsSoundProperty (bounds_of home.now)) properties.items) }
     ensures written { IfOk result (λ properties. AreProperties home.now properties.items) }
 {
     let mut properties = Vec::with_capacity(home.alloc, home.object.properties.len())?;
     for (place, property) in home.object.properties.iter().enumerate() {
-        match load_property(home, lists, place, property) {
+        match load_property(home, slots, place, property) {
             Ok(loaded) => properties.push(loaded)?,
             Err(refusal) => return Err(home.fault_in(home.source.text(property.name), refusal)),
         }
@@ -215,7 +215,7 @@ fn load_properties(home: &Home<'_>, lists: &mut FunctionLists) -> Valid<Vec<Load
 
 // The members that a script without parent lacks stand last in its empty state, or in a last one that is
 // added for them.
-fn load_states(home: &Home<'_>, lists: &mut FunctionLists) -> Valid<Vec<State>>
+fn load_states(home: &Home<'_>, slots: &mut SlotList) -> Valid<Vec<State>>
     ensures sound { IfOk result (λ states. All (λ state. IsSoundState (bounds_of home.now) state.1.items) states.items) }
     ensures written { IfOk result (λ states. AreStates (site_of home.now) (states_written home.now home.now.object.now.states.items) states.items) }
     ensures distinct { OnOk result (AreDistinct (state_numbers home.now)) }
@@ -228,12 +228,12 @@ fn load_states(home: &Home<'_>, lists: &mut FunctionLists) -> Valid<Vec<State>>
             let refusal = Refusal::of(VerifyRule::DuplicateName);
             return Err(home.fault_in(home.source.text(state.name), refusal));
         }
-        states.push(load_state(home, lists, state)?)?;
+        states.push(load_state(home, slots, state)?)?;
     }
     if has_empty_state(home) {
         return Ok(states);
     }
-    completed(home, lists, states)
+    completed(home, slots, states)
 }
 
 // Notes a number, and tells whether it is new.
@@ -254,18 +254,14 @@ fn has_empty_state(home: &Home<'_>) -> bool
 }
 
 // These states, none of which is the empty one, and an empty state of the members that the script lacks.
-fn completed(
-    home: &Home<'_>,
-    lists: &mut FunctionLists,
-    mut states: Vec<State>,
-) -> Valid<Vec<State>>
+fn completed(home: &Home<'_>, slots: &mut SlotList, mut states: Vec<State>) -> Valid<Vec<State>>
     requires { All (λ state. IsSoundState (bounds_of home.now) state.1.items) states.items }
     ensures sound { IfOk result (λ states. All (λ state. IsSoundState (bounds_of home.now) state.1.items) states.items) }
     ensures written { (before : List WrittenState) → AreStates (site_of home.now) before states.items
         → IfOk result (λ states. AreStates (site_of home.now) (before ++ added_state (lacking_written home.now)) states.items) }
 {
     let mut added = Vec::new(home.alloc);
-    add_members(home, lists, &mut added)?;
+    add_members(home, slots, &mut added)?;
     if added.is_empty() {
         return Ok(states);
     }
@@ -273,30 +269,30 @@ fn completed(
     Ok(states)
 }
 
-fn load_state(home: &Home<'_>, lists: &mut FunctionLists, state: &PexState) -> Valid<State>
+fn load_state(home: &Home<'_>, slots: &mut SlotList, state: &PexState) -> Valid<State>
     ensures sound { IfOk result (λ loaded. IsSoundState (bounds_of home.now) loaded.1.items) }
     ensures written { IfOk result (IsState (site_of home.now) (state_written home.now state.now)) }
     ensures replaces { OnOk result (EachReplaces home.now state.now) }
 {
     let name = home.source.title(home.alloc, state.name)?;
-    Ok((name, all_functions(home, lists, state)?))
+    Ok((name, all_functions(home, slots, state)?))
 }
 
 // The functions of a state, and behind those of the empty state the members that the script lacks.
-fn all_functions(home: &Home<'_>, lists: &mut FunctionLists, state: &PexState) -> Valid<Functions>
+fn all_functions(home: &Home<'_>, slots: &mut SlotList, state: &PexState) -> Valid<Functions>
     ensures sound { IfOk result (λ functions. IsSoundState (bounds_of home.now) functions.items) }
     ensures written { IfOk result (λ functions. AreWritten (site_of home.now) (state_functions home.now state.now) functions.items) }
     ensures replaces { OnOk result (EachReplaces home.now state.now) }
 {
-    let mut functions = load_functions(home, lists, state)?;
+    let mut functions = load_functions(home, slots, state)?;
     if home.source.names.number(state.name) != EMPTY_NAME {
         return Ok(functions);
     }
-    add_members(home, lists, &mut functions)?;
+    add_members(home, slots, &mut functions)?;
     Ok(functions)
 }
 
-fn load_functions(home: &Home<'_>, lists: &mut FunctionLists, state: &PexState) -> Valid<Functions>
+fn load_functions(home: &Home<'_>, slots: &mut SlotList, state: &PexState) -> Valid<Functions>
     ensures sound { IfOk result (λ functions. AreSoundFunctions (bounds_of home.now) functions.items) }
     ensures written { IfOk result (λ functions. AreWritten (site_of home.now) (map (own_written home.now) state.now.functions.items) functions.items) }
     ensures replaces { OnOk result (EachReplaces home.now state.now) }
@@ -305,7 +301,7 @@ fn load_functions(home: &Home<'_>, lists: &mut FunctionLists, state: &PexState) 
     let mut functions = Vec::with_capacity(home.alloc, state.functions.len())?;
     for (name, function) in &state.functions {
         let is_new = note(&mut seen, home.source.names.number(*name))?;
-        match load_state_function(home, lists, state.name, *name, function, is_new) {
+        match load_state_function(home, slots, state.name, *name, function, is_new) {
             Ok(loaded) => functions.push(loaded)?,
             Err(refusal) => return Err(home.fault_in(home.source.text(*name), refusal)),
         }
@@ -316,7 +312,7 @@ fn load_functions(home: &Home<'_>, lists: &mut FunctionLists, state: &PexState) 
 // A function of a state, which has to have a new name there: V5, V11, then V13.
 fn load_state_function(
     home: &Home<'_>,
-    lists: &mut FunctionLists,
+    slots: &mut SlotList,
     state: u16,
     name: u16,
     function: &PexFunction,
@@ -336,7 +332,7 @@ fn load_state_function(
     let lines = home
         .lines
         .find(OF_STATE, object, names.number(state), names.number(name));
-    load_function(home, home.source, lists, name, function, lines)
+    load_function(home, home.source, slots, name, function, lines)
 }
 
 // Whether a function of a state gives and takes what the function that it replaces does.
@@ -395,14 +391,14 @@ fn inherited_function(set: &ScriptSet, script: usize, name: usize) -> Option<&Si
 }
 
 // Adds those of the four members that the script lacks. They are judged like all other functions.
-fn add_members(home: &Home<'_>, lists: &mut FunctionLists, functions: &mut Functions) -> Valid<()>
+fn add_members(home: &Home<'_>, slots: &mut SlotList, functions: &mut Functions) -> Valid<()>
     ensures sound { AreSoundFunctions (bounds_of home.now) functions.old.items
         → OnOk result (AreSoundFunctions (bounds_of home.now) functions.new.items) }
     ensures written { (before : List Written) → AreWritten (site_of home.now) before functions.old.items
         → OnOk result (AreWritten (site_of home.now) (before ++ lacking_written home.now) functions.new.items) }
 {
     for place in home.set.lacking(usize::from(home.here)) {
-        add_member(home, lists, *place, functions)?;
+        add_member(home, slots, *place, functions)?;
     }
     Ok(())
 }
@@ -410,7 +406,7 @@ fn add_members(home: &Home<'_>, lists: &mut FunctionLists, functions: &mut Funct
 // Adds the member at this place.
 fn add_member(
     home: &Home<'_>,
-    lists: &mut FunctionLists,
+    slots: &mut SlotList,
     place: usize,
     functions: &mut Functions,
 ) -> Valid<()>
@@ -422,19 +418,19 @@ fn add_member(
     let Some(member) = home.members.list.get(place) else {
         return Ok(());
     };
-    functions.push(load_member(home, lists, member)?)?;
+    functions.push(load_member(home, slots, member)?)?;
     Ok(())
 }
 
 fn load_member(
     home: &Home<'_>,
-    lists: &mut FunctionLists,
+    slots: &mut SlotList,
     member: &(u16, PexFunction),
 ) -> Valid<LoadedFunction>
     ensures sound { IfOk result (IsSoundFunction (bounds_of home.now)) }
     ensures written { IfOk result (IsWritten (site_of home.now) (written_member home.now member.now)) }
 {
     let source = home.members.source;
-    let loaded = load_function(home, source, lists, member.0, &member.1, &[]);
+    let loaded = load_function(home, source, slots, member.0, &member.1, &[]);
     loaded.map_err(|refusal| home.fault_in(source.text(member.0), refusal))
 }

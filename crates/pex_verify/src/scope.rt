@@ -25,6 +25,9 @@ pub(crate) struct NamedList<T> {
     number: usize,
 }
 
+/// The types of the parameters and locals of a function.
+pub(crate) type SlotList = NamedList<ValueType>;
+
 impl<T: Drop> NamedList<T> {
     /// An empty list, for so many names.
     pub(crate) fn new(alloc: Global, names: usize) -> Made<NamedList<T>>
@@ -99,8 +102,7 @@ pub(crate) struct FunctionScope<'a> {
     pub(crate) home: &'a Home<'a>,
     /// The file that has the function's strings.
     pub(crate) source: &'a SetFile<'a>,
-    /// The types of its parameters and locals.
-    pub(crate) slots: &'a NamedList<ValueType>,
+    pub(crate) slots: &'a SlotList,
     pub(crate) is_global: bool,
     /// The function's result.
     pub(crate) answer: ValueType,

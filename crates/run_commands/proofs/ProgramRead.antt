@@ -21,7 +21,7 @@ use Rattle.command_files.specs.Ending.{CountsReads, IsWordBelow, MissesScript, w
 use Rattle.command_files.specs.FileFault.{CountsFile, MissesFile, ending_at}
 use Rattle.command_files.specs.Held.{AreHeld, Hold}
 use Rattle.command_files.specs.PexFile.{ReadsPex}
-use Rattle.command_files.specs.SceneFile.{ReadsPexScene}
+use Rattle.command_files.specs.SceneFile.{ReadsKeptScene}
 use Rattle.command_files.specs.Scripts.{CountsScripts}
 use Rattle.command_files.proofs.HeldScripts.{held-more}
 use Rattle.run_commands.specs.Program.{AreKept, AreSmall, AreSpelled, BreaksTogether, EndsOnProgram, EndsOnSet, EndsOnValues, EndsTogether, IsHeldProgram, IsSpelled, MissesRead, MissesValue, ReadsValue, Verifies, files_from, scene_of}
@@ -185,7 +185,7 @@ scene_below count word file.ReadFault within = within
 scene_below count word file.OutOfMemory within = tt
 scene_below count word (file.Refused p rule) within = within
 
-pub scene_ends : (words : List (List ℕ)) (number first : ℕ) (holds : Option Files) (fault : FileFault) → ReadsPexScene holds (scene_of number words) (Err fault) → EndsOnProgram number first words holds (ending_at number fault)
+pub scene_ends : (words : List (List ℕ)) (number first : ℕ) (holds : Option Files) (fault : FileFault) → ReadsKeptScene holds (scene_of number words) (Err fault) → EndsOnProgram number first words holds (ending_at number fault)
 scene_ends words number first None (file.Refused place rule) read = tt
 scene_ends words number first (Some files) (file.Refused place rule) read = (read.0, inl (record { word_is = refl; refusal = read.1 }))
 scene_ends words number first holds file.ReadFault read = tt
@@ -193,7 +193,7 @@ scene_ends words number first holds file.OutOfMemory read = tt
 
 -- ---- files behind it
 
-pub values_end : (words : List (List ℕ)) (number first : ℕ) (holds : Option Files) (scene : KeptScene) (ending : Ending) → ReadsPexScene holds (scene_of number words) (Ok scene) → EndsOnValues first (files_from first words) holds ending →
+pub values_end : (words : List (List ℕ)) (number first : ℕ) (holds : Option Files) (scene : KeptScene) (ending : Ending) → ReadsKeptScene holds (scene_of number words) (Ok scene) → EndsOnValues first (files_from first words) holds ending →
     EndsOnProgram number first words holds ending
 values_end words number first None scene (Refused word place rule) read ends = tt
 values_end words number first (Some files) scene (Refused word place rule) read ends = ((scene.text.items, read), inr (inl ends))
@@ -219,7 +219,7 @@ values_miss words number first NotBuilt missed above misses = tt
 
 -- ---- files together
 
-pub together_ends : (words : List (List ℕ)) (number first count : ℕ) (holds : Option Files) (scene : KeptScene) (result : Result Program Ending) → count ≡ length (files_from first words) → ReadsPexScene holds (scene_of number words) (Ok scene) →
+pub together_ends : (words : List (List ℕ)) (number first count : ℕ) (holds : Option Files) (scene : KeptScene) (result : Result Program Ending) → count ≡ length (files_from first words) → ReadsKeptScene holds (scene_of number words) (Ok scene) →
     IfSome holds (AreHeld (files_from first words)) → Verifies first count result → IfErr result (EndsOnProgram number first words holds)
 together_ends words number first count holds scene (Ok program) is read held ends = tt
 together_ends words number first count None scene (Err (Refused word place rule)) is read held ends = tt
@@ -305,7 +305,7 @@ together_word first count size (Err ending) within ends = apart_below first coun
 -- ---- what was read
 
 pub program_held : (keep : Bool) (words : List (List ℕ)) (number first : ℕ) (holds : Option Files) (scene : KeptScene) (kept : Vec (Vec ℕ Global) Global) (result : Result Program Ending) → IfOk result (λ program. program.text ≡ scene.text) → IfOk result (λ program. program.kept ≡ kept) →
-    ReadsPexScene holds (scene_of number words) (Ok scene) → IfSome holds (AreKept keep (files_from first words) kept.items) → IfOk result (λ program. IfSome holds (IsHeldProgram number first keep words program))
+    ReadsKeptScene holds (scene_of number words) (Ok scene) → IfSome holds (AreKept keep (files_from first words) kept.items) → IfOk result (λ program. IfSome holds (IsHeldProgram number first keep words program))
 program_held keep words number first holds scene kept (Err ending) text files read are = tt
 program_held keep words number first None scene kept (Ok program) text files read are = tt
 program_held keep words number first (Some held) scene kept (Ok program) text files read are =

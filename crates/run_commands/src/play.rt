@@ -71,14 +71,10 @@ pub fn play<S: Sink>(
         Ok(machine) => machine,
         Err(ending) => return ending,
     };
-    match run_scene(alloc, &mut machine, out, devices) {
-        Ok(()) => {
-            drop(machine);
-            Ending::Done
-        }
-        Err(fault) => {
-            drop(machine);
-            turns_ending(fault)
-        }
+    let ended = run_scene(alloc, &mut machine, out, devices);
+    drop(machine);
+    match ended {
+        Ok(()) => Ending::Done,
+        Err(fault) => turns_ending(fault),
     }
 }

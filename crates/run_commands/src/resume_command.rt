@@ -63,17 +63,8 @@ fn read_held<D: Desk>(alloc: Global, desk: &mut D, name: &[u8]) -> Result<Held, 
     ensures ready { IfOk result IsReady }
     ensures read { ReadsHeld (D.holds desk.old) name.now result }
 {
-    let bytes = match read_text(
-        alloc,
-        desk,
-        name,
-        HELD_LIMIT,
-        Place::Whole,
-        Rule::Held(HeldRule::TooLarge),
-    ) {
-        Ok(bytes) => bytes,
-        Err(fault) => return Err(fault),
-    };
+    let rule = Rule::Held(HeldRule::TooLarge);
+    let bytes = read_text(alloc, desk, name, HELD_LIMIT, Place::Whole, rule)?;
     loaded_held(alloc, &bytes)
 }
 
@@ -148,28 +139,24 @@ fn restored(
     ensures no_fault { IfOk result (λ machine. machine.fault ≡ None) }
     ensures kinds { SameKinds (map (λ d. device_state d) devices.old.items) (map (λ d. device_state d) devices.new.items) }
 {
-    let Held {
-        files,
-        scene: text,
-        state,
-    } = held;
-    let loaded = match held_set(alloc, files) {
+    let loaded = match held_set(alloc, held.files) {
         Ok(loaded) => loaded,
         Err(fault) => {
-            drop(state);
+            drop(held.state);
             return Err(fault);
         }
     };
-    let bound = held_scene(alloc, &text, loaded.outline(), state.devices.len() as u16);
-    drop(text);
+    let count = held.state.devices.len() as u16;
+    let bound = held_scene(alloc, &held.scene, loaded.outline(), count);
+    drop(held.scene);
     match bound {
-        Ok(scene) => match Machine::restore(alloc, loaded, scene, state, devices) {
+        Ok(scene) => match Machine::restore(alloc, loaded, scene, held.state, devices) {
             Ok(machine) => Ok(machine),
             Err(fault) => Err(restore_fault(fault)),
         },
         Err(fault) => {
             drop(loaded);
-            drop(state);
+            drop(held.state);
             Err(fault)
         }
     }

@@ -7,13 +7,11 @@ use papy_base::OutOfMemory;
 use thiserror::Error;
 
 /// The rules of a journal. Where a line breaks both, the first counts.
-#[derive(Clone, Copy, Debug, PartialEq, Eq, Error)]
+#[derive(Clone, Copy, Debug, PartialEq, Eq)]
 pub enum JournalRule {
-    /// A line has none of the forms, or its form may not stand where it stands.
-    #[error("J1 BadLine")]
+    /// J1: a line has none of the forms, or its form may not stand where it stands.
     BadLine,
-    /// A move can't happen where it stands.
-    #[error("J2 BadMove")]
+    /// J2: a move can't happen where it stands.
     BadMove,
 }
 
@@ -22,7 +20,7 @@ pub enum JournalRule {
 pub enum JournalFault {
     /// The first line that breaks a rule, from 1. It is 0 for a journal of more than 128 MiB, and the number of the
     /// line after the last where a further line must come.
-    #[error("line {line}: {rule}")]
+    #[error("line {line}: {rule:?}")]
     Broken { line: u32, rule: JournalRule },
     /// No memory was found.
     #[error("out of memory")]

@@ -4,35 +4,26 @@ ghost use Rattle.script_lexer.specs.declared.fault.LexFault.TheVariants.{OutOfMe
 use papy_base::OutOfMemory;
 use thiserror::Error;
 
-/// The rules of the lexical form, in order: where two are broken at one place, the first counts.
-#[derive(Clone, Copy, Debug, PartialEq, Eq, Error)]
+/// The rules of the lexical form, L1 to L9, in the order of their numbers: where two are broken at one place, the first counts.
+#[derive(Clone, Copy, Debug, PartialEq, Eq)]
 pub enum LexRule {
-    /// A byte begins no token, blank, join, comment or line end.
-    #[error("L1 BadByte")]
+    /// L1: a byte begins no token, blank, join, comment or line end.
     BadByte,
-    /// A text meets a line's end or the file's end.
-    #[error("L2 OpenText")]
+    /// L2: a text meets a line's end or the file's end.
     OpenText,
-    /// A backslash in a text isn't followed by `n`, `t`, a backslash or a quote.
-    #[error("L3 BadEscape")]
+    /// L3: a backslash in a text isn't followed by `n`, `t`, a backslash or a quote.
     BadEscape,
-    /// Decimal digits are followed by a point and a digit.
-    #[error("L4 FloatLiteral")]
+    /// L4: decimal digits are followed by a point and a digit.
     FloatLiteral,
-    /// The keyword Float stands.
-    #[error("L5 FloatWord")]
+    /// L5: the keyword Float stands.
     FloatWord,
-    /// A number is out of range or has no digits, or a letter or `_` follows it at once.
-    #[error("L6 NumberRange")]
+    /// L6: a number is out of range or has no digits, or a letter or `_` follows it at once.
     NumberRange,
-    /// A name has more than 255 bytes, a text more than 1,024, or a documentation more than 65,535.
-    #[error("L7 TextTooLong")]
+    /// L7: a name has more than 255 bytes, a text more than 1,024, or a documentation more than 65,535.
     TextTooLong,
-    /// A comment of several lines or a documentation meets the file's end.
-    #[error("L8 OpenComment")]
+    /// L8: a comment of several lines or a documentation meets the file's end.
     OpenComment,
-    /// The file has more than 1 MiB, or a 65,536th physical line begins.
-    #[error("L9 TooLarge")]
+    /// L9: the file has more than 1 MiB, or a 65,536th physical line begins.
     TooLarge,
 }
 
@@ -41,7 +32,7 @@ pub enum LexRule {
 pub enum LexFault {
     /// The first broken rule of the file. The line is the physical line of its place, from 1, and 0
     /// for a file of more than 1 MiB.
-    #[error("line {line}: {rule}")]
+    #[error("line {line}: {rule:?}")]
     Broken { line: u32, rule: LexRule },
     /// No memory was found.
     #[error("out of memory")]

@@ -98,9 +98,7 @@ fn file(
 fn one(alloc: Global, function: Function) -> Result<Vec<Function>, OutOfMemory>
     ensures { IfOk result (λ functions. functions.items ≡ function ∷ []) }
 {
-    let mut functions = Vec::with_capacity(alloc, 1)?;
-    functions.push(function)?;
-    Ok(functions)
+    Ok(vec![in alloc; function]?)
 }
 
 // `Trace(String asTextToPrint, Int aiSeverity = 0)`
@@ -131,8 +129,7 @@ fn sleep(alloc: Global) -> Result<Function, OutOfMemory>
     ensures { IfOk result (IsMember sleep) }
 {
     let name = Name::from_bytes(alloc, b"Sleep")?;
-    let mut parameters = Vec::with_capacity(alloc, 1)?;
-    parameters.push(parameter(alloc, b"Int", b"turns", None)?)?;
+    let parameters = vec![in alloc; parameter(alloc, b"Int", b"turns", None)?]?;
     Ok(member(None, name, parameters, Body::Native))
 }
 
@@ -204,8 +201,7 @@ fn goto_state(alloc: Global) -> Result<Function, OutOfMemory>
     ensures { IfOk result (IsMember goto_state) }
 {
     let name = Name::from_bytes(alloc, b"GotoState")?;
-    let mut parameters = Vec::with_capacity(alloc, 1)?;
-    parameters.push(parameter(alloc, b"String", b"asNewState", None)?)?;
+    let parameters = vec![in alloc; parameter(alloc, b"String", b"asNewState", None)?]?;
     let lines = goto_lines(alloc)?;
     Ok(member(None, name, parameters, Body::Lines(lines)))
 }
@@ -246,9 +242,8 @@ fn get_lines(alloc: Global) -> Result<Vec<Statement>, OutOfMemory>
     ensures { IfOk result (λ lines. Pairwise IsStatement (Returns (codes "::State") ∷ []) lines.items) }
 {
     let state = Name::from_bytes(alloc, STATE_WORD)?;
-    let mut lines = Vec::with_capacity(alloc, 1)?;
-    lines.push(statement(StatementForm::Return(Some(Expr::Word(state)))))?;
-    Ok(lines)
+    let line = statement(StatementForm::Return(Some(Expr::Word(state))));
+    Ok(vec![in alloc; line]?)
 }
 
 // An event without parameters that does nothing.

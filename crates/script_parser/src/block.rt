@@ -12,14 +12,8 @@ use script_lexer::Keyword;
 /// The most `If` and `While` that may be open.
 pub(crate) const OPEN_LIMIT: u8 = 64;
 
-// Statements in a row, and the line that ends them: the first whose form is none of a statement.
-#[derive(Drop)]
-struct Block {
-    statements: Vec<Statement>,
-    end: LineForm,
-    end_at: usize,
-    end_line: u16,
-}
+// Statements in a row, and the line that ends them: its form, the first that is none of a statement, its place and its number.
+type Block = (Vec<Statement>, LineForm, usize, u16);
 
 // The statements up to the line that ends them. At most `depth` blocks may be open in them.
 #[cycle(statements)]
@@ -56,14 +50,7 @@ fn statements(reader: &mut Reader<'_>, depth: u8) -> Result<Block, BlockFault>
             LineForm::Return(value) => StatementForm::Return(value),
             LineForm::If(test) => if_block(reader, line, test, inner_depth(at, depth)?)?,
             LineForm::While(test) => while_block(reader, test, inner_depth(at, depth)?)?,
-            end => {
-                return Ok(Block {
-                    statements: found,
-                    end,
-                    end_at: at,
-                    end_line: line,
-                });
-            }
+            end => return Ok((found, end, at, line)),
         };
         found.push(Statement { line, form })?;
     }
@@ -99,11 +86,11 @@ fn if_block(
     let mut tests = Vec::new(reader.alloc);
     let mut next = (line, test);
     'tests: loop {
-        let block = statements(reader, depth)?;
+        let (body, end, end_at, end_line) = statements(reader, depth)?;
         let (line, test) = next;
-        tests.push((line, test, block.statements))?;
-        match block.end {
-            LineForm::ElseIf(test) => next = (block.end_line, test),
+        tests.push((line, test, body))?;
+        match end {
+            LineForm::ElseIf(test) => next = (end_line, test),
             LineForm::Key(Keyword::Else) => {
                 let (otherwise, _) = closed_block(reader, Keyword::EndIf, depth)?;
                 return Ok(StatementForm::If { tests, otherwise });
@@ -114,7 +101,7 @@ fn if_block(
             }
             other => {
                 drop(other);
-                return Err(BlockFault::bad_block(block.end_at));
+                return Err(BlockFault::bad_block(end_at));
             }
         }
     }
@@ -132,14 +119,14 @@ pub(crate) fn closed_block(
     ensures onward { OnOk result (GoesOn reader.old reader.new) }
     ensures fault { IfErr result (IsBlockFault reader.old.lines.now) }
 {
-    let block = statements(reader, depth)?;
-    let is_closed = matches!(&block.end, LineForm::Key(word) if *word == keyword);
-    drop(block.end);
+    let (body, end, end_at, end_line) = statements(reader, depth)?;
+    let is_closed = matches!(&end, LineForm::Key(word) if *word == keyword);
+    drop(end);
     if is_closed {
-        Ok((block.statements, block.end_line))
+        Ok((body, end_line))
     } else {
-        drop(block.statements);
-        Err(BlockFault::bad_block(block.end_at))
+        drop(body);
+        Err(BlockFault::bad_block(end_at))
     }
 }
 

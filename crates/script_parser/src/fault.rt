@@ -11,7 +11,7 @@ use thiserror::Error;
 pub enum ParseFault {
     /// The first bad line, by the physical line on which it begins, and the rule that it breaks. Where
     /// the file ends too early it is the line after the last.
-    #[error("line {line}: {rule}")]
+    #[error("line {line}: {rule:?}")]
     Broken { line: u32, rule: LineRule },
     /// No memory was found.
     #[error("out of memory")]

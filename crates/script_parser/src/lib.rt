@@ -4,7 +4,6 @@
 
 mod block;
 mod fault;
-mod member;
 mod parser;
 mod reader;
 mod script;

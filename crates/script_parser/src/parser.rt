@@ -1,19 +1,20 @@
-// From a file's lines to its script.
-ghost use Rattle.std.specs.Prelude.{◌≡◌, ◌+◌, ◌^◌, ◌<◌, All, IfErr, IfOk, OnOk, Some, slice_get};
+// From a file's lines to its script, with its members and those of its states and properties.
+ghost use Rattle.std.specs.Prelude.{◌≡◌, ◌+◌, ◌^◌, ◌<◌, ◌≤◌, All, List, IfErr, IfOk, OnOk, Some, slice_get};
 ghost use Rattle.script_lexer.specs.declared.line.Line.{Line};
 ghost use Rattle.script_parser.specs.Faults.{IsFaultOf, IsLineOf, IsNumberOf};
 ghost use Rattle.script_parser.specs.Lines.{lines_of};
-ghost use Rattle.script_parser.specs.Reader.{GoesOn, IsBlockFault};
-ghost use Rattle.script_parser.specs.Stands.{ScriptStands};
+ghost use Rattle.script_parser.specs.Reader.{GoesOn, IsBlockFault, StandsAt, left};
+ghost use Rattle.script_parser.specs.Stands.{AccessorsStand, FunctionsStand, PropertyStands, ScriptStands};
 ghost use Rattle.script_parser.specs.Words.{words_of, CountsDifferent};
 
+use crate::block::{OPEN_LIMIT, closed_block};
 use crate::fault::{BlockFault, ParseFault};
-use crate::member::member;
-use crate::reader::Reader;
-use crate::script::Script;
+use crate::reader::{LineAt, Reader};
+use crate::script::{Body, Function, Property, PropertyForm, Script, State, Variable};
 use crate::words::count_words;
-use line_parser::{LineForm, LineTree};
-use script_lexer::{Line, Lines};
+use line_parser::{Access, Constant, Expr, Heading, LineForm, LineTree, TypeName};
+use papy_base::{Name, Text, neg};
+use script_lexer::{Keyword, Line, Lines, Sign};
 use std::alloc::Global;
 
 /// The script of a file's logical lines, whose blocks are those of the Creation Kit wiki's Papyrus
@@ -101,6 +102,210 @@ fn heading(reader: &mut Reader<'_>) -> Result<Script, BlockFault>
         other => {
             drop(other);
             Err(BlockFault::bad_block(first.at))
+        }
+    }
+}
+
+// Puts the member that begins with this line into the script.
+fn member(reader: &mut Reader<'_>, script: &mut Script, first: LineAt<'_>) -> Result<(), BlockFault>
+    requires { StandsAt reader.old.lines.now first }
+    ensures bound { OnOk result (left reader.new ≤ left reader.old) }
+    ensures onward { OnOk result (GoesOn reader.old reader.new) }
+    ensures fault { IfErr result (IsBlockFault reader.old.lines.now) }
+    ensures stands { ScriptStands reader.old.lines.now script.old → OnOk result (ScriptStands reader.old.lines.now script.new) }
+{
+    let LineTree { form, doc } = reader.tree(&first)?;
+    let at = first.at;
+    let line = first.line.number;
+    match form {
+        LineForm::Import(name) => Ok(script.imports.push((line, name))?),
+        LineForm::Definition {
+            kind,
+            name,
+            value,
+            flags,
+        } => Ok(
+            script.variables.push(Variable {
+                kind,
+                name,
+                value: initial_value(at, value)?,
+                flags,
+                line,
+            })?,
+        ),
+        LineForm::Function(heading) => {
+            let function = function(reader, line, heading, doc)?;
+            Ok(script.functions.push(function)?)
+        }
+        LineForm::State { name, is_auto } => Ok(
+            script.states.push(State {
+                name,
+                is_auto,
+                functions: functions_until(reader, Keyword::EndState)?,
+                line,
+            })?,
+        ),
+        other => {
+            let property = property(reader, &first, other, doc)?;
+            Ok(script.properties.push(property)?)
+        }
+    }
+}
+
+// The property that begins with a line of this form, which has to be that of one.
+fn property(
+    reader: &mut Reader<'_>,
+    first: &LineAt<'_>,
+    form: LineForm,
+    doc: Option<Text>,
+) -> Result<Property, BlockFault>
+    requires { StandsAt reader.old.lines.now first.now }
+    ensures bound { OnOk result (left reader.new ≤ left reader.old) }
+    ensures onward { OnOk result (GoesOn reader.old reader.new) }
+    ensures fault { IfErr result (IsBlockFault reader.old.lines.now) }
+    ensures stands { IfOk result (PropertyStands reader.old.lines.now) }
+{
+    match form {
+        LineForm::Property {
+            kind,
+            name,
+            access,
+            flags,
+        } => {
+            let doc = reader.own_doc(doc)?;
+            Ok(Property {
+                kind,
+                name,
+                form: property_form(reader, access)?,
+                doc,
+                flags,
+                line: first.line.number,
+            })
+        }
+        other => {
+            drop(other);
+            Err(BlockFault::bad_block(first.at))
+        }
+    }
+}
+
+fn property_form(reader: &mut Reader<'_>, access: Access) -> Result<PropertyForm, BlockFault>
+    ensures bound { OnOk result (left reader.new ≤ left reader.old) }
+    ensures onward { OnOk result (GoesOn reader.old reader.new) }
+    ensures fault { IfErr result (IsBlockFault reader.old.lines.now) }
+    ensures stands { IfOk result (AccessorsStand reader.old.lines.now) }
+{
+    match access {
+        Access::Auto(value) => Ok(PropertyForm::Auto(value)),
+        Access::ReadOnly(value) => Ok(PropertyForm::ReadOnly(value)),
+        Access::Full => {
+            let functions = functions_until(reader, Keyword::EndProperty)?;
+            Ok(PropertyForm::Full(functions))
+        }
+    }
+}
+
+// The constant whose tree a variable's value is, which has to be one.
+fn initial_value(at: usize, value: Option<Expr>) -> Result<Option<Constant>, BlockFault>
+    ensures { (lines : List Line) → IfErr result (IsBlockFault lines) }
+{
+    match value {
+        Some(tree) => match constant_of(tree) {
+            Some(constant) => Ok(Some(constant)),
+            None => Err(BlockFault::bad_block(at)),
+        },
+        None => Ok(None),
+    }
+}
+
+fn constant_of(tree: Expr) -> Option<Constant> {
+    match tree {
+        Expr::Int(number) => Some(Constant::Int(number)),
+        Expr::Bool(truth) => Some(Constant::Bool(truth)),
+        Expr::Quoted(text) => Some(Constant::Quoted(text)),
+        Expr::NoneValue => Some(Constant::NoneValue),
+        Expr::Unary {
+            sign: Sign::Minus,
+            of,
+        } => negated(Box::into_inner(of)),
+        other => {
+            drop(other);
+            None
+        }
+    }
+}
+
+fn negated(tree: Expr) -> Option<Constant> {
+    match tree {
+        Expr::Int(number) => Some(Constant::Int(neg(number))),
+        other => {
+            drop(other);
+            None
+        }
+    }
+}
+
+// A function with its body and its end, behind its heading.
+fn function(
+    reader: &mut Reader<'_>,
+    line: u16,
+    heading: Heading,
+    doc: Option<Text>,
+) -> Result<Function, BlockFault>
+    ensures bound { OnOk result (left reader.new ≤ left reader.old) }
+    ensures onward { OnOk result (GoesOn reader.old reader.new) }
+    ensures fault { IfErr result (IsBlockFault reader.old.lines.now) }
+    ensures line { IfOk result (λ function. function.line ≡ line) }
+{
+    let doc = reader.own_doc(doc)?;
+    if heading.is_native {
+        return Ok(Function {
+            heading,
+            doc,
+            body: Body::Native,
+            line,
+            end_line: line,
+        });
+    }
+    let end = if heading.is_event {
+        Keyword::EndEvent
+    } else {
+        Keyword::EndFunction
+    };
+    let (body, end_line) = closed_block(reader, end, OPEN_LIMIT)?;
+    Ok(Function {
+        heading,
+        doc,
+        body: Body::Lines(body),
+        line,
+        end_line,
+    })
+}
+
+// The functions of a state or of a property up to the keyword that ends it. A property has at least
+// one.
+fn functions_until(reader: &mut Reader<'_>, end: Keyword) -> Result<Vec<Function>, BlockFault>
+    ensures bound { OnOk result (left reader.new ≤ left reader.old) }
+    ensures onward { OnOk result (GoesOn reader.old reader.new) }
+    ensures fault { IfErr result (IsBlockFault reader.old.lines.now) }
+    ensures stands { IfOk result (λ functions. FunctionsStand reader.old.lines.now functions.items) }
+{
+    let mut functions = Vec::new(reader.alloc);
+    'functions: loop {
+        let first = reader.next_in_block()?;
+        let LineTree { form, doc } = reader.tree(&first)?;
+        let line = first.line.number;
+        match form {
+            LineForm::Function(heading) => functions.push(function(reader, line, heading, doc)?)?,
+            LineForm::Key(Keyword::EndState) if end == Keyword::EndState => return Ok(functions),
+            LineForm::Key(Keyword::EndProperty)
+                if end == Keyword::EndProperty && !functions.is_empty() => {
+                return Ok(functions);
+            }
+            other => {
+                drop(other);
+                return Err(BlockFault::bad_block(first.at));
+            }
         }
     }
 }

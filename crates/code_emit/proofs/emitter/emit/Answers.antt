@@ -10,6 +10,6 @@ pub loop-script-preserved : goal.loop-script-preserved
 loop-script-preserved c =
     let P : List Pex → Type 0 = λ xs. AllByRecursion IsWellShaped (map plain xs) in
     record {
-      shaped = subst P (sym c.in_ok-push.ensures.items) (each_grown IsWellShaped IsWellShaped plain (λ y h. h) c.loop-script.files.items c.in_ok-file.file c.loop-script.invariant.shaped c.in_ok-file.ensures);
+      shaped = subst P (sym c.in_ok-push.ensures.items) (each_grown IsWellShaped IsWellShaped plain (λ y h. h) c.loop-script.files.items c.in_ok-emit_file.field-0 c.loop-script.invariant.shaped c.in_ok-emit_file.ensures);
       count = omega (arith, c.in_ok-push.ensures.len);
     }

@@ -33,11 +33,11 @@ pub argument_values-loop-place-preserved : goal.argument_values-loop-place-prese
 argument_values-loop-place-preserved t c =
     let before = c.loop-place.writer in
     let after = c.kept_value.new.writer in
-    let kept = c.in_ok-kept.ensures.goes in
+    let kept = c.in_ok-kept_value.ensures.goes in
     let P : List Operand → Type 0 = λ os. AreThere after.strings os in
     record {
       goes = goes_further c.args.writer.now before after c.loop-place.invariant.goes kept;
-      there = subst P (sym c.in_ok-push.ensures.items) (there_added after.strings c.loop-place.values.items c.in_ok-kept.kept (there_later before.strings after.strings kept.strings c.loop-place.values.items c.loop-place.invariant.there) c.in_ok-kept.ensures.operand);
+      there = subst P (sym c.in_ok-push.ensures.items) (there_added after.strings c.loop-place.values.items c.in_ok-kept_value.field-0 (there_later before.strings after.strings kept.strings c.loop-place.values.items c.loop-place.invariant.there) c.in_ok-kept_value.ensures.operand);
     }
 
 pub either-jump_ahead-requires : goal.either-jump_ahead-requires

@@ -1,8 +1,11 @@
+use Rattle.std.proofs.lemmas.Result.{err_from_is_err_and}
 use Rattle.command_files.proofs.TextRead.{scene_alone, scene_unloaded}
 use Rattle.command_files.proofs.scene_file.load_scene.Goals as goal
 
-pub returns-in-Ok-clause-read : goal.returns-in-Ok-clause-read
-returns-in-Ok-clause-read g c = scene_alone (g.D.Desk.holds c.args.desk.now) c.args.name.now c.in-Ok.scene c.in-Ok.ensures.read
+pub returns-clause-read : goal.returns-clause-read
+returns-clause-read g c = scene_alone (g.D.Desk.holds c.args.desk.now) c.args.name.now c.in_ok-scene.scene c.in_ok-scene.ensures.read
 
-pub returns-in-Err-clause-read : goal.returns-in-Err-clause-read
-returns-in-Err-clause-read g c = scene_unloaded (g.D.Desk.holds c.args.desk.now) c.args.name.now c.in-Err.fault c.in-Err.ensures.read
+pub returns-in_err-scene-clause-read : goal.returns-in_err-scene-clause-read
+returns-in_err-scene-clause-read g c =
+    let told = err_from_is_err_and c.from_residual.result c.from_residual.ensures.1 in
+    rw (told.1, told.2) (scene_unloaded (g.D.Desk.holds c.args.desk.now) c.args.name.now c.in_err-scene.field-0.0 c.in_err-scene.ensures.read)

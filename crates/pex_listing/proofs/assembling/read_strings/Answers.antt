@@ -16,8 +16,8 @@ strings-init c =
 
 pub strings-preserved : goal.strings-preserved
 strings-preserved c =
-    let more = takes_one_more (string_line (codes "string")) c.strings.strings.items c.in_ok-text.text c.args.listing.now c.strings.listing c.read_string.new.listing
-    c.strings.invariant.lines c.in_ok-text.ensures.line in
+    let more = takes_one_more (string_line (codes "string")) c.strings.strings.items c.in_ok-read_string.field-0 c.args.listing.now c.strings.listing c.read_string.new.listing
+    c.strings.invariant.lines c.in_ok-read_string.ensures.line in
     record {
       reads = grind (arith, common_steps);
       lines = subst (λ strings. TakesLines (table_lines strings) c.args.listing.now c.read_string.new.listing) (sym c.in_ok-push.ensures.items) more;

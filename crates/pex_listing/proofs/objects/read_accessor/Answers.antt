@@ -7,8 +7,8 @@ use Rattle.pex_listing.proofs.objects.read_accessor.Goals as goal
 pub returns : goal.returns
 returns c =
     let asked : c.args.is_asked ≡ true = grind arith in
-    let f = c.in_ok-function.function in
-    let got = c.in_ok-function.ensures in
+    let f = c.in_ok-read_function.field-0 in
+    let got = c.in_ok-read_function.ensures in
     record {
       asked_for = sym asked;
       shaped = got.holds.0;

@@ -29,4 +29,4 @@ loop-place-preserved c =
     let Told : ℕ → Operand → Type 0 = λ k operand. (e : Datum) → IsTold scope (use_at uses k) (get_or given k e) operand in
     let resolved : Resolved (length old.items) found = subst (λ (k : ℕ). Resolved k found) (sym last) (subst (λ (usage : Use). IsResolved (vec_len scope.slots.now.list) (vec_len scope.home.now.variables.now.list) usage found) c.use_at.ensures c.in_ok-resolve.ensures.resolved) in
     let told : Told (length old.items) found = subst (λ (k : ℕ). Told k found) (sym last) (λ e. subst (λ (usage : Use). IsTold scope usage (get_or given place e) found) c.use_at.ensures (told_at scope c.use_at.result given place _ e found within c.in_ok-resolve.ensures.told)) in
-    (omega (arith, before.0, c.in_ok-push.ensures.len), (omega (arith, before.1.0, c.in_ok-push.ensures.capacity), (each_grown Resolved old.items c.push.new.self.items found c.in_ok-push.ensures.items before.1.1.0 resolved, λ k d e h. each_grown Told old.items c.push.new.self.items found c.in_ok-push.ensures.items (λ i o i_below other. before.1.1.1 i o other i_below) told k d h e)))
+    (omega (arith, before.0, c.push_reserved.ensures.len), (omega (arith, before.1.0, c.push_reserved.ensures.capacity), (each_grown Resolved old.items c.push_reserved.new.self.items found c.push_reserved.ensures.items before.1.1.0 resolved, λ k d e h. each_grown Told old.items c.push_reserved.new.self.items found c.push_reserved.ensures.items (λ i o i_below other. before.1.1.1 i o other i_below) told k d h e)))

@@ -17,7 +17,7 @@ pub if_block-closed_block-requires : goal.if_block-closed_block-requires
 if_block-closed_block-requires t c =
     let before = c.tests.reader in
     let many = blocks-onward c.args.reader.now before c.args.depth c.tests.invariant.onward c.requires in
-    (omega arith, blocks-onward before c.statements.new.reader c.args.depth c.in_ok-block.ensures.onward many)
+    (omega arith, blocks-onward before c.statements.new.reader c.args.depth c.in_ok-body.ensures.onward many)
 
 pub statements-returns-in_err-inner_depth-in-If-clause-fault : goal.statements-returns-in_err-inner_depth-in-If-clause-fault
 statements-returns-in_err-inner_depth-in-If-clause-fault t c =

@@ -1,6 +1,0 @@
-use Rattle.std.proofs.Common.{◌≡◌, map, take}
-use Rattle.instance_store.specs.Instances.{initial_values}
-use Rattle.instance_store.proofs.start.all_initial_values.Given as goal
-
-abbrev pub invariant-loop-script : goal.invariant-loop-script
-invariant-loop-script l = l.found.items ≡ map (initial_values l.scripts) (take l.script-index l.above)
