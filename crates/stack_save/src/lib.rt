@@ -3,17 +3,13 @@
 
 mod fault;
 mod fields;
-mod frames;
-mod laws;
 mod loading;
 mod part;
 mod saving;
-mod state;
 mod values;
 
 pub use fault::{HeldFault, HeldRule, SaveFault};
-pub use laws::one_spelling;
-pub use loading::{Held, load};
+pub use loading::{Held, load, one_spelling};
 pub use saving::save;
 
 /// The most bytes that a held file may have.

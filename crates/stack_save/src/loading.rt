@@ -1,23 +1,77 @@
 //! The bytes of a held file to its files, its scene and its state.
 
-ghost use Rattle.std.specs.Prelude.{◌≡◌, ◌^◌, ◌++◌, ⊤, length, map, MatchOption};
+ghost use Rattle.std.specs.Prelude.{◌≡◌, ◌^◌, ◌++◌, ⊤, ℕ, List, [], length, map, MatchOption};
 ghost use Rattle.std.specs.List.{flat_map};
-ghost use Rattle.machine_state.specs.Savable.{FitsFourBytes};
+ghost use Rattle.machine_state.specs.Plain.{PlainState, plain};
+ghost use Rattle.machine_state.specs.Ranges.{IsU16, IsPairInRange, IsSleeperInRange, IsInRange};
+ghost use Rattle.machine_state.specs.Savable.{FitsFourBytes, IsSavable, firsts};
 ghost use Rattle.pex_values.specs.Spelling as pex;
-ghost use Rattle.stack_save.specs.Held.{LoadGives, HasHeading};
+ghost use Rattle.stack_save.specs.Held.{LoadGives, HasHeading, Spells};
 ghost use Rattle.stack_save.specs.Loading.{IsLayout, ReadsLayout, DecodesFiles, held_fields, plain_layout, lent};
-ghost use Rattle.stack_save.specs.Parts.{AreItems, AreParts, Takes};
+ghost use Rattle.stack_save.specs.Parts.{AreAscending, AreItems, AreParts, IsPart, Takes};
 ghost use Rattle.stack_save.specs.Reading as reading;
 ghost use Rattle.stack_save.specs.Spelling as spell;
 
 use crate::fault::{HeldFault, HeldRule, Taken, refused};
 use crate::fields::Cursor;
-use crate::state::take_state;
+use crate::part::take_list;
 use crate::{HEADING, HELD_LIMIT};
 use machine_state::MachineState;
 use pex_codec::decode;
 use pex_values::Pex;
 use std::alloc::Global;
+
+// ---- the state of the machine
+
+fn take_owners(cursor: &mut Cursor<'_>) -> Taken<Vec<(u16, u16)>>
+    ensures { Takes (λ owners. owners.items) (AreAscending firsts IsPairInRange) (pex.list pex.pair) reading.owners_at result cursor.old.rest.now cursor.new.rest.now }
+{
+    let owners: Vec<(u16, u16)> = take_list(cursor)?;
+    if !owners.is_sorted_by(|a, b| a.0 < b.0) {
+        return Err(refused(HeldRule::BadLayout));
+    }
+    Ok(owners)
+}
+
+fn take_free(cursor: &mut Cursor<'_>) -> Taken<Vec<u16>>
+    ensures { Takes (λ free. free.items) (AreAscending (λ free. free) IsU16) (pex.list pex.two_bytes) reading.free_at result cursor.old.rest.now cursor.new.rest.now }
+{
+    let free: Vec<u16> = take_list(cursor)?;
+    if !free.is_sorted_by(|a, b| *a < *b) {
+        return Err(refused(HeldRule::BadLayout));
+    }
+    Ok(free)
+}
+
+fn take_asleep(cursor: &mut Cursor<'_>) -> Taken<Vec<(u16, u32)>>
+    ensures { Takes (λ asleep. asleep.items) (AreAscending firsts IsSleeperInRange) (pex.list spell.sleeper) reading.asleep_at result cursor.old.rest.now cursor.new.rest.now }
+{
+    let asleep: Vec<(u16, u32)> = take_list(cursor)?;
+    if !asleep.is_sorted_by(|a, b| a.0 < b.0) {
+        return Err(refused(HeldRule::BadLayout));
+    }
+    Ok(asleep)
+}
+
+#[tactic(auto, unfolding(crate::specs::Reading::state_at, crate::specs::Reading::locks_at, crate::specs::Reading::things_at))]
+fn take_state(cursor: &mut Cursor<'_>) -> Taken<MachineState>
+    ensures { Takes plain (IsPart IsSavable IsInRange) spell.state reading.state_at result cursor.old.rest.now cursor.new.rest.now }
+{
+    Ok(MachineState {
+        turn: cursor.take_u32()?,
+        last: cursor.take_number_or_none()?,
+        instances: take_list(cursor)?,
+        owners: take_owners(cursor)?,
+        waiters: take_list(cursor)?,
+        free: take_free(cursor)?,
+        asleep: take_asleep(cursor)?,
+        arrays: take_list(cursor)?,
+        devices: take_list(cursor)?,
+        stacks: take_list(cursor)?,
+    })
+}
+
+// ---- the file
 
 /// What a held file holds.
 #[derive(Drop)]
@@ -123,3 +177,13 @@ pub fn load(alloc: Global, bytes: &[u8]) -> Result<Held, HeldFault>
         state: layout.state,
     })
 }
+
+/// A held file tells the files, the scene and the state that it spells, and no held file is a proper first part of
+/// another: where bytes spell some, and these bytes with others behind them spell some, these are the same and there are
+/// no others. So loading what was saved gives back what was saved.
+pub fn one_spelling()
+    ensures files { (files files' : List (List ℕ)) (scene scene' : List ℕ) (state state' : PlainState) (bytes rest : List ℕ) → Spells files scene state bytes → Spells files' scene' state' (bytes ++ rest) → files ≡ files' }
+    ensures scene { (files files' : List (List ℕ)) (scene scene' : List ℕ) (state state' : PlainState) (bytes rest : List ℕ) → Spells files scene state bytes → Spells files' scene' state' (bytes ++ rest) → scene ≡ scene' }
+    ensures state { (files files' : List (List ℕ)) (scene scene' : List ℕ) (state state' : PlainState) (bytes rest : List ℕ) → Spells files scene state bytes → Spells files' scene' state' (bytes ++ rest) → state ≡ state' }
+    ensures whole { (files files' : List (List ℕ)) (scene scene' : List ℕ) (state state' : PlainState) (bytes rest : List ℕ) → Spells files scene state bytes → Spells files' scene' state' (bytes ++ rest) → rest ≡ [] }
+{}

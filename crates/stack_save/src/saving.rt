@@ -1,4 +1,4 @@
-//! A state to the bytes of a held file.
+//! Files, a scene and a state to the bytes of a held file.
 
 ghost use Rattle.std.specs.Prelude.{◌≡◌, ◌<◌, ◌≤◌, ◌^◌, ◌++◌, map, length, OnOk};
 ghost use Rattle.std.specs.List.{AllByRecursion, flat_map};
@@ -7,15 +7,48 @@ ghost use Rattle.machine_state.specs.Ranges.{IsInRange};
 ghost use Rattle.machine_state.specs.Savable.{FitsTwoBytes, FitsFourBytes, IsSavable};
 ghost use Rattle.pex_values.specs.Spelling as pex;
 ghost use Rattle.stack_save.specs.Held.{SaveGives, bytes_of};
-ghost use Rattle.stack_save.specs.Parts.{HasPut};
+ghost use Rattle.stack_save.specs.Parts.{HasPut, AreLocksInRange, AreThingsInRange};
 ghost use Rattle.stack_save.specs.Spelling as spell;
 
 use crate::fault::SaveFault;
-use crate::fields::{put_long_string, put_u16};
-use crate::state::put_state;
+use crate::fields::{put_long_string, put_number_or_none, put_u16, put_u32};
+use crate::part::put_list;
 use crate::{HEADING, HELD_LIMIT};
 use machine_state::MachineState;
 use std::alloc::{AllocError, Global};
+
+#[tactic(auto, using(crate::proofs::Lists::each_trivial), unfolding(crate::specs::Spelling::locks))]
+fn put_locks(out: &mut Vec<u8>, state: &MachineState) -> Result<(), AllocError>
+    requires { IsSavable (plain state.now) }
+    ensures { OnOk result (HasPut (AreLocksInRange (spell.locks_of (plain state.now))) (spell.locks (spell.locks_of (plain state.now))) out.old.items out.new.items) }
+{
+    put_list(out, &state.owners)?;
+    put_list(out, &state.waiters)?;
+    put_list(out, &state.free)?;
+    put_list(out, &state.asleep)
+}
+
+#[tactic(auto, unfolding(crate::specs::Spelling::things))]
+fn put_things(out: &mut Vec<u8>, state: &MachineState) -> Result<(), AllocError>
+    requires { IsSavable (plain state.now) }
+    ensures { OnOk result (HasPut (AreThingsInRange (spell.things_of (plain state.now))) (spell.things (spell.things_of (plain state.now))) out.old.items out.new.items) }
+{
+    put_list(out, &state.arrays)?;
+    put_list(out, &state.devices)?;
+    put_list(out, &state.stacks)
+}
+
+#[tactic(auto, unfolding(crate::specs::Spelling::state))]
+fn put_state(out: &mut Vec<u8>, state: &MachineState) -> Result<(), AllocError>
+    requires { IsSavable (plain state.now) }
+    ensures { OnOk result (HasPut (IsInRange (plain state.now)) (spell.state (plain state.now)) out.old.items out.new.items) }
+{
+    put_u32(out, state.turn)?;
+    put_number_or_none(out, state.last)?;
+    put_list(out, &state.instances)?;
+    put_locks(out, state)?;
+    put_things(out, state)
+}
 
 /// The files in a row, each behind its length.
 fn put_each_file(out: &mut Vec<u8>, files: &[Vec<u8>]) -> Result<(), AllocError>

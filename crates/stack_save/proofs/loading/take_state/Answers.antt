@@ -1,7 +1,7 @@
 use Rattle.std.proofs.Common.{map}
 use Rattle.machine_state.specs.Plain.{plain_instance, plain_array, plain_device, plain_stack}
 use Rattle.stack_save.proofs.StateLemmas.{row_taken, locks_taken, things_taken}
-use Rattle.stack_save.proofs.state.take_state.Goals as goal
+use Rattle.stack_save.proofs.loading.take_state.Goals as goal
 use Rattle.stack_save.specs.Spelling.{PlainLocks, PlainThings}
 
 pub returns : goal.returns

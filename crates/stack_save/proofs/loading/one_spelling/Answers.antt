@@ -1,6 +1,6 @@
 use Rattle.std.proofs.Common.{ap}
 use Rattle.stack_save.proofs.HeldLemmas.{one_held}
-use Rattle.stack_save.proofs.laws.one_spelling.Goals as goal
+use Rattle.stack_save.proofs.loading.one_spelling.Goals as goal
 use Rattle.stack_save.specs.Reading.{PlainHeld}
 
 pub returns-clause-files : goal.returns-clause-files

@@ -9,7 +9,7 @@ use Rattle.pex_values.specs.Spelling.{list}
 use Rattle.stack_save.specs.Reading.{ascending, list_at, sleeper_at}
 use Rattle.stack_save.specs.Spelling.{sleeper}
 use Rattle.stack_save.proofs.Ascends.{ascending_taken, descending_missing, sorted_answer}
-use Rattle.stack_save.proofs.state.take_asleep.Goals as goal
+use Rattle.stack_save.proofs.loading.take_asleep.Goals as goal
 
 pub returns-then-not-is_sorted_by : goal.returns-then-not-is_sorted_by
 returns-then-not-is_sorted_by c =

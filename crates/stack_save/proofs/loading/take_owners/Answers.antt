@@ -8,7 +8,7 @@ use Rattle.machine_state.specs.Savable.{firsts}
 use Rattle.pex_values.specs.Spelling.{list, pair}
 use Rattle.stack_save.specs.Reading.{ascending, list_at, pair_at}
 use Rattle.stack_save.proofs.Ascends.{ascending_taken, descending_missing, sorted_answer}
-use Rattle.stack_save.proofs.state.take_owners.Goals as goal
+use Rattle.stack_save.proofs.loading.take_owners.Goals as goal
 
 pub returns-then-not-is_sorted_by : goal.returns-then-not-is_sorted_by
 returns-then-not-is_sorted_by c =

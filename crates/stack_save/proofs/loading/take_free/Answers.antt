@@ -8,7 +8,7 @@ use Rattle.machine_state.specs.Ranges.{IsU16}
 use Rattle.pex_values.specs.Spelling.{list, two_bytes}
 use Rattle.stack_save.specs.Reading.{ascending, list_at, number_at}
 use Rattle.stack_save.proofs.Ascends.{ascending_taken, descending_missing, sorted_answer}
-use Rattle.stack_save.proofs.state.take_free.Goals as goal
+use Rattle.stack_save.proofs.loading.take_free.Goals as goal
 
 pub returns-then-not-is_sorted_by : goal.returns-then-not-is_sorted_by
 returns-then-not-is_sorted_by c =
