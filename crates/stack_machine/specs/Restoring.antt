@@ -1,8 +1,8 @@
 -- What a refused state leaves of devices.
 use Rattle.std.specs.Prelude.{◌≡◌, List}
 use Rattle.core_tree.specs.Device.{DeviceState}
-use Rattle.stack_machine.specs.declared.restore_fault.RestoreFault.{RestoreFault}
-use Rattle.stack_machine.specs.declared.restore_fault.RestoreFault.TheVariants.{BadState, OtherDevices, OutOfMemory}
+use Rattle.stack_machine.specs.declared.status.RestoreFault.{RestoreFault}
+use Rattle.stack_machine.specs.declared.status.RestoreFault.TheVariants.{BadState, OtherDevices, OutOfMemory}
 
 -- the first devices may be loaded where no memory was found
 abbrev pub LeavesDevices : RestoreFault → List DeviceState → List DeviceState → Type 0

@@ -1,7 +1,6 @@
 //! What values count as, and what they are cast to.
 
 ghost use Rattle.std.specs.Prelude.{◌≡◌, ◌++◌, slice_get, IfOk, OnOk};
-ghost use Rattle.instance_store.specs.Values.{equals};
 ghost use Rattle.stack_machine.specs.Casts.{named, plain_text, text_of_bound, IsTextOf};
 ghost use Rattle.stack_machine.specs.Values.{is_true, number_in};
 
@@ -10,7 +9,8 @@ use crate::setting::Setting;
 use crate::store::Store;
 use core_tree::{CoreType, Value};
 use instance_store::Arrays;
-use papy_base::{OutOfMemory, Text, read_int, write_int};
+use papy_base::{Text, read_int, write_int};
+use pex_set::Made;
 use pex_verify::LoadedInstruction;
 use std::alloc::Global;
 
@@ -38,27 +38,9 @@ pub fn counts_as_true(value: &Value) -> bool
     }
 }
 
-/// Whether two values are equal: texts with the case of A to Z ignored, instances and arrays where they are
-/// the same one.
-pub fn are_equal(value: &Value, other: &Value) -> bool
-    ensures { result ≡ equals value.now other.now }
-{
-    match (value, other) {
-        (Value::NoneValue, Value::NoneValue) => true,
-        (Value::Int(left), Value::Int(right)) => left == right,
-        (Value::Bool(left), Value::Bool(right)) => left == right,
-        (Value::Text(left), Value::Text(right)) => {
-            left.as_bytes().eq_ignore_ascii_case(right.as_bytes())
-        },
-        (Value::Instance(left), Value::Instance(right)) => left == right,
-        (Value::Array(left), Value::Array(right)) => left == right,
-        _ => false,
-    }
-}
-
 impl Executor<'_> {
     /// cast: a result and a value.
-    pub fn cast(&mut self, instruction: &LoadedInstruction) -> Result<(), OutOfMemory> {
+    pub fn cast(&mut self, instruction: &LoadedInstruction) -> Made<()> {
         let Some(kind) = self.type_of(instruction, 0) else {
             return Ok(());
         };
@@ -67,7 +49,7 @@ impl Executor<'_> {
         self.write(instruction, 0, cast)
     }
 
-    fn cast_to(&self, kind: CoreType, value: Value) -> Result<Value, OutOfMemory> {
+    fn cast_to(&self, kind: CoreType, value: Value) -> Made<Value> {
         match kind {
             CoreType::Bool => Ok(Value::Bool(counts_as_true(&value))),
             CoreType::Int => Ok(Value::Int(cast_to_number(&value))),
@@ -103,12 +85,7 @@ fn cast_to_number(value: &Value) -> i32 {
 /// The text of a value: a number's decimals, `True` or `False`, `[Script <name>]`, `None`, or an array's
 /// elements between brackets.
 #[tactic(auto, using(crate::proofs::Texts::is_text))]
-pub fn text_of(
-    alloc: Global,
-    setting: &Setting,
-    store: &Store,
-    value: &Value,
-) -> Result<Text, OutOfMemory>
+pub fn text_of(alloc: Global, setting: &Setting, store: &Store, value: &Value) -> Made<Text>
     ensures { IfOk result (IsTextOf setting.now.loaded.outline setting.now.scene value.now) }
 {
     let mut bytes = Vec::new(alloc);
@@ -121,7 +98,7 @@ pub fn text_of(
 }
 
 // The text of a value that is no array.
-fn append_plain(bytes: &mut Vec<u8>, setting: &Setting, value: &Value) -> Result<(), OutOfMemory>
+fn append_plain(bytes: &mut Vec<u8>, setting: &Setting, value: &Value) -> Made<()>
     ensures { OnOk result (bytes.new.items ≡ bytes.old.items ++ plain_text setting.now.loaded.outline setting.now.scene value.now) }
 {
     match value {
@@ -137,14 +114,14 @@ fn append_plain(bytes: &mut Vec<u8>, setting: &Setting, value: &Value) -> Result
     }
 }
 
-fn append(bytes: &mut Vec<u8>, more: &[u8]) -> Result<(), OutOfMemory>
+fn append(bytes: &mut Vec<u8>, more: &[u8]) -> Made<()>
     ensures { OnOk result (bytes.new.items ≡ bytes.old.items ++ more.now) }
 {
     bytes.extend_from_slice(more)?;
     Ok(())
 }
 
-fn append_instance(bytes: &mut Vec<u8>, setting: &Setting, instance: u16) -> Result<(), OutOfMemory>
+fn append_instance(bytes: &mut Vec<u8>, setting: &Setting, instance: u16) -> Made<()>
     ensures { OnOk result (bytes.new.items ≡ bytes.old.items ++ text_of_bound setting.now.loaded.outline (slice_get setting.now.scene.instances.items instance)) }
 {
     let Some(bound) = setting.scene.instances.get(usize::from(instance)) else {
@@ -158,7 +135,7 @@ fn append_instance(bytes: &mut Vec<u8>, setting: &Setting, instance: u16) -> Res
 }
 
 // `[Script <name>]`
-fn append_named(bytes: &mut Vec<u8>, script: &[u8], name: &[u8]) -> Result<(), OutOfMemory>
+fn append_named(bytes: &mut Vec<u8>, script: &[u8], name: &[u8]) -> Made<()>
     ensures { OnOk result (bytes.new.items ≡ bytes.old.items ++ named script.now name.now) }
 {
     bytes.push(b'[')?;
@@ -169,12 +146,7 @@ fn append_named(bytes: &mut Vec<u8>, script: &[u8], name: &[u8]) -> Result<(), O
     Ok(())
 }
 
-fn append_array(
-    bytes: &mut Vec<u8>,
-    setting: &Setting,
-    arrays: &Arrays,
-    array: u16,
-) -> Result<(), OutOfMemory> {
+fn append_array(bytes: &mut Vec<u8>, setting: &Setting, arrays: &Arrays, array: u16) -> Made<()> {
     bytes.push(b'[')?;
     if array < arrays.count() {
         for (at, item) in arrays.items_of(array).iter().enumerate() {

@@ -15,12 +15,12 @@ ghost use Rattle.stack_machine.specs.Operands.{worth_at, StoresAt};
 ghost use Rattle.stack_machine.specs.Stores.{array_in};
 ghost use Rattle.stack_machine.specs.Values.{is_true};
 
-use crate::casts::are_equal;
 use crate::frame::{Call, CallWay};
 use crate::operands::Executor;
 use core_tree::{CoreType, Value};
-use instance_store::StoreFault;
+use instance_store::{StoreFault, equals};
 use papy_base::{JoinFault, OutOfMemory, StackFault, Text, add, div, mul, neg, rem, sub};
+use pex_set::Made;
 use pex_verify::{Action, LoadedInstruction, MethodPlace, Operand, action_of};
 
 /// What an instruction did.
@@ -53,7 +53,7 @@ pub enum Event {
 }
 
 // The fault with which an instruction is done, if any.
-type Answer = Result<Option<StackFault>, OutOfMemory>;
+type Answer = Made<Option<StackFault>>;
 
 // The opcodes that one action has.
 const ADD: u8 = 0x01;
@@ -76,7 +76,7 @@ const FIND_BACK: u8 = 0x23;
 
 impl Executor<'_> {
     /// Runs an instruction, but for one that calls or returns.
-    pub fn step(&mut self, instruction: &LoadedInstruction) -> Result<Step, OutOfMemory> {
+    pub fn step(&mut self, instruction: &LoadedInstruction) -> Made<Step> {
         let Some(action) = action_of(instruction.opcode) else {
             return Ok(Step::Done);
         };
@@ -93,7 +93,7 @@ impl Executor<'_> {
     }
 
     /// What an instruction that calls or returns asks for. Any other would return its first operand, and is never asked.
-    pub fn leave(&mut self, instruction: &LoadedInstruction) -> Result<Event, OutOfMemory> {
+    pub fn leave(&mut self, instruction: &LoadedInstruction) -> Made<Event> {
         match action_of(instruction.opcode) {
             Some(action) if is_call(action) => self.call(action, instruction),
             _ => Ok(Event::Returned(self.value(instruction, 0)?)),
@@ -122,7 +122,7 @@ impl Executor<'_> {
     }
 
     // assign: a result and a value.
-    fn assign(&mut self, instruction: &LoadedInstruction) -> Result<(), OutOfMemory>
+    fn assign(&mut self, instruction: &LoadedInstruction) -> Made<()>
         ensures { OnOk result (StoresAt self.old self.new instruction.now 0 (worth_at self.old instruction.now 1)) }
     {
         let value = self.value(instruction, 1)?;
@@ -130,17 +130,16 @@ impl Executor<'_> {
     }
 
     // jmpt, jmpf: a condition and an offset.
-    fn jump_if(&mut self, instruction: &LoadedInstruction) -> Result<Step, OutOfMemory> {
+    fn jump_if(&mut self, instruction: &LoadedInstruction) -> Made<Step> {
         let truth = self.truth(instruction, 0)?;
         if truth == (instruction.opcode == JUMP_IF_TRUE) {
             return Ok(jump(instruction));
         }
         Ok(Step::Done)
     }
-}
 
-// Numbers, truth values and texts.
-impl Executor<'_> {
+    // ---- numbers, truth values and texts
+
     // iadd, isub, imul, idiv, imod: a result and two numbers.
     fn compute(&mut self, instruction: &LoadedInstruction) -> Answer
         ensures { IfOk result (StoresComputed self.old self.new instruction.now (computed instruction.now.opcode (number_at self.old instruction.now 1) (number_at self.old instruction.now 2))) }
@@ -153,7 +152,7 @@ impl Executor<'_> {
     }
 
     // cmp_lt, cmp_le, cmp_gt, cmp_ge: a result and two numbers.
-    fn compare(&mut self, instruction: &LoadedInstruction) -> Result<(), OutOfMemory>
+    fn compare(&mut self, instruction: &LoadedInstruction) -> Made<()>
         ensures { OnOk result (StoresAt self.old self.new instruction.now 0 (values.Bool (is_ordered instruction.now.opcode (number_at self.old instruction.now 1) (number_at self.old instruction.now 2)))) }
     {
         let (left, right) = (self.number(instruction, 1)?, self.number(instruction, 2)?);
@@ -162,15 +161,15 @@ impl Executor<'_> {
     }
 
     // cmp_eq: a result and two values.
-    fn equate(&mut self, instruction: &LoadedInstruction) -> Result<(), OutOfMemory>
+    fn equate(&mut self, instruction: &LoadedInstruction) -> Made<()>
         ensures { OnOk result (StoresAt self.old self.new instruction.now 0 (values.Bool (equals (worth_at self.old instruction.now 1) (worth_at self.old instruction.now 2)))) }
     {
         let (left, right) = (self.value(instruction, 1)?, self.value(instruction, 2)?);
-        self.write(instruction, 0, Value::Bool(are_equal(&left, &right)))
+        self.write(instruction, 0, Value::Bool(equals(&left, &right)))
     }
 
     // not: a result and a value.
-    fn invert(&mut self, instruction: &LoadedInstruction) -> Result<(), OutOfMemory>
+    fn invert(&mut self, instruction: &LoadedInstruction) -> Made<()>
         ensures { OnOk result (StoresAt self.old self.new instruction.now 0 (values.Bool (not (is_true (worth_at self.old instruction.now 1))))) }
     {
         let truth = self.truth(instruction, 1)?;
@@ -178,7 +177,7 @@ impl Executor<'_> {
     }
 
     // ineg: a result and a number.
-    fn negate(&mut self, instruction: &LoadedInstruction) -> Result<(), OutOfMemory>
+    fn negate(&mut self, instruction: &LoadedInstruction) -> Made<()>
         ensures { OnOk result (StoresAt self.old self.new instruction.now 0 (values.Int (int_wrap w32 (neg_ℤ (number_at self.old instruction.now 1))))) }
     {
         let number = self.number(instruction, 1)?;
@@ -208,10 +207,9 @@ impl Executor<'_> {
             Err(JoinFault::OutOfMemory) => Err(OutOfMemory),
         }
     }
-}
 
-// Arrays.
-impl Executor<'_> {
+    // ---- arrays
+
     // array_create: a result, and the size, which stands in the code.
     fn create_array(&mut self, instruction: &LoadedInstruction) -> Answer {
         let Some(kind) = element_type(self.type_of(instruction, 0)) else {
@@ -313,17 +311,12 @@ impl Executor<'_> {
             Err(fault) => self.answer(instruction, place, Value::Int(0), Some(fault)),
         }
     }
-}
 
-// Calls.
-impl Executor<'_> {
+    // ---- calls
+
     // callmethod, callparent, callstatic, propget and propset: a global native is asked for, or a call, where its frame has
     // room.
-    fn call(
-        &mut self,
-        action: Action,
-        instruction: &LoadedInstruction,
-    ) -> Result<Event, OutOfMemory> {
+    fn call(&mut self, action: Action, instruction: &LoadedInstruction) -> Made<Event> {
         let Some((instance, way)) = self.callee(action, instruction)? else {
             return self.refuse(instruction, fault_of_none(action));
         };
@@ -352,7 +345,7 @@ impl Executor<'_> {
         &self,
         action: Action,
         instruction: &LoadedInstruction,
-    ) -> Result<Option<(Option<u16>, CallWay)>, OutOfMemory> {
+    ) -> Made<Option<(Option<u16>, CallWay)>> {
         if matches!(action, Action::CallStatic) {
             return Ok(instruction.function.map(|at| (None, CallWay::Global(at))));
         }
@@ -383,11 +376,7 @@ impl Executor<'_> {
     }
 
     // A call that isn't made gives the default of its type, and the body goes on.
-    fn refuse(
-        &mut self,
-        instruction: &LoadedInstruction,
-        fault: StackFault,
-    ) -> Result<Event, OutOfMemory> {
+    fn refuse(&mut self, instruction: &LoadedInstruction, fault: StackFault) -> Made<Event> {
         if let Some(place) = result_place(instruction) {
             self.write_default(instruction, place)?;
         }
@@ -395,7 +384,7 @@ impl Executor<'_> {
     }
 
     /// Stores the reply to a call.
-    pub fn give(&mut self, call: &LoadedInstruction, reply: Value) -> Result<(), OutOfMemory> {
+    pub fn give(&mut self, call: &LoadedInstruction, reply: Value) -> Made<()> {
         match result_place(call) {
             Some(place) => self.write(call, place, reply),
             None => Ok(()),

@@ -6,7 +6,8 @@ ghost use Rattle.stack_machine.specs.Lines.{escaped, escaped_byte, fault_line, f
 
 use crate::operands::Executor;
 use crate::setting::Setting;
-use papy_base::{OutOfMemory, StackFault, Text};
+use papy_base::{StackFault, Text};
+use pex_set::Made;
 use std::alloc::Global;
 
 /// The line of a fault of the instruction at a place: `!k Script.function:line Kind`.
@@ -15,7 +16,7 @@ pub fn fault_line(
     place: usize,
     stack: u16,
     fault: StackFault,
-) -> Result<Vec<u8>, OutOfMemory>
+) -> Made<Vec<u8>>
     ensures { let script = name_in (slice_get executor.now.turn.now.setting.now.loaded.outline executor.now.script) in
         let source = line_in (slice_get executor.now.function.now.lines.items place) in
         IfOk result (λ line. line.items ≡ fault_line stack script executor.now.function.now.name source fault) }
@@ -35,7 +36,7 @@ pub fn fault_line(
 }
 
 /// The line of a trace: `#k text`.
-pub fn trace_line(alloc: Global, stack: u16, text: &Text) -> Result<Vec<u8>, OutOfMemory>
+pub fn trace_line(alloc: Global, stack: u16, text: &Text) -> Made<Vec<u8>>
     ensures { IfOk result (λ line. line.items ≡ trace_line stack text.now) }
 {
     let mut line = Vec::new(alloc);
@@ -65,7 +66,7 @@ fn source_line(lines: &[u16], place: usize) -> u16
 }
 
 // Appends a mark and a number.
-fn append_number(line: &mut Vec<u8>, mark: u8, number: u32) -> Result<(), OutOfMemory>
+fn append_number(line: &mut Vec<u8>, mark: u8, number: u32) -> Made<()>
     ensures { IfOk result (λ _. line.new.items ≡ line.old.items ++ mark ∷ decimal number) }
 {
     let digits = format!(in *line.allocator(); "{number}")?;
@@ -79,7 +80,7 @@ fn append_number(line: &mut Vec<u8>, mark: u8, number: u32) -> Result<(), OutOfM
 /// # Errors
 ///
 /// `OutOfMemory` comes where there is no room.
-pub fn append_escaped(line: &mut Vec<u8>, text: &[u8]) -> Result<(), OutOfMemory>
+pub fn append_escaped(line: &mut Vec<u8>, text: &[u8]) -> Made<()>
     ensures { IfOk result (λ _. line.new.items ≡ line.old.items ++ escaped text.now) }
 {
     for byte in text {
@@ -88,7 +89,7 @@ pub fn append_escaped(line: &mut Vec<u8>, text: &[u8]) -> Result<(), OutOfMemory
     Ok(())
 }
 
-fn append_byte(line: &mut Vec<u8>, byte: u8) -> Result<(), OutOfMemory>
+fn append_byte(line: &mut Vec<u8>, byte: u8) -> Made<()>
     ensures { IfOk result (λ _. line.new.items ≡ line.old.items ++ escaped_byte byte) }
 {
     match byte {

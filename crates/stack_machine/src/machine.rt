@@ -20,8 +20,9 @@ use crate::world::World;
 use core_tree::{Outline, Scene, TurnOrder, Value};
 use instance_store::Arrays;
 use latent_natives::{Device, load_device};
-use papy_base::{OutOfMemory, Text};
+use papy_base::Text;
 use papy_io::Sink;
+use pex_set::Made;
 use pex_verify::Loaded;
 use run_replay::LockMove;
 use std::alloc::Global;
@@ -65,7 +66,7 @@ impl Machine {
         loaded: Loaded,
         scene: Scene,
         devices: &mut Vec<Box<dyn Device>>,
-    ) -> Result<Machine, OutOfMemory>
+    ) -> Made<Machine>
         requires instances { vec_len scene.instances < 65536 }
         requires calls { vec_len scene.calls < 65536 }
         ensures fixed { IfOk result (λ machine. (machine.outline ≡ loaded.outline) × (machine.scene ≡ scene)) }
@@ -224,9 +225,7 @@ impl Machine {
             && threads.are_done()
             && usize::from(threads.count()) >= scene.calls.len()
     }
-}
 
-impl Machine {
     /// The number of stacks that have started.
     pub fn stack_count(&self) -> u16
         ensures { result ≡ self.now.started }
@@ -287,7 +286,7 @@ impl Machine {
     /// # Errors
     ///
     /// `OutOfMemory` comes only of a text.
-    pub fn property_at(&self, instance: u16, property: u32) -> Result<Value, OutOfMemory> {
+    pub fn property_at(&self, instance: u16, property: u32) -> Made<Value> {
         match self.setting.property_place(instance, property) {
             Some((script, variable)) => self.world.store.variable(instance, script, variable),
             None => Ok(Value::NoneValue),
@@ -300,12 +299,7 @@ impl Machine {
     /// # Errors
     ///
     /// `OutOfMemory` comes only of a text.
-    pub fn variable_at(
-        &self,
-        instance: u16,
-        script: u16,
-        variable: u16,
-    ) -> Result<Value, OutOfMemory> {
+    pub fn variable_at(&self, instance: u16, script: u16, variable: u16) -> Made<Value> {
         self.world.store.variable(instance, script, variable)
     }
 
@@ -315,7 +309,7 @@ impl Machine {
     /// # Errors
     ///
     /// `OutOfMemory` comes where there is no room.
-    pub fn value_text(&self, value: &Value) -> Result<Text, OutOfMemory>
+    pub fn value_text(&self, value: &Value) -> Made<Text>
         ensures { IfOk result (IsTextOf self.now.outline self.now.scene value.now) }
     {
         text_of(self.world.alloc, &self.setting, &self.world.store, value)
@@ -333,7 +327,7 @@ fn initial(
     loaded: &Loaded,
     scene: &Scene,
     devices: &mut Vec<Box<dyn Device>>,
-) -> Result<(Plan, World), OutOfMemory>
+) -> Made<(Plan, World)>
     requires instances { vec_len scene.now.instances < 65536 }
     requires calls { vec_len scene.now.calls < 65536 }
     ensures fresh { IfOk result (λ first. (first.1.threads.started ≡ 0) × (first.1.threads.done ≡ 0)) }
@@ -347,7 +341,7 @@ fn initial(
     Ok((plan, world))
 }
 
-fn initial_world(alloc: Global, loaded: &Loaded, scene: &Scene) -> Result<World, OutOfMemory>
+fn initial_world(alloc: Global, loaded: &Loaded, scene: &Scene) -> Made<World>
     requires instances { vec_len scene.now.instances < 65536 }
     requires calls { vec_len scene.now.calls < 65536 }
     ensures fresh { IfOk result (λ world. (world.threads.started ≡ 0) × (world.threads.done ≡ 0)) }
@@ -374,7 +368,7 @@ fn cut_after_fault(end: Result<TurnEnd, TurnFault>, before: usize, moves: &mut V
 }
 
 // Loads each device with its tape, or with no cells.
-fn load_devices(tapes: &[Vec<i32>], devices: &mut Vec<Box<dyn Device>>) -> Result<(), OutOfMemory>
+fn load_devices(tapes: &[Vec<i32>], devices: &mut Vec<Box<dyn Device>>) -> Made<()>
     ensures { SameKinds (map (λ d. device_state d) devices.old.items) (map (λ d. device_state d) devices.new.items) }
 {
     for place in 0..devices.len() {

@@ -19,8 +19,8 @@ use crate::setting::Setting;
 use crate::status::TurnFault;
 use core_tree::{Binding, CoreType, Value};
 use latent_natives::{Device, call_device};
-use papy_base::OutOfMemory;
 use papy_io::Sink;
+use pex_set::Made;
 use pex_verify::MethodPlace;
 use std::alloc::Global;
 
@@ -124,7 +124,7 @@ fn call(
     device: u16,
     arguments: &[Value],
     devices: &mut Vec<Box<dyn Device>>,
-) -> Result<i32, OutOfMemory>
+) -> Made<i32>
     ensures kinds { SameKinds (map (λ d. device_state d) devices.old.items) (map (λ d. device_state d) devices.new.items) }
     ensures reply { IfOk result (λ reply. reply ≡ device_reply (map (λ d. device_state d) devices.old.items) device arguments.now) }
     ensures after { OnOk result (map (λ d. device_state d) devices.new.items ≡ devices_after (map (λ d. device_state d) devices.old.items) device arguments.now) }
@@ -138,7 +138,7 @@ fn call(
     Ok(call_device(devices, place, numbers.as_slice()))
 }
 
-fn numbers_of(alloc: Global, arguments: &[Value]) -> Result<Vec<i32>, OutOfMemory>
+fn numbers_of(alloc: Global, arguments: &[Value]) -> Made<Vec<i32>>
     ensures { IfOk result (λ numbers. numbers.items ≡ map number_in arguments.now) }
 {
     let mut numbers = Vec::with_capacity(alloc, arguments.len())?;

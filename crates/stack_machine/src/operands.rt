@@ -11,7 +11,7 @@ use crate::casts::{counts_as_true, number_of};
 use crate::setting::Setting;
 use crate::store::{Store, default_of};
 use core_tree::{CoreType, Value};
-use papy_base::OutOfMemory;
+use pex_set::Made;
 use pex_verify::{LoadedFunction, LoadedInstruction, Operand};
 use std::alloc::Global;
 
@@ -47,7 +47,7 @@ pub struct Executor<'a> {
 
 impl Executor<'_> {
     /// The value of a fixed operand.
-    pub fn value(&self, instruction: &LoadedInstruction, place: usize) -> Result<Value, OutOfMemory>
+    pub fn value(&self, instruction: &LoadedInstruction, place: usize) -> Made<Value>
         ensures { IfOk result (λ value. value ≡ worth_at self.now instruction.now place) }
     {
         match instruction.fixed.get(place) {
@@ -57,7 +57,7 @@ impl Executor<'_> {
     }
 
     /// The values of the further operands.
-    pub fn arguments(&self, instruction: &LoadedInstruction) -> Result<Vec<Value>, OutOfMemory>
+    pub fn arguments(&self, instruction: &LoadedInstruction) -> Made<Vec<Value>>
         ensures { IfOk result (λ values. values.items ≡ map (worth self.now) instruction.now.more.items) }
     {
         let room = instruction.more.len().saturating_add(USUAL_LOCALS);
@@ -69,7 +69,7 @@ impl Executor<'_> {
     }
 
     /// The value of an operand.
-    pub fn read(&self, operand: &Operand) -> Result<Value, OutOfMemory>
+    pub fn read(&self, operand: &Operand) -> Made<Value>
         ensures { IfOk result (λ value. value ≡ worth self.now operand.now) }
     {
         match operand {
@@ -94,7 +94,7 @@ impl Executor<'_> {
     }
 
     /// The number that a fixed operand is worth.
-    pub fn number(&self, instruction: &LoadedInstruction, place: usize) -> Result<i32, OutOfMemory>
+    pub fn number(&self, instruction: &LoadedInstruction, place: usize) -> Made<i32>
         ensures { IfOk result (λ number. number ≡ number_at self.now instruction.now place) }
     {
         match instruction.fixed.get(place) {
@@ -109,7 +109,7 @@ impl Executor<'_> {
     }
 
     /// Whether what a fixed operand is worth counts as true.
-    pub fn truth(&self, instruction: &LoadedInstruction, place: usize) -> Result<bool, OutOfMemory>
+    pub fn truth(&self, instruction: &LoadedInstruction, place: usize) -> Made<bool>
         ensures { IfOk result (λ truth. truth ≡ is_true (worth_at self.now instruction.now place)) }
     {
         match instruction.fixed.get(place) {
@@ -122,7 +122,7 @@ impl Executor<'_> {
         }
     }
 
-    fn read_state(&self) -> Result<Value, OutOfMemory>
+    fn read_state(&self) -> Made<Value>
         ensures { IfOk result (λ value. value ≡ state_in self.now.store.now.instances self.now.instance) }
     {
         match self.instance {
@@ -145,12 +145,7 @@ impl Executor<'_> {
     }
 
     /// Stores a value in a fixed operand. A local of the type None drops it.
-    pub fn write(
-        &mut self,
-        instruction: &LoadedInstruction,
-        place: usize,
-        value: Value,
-    ) -> Result<(), OutOfMemory>
+    pub fn write(&mut self, instruction: &LoadedInstruction, place: usize, value: Value) -> Made<()>
         ensures { OnOk result (StoresAt self.old self.new instruction.now place value) }
     {
         let Some(operand) = instruction.fixed.get(place) else {
@@ -163,7 +158,7 @@ impl Executor<'_> {
     }
 
     #[inline(always)]
-    fn keep(&mut self, operand: &Operand, value: Value) -> Result<(), OutOfMemory>
+    fn keep(&mut self, operand: &Operand, value: Value) -> Made<()>
         ensures { OnOk result (Stores self.old self.new operand.now value) }
     {
         match operand {
@@ -186,18 +181,14 @@ impl Executor<'_> {
     }
 
     /// Stores the default of a fixed operand's type in it.
-    pub fn write_default(
-        &mut self,
-        instruction: &LoadedInstruction,
-        place: usize,
-    ) -> Result<(), OutOfMemory>
+    pub fn write_default(&mut self, instruction: &LoadedInstruction, place: usize) -> Made<()>
         ensures { OnOk result (StoresAt self.old self.new instruction.now place (default_in (type_at self.old instruction.now place))) }
     {
         let value = default_of(self.turn.alloc, self.type_of(instruction, place))?;
         self.write(instruction, place, value)
     }
 
-    fn write_state(&mut self, value: Value) -> Result<(), OutOfMemory>
+    fn write_state(&mut self, value: Value) -> Made<()>
         ensures slots { self.new.slots.now.items ≡ self.old.slots.now.items }
         ensures instances { OnOk result (self.new.store.now.instances ≡ state_with self.old.store.now.instances self.old.instance value) }
         ensures arrays { self.new.store.now.arrays ≡ self.old.store.now.arrays }

@@ -6,7 +6,8 @@ ghost use Rattle.stack_machine.specs.Natives.{binding_in};
 ghost use Rattle.stack_machine.specs.Plans.{ArePlanned};
 
 use core_tree::{Binding, BoundCall, BoundNative, Outline, Scene};
-use papy_base::{OutOfMemory, Text};
+use papy_base::Text;
+use pex_set::Made;
 use pex_verify::{Loaded, MethodPlace};
 use std::alloc::Global;
 
@@ -32,7 +33,7 @@ pub struct Plan {
 
 impl Plan {
     /// The plan of a scene that is bound to the loaded scripts.
-    pub fn of(alloc: Global, loaded: &Loaded, scene: &Scene) -> Result<Plan, OutOfMemory>
+    pub fn of(alloc: Global, loaded: &Loaded, scene: &Scene) -> Made<Plan>
         ensures { IfOk result (λ plan. ArePlanned plan.calls.items scene.now.calls.items) }
     {
         let no_state = Text::try_from_bytes(alloc, &[])?;
@@ -57,11 +58,7 @@ impl Plan {
     }
 }
 
-fn calls_in_order(
-    alloc: Global,
-    loaded: &Loaded,
-    calls: &[BoundCall],
-) -> Result<Vec<PlannedCall>, OutOfMemory>
+fn calls_in_order(alloc: Global, loaded: &Loaded, calls: &[BoundCall]) -> Made<Vec<PlannedCall>>
     ensures { IfOk result (λ planned. ArePlanned planned.items calls.now) }
 {
     let mut planned = planned_calls(alloc, loaded, calls)?;
@@ -69,11 +66,7 @@ fn calls_in_order(
     Ok(planned)
 }
 
-fn planned_calls(
-    alloc: Global,
-    loaded: &Loaded,
-    calls: &[BoundCall],
-) -> Result<Vec<PlannedCall>, OutOfMemory>
+fn planned_calls(alloc: Global, loaded: &Loaded, calls: &[BoundCall]) -> Made<Vec<PlannedCall>>
     ensures turns { IfOk result (λ planned. map (λ call. call.turn) planned.items ≡ map (λ call. call.turn) calls.now) }
     ensures numbers { IfOk result (λ planned. All (λ call. call.number < length calls.now) planned.items) }
 {
@@ -88,7 +81,7 @@ fn planned_calls(
     Ok(planned)
 }
 
-fn no_bindings(alloc: Global, outline: &Outline) -> Result<Vec<Vec<Option<Binding>>>, OutOfMemory> {
+fn no_bindings(alloc: Global, outline: &Outline) -> Made<Vec<Vec<Option<Binding>>>> {
     let mut natives = Vec::with_capacity(alloc, outline.scripts.len())?;
     for script in &outline.scripts {
         natives.push(vec![in alloc; None; script.functions.len()]?)?;

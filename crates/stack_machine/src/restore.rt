@@ -9,18 +9,19 @@ ghost use Rattle.stack_machine.specs.Threads.{IsSameSize};
 use crate::frame::{Call, Frame, Running};
 use crate::machine::Machine;
 use crate::plan::Plan;
-use crate::restore_fault::RestoreFault;
 use crate::setting::Setting;
-use crate::snapshot::copy_of;
+use crate::snapshot::{HeldDevice, copy_of};
 use crate::sound::is_sound;
+use crate::status::RestoreFault;
 use crate::store::Store;
 use crate::threads::Threads;
 use crate::world::World;
-use core_tree::{CoreType, DeviceKind, Outline, Scene, Value};
-use instance_store::{Arrays, Instance, Instances, ScriptVariables};
+use core_tree::{CoreType, Outline, Scene, Value};
+use instance_store::{Arrays, Instance, Instances, ScriptVariables, lineage};
 use latent_natives::{Device, load_device};
 use machine_state::{FrameState, MachineState};
 use papy_base::{OutOfMemory, Text};
+use pex_set::Made;
 use pex_verify::Loaded;
 use std::alloc::Global;
 use std::mem;
@@ -110,7 +111,7 @@ fn revive(
 }
 
 // Whether there are as many devices, of the same kinds in the same order.
-fn are_of_kinds(told: &[(DeviceKind, Vec<i32>, u64)], devices: &Vec<Box<dyn Device>>) -> bool {
+fn are_of_kinds(told: &[HeldDevice], devices: &Vec<Box<dyn Device>>) -> bool {
     told.len() == devices.len()
         && devices
             .iter()
@@ -118,11 +119,7 @@ fn are_of_kinds(told: &[(DeviceKind, Vec<i32>, u64)], devices: &Vec<Box<dyn Devi
             .all(|(device, told)| device.kind() == told.0)
 }
 
-fn revived_world(
-    alloc: Global,
-    setting: &Setting,
-    state: &mut MachineState,
-) -> Result<World, OutOfMemory>
+fn revived_world(alloc: Global, setting: &Setting, state: &mut MachineState) -> Made<World>
     requires instances { vec_len setting.now.scene.instances < 65536 }
     requires calls { vec_len setting.now.scene.calls < 65536 }
     requires stacks { vec_len state.old.stacks ≤ vec_len setting.now.scene.calls }
@@ -140,10 +137,7 @@ fn revived_world(
 }
 
 // Loads each device with its cells and its place.
-fn load_devices(
-    told: &[(DeviceKind, Vec<i32>, u64)],
-    devices: &mut Vec<Box<dyn Device>>,
-) -> Result<(), OutOfMemory>
+fn load_devices(told: &[HeldDevice], devices: &mut Vec<Box<dyn Device>>) -> Made<()>
     ensures { SameKinds (map (λ d. device_state d) devices.old.items) (map (λ d. device_state d) devices.new.items) }
 {
     for place in 0..devices.len() {
@@ -157,11 +151,7 @@ fn load_devices(
 // ---- instances and arrays
 
 // The values of the state, which are taken out of it.
-fn revived_store(
-    alloc: Global,
-    setting: &Setting,
-    state: &mut MachineState,
-) -> Result<Store, OutOfMemory>
+fn revived_store(alloc: Global, setting: &Setting, state: &mut MachineState) -> Made<Store>
     requires { vec_len setting.now.scene.instances < 65536 }
     ensures stacks { state.new.stacks ≡ state.old.stacks }
 {
@@ -177,10 +167,7 @@ fn revived_store(
     )
 }
 
-fn revived_arrays(
-    alloc: Global,
-    told: &mut Vec<(CoreType, Vec<Value>)>,
-) -> Result<Arrays, OutOfMemory> {
+fn revived_arrays(alloc: Global, told: &mut Vec<(CoreType, Vec<Value>)>) -> Made<Arrays> {
     let mut arrays = Arrays::new(alloc);
     for array in told.iter_mut() {
         let items = mem::replace(&mut array.1, Vec::new(alloc));
@@ -195,7 +182,7 @@ fn revived_instances(
     alloc: Global,
     setting: &Setting,
     told: &mut Vec<(Text, Vec<Value>)>,
-) -> Result<Vec<Instance>, OutOfMemory>
+) -> Made<Vec<Instance>>
     requires { vec_len setting.now.scene.instances < 65536 }
     ensures { IfOk result (λ instances. vec_len instances < 65536) }
 {
@@ -218,19 +205,14 @@ fn revived_scripts(
     outline: &Outline,
     script: u16,
     values: &mut Vec<Value>,
-) -> Result<Vec<ScriptVariables>, OutOfMemory> {
-    let mut scripts = Vec::new(alloc);
-    let mut next = Some(script);
-    for _ in 0..outline.scripts.len() {
-        let Some(number) = next else {
-            break;
-        };
-        let Some(found) = outline.scripts.get(usize::from(number)) else {
-            break;
-        };
-        let above = values.len().saturating_sub(found.variables.len());
-        scripts.push(ScriptVariables::new(number, values.split_off(above)?))?;
-        next = found.parent;
+) -> Made<Vec<ScriptVariables>> {
+    let numbers = lineage(alloc, &outline.scripts, script)?;
+    let mut scripts = Vec::with_capacity(alloc, numbers.len())?;
+    for number in &numbers {
+        if let Some(found) = outline.scripts.get(usize::from(*number)) {
+            let above = values.len().saturating_sub(found.variables.len());
+            scripts.push(ScriptVariables::new(*number, values.split_off(above)?))?;
+        }
     }
     Ok(scripts)
 }
@@ -238,11 +220,7 @@ fn revived_scripts(
 // ---- stacks, each in its place
 
 // The stacks of the state, whose values are taken out of it.
-fn revived_threads(
-    alloc: Global,
-    setting: &Setting,
-    state: &mut MachineState,
-) -> Result<Threads, OutOfMemory>
+fn revived_threads(alloc: Global, setting: &Setting, state: &mut MachineState) -> Made<Threads>
     requires instances { vec_len setting.now.scene.instances < 65536 }
     requires calls { vec_len setting.now.scene.calls < 65536 }
     requires stacks { vec_len state.old.stacks ≤ vec_len setting.now.scene.calls }
@@ -266,7 +244,7 @@ fn revive_stacks(
     setting: &Setting,
     stacks: &mut [Vec<FrameState>],
     threads: &mut Threads,
-) -> Result<(), OutOfMemory>
+) -> Made<()>
     requires room { threads.old.started + length stacks.old ≤ threads.old.room }
     ensures room { threads.new.room ≡ threads.old.room }
     ensures started { OnOk result (threads.new.started ≡ threads.old.started + length stacks.old) }
@@ -278,11 +256,7 @@ fn revive_stacks(
     Ok(())
 }
 
-fn revived_frames(
-    alloc: Global,
-    setting: &Setting,
-    told: &mut Vec<FrameState>,
-) -> Result<Vec<Frame>, OutOfMemory> {
+fn revived_frames(alloc: Global, setting: &Setting, told: &mut [FrameState]) -> Made<Vec<Frame>> {
     let mut frames = Vec::with_capacity(alloc, told.len())?;
     for frame in told.iter_mut() {
         frames.push(revived_frame(alloc, setting, frame)?)?;
@@ -290,11 +264,7 @@ fn revived_frames(
     Ok(frames)
 }
 
-fn revived_frame(
-    alloc: Global,
-    setting: &Setting,
-    told: &mut FrameState,
-) -> Result<Frame, OutOfMemory> {
+fn revived_frame(alloc: Global, setting: &Setting, told: &mut FrameState) -> Made<Frame> {
     match told {
         FrameState::ToEnter {
             instance,

@@ -16,8 +16,9 @@ use crate::status::TurnFault;
 use crate::store::{Store, default_of};
 use core_tree::Value;
 use latent_natives::Device;
-use papy_base::{OutOfMemory, StackFault};
+use papy_base::StackFault;
 use papy_io::Sink;
+use pex_set::Made;
 use pex_verify::{LoadedInstruction, MethodPlace};
 use std::mem;
 
@@ -103,7 +104,7 @@ fn enter<S: Sink>(
 }
 
 // The frame of a body: its parameters are the call's arguments, which are taken, and its locals have their defaults.
-fn open(turn: &Turn<'_>, call: &mut Call, body: FunctionPlace) -> Result<Running, OutOfMemory> {
+fn open(turn: &Turn<'_>, call: &mut Call, body: FunctionPlace) -> Made<Running> {
     let mut slots = mem::replace(&mut call.arguments, Vec::new(turn.alloc));
     if let Some(function) = turn.setting.function(body) {
         for (_, kind) in &function.locals {
@@ -120,12 +121,7 @@ fn open(turn: &Turn<'_>, call: &mut Call, body: FunctionPlace) -> Result<Running
 }
 
 // An Auto property: its variable is written, or read where the call has no argument.
-fn set_or_get(
-    store: &mut Store,
-    call: &mut Call,
-    script: u16,
-    variable: u16,
-) -> Result<Value, OutOfMemory> {
+fn set_or_get(store: &mut Store, call: &mut Call, script: u16, variable: u16) -> Made<Value> {
     let Some(instance) = call.instance else {
         return Ok(Value::NoneValue);
     };
@@ -224,11 +220,7 @@ fn run_pass<S: Sink>(
 }
 
 // Runs instructions in a row, up to one after which more has to be done than going on ahead.
-fn run_row(
-    executor: &mut Executor<'_>,
-    code: &[LoadedInstruction],
-    from: usize,
-) -> Result<Row, OutOfMemory>
+fn run_row(executor: &mut Executor<'_>, code: &[LoadedInstruction], from: usize) -> Made<Row>
     requires { from < length code.now }
     ensures ahead { IfOk result (λ row. from ≤ row.place) }
     ensures room { IfOk result (λ row. row.place + 1 < 2 ^ 64) }
@@ -248,7 +240,7 @@ fn run_row(
 }
 
 // A body that ends without a return gives the default of its type.
-fn returned(executor: &Executor<'_>) -> Result<Ending, OutOfMemory> {
+fn returned(executor: &Executor<'_>) -> Made<Ending> {
     let value = default_of(executor.turn.alloc, executor.function.result)?;
     Ok(returning(value))
 }

@@ -11,7 +11,6 @@ ghost use Rattle.core_tree.specs.declared.value.Value.{Value};
 ghost use Rattle.machine_state.specs.Plain.{PlainArray, PlainFrame, PlainInstance, plain, plain_array, plain_device, plain_frame, plain_instance, plain_stack};
 ghost use Rattle.machine_state.specs.Savable.{FitsTwoBytes, IsElementType, IsNumbered, IsSavable, IsSavableArray, IsSavableDevice, IsSavableFrame, IsSavableInstance, IsSavablePlace, IsSavableStack, IsSavableValue, firsts};
 
-use crate::ascending::{pairs_ascend, sleepers_ascend, stacks_ascend};
 use crate::setting::name_of;
 use core_tree::{CoreType, DeviceKind, Value};
 use machine_state::{BodyPlace, FrameState, MachineState};
@@ -90,6 +89,27 @@ fn are_savable_locks(state: &MachineState) -> bool
         && pairs_ascend(&state.owners)
         && stacks_ascend(&state.free)
         && sleepers_ascend(&state.asleep)
+}
+
+/// Whether pairs ascend.
+pub fn pairs_ascend(pairs: &[(u16, u16)]) -> bool
+    ensures { result ≡ true → IsStrictlyIncreasing (firsts pairs.now) }
+{
+    pairs.is_sorted_by(|a, b| a.0 < b.0)
+}
+
+/// Whether numbers ascend.
+pub fn stacks_ascend(stacks: &[u16]) -> bool
+    ensures { result ≡ true → IsStrictlyIncreasing stacks.now }
+{
+    stacks.is_sorted_by(|a, b| *a < *b)
+}
+
+/// Whether sleepers ascend.
+pub fn sleepers_ascend(sleepers: &[(u16, u32)]) -> bool
+    ensures { result ≡ true → IsStrictlyIncreasing (firsts sleepers.now) }
+{
+    sleepers.is_sorted_by(|a, b| a.0 < b.0)
 }
 
 // The number that would say none is no number.

@@ -10,7 +10,8 @@ use crate::frame::{CallWay, FunctionPlace};
 use crate::plan::Plan;
 use core_tree::{CoreType, Scene};
 use machine_state::{BodyPlace, Way};
-use papy_base::{Name, OutOfMemory};
+use papy_base::Name;
+use pex_set::Made;
 use pex_verify::{Loaded, LoadedFunction, LoadedProperty, MethodPlace, Operand, PropertyPlace};
 use std::alloc::Global;
 
@@ -132,10 +133,9 @@ impl Setting {
             _ => None,
         }
     }
-}
 
-// What names mean.
-impl Setting {
+    // ---- what names mean
+
     /// What a call means for an instance whose state's name has this number, none where nothing has the call's name.
     pub fn look_up(
         &self,
@@ -173,11 +173,7 @@ impl Setting {
     }
 
     /// The body that a place names, none where it isn't spelled as one is declared.
-    pub fn body_named(
-        &self,
-        alloc: Global,
-        at: &BodyPlace,
-    ) -> Result<Option<FunctionPlace>, OutOfMemory> {
+    pub fn body_named(&self, alloc: Global, at: &BodyPlace) -> Made<Option<FunctionPlace>> {
         let state = self.loaded.name_number(alloc, at.state.as_bytes())?;
         let name = self.loaded.name_number(alloc, at.function.as_bytes())?;
         let (Some(state), Some(name)) = (state, name) else {
@@ -201,7 +197,7 @@ impl Setting {
     }
 
     /// How a call looks its function up, none where nothing has its name.
-    pub fn way_named(&self, alloc: Global, way: &Way) -> Result<Option<CallWay>, OutOfMemory> {
+    pub fn way_named(&self, alloc: Global, way: &Way) -> Made<Option<CallWay>> {
         let Some(name) = self.loaded.name_number(alloc, name_of(way).as_bytes())? else {
             return Ok(None);
         };
@@ -222,6 +218,36 @@ impl Setting {
         self.loaded.outline().scripts.get(usize::from(script))?;
         let found = self.loaded.find_method(script, None, name)?;
         Some(CallWay::Global(found))
+    }
+
+    /// The script and the variable of an instance's Auto property of this number, in the order of the report.
+    pub fn property_place(&self, instance: u16, property: u32) -> Option<(u16, u16)> {
+        let scripts = &self.loaded.outline().scripts;
+        let (mut script, property) = (self.script_of(instance)?, property as usize);
+        let mut above = self.properties_upward(script);
+        for _ in 0..scripts.len() {
+            let found = scripts.get(usize::from(script))?;
+            above = above.saturating_sub(found.properties.len());
+            if property >= above {
+                return Some((script, found.properties.get(property - above)?.variable));
+            }
+            script = found.parent?;
+        }
+        None
+    }
+
+    // How many Auto properties a script and those above it have.
+    fn properties_upward(&self, script: u16) -> usize {
+        let scripts = &self.loaded.outline().scripts;
+        let (mut count, mut next) = (0usize, Some(script));
+        for _ in 0..scripts.len() {
+            let Some(found) = next.and_then(|number| scripts.get(usize::from(number))) else {
+                break;
+            };
+            count = count.saturating_add(found.properties.len());
+            next = found.parent;
+        }
+        count
     }
 }
 
@@ -248,40 +274,5 @@ pub fn name_of(way: &Way) -> &Name
         | Way::Global { name, .. }
         | Way::Get(name)
         | Way::Set(name) => name,
-    }
-}
-
-impl Setting {
-    /// The script and the variable of an instance's Auto property of this number, in the order of the report.
-    pub fn property_place(&self, instance: u16, property: u32) -> Option<(u16, u16)> {
-        let scripts = &self.loaded.outline().scripts;
-        let (mut script, property) = (self.script_of(instance)?, property as usize);
-        let mut above = self.properties_upward(script);
-        for _ in 0..scripts.len() {
-            let found = scripts.get(usize::from(script))?;
-            above = above.saturating_sub(found.properties.len());
-            if property >= above {
-                return Some((script, found.properties.get(property - above)?.variable));
-            }
-            script = found.parent?;
-        }
-        None
-    }
-
-    // How many Auto properties a script and those above it have.
-    fn properties_upward(&self, script: u16) -> usize {
-        let scripts = &self.loaded.outline().scripts;
-        let (mut count, mut next) = (0usize, Some(script));
-        for _ in 0..scripts.len() {
-            let Some(number) = next else {
-                break;
-            };
-            let Some(found) = scripts.get(usize::from(number)) else {
-                break;
-            };
-            count = count.saturating_add(found.properties.len());
-            next = found.parent;
-        }
-        count
     }
 }

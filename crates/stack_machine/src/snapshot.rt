@@ -16,8 +16,12 @@ use instance_store::ScriptVariables;
 use latent_natives::Device;
 use machine_state::{BodyPlace, FrameState, MachineState, Way};
 use papy_base::{OutOfMemory, Text};
+use pex_set::Made;
 use pex_verify::{LoadedInstruction, MethodPlace, Operand};
 use std::alloc::Global;
+
+/// A device of a state: its kind, its cells and its place.
+pub type HeldDevice = (DeviceKind, Vec<i32>, u64);
 
 impl Machine {
     /// The state of the run as it stands, with these devices: all that later turns depend on beside the scripts and the
@@ -27,11 +31,7 @@ impl Machine {
     ///
     /// `OutOfMemory` comes where there is no room, and would come of a state with a list or a text that is longer than a
     /// held file can say, which no run reaches.
-    pub fn snapshot(
-        &self,
-        alloc: Global,
-        devices: &Vec<Box<dyn Device>>,
-    ) -> Result<MachineState, OutOfMemory>
+    pub fn snapshot(&self, alloc: Global, devices: &Vec<Box<dyn Device>>) -> Made<MachineState>
         requires { self.now.fault ≡ None }
         ensures savable { IfOk result (λ state. IsSavable (plain state)) }
         ensures turn { IfOk result (λ state. state.turn ≡ self.now.turns) }
@@ -63,9 +63,6 @@ impl Machine {
     }
 }
 
-/// What is told, where there is room for it.
-type Told<T> = Result<T, OutOfMemory>;
-
 // What tells the state of a world.
 #[derive(Drop)]
 struct Teller<'a> {
@@ -76,7 +73,7 @@ struct Teller<'a> {
 
 impl Teller<'_> {
     // The first so many instances.
-    fn instances(&self, count: u16) -> Told<Vec<(Text, Vec<Value>)>> {
+    fn instances(&self, count: u16) -> Made<Vec<(Text, Vec<Value>)>> {
         let store = &self.world.store;
         let mut told = Vec::new(self.alloc);
         for instance in 0..count {
@@ -90,7 +87,7 @@ impl Teller<'_> {
     }
 
     // The values of scripts that stand upward, from the topmost script down.
-    fn values(&self, scripts: &[ScriptVariables]) -> Told<Vec<Value>> {
+    fn values(&self, scripts: &[ScriptVariables]) -> Made<Vec<Value>> {
         let mut values = Vec::new(self.alloc);
         for script in scripts.iter().rev() {
             values.append(&mut copies(self.alloc, script.values())?)?;
@@ -99,7 +96,7 @@ impl Teller<'_> {
     }
 
     // Those of the first so many instances that a stack holds.
-    fn owners(&self, count: u16) -> Told<Vec<(u16, u16)>> {
+    fn owners(&self, count: u16) -> Made<Vec<(u16, u16)>> {
         let mut owners = Vec::new(self.alloc);
         for instance in 0..count {
             if let Some(stack) = self.world.threads.owner_of(instance) {
@@ -110,7 +107,7 @@ impl Teller<'_> {
     }
 
     // The stacks that wait, in order of joining.
-    fn waiters(&self) -> Told<Vec<(u16, u16)>> {
+    fn waiters(&self) -> Made<Vec<(u16, u16)>> {
         let threads = &self.world.threads;
         let (mut waiters, mut after) = (Vec::new(self.alloc), None);
         for _ in 0..threads.count() {
@@ -126,7 +123,7 @@ impl Teller<'_> {
     }
 
     // The stacks that run free.
-    fn free(&self) -> Told<Vec<u16>> {
+    fn free(&self) -> Made<Vec<u16>> {
         let threads = &self.world.threads;
         let mut free = Vec::new(self.alloc);
         for stack in 0..threads.count() {
@@ -138,7 +135,7 @@ impl Teller<'_> {
     }
 
     // The stacks that sleep, with the turns at which they are due.
-    fn asleep(&self) -> Told<Vec<(u16, u32)>> {
+    fn asleep(&self) -> Made<Vec<(u16, u32)>> {
         let threads = &self.world.threads;
         let mut asleep = Vec::new(self.alloc);
         for stack in 0..threads.count() {
@@ -149,7 +146,7 @@ impl Teller<'_> {
         Ok(asleep)
     }
 
-    fn arrays(&self) -> Told<Vec<(CoreType, Vec<Value>)>> {
+    fn arrays(&self) -> Made<Vec<(CoreType, Vec<Value>)>> {
         let arrays = &self.world.store.arrays;
         let mut told = Vec::new(self.alloc);
         for array in 0..arrays.count() {
@@ -160,7 +157,7 @@ impl Teller<'_> {
     }
 
     // The frames of each stack that has started, outermost first.
-    fn stacks(&self) -> Told<Vec<Vec<FrameState>>>
+    fn stacks(&self) -> Made<Vec<Vec<FrameState>>>
         ensures { IfOk result (λ told. vec_len told ≡ self.now.world.now.threads.started) }
     {
         let mut told = Vec::new(self.alloc);
@@ -170,7 +167,7 @@ impl Teller<'_> {
         Ok(told)
     }
 
-    fn frames(&self, stack: u16) -> Told<Vec<FrameState>> {
+    fn frames(&self, stack: u16) -> Made<Vec<FrameState>> {
         let mut told = Vec::new(self.alloc);
         let mut below = None;
         if let Some(found) = self.world.threads.stack(stack) {
@@ -185,7 +182,7 @@ impl Teller<'_> {
         Ok(told)
     }
 
-    fn call(&self, stack: u16, below: Option<&Frame>, call: &Call) -> Told<FrameState> {
+    fn call(&self, stack: u16, below: Option<&Frame>, call: &Call) -> Made<FrameState> {
         Ok(FrameState::ToEnter {
             instance: call.instance,
             way: self.way(stack, below, call)?,
@@ -194,7 +191,7 @@ impl Teller<'_> {
     }
 
     // How a pending call of a stack names its function.
-    fn way(&self, stack: u16, below: Option<&Frame>, call: &Call) -> Told<Way> {
+    fn way(&self, stack: u16, below: Option<&Frame>, call: &Call) -> Made<Way> {
         match (&call.kept, below) {
             (Some(kept), _) => copy_of(self.alloc, kept),
             (None, Some(frame)) => self.way_of_instruction(frame, call.way),
@@ -203,7 +200,7 @@ impl Teller<'_> {
     }
 
     // The first call of a stack is one of the scene's.
-    fn way_of_scene(&self, stack: u16) -> Told<Way> {
+    fn way_of_scene(&self, stack: u16) -> Made<Way> {
         let (plan, scene) = (&self.setting.plan, &self.setting.scene);
         let planned = plan.calls.get(usize::from(stack)).ok_or(OutOfMemory)?;
         let call = scene.calls.get(planned.number).ok_or(OutOfMemory)?;
@@ -211,7 +208,7 @@ impl Teller<'_> {
     }
 
     // Another call is that of the instruction at which the frame below it halts.
-    fn way_of_instruction(&self, below: &Frame, way: CallWay) -> Told<Way> {
+    fn way_of_instruction(&self, below: &Frame, way: CallWay) -> Made<Way> {
         let instruction = self.calling(below).ok_or(OutOfMemory)?;
         let place = usize::from(matches!(way, CallWay::Global(_)));
         let Some(Operand::Word(word)) = instruction.fixed.get(place) else {
@@ -251,7 +248,7 @@ impl Teller<'_> {
     }
 
     // A body that runs. Where it stands is spelled as it is declared.
-    fn body(&self, running: &Running) -> Told<FrameState> {
+    fn body(&self, running: &Running) -> Made<FrameState> {
         let (setting, body) = (self.setting, running.body);
         let name = &setting.function(body).ok_or(OutOfMemory)?.name;
         Ok(FrameState::Running {
@@ -272,10 +269,7 @@ impl Teller<'_> {
     }
 }
 
-fn told_devices(
-    alloc: Global,
-    devices: &Vec<Box<dyn Device>>,
-) -> Told<Vec<(DeviceKind, Vec<i32>, u64)>> {
+fn told_devices(alloc: Global, devices: &Vec<Box<dyn Device>>) -> Made<Vec<HeldDevice>> {
     let mut told = Vec::new(alloc);
     for device in devices {
         told.push((device.kind(), device.cells().to_vec(alloc)?, device.place()))?;
@@ -284,7 +278,7 @@ fn told_devices(
 }
 
 /// An equal way.
-pub fn copy_of(alloc: Global, way: &Way) -> Result<Way, OutOfMemory> {
+pub fn copy_of(alloc: Global, way: &Way) -> Made<Way> {
     let name = name_of(way).try_clone(alloc)?;
     Ok(match *way {
         Way::Method(_) => Way::Method(name),

@@ -1,7 +1,8 @@
-//! What turns and stacks answer.
+//! What turns and stacks answer, and why a state gives no machine.
 
 ghost use Rattle.std.specs.Prelude.{◌≡◌};
 ghost use Rattle.stack_machine.specs.Faults.{fault_of_sink};
+ghost use Rattle.stack_machine.specs.declared.status.RestoreFault.TheVariants.{OutOfMemory as NoMemoryToRestore};
 ghost use Rattle.stack_machine.specs.declared.status.TurnFault.TheVariants.{OutOfMemory as TurnOutOfMemory};
 
 use papy_base::OutOfMemory;
@@ -26,6 +27,20 @@ pub enum TurnFault {
     /// A line of the report wasn't written.
     #[error("the report wasn't written")]
     WriteFault,
+    /// No memory was found.
+    #[error("out of memory")]
+    OutOfMemory,
+}
+
+/// Why a state gives no machine.
+#[derive(Clone, Copy, Debug, PartialEq, Eq, Error)]
+pub enum RestoreFault {
+    /// The state isn't sound for the scripts and the scene.
+    #[error("the state isn't sound")]
+    BadState,
+    /// The devices are others than those of the state, in number or in kind.
+    #[error("the devices are others than those of the state")]
+    OtherDevices,
     /// No memory was found.
     #[error("out of memory")]
     OutOfMemory,
@@ -68,5 +83,13 @@ impl From<IoFault> for TurnFault {
             IoFault::Failed => TurnFault::WriteFault,
             IoFault::OutOfMemory => TurnFault::OutOfMemory,
         }
+    }
+}
+
+impl From<OutOfMemory> for RestoreFault {
+    ghost from_gives = { λ _ fault. fault ≡ NoMemoryToRestore };
+
+    fn from(_error: OutOfMemory) -> RestoreFault {
+        RestoreFault::OutOfMemory
     }
 }

@@ -6,7 +6,8 @@ ghost use Rattle.stack_machine.specs.Stores.{array_in, default_in};
 
 use core_tree::{CoreType, Scene, Value};
 use instance_store::{Arrays, Instances};
-use papy_base::{OutOfMemory, Text};
+use papy_base::Text;
+use pex_set::Made;
 use pex_verify::Loaded;
 use std::alloc::Global;
 
@@ -22,7 +23,7 @@ pub struct Store {
 
 impl Store {
     /// The values at the start.
-    pub fn create(alloc: Global, loaded: &Loaded, scene: &Scene) -> Result<Store, OutOfMemory>
+    pub fn create(alloc: Global, loaded: &Loaded, scene: &Scene) -> Made<Store>
         requires { vec_len scene.now.instances < 65536 }
         ensures count { IfOk result (λ store. length store.instances ≡ vec_len scene.now.instances) }
         ensures arrays { IfOk result (λ store. store.arrays ≡ []) }
@@ -39,7 +40,7 @@ impl Store {
         instances: Instances,
         arrays: Arrays,
         count: usize,
-    ) -> Result<Store, OutOfMemory>
+    ) -> Made<Store>
         requires all { count ≡ length instances }
         requires few { count < 65536 }
         ensures count { IfOk result (λ store. length store.instances ≡ count) }
@@ -72,7 +73,7 @@ impl Store {
         loaded: &Loaded,
         instance: u16,
         state: Text,
-    ) -> Result<(), OutOfMemory>
+    ) -> Made<()>
         ensures ok { OnOk result (self.new.instances ≡ slice_set self.old.instances instance (record (instance_at self.old.instances instance) { state = state })) }
         ensures err { OnErr result (self.new.instances ≡ self.old.instances) }
         ensures count { length self.new.instances ≡ length self.old.instances }
@@ -87,7 +88,7 @@ impl Store {
     }
 
     /// The value of a variable, None where there isn't such a one.
-    pub fn variable(&self, instance: u16, script: u16, variable: u16) -> Result<Value, OutOfMemory>
+    pub fn variable(&self, instance: u16, script: u16, variable: u16) -> Made<Value>
         ensures { IfOk result (λ value. value ≡ variable_of (instance_at self.now.instances instance) script variable) }
     {
         if !self.instances.has_variable(instance, script, variable) {
@@ -125,7 +126,7 @@ fn first_states(
     loaded: &Loaded,
     instances: &Instances,
     count: usize,
-) -> Result<Vec<Option<usize>>, OutOfMemory>
+) -> Made<Vec<Option<usize>>>
     requires all { count ≡ length instances.now }
     requires few { count < 65536 }
     ensures { IfOk result (λ states. vec_len states ≡ count) }
@@ -139,7 +140,7 @@ fn first_states(
 }
 
 /// The value that a place of a type holds before anything is stored in it.
-pub fn default_of(alloc: Global, kind: Option<CoreType>) -> Result<Value, OutOfMemory>
+pub fn default_of(alloc: Global, kind: Option<CoreType>) -> Made<Value>
     ensures { IfOk result (λ value. value ≡ default_in kind) }
 {
     Ok(match kind {
@@ -151,7 +152,7 @@ pub fn default_of(alloc: Global, kind: Option<CoreType>) -> Result<Value, OutOfM
 }
 
 /// Copies of the values.
-pub fn copies(alloc: Global, values: &[Value]) -> Result<Vec<Value>, OutOfMemory>
+pub fn copies(alloc: Global, values: &[Value]) -> Made<Vec<Value>>
     ensures { IfOk result (λ copies. copies.items ≡ values.now) }
 {
     let mut copies = Vec::with_capacity(alloc, values.len())?;

@@ -16,7 +16,7 @@ use crate::status::Status;
 use core_tree::Value;
 use latent_natives::Sleepers;
 use lock_queue::Locks;
-use papy_base::OutOfMemory;
+use pex_set::Made;
 use run_replay::LockMove;
 use std::alloc::Global;
 use std::marker::Model;
@@ -52,7 +52,7 @@ impl Model for Threads {
 
 impl Threads {
     /// No stacks, with room for so many.
-    pub fn with_room(alloc: Global, instances: u16, stacks: u16) -> Result<Threads, OutOfMemory>
+    pub fn with_room(alloc: Global, instances: u16, stacks: u16) -> Made<Threads>
         ensures fresh { IfOk result (λ threads. (threads.started ≡ 0) × (threads.done ≡ 0)) }
         ensures sizes { IfOk result (λ threads. (threads.instances ≡ instances) × (threads.room ≡ stacks)) }
         ensures locks { IfOk result (λ threads. threads.locks ≡ record { seats = replicate stacks Resting; waiters = []; instances = instances }) }
@@ -85,7 +85,7 @@ impl Threads {
     }
 
     /// Starts a stack, which waits for the instance of its first call.
-    pub fn start(&mut self, alloc: Global, first: Frame) -> Result<LockMove, OutOfMemory>
+    pub fn start(&mut self, alloc: Global, first: Frame) -> Made<LockMove>
         requires { self.old.started < self.old.room }
         ensures grown { HasGrown self.old self.new }
         ensures by_one { OnOk result (self.new.started ≡ self.old.started + 1) }
@@ -111,7 +111,7 @@ impl Threads {
     }
 
     // Pushes a frame.
-    fn push(&mut self, stack: u16, frame: Frame) -> Result<(), OutOfMemory>
+    fn push(&mut self, stack: u16, frame: Frame) -> Made<()>
         ensures { IsSameSize self.old self.new }
     {
         let Some(found) = self.stacks.get_mut(usize::from(stack)) else {
@@ -323,7 +323,7 @@ impl Threads {
     }
 
     /// Lets the sleepers that are due at a turn wait, in order of stack number.
-    pub fn wake<N: Notes>(&mut self, turn: u32, notes: &mut N) -> Result<(), OutOfMemory>
+    pub fn wake<N: Notes>(&mut self, turn: u32, notes: &mut N) -> Made<()>
         ensures size { IsSameSize self.old self.new }
         ensures noted { MatchResult result (λ _. Noted (AreWakes 0 self.old.started) (N.noted notes.old) (N.noted notes.new)) (λ _. AddsSome (N.noted notes.old) (N.noted notes.new)) }
     {
@@ -341,23 +341,9 @@ impl Threads {
         self.stack(stack)
             .is_none_or(|found| found.frames.is_empty())
     }
-}
 
-impl Threads {
-    ghost use Rattle.std.specs.Borrow.{LendsIf, sem};
-    ghost use Rattle.stack_machine.specs.contracts.frame.Stack.{the_row as stack_row};
-    ghost use Rattle.stack_machine.specs.contracts.threads.Threads.{the_row};
+    // ---- what a state of a run tells of stacks, and takes from them
 
-    /// The frames of a stack, of which the innermost one may be changed.
-    pub fn stack_mut(&mut self, stack: u16) -> Option<&mut Stack>
-        ensures* writes_back { sem 𝓛 (LendsIf the_row stack_row self.entry result (λ w. self.old) self.old) }
-    {
-        self.stacks.get_mut(usize::from(stack))
-    }
-}
-
-// What a state of a run tells of stacks, and takes from them.
-impl Threads {
     /// A stack that has started.
     pub fn stack(&self, stack: u16) -> Option<&Stack> {
         self.stacks.get(usize::from(stack))
@@ -375,7 +361,7 @@ impl Threads {
     }
 
     /// Adds a stack of these frames, which rests. It is done where it has no frame.
-    pub fn add(&mut self, frames: Vec<Frame>) -> Result<(), OutOfMemory>
+    pub fn add(&mut self, frames: Vec<Frame>) -> Made<()>
         requires { self.old.started < self.old.room }
         ensures size { (self.new.instances ≡ self.old.instances) × (self.new.room ≡ self.old.room) }
         ensures started { OnOk result (self.new.started ≡ self.old.started + 1) }
@@ -401,12 +387,11 @@ impl Threads {
         }
         self.sleepers.rest(stack, until);
     }
-}
 
-// What the acts of stacks do to their frames and their locks.
-impl Threads {
+    // ---- what the acts of stacks do to their frames and their locks
+
     /// Does the act that ended a stack's turn.
-    pub fn act(&mut self, stack: u16, turn: u32, ending: Ending) -> Result<(), OutOfMemory>
+    pub fn act(&mut self, stack: u16, turn: u32, ending: Ending) -> Made<()>
         ensures { IsSameSize self.old self.new }
     {
         match ending {
@@ -430,7 +415,7 @@ impl Threads {
 
     // A call that needs a frame. The stack keeps its lock where the call is on the frame's own instance, and a global function
     // runs free.
-    fn call(&mut self, stack: u16, call: Call) -> Result<(), OutOfMemory>
+    fn call(&mut self, stack: u16, call: Call) -> Made<()>
         ensures { IsSameSize self.old self.new }
     {
         let is_own = match call.way {
@@ -472,6 +457,19 @@ impl Threads {
             self.let_go(stack);
             self.go_to_wait(stack);
         }
+    }
+}
+
+impl Threads {
+    ghost use Rattle.std.specs.Borrow.{LendsIf, sem};
+    ghost use Rattle.stack_machine.specs.contracts.frame.Stack.{the_row as stack_row};
+    ghost use Rattle.stack_machine.specs.contracts.threads.Threads.{the_row};
+
+    /// The frames of a stack, of which the innermost one may be changed.
+    pub fn stack_mut(&mut self, stack: u16) -> Option<&mut Stack>
+        ensures* writes_back { sem 𝓛 (LendsIf the_row stack_row self.entry result (λ w. self.old) self.old) }
+    {
+        self.stacks.get_mut(usize::from(stack))
     }
 }
 

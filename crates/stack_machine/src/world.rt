@@ -22,8 +22,8 @@ use crate::store::{Store, copies};
 use crate::threads::Threads;
 use core_tree::{Scene, TurnOrder};
 use latent_natives::Device;
-use papy_base::OutOfMemory;
 use papy_io::Sink;
+use pex_set::Made;
 use run_replay::LockMove;
 use std::alloc::Global;
 
@@ -98,7 +98,7 @@ impl World {
     }
 
     // Notes the moves of a stack's act, which began at a place.
-    fn note_act<N: Notes>(&self, stack: u16, from: Place, notes: &mut N) -> Result<(), OutOfMemory>
+    fn note_act<N: Notes>(&self, stack: u16, from: Place, notes: &mut N) -> Made<()>
         ensures { MatchResult result (λ _. Noted (IsAct stack) (N.noted notes.old) (N.noted notes.new)) (λ _. AddsSome (N.noted notes.old) (N.noted notes.new)) }
     {
         let to = self.threads.place_of(stack);
@@ -138,7 +138,7 @@ fn begin<N: Notes>(
     threads: &mut Threads,
     turn: u32,
     notes: &mut N,
-) -> Result<(), OutOfMemory>
+) -> Made<()>
     requires { HasBegun setting.now.plan.calls.items setting.now.scene.calls.items threads.old turn }
     ensures grown { HasGrown threads.old threads.new }
     ensures started { OnOk result (threads.new.started ≡ calls_before (turn + 1) setting.now.scene.calls.items) }
@@ -155,7 +155,7 @@ fn start_stacks<N: Notes>(
     threads: &mut Threads,
     turn: u32,
     notes: &mut N,
-) -> Result<(), OutOfMemory>
+) -> Made<()>
     requires { HasBegun setting.now.plan.calls.items setting.now.scene.calls.items threads.old turn }
     ensures grown { HasGrown threads.old threads.new }
     ensures started { OnOk result (threads.new.started ≡ calls_before (turn + 1) setting.now.scene.calls.items) }
@@ -179,7 +179,7 @@ fn start(
     setting: &Setting,
     threads: &mut Threads,
     planned: PlannedCall,
-) -> Result<LockMove, OutOfMemory>
+) -> Made<LockMove>
     requires room { threads.old.started < threads.old.room }
     requires call { planned.number < vec_len setting.now.scene.calls }
     ensures grown { HasGrown threads.old threads.new }

@@ -5,7 +5,7 @@ use Rattle.std.proofs.Common.{◌≡◌, ℕ, List, subst, rules, of_calls}
 use Rattle.std.proofs.lemmas.Fn.{always_returns_same}
 use Rattle.std.proofs.lemmas.List.{map-id}
 use Rattle.machine_state.proofs.Growing.{adjacent_ascend}
-use Rattle.stack_machine.proofs.ascending.stacks_ascend.Goals as goal
+use Rattle.stack_machine.proofs.savable.stacks_ascend.Goals as goal
 
 pub returns : goal.returns
 returns c = λ passed.
