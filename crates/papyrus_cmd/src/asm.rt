@@ -2,6 +2,7 @@
 ghost use Rattle.std.specs.Prelude.{◌≡◌, ◌≢◌, ◌≤◌, length, map, take, IfOk};
 ghost use Rattle.std.specs.String.{string_bytes};
 ghost use Rattle.papy_io.specs.Activity.{Idle};
+ghost use Rattle.pex_codec.specs.Spells.{Spells};
 ghost use Rattle.pex_values.specs.Fit.{Fits};
 ghost use Rattle.pex_values.specs.Plain.{plain};
 ghost use Rattle.pex_values.specs.Shape.{IsWellShaped};
@@ -12,6 +13,7 @@ ghost use Rattle.command_files.specs.Ending.{CountsReads, CountsWrites, IsWordBe
 ghost use Rattle.command_files.specs.FileFault.{CountsFile, MissesFile};
 
 use command_files::{Ending, FileFault, Place, Rule, read_text};
+use papy_base::OutOfMemory;
 use papy_io::{Desk, write_file};
 use pex_codec::{EncodeFault, encode};
 use pex_listing::{ListingFault, ListingRule, assemble};
@@ -22,15 +24,26 @@ use std::alloc::Global;
 const LISTING_LIMIT: u32 = 1 << 27;
 
 /// The bytes that spell a value which fits a file.
+fn spelling_of(alloc: Global, value: &Pex) -> Result<Vec<u8>, OutOfMemory>
+    requires shaped { IsWellShaped (plain value.now) }
+    requires fits { Fits (plain value.now) }
+    ensures { IfOk result (λ bytes. Spells (plain value.now) bytes.items) }
+{
+    match encode(alloc, value) {
+        Ok(bytes) => Ok(bytes),
+        Err(EncodeFault::OutOfMemory) => Err(OutOfMemory),
+        Err(EncodeFault::TooManyItems) => unreachable!(),
+    }
+}
+
 fn spelled(alloc: Global, value: &Pex) -> Result<Vec<u8>, FileFault>
     requires shaped { IsWellShaped (plain value.now) }
     requires fits { Fits (plain value.now) }
     ensures { SpellsValue (plain value.now) result }
 {
-    match encode(alloc, value) {
+    match spelling_of(alloc, value) {
         Ok(bytes) => Ok(bytes),
-        Err(EncodeFault::OutOfMemory) => Err(FileFault::OutOfMemory),
-        Err(EncodeFault::TooManyItems) => unreachable!(),
+        Err(_) => Err(FileFault::OutOfMemory),
     }
 }
 
@@ -63,8 +76,17 @@ fn read_listing<D: Desk>(alloc: Global, desk: &mut D, name: &[u8]) -> Result<Vec
     ensures spelled { IfOk result (λ bytes. IsAssembled name.now (D.holds desk.old) bytes.items) }
     ensures read { ReadsListing (D.holds desk.old) name.now result }
 {
-    let rule = Rule::Listing(ListingRule::BadLine);
-    let text = read_text(alloc, desk, name, LISTING_LIMIT, Place::Line(0), rule)?;
+    let text = match read_text(
+        alloc,
+        desk,
+        name,
+        LISTING_LIMIT,
+        Place::Line(0),
+        Rule::Listing(ListingRule::BadLine),
+    ) {
+        Ok(text) => text,
+        Err(fault) => return Err(fault),
+    };
     file_of(alloc, &text)
 }
 

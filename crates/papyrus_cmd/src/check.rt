@@ -43,7 +43,8 @@ pub fn check<D: Desk, S: Sink>(alloc: Global, files: &[String], desk: &mut D, ou
     ensures word { IsWordBelow 2 result }
     ensures output { Outputs (AnswersTo CheckAnswers (word_at (map string_bytes files.now) 0)) (D.holds desk.old) result (S.written out.old) (S.written out.new) }
 {
-    let size = match count_pex(alloc, desk, files[0].as_bytes()) {
+    let file = &files[0];
+    let size = match count_pex(alloc, desk, file.as_bytes()) {
         Ok(size) => size,
         Err(fault) => return fault.at_word(1),
     };

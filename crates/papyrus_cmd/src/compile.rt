@@ -35,12 +35,16 @@ pub fn compile<D: Desk>(alloc: Global, scripts: &[String], desk: &mut D) -> Endi
         Ok(compiled) => compiled,
         Err(fault) => return Ending::from(fault),
     };
-    let written = write_each(alloc, desk, scripts, &compiled.files);
-    // The end of the program gives their memory back at once, and taking them apart doesn't.
-    mem::forget(compiled);
-    mem::forget(set);
-    match written {
-        Ok(()) => Ending::Done,
-        Err(fault) => Ending::from(fault),
+    match write_each(alloc, desk, scripts, &compiled.files) {
+        Ok(()) => {
+            // The end of the program gives their memory back at once, and taking them apart doesn't.
+            mem::forget(compiled);
+            mem::forget(set);
+            Ending::Done
+        }
+        Err(fault) => {
+            drop(compiled);
+            Ending::from(fault)
+        }
     }
 }

@@ -44,7 +44,8 @@ fn try_note<E: Sink>(notes: &mut E, line: &[u8])
 fn cannot_read(alloc: Global, file: &[u8]) -> Result<Vec<u8>, OutOfMemory>
     ensures { IfOk result (λ line. line.items ≡ cannot_read file.now) }
 {
-    let mut line = CANNOT_READ.to_vec(alloc)?;
+    let mut line = Vec::with_capacity(alloc, CANNOT_READ.len())?;
+    line.extend_from_slice(CANNOT_READ)?;
     line.extend_from_slice(file)?;
     line.push(b'\n')?;
     Ok(line)

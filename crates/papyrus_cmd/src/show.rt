@@ -28,16 +28,24 @@ pub fn show<D: Desk, S: Sink>(alloc: Global, files: &[String], desk: &mut D, out
     ensures output { Outputs (AnswersTo ShowAnswers (word_at (map string_bytes files.now) 0)) (D.holds desk.old) result (S.written out.old) (S.written out.new) }
     ensures listed { ShowsHead (word_at (map string_bytes files.now) 0) result (D.holds desk.old) (S.written out.old) (S.written out.new) }
 {
-    let pex = match read_pex(alloc, desk, files[0].as_bytes()) {
+    let file = &files[0];
+    let pex = match read_pex(alloc, desk, file.as_bytes()) {
         Ok(pex) => pex,
         Err(fault) => return fault.at_word(1),
     };
-    let shown = write_listing(alloc, &pex.value, out);
-    // The end of the program gives the value's memory back at once, and taking it apart doesn't.
-    mem::forget(pex);
-    match shown {
-        Ok(()) => Ending::Done,
-        Err(ShowFault::WriteFault) => Ending::WriteFault,
-        Err(ShowFault::OutOfMemory) => Ending::OutOfMemory,
+    match write_listing(alloc, &pex.value, out) {
+        Ok(()) => {
+            // The end of the program gives the value's memory back at once, and taking it apart doesn't.
+            mem::forget(pex);
+            Ending::Done
+        }
+        Err(ShowFault::WriteFault) => {
+            drop(pex);
+            Ending::WriteFault
+        }
+        Err(ShowFault::OutOfMemory) => {
+            drop(pex);
+            Ending::OutOfMemory
+        }
     }
 }

@@ -17,7 +17,10 @@ use std::alloc::Global;
 fn upgraded(alloc: Global, text: &[u8]) -> Result<Vec<u8>, FileFault>
     ensures { Upgraded result }
 {
-    Ok(upgrade_scene(alloc, text)?)
+    match upgrade_scene(alloc, text) {
+        Ok(text) => Ok(text),
+        Err(fault) => Err(FileFault::from(fault)),
+    }
 }
 
 /// Reads a scene, and gives its text in the current version.
@@ -30,7 +33,10 @@ fn read_upgraded<D: Desk>(alloc: Global, desk: &mut D, name: &[u8]) -> Result<Ve
     ensures missed { MissesFile name.now result (D.missed desk.new) }
     ensures read { ReadsUpgraded (D.holds desk.old) name.now result }
 {
-    let text = read_scene_text(alloc, desk, name)?;
+    let text = match read_scene_text(alloc, desk, name) {
+        Ok(text) => text,
+        Err(fault) => return Err(fault),
+    };
     upgraded(alloc, &text)
 }
 

@@ -48,8 +48,17 @@ fn read_waits<D: Desk>(
     ensures missed { MissesFile name.now result (D.missed desk.new) }
     ensures read { ReadsWaits (D.holds desk.old) name.now result }
 {
-    let rule = Rule::Journal(JournalRule::BadLine);
-    let journal = read_text(alloc, desk, name, JOURNAL_LIMIT, Place::Line(0), rule)?;
+    let journal = match read_text(
+        alloc,
+        desk,
+        name,
+        JOURNAL_LIMIT,
+        Place::Line(0),
+        Rule::Journal(JournalRule::BadLine),
+    ) {
+        Ok(journal) => journal,
+        Err(fault) => return Err(fault),
+    };
     checked(alloc, &journal)
 }
 

@@ -89,8 +89,13 @@ pub fn write_sources<D: Desk>(
     ensures missed { D.missed desk.new ≡ D.missed desk.old }
 {
     for (place, text) in texts.iter().enumerate() {
-        let file = files[place].as_bytes();
-        write_renamed(alloc, desk, file, SOURCE_ENDING, text.as_bytes())?;
+        write_renamed(
+            alloc,
+            desk,
+            files[place].as_bytes(),
+            SOURCE_ENDING,
+            text.as_bytes(),
+        )?;
     }
     Ok(())
 }

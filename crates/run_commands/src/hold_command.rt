@@ -87,12 +87,21 @@ fn play_held<S: Sink>(
     ensures plays { PlaysHeld most (map bytes_of program.kept.items) program.text.items result (S.written out.old) (S.written out.new) }
     ensures kinds { SameKinds (map (λ d. device_state d) devices.old.items) (map (λ d. device_state d) devices.new.items) }
 {
-    let mut machine = start_machine(alloc, program.loaded, program.tree, 2, devices)?;
+    let Program {
+        tree,
+        text,
+        loaded,
+        kept,
+    } = program;
+    let mut machine = match start_machine(alloc, loaded, tree, 2, devices) {
+        Ok(machine) => machine,
+        Err(ending) => return Err(ending),
+    };
     let turned = state_after(alloc, &mut machine, most, out, devices);
     drop(machine);
     match turned {
         Ok(state) => {
-            let bytes = saved(alloc, &program.kept, &program.text, &state);
+            let bytes = saved(alloc, &kept, &text, &state);
             drop(state);
             bytes
         }

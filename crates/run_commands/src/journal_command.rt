@@ -11,7 +11,7 @@ ghost use Rattle.run_commands.specs.Play.{HasFewParts};
 ghost use Rattle.run_commands.specs.Program.{MissesRead};
 
 use crate::play::{start_machine, turns_ending};
-use crate::program::read_program;
+use crate::program::{Program, read_program};
 use crate::turns::noted_run;
 use command_files::Ending;
 use core_tree::SceneTree;
@@ -34,12 +34,19 @@ fn play_noted<S: Sink>(
     ensures plays { PlaysNoted tree 1 result (S.written out.old) (S.written out.new) }
     ensures kinds { SameKinds (map (λ d. device_state d) devices.old.items) (map (λ d. device_state d) devices.new.items) }
 {
-    let mut machine = start_machine(alloc, loaded, tree, 1, devices)?;
-    let noted = noted_run(alloc, &mut machine, out, devices);
-    drop(machine);
-    match noted {
-        Ok(journal) => Ok(journal),
-        Err(fault) => Err(turns_ending(fault)),
+    let mut machine = match start_machine(alloc, loaded, tree, 1, devices) {
+        Ok(machine) => machine,
+        Err(ending) => return Err(ending),
+    };
+    match noted_run(alloc, &mut machine, out, devices) {
+        Ok(journal) => {
+            drop(machine);
+            Ok(journal)
+        }
+        Err(fault) => {
+            drop(machine);
+            Err(turns_ending(fault))
+        }
     }
 }
 
@@ -70,9 +77,15 @@ pub fn journal<D: Desk, S: Sink>(
         Ok(program) => program,
         Err(ending) => return ending,
     };
-    drop(program.text);
-    drop(program.kept);
-    let journal = match play_noted(alloc, program.loaded, program.tree, out, devices) {
+    let Program {
+        tree,
+        text,
+        loaded,
+        kept,
+    } = program;
+    drop(text);
+    drop(kept);
+    let journal = match play_noted(alloc, loaded, tree, out, devices) {
         Ok(journal) => journal,
         Err(ending) => return ending,
     };

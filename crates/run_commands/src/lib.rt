@@ -2,8 +2,10 @@
 //! `hold`, a held run by `resume`, and the scripts of `sample`; and how compiled files are read and verified together.
 #![tactic(auto)]
 
+mod exec_command;
 mod hold_command;
 mod journal_command;
+mod once_command;
 mod play;
 mod program;
 mod resume_command;
@@ -13,9 +15,11 @@ mod sample_scene;
 mod sample_scripts;
 mod turns;
 
+pub use exec_command::exec;
 pub use hold_command::hold;
 pub use journal_command::journal;
+pub use once_command::once;
 pub use program::read_set;
 pub use resume_command::resume;
-pub use run_command::{exec, once, run};
+pub use run_command::run;
 pub use sample_command::sample;

@@ -71,10 +71,14 @@ pub fn play<S: Sink>(
         Ok(machine) => machine,
         Err(ending) => return ending,
     };
-    let ended = run_scene(alloc, &mut machine, out, devices);
-    drop(machine);
-    match ended {
-        Ok(()) => Ending::Done,
-        Err(fault) => turns_ending(fault),
+    match run_scene(alloc, &mut machine, out, devices) {
+        Ok(()) => {
+            drop(machine);
+            Ending::Done
+        }
+        Err(fault) => {
+            drop(machine);
+            turns_ending(fault)
+        }
     }
 }

@@ -184,9 +184,13 @@ pub fn read_set<D: Desk>(alloc: Global, names: &[String], desk: &mut D) -> Resul
     ensures held { IfOk result (λ _. IfSome (D.holds desk.old) (AreHeld (map string_bytes names.now))) }
     ensures spelled { IfOk result (λ set. IfSome (D.holds desk.old) (AreSpelled (map string_bytes names.now) set.files)) }
 {
-    let files = read_values(alloc, names, 1, desk, false)?;
-    drop(files.kept);
-    match load_values(alloc, files.values, 1) {
+    let files = match read_values(alloc, names, 1, desk, false) {
+        Ok(files) => files,
+        Err(ending) => return Err(ending),
+    };
+    let ReadFiles { values, kept } = files;
+    drop(kept);
+    match load_values(alloc, values, 1) {
         Ok(set) => Ok(set),
         Err(ending) => Err(ending),
     }

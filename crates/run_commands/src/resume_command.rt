@@ -63,8 +63,17 @@ fn read_held<D: Desk>(alloc: Global, desk: &mut D, name: &[u8]) -> Result<Held, 
     ensures ready { IfOk result IsReady }
     ensures read { ReadsHeld (D.holds desk.old) name.now result }
 {
-    let rule = Rule::Held(HeldRule::TooLarge);
-    let bytes = read_text(alloc, desk, name, HELD_LIMIT, Place::Whole, rule)?;
+    let bytes = match read_text(
+        alloc,
+        desk,
+        name,
+        HELD_LIMIT,
+        Place::Whole,
+        Rule::Held(HeldRule::TooLarge),
+    ) {
+        Ok(bytes) => bytes,
+        Err(fault) => return Err(fault),
+    };
     loaded_held(alloc, &bytes)
 }
 
@@ -139,24 +148,28 @@ fn restored(
     ensures no_fault { IfOk result (λ machine. machine.fault ≡ None) }
     ensures kinds { SameKinds (map (λ d. device_state d) devices.old.items) (map (λ d. device_state d) devices.new.items) }
 {
-    let loaded = match held_set(alloc, held.files) {
+    let Held {
+        files,
+        scene: text,
+        state,
+    } = held;
+    let loaded = match held_set(alloc, files) {
         Ok(loaded) => loaded,
         Err(fault) => {
-            drop(held.state);
+            drop(state);
             return Err(fault);
         }
     };
-    let count = held.state.devices.len() as u16;
-    let bound = held_scene(alloc, &held.scene, loaded.outline(), count);
-    drop(held.scene);
+    let bound = held_scene(alloc, &text, loaded.outline(), state.devices.len() as u16);
+    drop(text);
     match bound {
-        Ok(scene) => match Machine::restore(alloc, loaded, scene, held.state, devices) {
+        Ok(scene) => match Machine::restore(alloc, loaded, scene, state, devices) {
             Ok(machine) => Ok(machine),
             Err(fault) => Err(restore_fault(fault)),
         },
         Err(fault) => {
             drop(loaded);
-            drop(held.state);
+            drop(state);
             Err(fault)
         }
     }

@@ -1,28 +1,22 @@
-//! The commands that run scripts or compiled files on a scene, and scripts with one instance of the first.
+//! The command that runs scripts on a scene.
 ghost use Rattle.std.specs.Prelude.{◌≡◌, ◌≢◌, ◌+◌, ◌<◌, ◌≤◌, length, map, vec_len};
 ghost use Rattle.std.specs.String.{string_bytes};
 ghost use Rattle.papy_io.specs.Activity.{Idle};
 ghost use Rattle.command_files.specs.Ending.{CountsReads, CountsWrites, IsWordBelow, MissesScript};
 ghost use Rattle.command_files.specs.Outputs.{Outputs};
 ghost use Rattle.latent_natives.specs.Devices.{SameKinds};
-ghost use Rattle.run_commands.specs.Answers.{ExecAnswers, OnceAnswers, RunAnswers};
+ghost use Rattle.run_commands.specs.Answers.{RunAnswers};
 ghost use Rattle.run_commands.specs.Play.{HasFewParts, PlaysSet};
-ghost use Rattle.run_commands.specs.Program.{MissesRead};
 
 use crate::play::play;
-use crate::program::read_program;
 use command_files::{Ending, accept, compile_set, load_scene};
 use core_tree::{CoreSet, SceneTree};
 use latent_natives::Device;
 use papy_io::{Desk, Sink};
-use scene_runner::default_scene;
 use std::alloc::Global;
 
-/// The number of the prelude's scripts, which stand before those of the words.
-const PRELUDE_COUNT: usize = 6;
-
-// Compiles accepted scripts, and runs their files on a scene that the word of this number names.
-fn run_set<S: Sink>(
+/// Compiles accepted scripts, and runs their files on a scene that the word of this number names.
+pub fn run_set<S: Sink>(
     alloc: Global,
     set: &CoreSet,
     tree: SceneTree,
@@ -79,71 +73,4 @@ pub fn run<D: Desk, S: Sink>(
         }
     };
     run_set(alloc, &set, tree, 1, out, devices)
-}
-
-/// Runs scripts with one instance of the first and one call of its `OnInit`, and writes the report.
-pub fn once<D: Desk, S: Sink>(
-    alloc: Global,
-    scripts: &[String],
-    desk: &mut D,
-    out: &mut S,
-    devices: &mut Vec<Box<dyn Device>>,
-) -> Ending
-    requires idle { D.busy desk.old ≡ Idle }
-    requires some { 0 < length scripts.now }
-    requires few { length scripts.now ≤ 256 }
-    requires few_devices { vec_len devices.old ≤ 65535 }
-    ensures busy { D.busy desk.new ≡ Idle }
-    ensures holds { D.holds desk.new ≡ D.holds desk.old }
-    ensures write_faults { D.write_faults desk.new ≡ D.write_faults desk.old }
-    ensures read_faults { CountsReads result (D.read_faults desk.old) (D.read_faults desk.new) }
-    ensures missed { MissesScript (map string_bytes scripts.now) result (D.missed desk.new) }
-    ensures faults { CountsWrites result (S.faults out.old) (S.faults out.new) }
-    ensures never_usage { result ≢ Ending.Usage }
-    ensures word { IsWordBelow (length scripts.now + 1) result }
-    ensures output { Outputs (OnceAnswers (map string_bytes scripts.now)) (D.holds desk.old) result (S.written out.old) (S.written out.new) }
-    ensures kinds { SameKinds (map (λ d. device_state d) devices.old.items) (map (λ d. device_state d) devices.new.items) }
-{
-    let set = match accept(alloc, scripts, desk) {
-        Ok(set) => set,
-        Err(ending) => return ending,
-    };
-    let tree = match default_scene(alloc, &set.scripts[PRELUDE_COUNT].name) {
-        Ok(tree) => tree,
-        Err(_) => return Ending::OutOfMemory,
-    };
-    run_set(alloc, &set, tree, 0, out, devices)
-}
-
-/// Reads the scene that the first word names and the compiled files that the others name, runs the files on the
-/// scene, and writes the report.
-pub fn exec<D: Desk, S: Sink>(
-    alloc: Global,
-    files: &[String],
-    desk: &mut D,
-    out: &mut S,
-    devices: &mut Vec<Box<dyn Device>>,
-) -> Ending
-    requires idle { D.busy desk.old ≡ Idle }
-    requires some { 1 < length files.now }
-    requires few { length files.now ≤ 257 }
-    requires few_devices { vec_len devices.old ≤ 65535 }
-    ensures busy { D.busy desk.new ≡ Idle }
-    ensures holds { D.holds desk.new ≡ D.holds desk.old }
-    ensures write_faults { D.write_faults desk.new ≡ D.write_faults desk.old }
-    ensures read_faults { CountsReads result (D.read_faults desk.old) (D.read_faults desk.new) }
-    ensures missed { MissesRead 1 2 (map string_bytes files.now) result (D.missed desk.new) }
-    ensures faults { CountsWrites result (S.faults out.old) (S.faults out.new) }
-    ensures never_usage { result ≢ Ending.Usage }
-    ensures word { IsWordBelow (length files.now + 1) result }
-    ensures output { Outputs (ExecAnswers (map string_bytes files.now)) (D.holds desk.old) result (S.written out.old) (S.written out.new) }
-    ensures kinds { SameKinds (map (λ d. device_state d) devices.old.items) (map (λ d. device_state d) devices.new.items) }
-{
-    let program = match read_program(alloc, files, 1, 2, desk, false) {
-        Ok(program) => program,
-        Err(ending) => return ending,
-    };
-    drop(program.text);
-    drop(program.kept);
-    play(alloc, program.loaded, program.tree, 1, out, devices)
 }

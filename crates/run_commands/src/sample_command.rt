@@ -127,7 +127,10 @@ fn report_of(
     ensures ends { IfErr result EndsUnreported }
     ensures kinds { SameKinds (map (λ d. device_state d) devices.old.items) (map (λ d. device_state d) devices.new.items) }
 {
-    let loaded = load(alloc, workers)?;
+    let loaded = match load(alloc, workers) {
+        Ok(loaded) => loaded,
+        Err(fault) => return Err(Ending::from(fault)),
+    };
     let tree = match sample_scene(alloc, workers) {
         Ok(tree) => tree,
         Err(_) => {
@@ -135,7 +138,10 @@ fn report_of(
             return Err(Ending::OutOfMemory);
         }
     };
-    let mut machine = start_machine(alloc, loaded, tree, 0, devices)?;
+    let mut machine = match start_machine(alloc, loaded, tree, 0, devices) {
+        Ok(machine) => machine,
+        Err(ending) => return Err(ending),
+    };
     let closing = closing_of(alloc, &mut machine, devices);
     drop(machine);
     match closing {

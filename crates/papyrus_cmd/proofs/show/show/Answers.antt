@@ -5,23 +5,23 @@ use Rattle.command_files.specs.Ending.{word_at}
 use Rattle.papyrus_cmd.proofs.PexShown.{head_shown, shown, partly_shown}
 use Rattle.papyrus_cmd.proofs.show.show.Goals as goal
 
-pub returns-in-Ok-shown-clause-output : goal.returns-in-Ok-shown-clause-output
-returns-in-Ok-shown-clause-output g c =
+pub returns-in-Ok-write_listing-clause-output : goal.returns-in-Ok-write_listing-clause-output
+returns-in-Ok-write_listing-clause-output g c =
     let file = c.index-files-0.result in
     let named : word_at (map string_bytes c.args.files.now) 0 ≡ string_bytes file =
     get_or-map string_bytes c.args.files.now 0 file [] c.requires.some ∙ ap string_bytes (sym c.index-files-0.is) in
     let read = rw c.as_bytes.ensures.value at c.in-Ok.ensures.read in
-    let wrote = c.show-shown.ensures.appended in
+    let wrote = c.show.ensures.appended in
     let ends = shown (g.D.Desk.holds c.args.desk.now) (string_bytes file) c.in-Ok.pex wrote.bytes read in
     rw named (wrote.bytes, wrote.appended, ends)
 
-pub returns-in-Ok-shown-clause-listed : goal.returns-in-Ok-shown-clause-listed
-returns-in-Ok-shown-clause-listed g c =
+pub returns-in-Ok-write_listing-clause-listed : goal.returns-in-Ok-write_listing-clause-listed
+returns-in-Ok-write_listing-clause-listed g c =
     let file = c.index-files-0.result in
     let named : word_at (map string_bytes c.args.files.now) 0 ≡ string_bytes file =
     get_or-map string_bytes c.args.files.now 0 file [] c.requires.some ∙ ap string_bytes (sym c.index-files-0.is) in
     let read = rw c.as_bytes.ensures.value at c.in-Ok.ensures.read in
-    rw named (head_shown (g.D.Desk.holds c.args.desk.now) (string_bytes file) c.in-Ok.pex _ _ read c.in-Ok-shown.ensures.begun)
+    rw named (head_shown (g.D.Desk.holds c.args.desk.now) (string_bytes file) c.in-Ok.pex _ _ read c.in-Ok-write_listing.ensures.begun)
 
 pub returns-in-Err-WriteFault-clause-output : goal.returns-in-Err-WriteFault-clause-output
 returns-in-Err-WriteFault-clause-output g c =
@@ -29,7 +29,7 @@ returns-in-Err-WriteFault-clause-output g c =
     let named : word_at (map string_bytes c.args.files.now) 0 ≡ string_bytes file =
     get_or-map string_bytes c.args.files.now 0 file [] c.requires.some ∙ ap string_bytes (sym c.index-files-0.is) in
     let read = rw c.as_bytes.ensures.value at c.in-Ok.ensures.read in
-    let wrote = c.show-shown.ensures.appended in
+    let wrote = c.show.ensures.appended in
     let ends = partly_shown (g.D.Desk.holds c.args.desk.now) (string_bytes file) c.in-Ok.pex wrote.bytes read in
     rw named (wrote.bytes, wrote.appended, ends)
 
@@ -39,6 +39,6 @@ returns-in-Err-OutOfMemory-clause-output g c =
     let named : word_at (map string_bytes c.args.files.now) 0 ≡ string_bytes file =
     get_or-map string_bytes c.args.files.now 0 file [] c.requires.some ∙ ap string_bytes (sym c.index-files-0.is) in
     let read = rw c.as_bytes.ensures.value at c.in-Ok.ensures.read in
-    let wrote = c.show-shown.ensures.appended in
+    let wrote = c.show.ensures.appended in
     let ends = partly_shown (g.D.Desk.holds c.args.desk.now) (string_bytes file) c.in-Ok.pex wrote.bytes read in
     rw named (wrote.bytes, wrote.appended, ends)

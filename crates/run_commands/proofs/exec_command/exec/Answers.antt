@@ -6,7 +6,7 @@ use Rattle.run_commands.proofs.EarlyEnds.{early_is_no_usage, early_outputs, earl
 use Rattle.run_commands.proofs.ProgramEnds.{program_ends, program_runs, run_misses_none}
 use Rattle.run_commands.proofs.RunEnds.{play_outputs, run_is_no_usage, run_reads, run_word, set_plays}
 use Rattle.run_commands.proofs.SceneParts.{read_has_few}
-use Rattle.run_commands.proofs.run_command.exec.Goals as goal
+use Rattle.run_commands.proofs.exec_command.exec.Goals as goal
 
 pub play-requires-clause-few : goal.play-requires-clause-few
 play-requires-clause-few g c = read_has_few c.in-Ok.program.tree c.in-Ok.ensures.limits

@@ -7,7 +7,7 @@ use Rattle.run_commands.proofs.BehindScene.{once_answers_run, once_unbuilt, scri
 use Rattle.run_commands.proofs.EarlyEnds.{early_outputs, early_writes}
 use Rattle.run_commands.proofs.RunEnds.{run_is_no_usage, run_misses, run_reads, run_word, set_outputs}
 use Rattle.run_commands.proofs.SceneParts.{default_has_few}
-use Rattle.run_commands.proofs.run_command.once.Goals as goal
+use Rattle.run_commands.proofs.once_command.once.Goals as goal
 
 pub run_set-requires-clause-few : goal.run_set-requires-clause-few
 run_set-requires-clause-few g c = default_has_few _ c.in-Ok-default_scene.tree c.in-Ok-default_scene.ensures
