@@ -1,4 +1,4 @@
-use Rattle.std.proofs.Common.{arith, ◌≡◌, ◌+◌, ap, false, map, length}
+use Rattle.std.proofs.Common.{arith, ◌≡◌, ◌+◌, ap, false, map, length, vec_len}
 use Rattle.std.proofs.lemmas.List.{length-map}
 use Rattle.std.specs.String.{string_bytes}
 use Rattle.run_commands.proofs.ProgramRead.{apart_below, apart_counts, apart_ends, apart_misses, behind_command, kept_are_held, values_end_set}
@@ -32,7 +32,7 @@ returns-in-Err-load_values-clause-ends g c =
     let names = map string_bytes c.args.names.now in
     let holds = g.D.Desk.holds c.args.desk.now in
     let same : length names ≡ length c.args.names.now = length-map c.args.names.now string_bytes in
-    let count : length c.in-Ok.files.values.items ≡ length names = omega (arith, same, c.in-Ok.ensures.count, c.in-Ok.files.values.ok.0) in
+    let count : vec_len c.in-Ok.files.values ≡ length names = omega (arith, same, c.in-Ok.ensures.count) in
     apart_ends 1 _ names holds c.in-Err-load_values.ending count (kept_are_held false holds names c.in-Ok.files.kept.items c.in-Ok.ensures.kept) c.in-Err-load_values.ensures.verifies
 
 pub returns-in-Err-load_values-clause-word : goal.returns-in-Err-load_values-clause-word
