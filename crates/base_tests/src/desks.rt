@@ -1,8 +1,12 @@
+ghost use Rattle.std.specs.Prelude.{◌≡◌};
+ghost use Rattle.papy_io.specs.Activity.{Idle};
+
 use papy_io::{
     FolderDesk, IoFault, MemoryDesk, MemorySink, ReadAllFault, Sink, read_all, write_file,
 };
 use std::alloc::Global;
 use std::fs;
+use std::process::Abort;
 use std::test::Fail;
 
 /// The file that the test over a real file makes in the folder where it runs.
@@ -55,11 +59,15 @@ fn a_file_is_read_whole_or_the_fault_is_named(rt: HostRuntime) {
         (b"a", 2, 2, Err(ReadAllFault::ReadFault)),
     ];
     for (name, fault, limit, answer) in cases {
-        match (read_with_fault(rt.alloc(), name, fault, limit), answer) {
-            (Ok(bytes), Ok(wanted)) => assert!(rt; bytes.as_slice() == wanted),
-            (Err(fault), Err(wanted)) => assert!(rt; fault == wanted),
-            (Ok(_), Err(_)) | (Err(_), Ok(_)) => { panic!(rt; "call {fault} fails, limit {limit}") }
-        }
+        let read = read_with_fault(rt.alloc(), name, fault, limit);
+        assert!(rt; is_answer(&read, answer));
+    }
+}
+
+fn is_answer(read: &Result<Vec<u8>, ReadAllFault>, wanted: Result<&[u8], ReadAllFault>) -> bool {
+    match read {
+        Ok(bytes) => wanted == Ok(bytes.as_slice()),
+        Err(fault) => wanted == Err(*fault),
     }
 }
 
@@ -74,22 +82,44 @@ fn a_failed_write_leaves_what_the_call_left(rt: HostRuntime) -> Result<(), Fail>
     ];
     for (fault, answer, left) in cases {
         let mut desk = MemoryDesk::new(rt.alloc(), [fault].to_vec(rt.alloc())?);
-        desk.put(b"a", b"old")?;
-        desk.put(b"b", b"other")?;
-        assert!(rt; write_file(&mut desk, b"a", b"new") == answer);
-        assert!(rt; desk.bytes_of(b"a").ok_or("a is held")? == left);
-        assert!(rt; desk.bytes_of(b"b").ok_or("b is held")? == b"other".as_slice());
-        assert!(rt; desk.bytes_of(b"c").is_none());
+        leaves(&rt, &mut desk, answer, left)?;
     }
     Ok(())
+}
+
+// The desk is lent, since its end on each way out of a function would be proved once more.
+fn leaves(
+    rt: &impl Abort,
+    desk: &mut MemoryDesk,
+    answer: Result<(), IoFault>,
+    left: &[u8],
+) -> Result<(), Fail>
+    requires { desk.old.busy ≡ Idle }
+{
+    desk.put(b"a", b"old")?;
+    desk.put(b"b", b"other")?;
+    assert!(rt; write_file(desk, b"a", b"new") == answer);
+    assert!(rt; holds(desk, b"a", left));
+    assert!(rt; holds(desk, b"b", b"other"));
+    assert!(rt; desk.bytes_of(b"c").is_none());
+    Ok(())
+}
+
+fn holds(desk: &MemoryDesk, name: &[u8], bytes: &[u8]) -> bool {
+    match desk.bytes_of(name) {
+        Some(found) => found == bytes,
+        None => false,
+    }
 }
 
 #[test]
 fn a_real_file_gives_the_bytes_that_were_written(rt: HostRuntime) -> Result<(), Fail> {
     let mut desk = FolderDesk::over(rt.clone()?, rt.alloc());
-    write_file(&mut desk, FILE.as_bytes(), b"bytes")?;
-    let read = read_all(rt.alloc(), &mut desk, FILE.as_bytes(), 5)?;
-    assert!(rt; read.as_slice() == b"bytes".as_slice());
+    let written = write_file(&mut desk, FILE.as_bytes(), b"bytes");
+    let read = read_all(rt.alloc(), &mut desk, FILE.as_bytes(), 5);
+    drop(desk);
+    assert!(rt; written == Ok(()));
+    assert!(rt; is_answer(&read, Ok(b"bytes")));
     fs::remove_file(&rt, FILE)?;
     Ok(())
 }

@@ -1,12 +1,8 @@
-//! Tests of what reads and judges scripts: each of its public calls with ample memory, and a limit that no script of a command reaches. What
-//! the program shows of scripts stands in `cases/`. They stand in a crate of their own, so that the proofs of the crates below aren't made twice.
+//! A test of the limit on files of a set, which no command reaches. What the program shows of scripts stands in `cases/`. It stands in a crate of its
+//! own, so that the proofs of the crates below aren't made twice.
 #![tactic(auto)]
 
 #[cfg(test)]
-mod elaborating;
-#[cfg(test)]
 mod linking;
-#[cfg(test)]
-mod reading;
 #[cfg(test)]
 mod sources;

@@ -1,5 +1,4 @@
 use crate::sources::linked;
-use papy_base::Name;
 use script_linker::{LinkFault, LinkRule};
 use std::alloc::Global;
 use std::process::Abort;
@@ -26,22 +25,5 @@ fn the_257th_file_is_too_many(rt: HostRuntime) -> Result<(), Fail> {
         }
         assert_eq!(rt; fault_of(rt.alloc(), &rt, text.as_str())?, wanted);
     }
-    Ok(())
-}
-
-#[test]
-fn names_are_looked_up_upward(rt: HostRuntime) -> Result<(), Fail> {
-    let text = "ScriptName A extends Quest\nInt Property P Auto\n\nScriptName B extends A";
-    let set = linked(rt.alloc(), &rt, text)??;
-    assert_eq!(rt; set.count(), 8);
-    let name = Name::from_bytes(rt.alloc(), b"getstate")?;
-    let found = set.find_function(7, &name).ok_or("no function")?;
-    assert_eq!(rt; (found.script, found.place), (3, 1));
-    let name = Name::from_bytes(rt.alloc(), b"p")?;
-    let found = set.find_property(7, &name).ok_or("no property")?;
-    assert_eq!(rt; (found.script, found.place), (6, 0));
-    assert!(rt; set.is_child(7, 3) && !set.is_child(3, 7));
-    assert!(rt; set.file_name(6).as_bytes() == b"A.psc".as_slice());
-    assert!(rt; set.script(1).name.as_bytes() == b"Utility".as_slice());
     Ok(())
 }

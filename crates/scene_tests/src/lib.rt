@@ -1,9 +1,7 @@
-//! Tests of which compiled files run together, and of the turns of their machine: what no command shows.
+//! Tests of turns of the machine of which a write fails: what no command shows.
 #![tactic(auto)]
 
 #[cfg(test)]
 mod files;
 #[cfg(test)]
 mod turns;
-#[cfg(test)]
-mod verifying;
