@@ -84,25 +84,62 @@ fn if_block(
     ensures fault { IfErr result (IsBlockFault reader.old.lines.now) }
 {
     let mut tests = Vec::new(reader.alloc);
-    let mut next = (line, test);
-    'tests: loop {
-        let (body, end, end_at, end_line) = statements(reader, depth)?;
-        let (line, test) = next;
-        tests.push((line, test, body))?;
-        match end {
-            LineForm::ElseIf(test) => next = (end_line, test),
+    let otherwise = if_parts(reader, &mut tests, line, test, depth)?;
+    Ok(StatementForm::If { tests, otherwise })
+}
+
+// Adds each test of an `If` with its body, and gives the body behind `Else`. The list is lent, as its end on each way out would be proved anew.
+#[cycle(statements)]
+fn if_parts(
+    reader: &mut Reader<'_>,
+    tests: &mut Vec<(u16, Expr, Vec<Statement>)>,
+    line: u16,
+    test: Expr,
+    depth: u8,
+) -> Result<Vec<Statement>, BlockFault>
+    requires { 64 ≤ blocks_before reader.old + depth }
+    ensures nearer { OnOk result (left reader.new < left reader.old) }
+    ensures onward { OnOk result (GoesOn reader.old reader.new) }
+    ensures fault { IfErr result (IsBlockFault reader.old.lines.now) }
+{
+    let mut end = if_part(reader, tests, line, test, depth)?;
+    'parts: loop {
+        let (form, at, line) = end;
+        match form {
+            LineForm::ElseIf(test) => end = if_part(reader, tests, line, test, depth)?,
             LineForm::Key(Keyword::Else) => {
                 let (otherwise, _) = closed_block(reader, Keyword::EndIf, depth)?;
-                return Ok(StatementForm::If { tests, otherwise });
+                return Ok(otherwise);
             }
-            LineForm::Key(Keyword::EndIf) => {
-                let otherwise = Vec::new(reader.alloc);
-                return Ok(StatementForm::If { tests, otherwise });
-            }
+            LineForm::Key(Keyword::EndIf) => return Ok(Vec::new(reader.alloc)),
             other => {
                 drop(other);
-                return Err(BlockFault::bad_block(end_at));
+                return Err(BlockFault::bad_block(at));
             }
+        }
+    }
+}
+
+// Adds a test with its body, and gives the line that ends this: its form, its place and its number.
+#[cycle(statements)]
+fn if_part(
+    reader: &mut Reader<'_>,
+    tests: &mut Vec<(u16, Expr, Vec<Statement>)>,
+    line: u16,
+    test: Expr,
+    depth: u8,
+) -> Result<(LineForm, usize, u16), BlockFault>
+    requires { 64 ≤ blocks_before reader.old + depth }
+    ensures nearer { OnOk result (left reader.new < left reader.old) }
+    ensures onward { OnOk result (GoesOn reader.old reader.new) }
+    ensures fault { IfErr result (IsBlockFault reader.old.lines.now) }
+{
+    let (body, end, end_at, end_line) = statements(reader, depth)?;
+    match tests.push((line, test, body)) {
+        Ok(()) => Ok((end, end_at, end_line)),
+        Err(failed) => {
+            drop(end);
+            Err(BlockFault::from(failed))
         }
     }
 }

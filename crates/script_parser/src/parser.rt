@@ -61,12 +61,13 @@ fn script(alloc: Global, lines: &[Line]) -> Result<Script, BlockFault>
     ensures stands { IfOk result (ScriptStands lines.now) }
     ensures fault { IfErr result (IsBlockFault lines.now) }
 {
+    let words = count_words(alloc, lines)?;
     let mut reader = Reader::new(alloc, lines)?;
     let mut script = heading(&mut reader)?;
     'members: while let Some(first) = reader.next_form() {
         member(&mut reader, &mut script, first)?;
     }
-    script.words = count_words(alloc, lines)?;
+    script.words = words;
     Ok(script)
 }
 
@@ -81,6 +82,7 @@ fn heading(reader: &mut Reader<'_>) -> Result<Script, BlockFault>
         return Err(BlockFault::bad_block(0));
     };
     let LineTree { form, doc } = reader.tree(&first)?;
+    let doc = reader.own_doc(doc)?;
     match form {
         LineForm::ScriptName {
             name,
@@ -91,7 +93,7 @@ fn heading(reader: &mut Reader<'_>) -> Result<Script, BlockFault>
             line: first.line.number,
             parent,
             flags,
-            doc: reader.own_doc(doc)?,
+            doc,
             imports: Vec::new(alloc),
             variables: Vec::new(alloc),
             properties: Vec::new(alloc),

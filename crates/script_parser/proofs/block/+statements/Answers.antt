@@ -6,18 +6,16 @@ use Rattle.script_parser.proofs.block.+statements.Goals as goal
 pub closed_block-returns-else-is_closed-clause-fault : goal.closed_block-returns-else-is_closed-clause-fault
 closed_block-returns-else-is_closed-clause-fault t c = c.bad_block.ensures c.args.reader.now.lines.now
 
-pub if_block-returns-in_default-clause-fault : goal.if_block-returns-in_default-clause-fault
-if_block-returns-in_default-clause-fault t c = c.bad_block.ensures c.args.reader.now.lines.now
+pub if_parts-returns-in_default-clause-fault : goal.if_parts-returns-in_default-clause-fault
+if_parts-returns-in_default-clause-fault t c = c.bad_block.ensures c.args.reader.now.lines.now
 
-pub if_block-statements-requires : goal.if_block-statements-requires
-if_block-statements-requires t c =
-    (omega arith, blocks-onward c.args.reader.now c.tests.reader c.args.depth c.tests.invariant.onward c.requires)
+pub if_parts-if_part-requires-in-ElseIf : goal.if_parts-if_part-requires-in-ElseIf
+if_parts-if_part-requires-in-ElseIf t c =
+    (omega arith, blocks-onward c.args.reader.now c.parts.reader c.args.depth c.parts.invariant.onward c.requires)
 
-pub if_block-closed_block-requires : goal.if_block-closed_block-requires
-if_block-closed_block-requires t c =
-    let before = c.tests.reader in
-    let many = blocks-onward c.args.reader.now before c.args.depth c.tests.invariant.onward c.requires in
-    (omega arith, blocks-onward before c.statements.new.reader c.args.depth c.in_ok-body.ensures.onward many)
+pub if_parts-closed_block-requires : goal.if_parts-closed_block-requires
+if_parts-closed_block-requires t c =
+    (omega arith, blocks-onward c.args.reader.now c.parts.reader c.args.depth c.parts.invariant.onward c.requires)
 
 pub statements-returns-in_err-inner_depth-in-If-clause-fault : goal.statements-returns-in_err-inner_depth-in-If-clause-fault
 statements-returns-in_err-inner_depth-in-If-clause-fault t c =

@@ -5,12 +5,11 @@ use Rattle.script_parser.proofs.parser.heading.Goals as goal
 pub returns-in_default-clause-fault : goal.returns-in_default-clause-fault
 returns-in_default-clause-fault c = c.bad_block.ensures c.args.reader.now.lines.now
 
-pub returns-in_default-form : goal.returns-in_default-form
-returns-in_default-form c =
-    record { onward = c.next.ensures.onward; stands = tt; fault = c.bad_block-in_default-form.ensures c.args.reader.now.lines.now }
+pub returns-in_default-form-clause-fault : goal.returns-in_default-form-clause-fault
+returns-in_default-form-clause-fault c = c.bad_block-in_default-form.ensures c.args.reader.now.lines.now
 
-pub returns-in_ok-own_doc-in-ScriptName-clause-stands : goal.returns-in_ok-own_doc-in-ScriptName-clause-stands
-returns-in_ok-own_doc-in-ScriptName-clause-stands c =
+pub returns-in-ScriptName-clause-stands : goal.returns-in-ScriptName-clause-stands
+returns-in-ScriptName-clause-stands c =
     record {
       line = number-stands c.args.reader.now.lines.now c.in-Some.first.at c.in-Some.first.line.now c.in-Some.ensures.found.stands;
       imports = rw c.new.ensures.items (All-nil _);
