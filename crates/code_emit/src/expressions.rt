@@ -10,17 +10,16 @@ ghost use Rattle.code_emit.specs.Operands.{needs};
 ghost use Rattle.code_emit.specs.Writing.{GoesOn, AreThere, Leaps, Takes};
 
 use crate::faults::{EmitFault, Result};
-use crate::operand::{
-    ARRAY_CREATE, ARRAY_FINDELEMENT, ARRAY_GETELEMENT, ARRAY_LENGTH, ARRAY_RFINDELEMENT, ASSIGN,
-    CALL_METHOD, CALL_PARENT, CALL_STATIC, CAST, CMP_EQ, INEG, NOT, Operand, PROPGET, STRCAT,
-    arith_opcode, order_opcode,
-};
+use crate::operand::{Operand, arith_opcode, order_opcode};
 use crate::strings::{Numbered, script_at};
 use crate::writer::Writer;
 use core_tree::{Core, CoreType, FunctionPlace, Value};
 use jump_patch::{Ahead, JumpKind};
 use papy_base::Name;
-use pex_values::Datum;
+use pex_values::{
+    ARRAY_CREATE, ARRAY_FINDELEMENT, ARRAY_GETELEMENT, ARRAY_LENGTH, ARRAY_RFINDELEMENT, ASSIGN,
+    CALL_METHOD, CALL_PARENT, CALL_STATIC, CAST, CMP_EQ, Datum, INEG, NOT, PROPGET, STRCAT,
+};
 use std::alloc::Global;
 
 /// How many first operands may stand inside each other. An expression of an accepted script has no more.

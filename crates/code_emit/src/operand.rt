@@ -6,55 +6,19 @@ ghost use Rattle.code_emit.specs.Operands.{datum_of, lasting, needs, IsWithin};
 
 use core_tree::{Arith, CoreType, Order};
 use papy_base::OutOfMemory;
-use pex_values::Datum;
+use pex_values::{CMP_GE, CMP_GT, CMP_LE, CMP_LT, Datum, IADD, IDIV, IMOD, IMUL, ISUB, STRCAT};
 use std::alloc::Global;
-
-pub(crate) const NOT: u8 = 0x0A;
-
-pub(crate) const INEG: u8 = 0x0B;
-
-pub(crate) const ASSIGN: u8 = 0x0D;
-
-pub(crate) const CAST: u8 = 0x0E;
-
-pub(crate) const CMP_EQ: u8 = 0x0F;
-
-pub(crate) const CALL_METHOD: u8 = 0x17;
-
-pub(crate) const CALL_PARENT: u8 = 0x18;
-
-pub(crate) const CALL_STATIC: u8 = 0x19;
-
-pub(crate) const RETURN: u8 = 0x1A;
-
-pub(crate) const STRCAT: u8 = 0x1B;
-
-pub(crate) const PROPGET: u8 = 0x1C;
-
-pub(crate) const PROPSET: u8 = 0x1D;
-
-pub(crate) const ARRAY_CREATE: u8 = 0x1E;
-
-pub(crate) const ARRAY_LENGTH: u8 = 0x1F;
-
-pub(crate) const ARRAY_GETELEMENT: u8 = 0x20;
-
-pub(crate) const ARRAY_SETELEMENT: u8 = 0x21;
-
-pub(crate) const ARRAY_FINDELEMENT: u8 = 0x22;
-
-pub(crate) const ARRAY_RFINDELEMENT: u8 = 0x23;
 
 /// The opcode of an operation on two values: iadd, isub, imul, idiv, imod or strcat.
 pub(crate) fn arith_opcode(operation: Arith) -> u8
     ensures { operands_of result ≡ Some (3, false) }
 {
     match operation {
-        Arith::Add => 0x01,
-        Arith::Sub => 0x03,
-        Arith::Mul => 0x05,
-        Arith::Div => 0x07,
-        Arith::Rem => 0x09,
+        Arith::Add => IADD,
+        Arith::Sub => ISUB,
+        Arith::Mul => IMUL,
+        Arith::Div => IDIV,
+        Arith::Rem => IMOD,
         Arith::Join => STRCAT,
     }
 }
@@ -64,10 +28,10 @@ pub(crate) fn order_opcode(order: Order) -> u8
     ensures { operands_of result ≡ Some (3, false) }
 {
     match order {
-        Order::Less => 0x10,
-        Order::LessEqual => 0x11,
-        Order::Greater => 0x12,
-        Order::GreaterEqual => 0x13,
+        Order::Less => CMP_LT,
+        Order::LessEqual => CMP_LE,
+        Order::Greater => CMP_GT,
+        Order::GreaterEqual => CMP_GE,
     }
 }
 

@@ -9,11 +9,12 @@ use crate::expressions::{
     store_value, value,
 };
 use crate::faults::Result;
-use crate::operand::{ARRAY_GETELEMENT, ARRAY_SETELEMENT, Operand, PROPSET, RETURN, arith_opcode};
+use crate::operand::{Operand, arith_opcode};
 use crate::writer::Writer;
 use core_tree::{Arith, Core, CoreLine, CoreStatement, CoreType};
 use jump_patch::{Ahead, JumpKind, Mark};
 use papy_base::Name;
+use pex_values::{ARRAY_GETELEMENT, ARRAY_SETELEMENT, PROPSET, RETURN};
 
 /// How many tests an If and its ElseIfs may have. One of an accepted script has no more.
 const MOST_BRANCHES: u16 = 4_000;

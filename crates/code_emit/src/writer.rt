@@ -13,12 +13,12 @@ ghost use Rattle.code_emit.specs.Writing.{GoesOn, Leaps, AreThere, Takes, landed
 
 use crate::emitter::DebugName;
 use crate::faults::{EmitFault, Result};
-use crate::operand::{ASSIGN, Operand, data};
+use crate::operand::{Operand, data};
 use crate::strings::{Numbered, Strings, name_bytes};
 use core_tree::{CoreFunction, CoreScript, CoreSet, CoreType, CoreVariable};
 use jump_patch::{Ahead, Code, CodeBuffer, JumpKind, Mark};
 use papy_base::Text;
-use pex_values::{Datum, Instruction, PexFunction, PexLines};
+use pex_values::{ASSIGN, Datum, Instruction, PexFunction, PexLines};
 use std::alloc::Global;
 use std::marker::Model;
 

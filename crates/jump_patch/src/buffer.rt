@@ -5,7 +5,7 @@ ghost use Rattle.pex_values.specs.Plain.{plain_instruction};
 ghost use Rattle.jump_patch.specs.Jumps.{jump, landed, offset, with_offset, without};
 
 use papy_base::OutOfMemory;
-use pex_values::{Datum, Instruction};
+use pex_values::{Datum, Instruction, JMP, JMPF, JMPT};
 use std::alloc::{AllocError, Global};
 use std::marker::Model;
 
@@ -200,9 +200,9 @@ fn make_jump(alloc: Global, kind: JumpKind, offset: i32) -> Result<Instruction, 
 {
     let offset = Datum::Int(offset);
     let (opcode, fixed) = match kind {
-        JumpKind::Always => (0x14, vec![in alloc; offset]?),
-        JumpKind::IfTrue(condition) => (0x15, vec![in alloc; condition, offset]?),
-        JumpKind::IfFalse(condition) => (0x16, vec![in alloc; condition, offset]?),
+        JumpKind::Always => (JMP, vec![in alloc; offset]?),
+        JumpKind::IfTrue(condition) => (JMPT, vec![in alloc; condition, offset]?),
+        JumpKind::IfFalse(condition) => (JMPF, vec![in alloc; condition, offset]?),
     };
     Ok(Instruction {
         opcode,

@@ -6,7 +6,9 @@ ghost use Rattle.pex_alike.specs.Scopes.{naming};
 
 use crate::scope::{Scope, same_string, same_word};
 use papy_base::Text;
-use pex_values::{Datum, Instruction, PexFunction};
+use pex_values::{
+    CALL_METHOD, CALL_PARENT, CALL_STATIC, Datum, Instruction, PROPGET, PROPSET, PexFunction,
+};
 
 /// Whether two operands, each in the scope of its function, are the same.
 #[tactic(auto, unfolding(crate::specs::SameCode::SameOperand))]
@@ -37,8 +39,8 @@ fn name_count(opcode: u8) -> usize
     ensures { result ≡ name_count opcode }
 {
     match opcode {
-        0x19 => 2,
-        0x17 | 0x18 | 0x1C | 0x1D => 1,
+        CALL_STATIC => 2,
+        CALL_METHOD | CALL_PARENT | PROPGET | PROPSET => 1,
         _ => 0,
     }
 }

@@ -4,7 +4,10 @@ ghost use Rattle.pex_set.specs.Plain.{HasNoProperties};
 
 use crate::names::Made;
 use papy_base::Text;
-use pex_values::{Datum, Instruction, Pex, PexFunction, PexObject, PexState, SizeForm};
+use pex_values::{
+    ASSIGN, CALL_METHOD, Datum, Instruction, Pex, PexFunction, PexObject, PexState, RETURN,
+    SizeForm,
+};
 use std::alloc::Global;
 
 /// How many scripts the prelude has: Debug, Utility, Scene, Form, Quest and ObjectReference.
@@ -31,13 +34,6 @@ static STRINGS: [&str; 27] = [
 ];
 
 const EMPTY: u16 = 0;
-
-// The opcodes of the members.
-const ASSIGN: u8 = 0x0D;
-
-const CALL_METHOD: u8 = 0x17;
-
-const RETURN: u8 = 0x1A;
 
 // The bits of a global native function.
 const GLOBAL_NATIVE: u8 = 3;

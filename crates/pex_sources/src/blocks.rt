@@ -1,7 +1,8 @@
 // Jumps, read into If and While, and the definitions of locals in them.
-use crate::code::{Code, JMP, JMPF};
+use crate::code::Code;
 use crate::fault::{Found, NOT_FOUND, SourceFault, check};
 use crate::reader::{Outcome, Reader};
+use pex_values::{JMP, JMPF};
 
 /// A line of a function's body, whose expressions are given by their numbers among those of the function.
 #[derive(Clone, Copy)]

@@ -1,52 +1,12 @@
 // The code of a function, with its operands resolved, and what is known of it however many locals its source had.
 use crate::fault::{Found, NOT_FOUND};
 use crate::world::{BOOL, INT, NONE, OWN_INSTANCE, STATE_VARIABLE, STRING, Script, World};
-use pex_values::{Datum, Instruction, PexFunction};
+use pex_values::{
+    ARRAY_CREATE, ARRAY_FINDELEMENT, ARRAY_GETELEMENT, ARRAY_LENGTH, ARRAY_RFINDELEMENT, ASSIGN,
+    CALL_METHOD, CALL_PARENT, CALL_STATIC, CMP_EQ, Datum, Instruction, JMP, JMPF, JMPT, PROPGET,
+    PROPSET, PexFunction, STRCAT,
+};
 use std::collections::HashMap;
-
-// The opcodes that are told apart here, by their codes.
-
-pub(crate) const NOT: u8 = 0x0A;
-
-pub(crate) const INEG: u8 = 0x0B;
-
-pub(crate) const ASSIGN: u8 = 0x0D;
-
-pub(crate) const CAST: u8 = 0x0E;
-
-pub(crate) const CMP_EQ: u8 = 0x0F;
-
-pub(crate) const JMP: u8 = 0x14;
-
-pub(crate) const JMPT: u8 = 0x15;
-
-pub(crate) const JMPF: u8 = 0x16;
-
-pub(crate) const CALL_METHOD: u8 = 0x17;
-
-pub(crate) const CALL_PARENT: u8 = 0x18;
-
-pub(crate) const CALL_STATIC: u8 = 0x19;
-
-pub(crate) const RETURN: u8 = 0x1A;
-
-pub(crate) const STRCAT: u8 = 0x1B;
-
-pub(crate) const PROPGET: u8 = 0x1C;
-
-pub(crate) const PROPSET: u8 = 0x1D;
-
-pub(crate) const ARRAY_CREATE: u8 = 0x1E;
-
-pub(crate) const ARRAY_LENGTH: u8 = 0x1F;
-
-pub(crate) const ARRAY_GETELEMENT: u8 = 0x20;
-
-pub(crate) const ARRAY_SETELEMENT: u8 = 0x21;
-
-pub(crate) const ARRAY_FINDELEMENT: u8 = 0x22;
-
-pub(crate) const ARRAY_RFINDELEMENT: u8 = 0x23;
 
 /// A Not of a `CMP_EQ`, which no opcode is.
 pub(crate) const CMP_NE: u8 = 0xFF;

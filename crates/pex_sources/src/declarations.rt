@@ -1,12 +1,14 @@
 // The text of a script: its heading, imports, variables, properties, functions and states.
 use crate::blocks::Blocks;
-use crate::code::{CALL_STATIC, Code, RETURN};
+use crate::code::Code;
 use crate::expressions::Speaker;
 use crate::fault::{Found, NOT_FOUND, check};
 use crate::page::Page;
 use crate::world::{NONE, Script, World};
 use papy_base::Text;
-use pex_values::{Datum, Instruction, PexFunction, PexProperty, PexState, PexVariable};
+use pex_values::{
+    CALL_STATIC, Datum, Instruction, PexFunction, PexProperty, PexState, PexVariable, RETURN,
+};
 use std::collections::HashSet;
 
 /// The bits of a function.

@@ -1,15 +1,15 @@
 // The text of a function's body: its lines, and their expressions.
 use crate::blocks::Line;
-use crate::code::{
-    ARRAY_CREATE, ARRAY_FINDELEMENT, ARRAY_GETELEMENT, ARRAY_LENGTH, ARRAY_RFINDELEMENT,
-    CALL_METHOD, CALL_PARENT, CALL_STATIC, CAST, CMP_EQ, CMP_NE, Code, INEG, JMPF, JMPT, NOT,
-    Operand, PROPGET, STRCAT, sign_of,
-};
+use crate::code::{CMP_NE, Code, Operand, sign_of};
 use crate::fault::{Found, NOT_FOUND, check};
 use crate::page::Page;
 use crate::trees::{Form, Input, Node, Trees};
 use crate::world::{BOOL, NONE, STRING, Slot};
-use pex_values::Datum;
+use pex_values::{
+    ARRAY_CREATE, ARRAY_FINDELEMENT, ARRAY_GETELEMENT, ARRAY_LENGTH, ARRAY_RFINDELEMENT,
+    CALL_METHOD, CALL_PARENT, CALL_STATIC, CAST, CMP_EQ, Datum, INEG, JMPF, JMPT, NOT, PROPGET,
+    STRCAT,
+};
 
 /// The levels of the grammar above those of the signs between two values: a chain, a cast, and a sign before a value.
 const CHAIN: u8 = 7;

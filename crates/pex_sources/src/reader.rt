@@ -1,13 +1,14 @@
 // The instructions of a function, read one after another into expressions and simple statements.
 use crate::blocks::Line;
-use crate::code::{
-    ARRAY_CREATE, ARRAY_GETELEMENT, ARRAY_SETELEMENT, ASSIGN, CAST, Code, JMPF, JMPT, Operand,
-    PROPGET, PROPSET, RETURN, Step,
-};
+use crate::code::{Code, Operand, Step};
 use crate::fault::{Found, NOT_FOUND, check};
 use crate::slots::Slots;
 use crate::trees::{Form, Input, Trees};
 use crate::world::{BOOL, NONE};
+use pex_values::{
+    ARRAY_CREATE, ARRAY_GETELEMENT, ARRAY_SETELEMENT, ASSIGN, CAST, JMPF, JMPT, PROPGET, PROPSET,
+    RETURN,
+};
 use std::collections::HashMap;
 
 /// The line of the statement that an instruction ends, or that of an If where it is the jump behind a test. None where the statement

@@ -1,6 +1,7 @@
 // Expressions, all of a function in two lists.
-use crate::code::{CALL_METHOD, CALL_PARENT, CALL_STATIC, Operand, PROPGET, sign_of};
+use crate::code::{Operand, sign_of};
 use crate::fault::{Found, NOT_FOUND};
+use pex_values::{CALL_METHOD, CALL_PARENT, CALL_STATIC, PROPGET};
 use std::alloc::Global;
 
 /// What an expression is: a name or a literal, or what an opcode gives, with references to the names of a script and of a function

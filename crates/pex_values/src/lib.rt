@@ -4,11 +4,18 @@
 #![tactic(auto)]
 
 mod bits;
+mod codes;
 mod debug;
 mod opcodes;
 mod values;
 
 pub use bits::{has_read, has_variable, has_write};
+pub use codes::{
+    ARRAY_CREATE, ARRAY_FINDELEMENT, ARRAY_GETELEMENT, ARRAY_LENGTH, ARRAY_RFINDELEMENT,
+    ARRAY_SETELEMENT, ASSIGN, CALL_METHOD, CALL_PARENT, CALL_STATIC, CAST, CMP_EQ, CMP_GE, CMP_GT,
+    CMP_LE, CMP_LT, IADD, IDIV, IMOD, IMUL, INEG, ISUB, JMP, JMPF, JMPT, NOT, PROPGET, PROPSET,
+    RETURN, STRCAT,
+};
 pub use debug::{PexDebug, PexLines};
 pub use opcodes::{OPCODES, Opcode, operand_count};
 pub use values::{
