@@ -4,7 +4,7 @@ ghost use Rattle.pex_values.specs.Plain.{plain_function, plain_instruction};
 ghost use Rattle.pex_alike.specs.SameCode.{SameEach, SameFunction, SameInstruction, SameKinds, SameOperand, name_count, naming_of};
 ghost use Rattle.pex_alike.specs.Scopes.{naming};
 
-use crate::scope::{Scope, same_string, same_word};
+use crate::scope::{FunctionNames, same_string, same_word};
 use papy_base::Text;
 use pex_values::{
     CALL_METHOD, CALL_PARENT, CALL_STATIC, Datum, Instruction, PROPGET, PROPSET, PexFunction,
@@ -12,7 +12,12 @@ use pex_values::{
 
 /// Whether two operands, each in the scope of its function, are the same.
 #[tactic(auto, unfolding(crate::specs::SameCode::SameOperand))]
-pub(crate) fn same_operand(these: Scope<'_>, those: Scope<'_>, a: Datum, b: Datum) -> bool
+pub(crate) fn same_operand(
+    these: FunctionNames<'_>,
+    those: FunctionNames<'_>,
+    a: Datum,
+    b: Datum,
+) -> bool
     ensures { IsTrue result ↔ SameOperand (naming these.entry) (naming those.entry) a b }
 {
     match (a, b) {
@@ -24,7 +29,12 @@ pub(crate) fn same_operand(these: Scope<'_>, those: Scope<'_>, a: Datum, b: Datu
 }
 
 #[tactic(auto, unfolding(crate::specs::SameCode::SameEach))]
-fn same_operands(these: Scope<'_>, those: Scope<'_>, xs: &[Datum], ys: &[Datum]) -> bool
+fn same_operands(
+    these: FunctionNames<'_>,
+    those: FunctionNames<'_>,
+    xs: &[Datum],
+    ys: &[Datum],
+) -> bool
     ensures { IsTrue result ↔ SameEach (SameOperand (naming these.entry) (naming those.entry)) xs.now ys.now }
 {
     xs.len() == ys.len()
@@ -54,7 +64,12 @@ fn parted(operands: &[Datum], count: usize) -> (&[Datum], &[Datum])
 }
 
 #[tactic(auto, unfolding(crate::specs::SameCode::SameInstruction))]
-fn same_instruction(these: Scope<'_>, those: Scope<'_>, a: &Instruction, b: &Instruction) -> bool
+fn same_instruction(
+    these: FunctionNames<'_>,
+    those: FunctionNames<'_>,
+    a: &Instruction,
+    b: &Instruction,
+) -> bool
     ensures { IsTrue result ↔ SameInstruction (naming these.entry) (naming those.entry) (plain_instruction a.now) (plain_instruction b.now) }
 {
     let count = name_count(a.opcode);
@@ -68,8 +83,8 @@ fn same_instruction(these: Scope<'_>, those: Scope<'_>, a: &Instruction, b: &Ins
 
 #[tactic(auto, unfolding(crate::specs::SameCode::SameEach))]
 fn same_instructions(
-    these: Scope<'_>,
-    those: Scope<'_>,
+    these: FunctionNames<'_>,
+    those: FunctionNames<'_>,
     xs: &[Instruction],
     ys: &[Instruction],
 ) -> bool
@@ -82,7 +97,12 @@ fn same_instructions(
             .all(|(x, y)| same_instruction(these, those, x, y))
 }
 
-fn same_code_of(these: Scope<'_>, those: Scope<'_>, xs: &[Instruction], ys: &[Instruction]) -> bool
+fn same_code_of(
+    these: FunctionNames<'_>,
+    those: FunctionNames<'_>,
+    xs: &[Instruction],
+    ys: &[Instruction],
+) -> bool
     ensures { IsTrue result ↔ SameEach (SameInstruction (naming these.entry) (naming those.entry)) (map plain_instruction xs.now) (map plain_instruction ys.now) }
 {
     same_instructions(these, those, xs, ys)
@@ -115,5 +135,10 @@ pub(crate) fn same_function(
         && f.bits == g.bits
         && same_kinds(these, those, &f.parameters, &g.parameters)
         && same_kinds(these, those, &f.locals, &g.locals)
-        && same_code_of(Scope::of(these, f), Scope::of(those, g), &f.code, &g.code)
+        && same_code_of(
+            FunctionNames::of(these, f),
+            FunctionNames::of(those, g),
+            &f.code,
+            &g.code,
+        )
 }

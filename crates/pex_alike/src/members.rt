@@ -6,7 +6,7 @@ ghost use Rattle.pex_values.specs.declared.values.PexVariable.{PexVariable};
 ghost use Rattle.pex_alike.specs.SameCode.{SameCode, SameEach, SameFunction, SameMembers, SameNamed, SameObject, SameOption, SameProperty, SameState, SameString, SameVariable};
 
 use crate::alike::{same_function, same_operand};
-use crate::scope::{Scope, same_string};
+use crate::scope::{FunctionNames, same_string};
 use papy_base::Text;
 use pex_values::{Pex, PexFunction, PexObject, PexProperty, PexState, PexVariable};
 
@@ -36,8 +36,8 @@ impl Member for PexVariable {
             && same_string(these, those, self.kind, other.kind)
             && self.flags == other.flags
             && same_operand(
-                Scope::outside(these),
-                Scope::outside(those),
+                FunctionNames::outside(these),
+                FunctionNames::outside(those),
                 self.value,
                 other.value,
             )

@@ -12,7 +12,7 @@ use pex_values::PexFunction;
 
 /// The strings of a file, and references to the names and types of a function's parameters and locals.
 #[derive(Clone, Copy)]
-pub(crate) struct Scope<'a> {
+pub(crate) struct FunctionNames<'a> {
     pub strings: &'a [Text],
     pub parameters: &'a [(u16, u16)],
     pub locals: &'a [(u16, u16)],
@@ -50,12 +50,12 @@ fn place_in(strings: &[Text], pairs: &[(u16, u16)], reference: u16) -> Option<us
         .position(|pair| same_name(text_at(strings, pair.0), name))
 }
 
-impl<'a> Scope<'a> {
+impl<'a> FunctionNames<'a> {
     /// The scope of a function.
-    pub(crate) fn of(strings: &'a [Text], function: &'a PexFunction) -> Scope<'a>
+    pub(crate) fn of(strings: &'a [Text], function: &'a PexFunction) -> FunctionNames<'a>
         ensures { naming result ≡ naming_of strings.now (plain_function function.now) }
     {
-        Scope {
+        FunctionNames {
             strings,
             parameters: &function.parameters,
             locals: &function.locals,
@@ -63,10 +63,10 @@ impl<'a> Scope<'a> {
     }
 
     /// The scope of what stands in no function.
-    pub(crate) fn outside(strings: &'a [Text]) -> Scope<'a>
+    pub(crate) fn outside(strings: &'a [Text]) -> FunctionNames<'a>
         ensures { naming result ≡ no_slots strings.now }
     {
-        Scope {
+        FunctionNames {
             strings,
             parameters: &[],
             locals: &[],
@@ -74,10 +74,10 @@ impl<'a> Scope<'a> {
     }
 
     /// The scope without parameters and locals.
-    pub(crate) fn bare(self) -> Scope<'a>
+    pub(crate) fn bare(self) -> FunctionNames<'a>
         ensures { naming result ≡ without_slots (naming self.entry) }
     {
-        Scope::outside(self.strings)
+        FunctionNames::outside(self.strings)
     }
 
     /// What the name at this reference means.
@@ -96,7 +96,7 @@ impl<'a> Scope<'a> {
 
 /// Whether two names, each in its scope, are the same parameter or local by its place, or the same name of something else.
 #[tactic(auto, unfolding(crate::specs::SameCode::SameWord))]
-pub(crate) fn same_word(these: Scope<'_>, those: Scope<'_>, a: u16, b: u16) -> bool
+pub(crate) fn same_word(these: FunctionNames<'_>, those: FunctionNames<'_>, a: u16, b: u16) -> bool
     ensures { IsTrue result ↔ SameWord (naming these.entry) (naming those.entry) a b }
 {
     let meaning = these.meaning(a);

@@ -17,11 +17,11 @@ pub const EMPTY_NAME: usize = 0;
 /// A number for each name: two names have the same one exactly where they are the same with the case of
 /// A to Z ignored. Contracts see the names by number, with A to Z read as a to z.
 #[derive(Drop)]
-pub struct NameTable {
+pub struct NameNumbers {
     names: IndexSet<Vec<u8>>,
 }
 
-impl Model for NameTable {
+impl Model for NameNumbers {
     ghost use Rattle.std.specs.Prelude.{ℕ, List, map};
 
     ghost Value = { List (List ℕ) };
@@ -33,14 +33,14 @@ impl Model for NameTable {
     ghost invariant = { λ table. IsNumbered (map (λ name. name.items) table.names.keys) };
 }
 
-impl NameTable {
+impl NameNumbers {
     /// A table of the empty name alone.
-    pub fn new(alloc: Global) -> Made<NameTable>
+    pub fn new(alloc: Global) -> Made<NameNumbers>
         ensures { IfOk result (λ table. table ≡ [] ∷ []) }
     {
         let mut names = IndexSet::new(alloc);
         names.insert(Vec::new(alloc))?;
-        Ok(NameTable { names })
+        Ok(NameNumbers { names })
     }
 
     /// The number of this name, a new one where the table has none.
@@ -106,7 +106,7 @@ impl Model for FileNames {
 
 impl FileNames {
     /// The numbers of these strings, which the table then has.
-    pub fn of_strings(alloc: Global, table: &mut NameTable, strings: &[Text]) -> Made<FileNames>
+    pub fn of_strings(alloc: Global, table: &mut NameNumbers, strings: &[Text]) -> Made<FileNames>
         ensures length { IfOk result (λ names. length names ≡ length strings.now) }
         ensures numbers { IfOk result (λ names. map Some names ≡ map (number_in table.new) strings.now) }
         ensures table { OnOk result (table.new ≡ with_names table.old strings.now) }

@@ -2,7 +2,7 @@
 use crate::fault::{Found, NOT_FOUND, check};
 use crate::page::Page;
 use papy_base::{OutOfMemory, Text};
-use pex_set::{FileNames, NameTable, Prelude, text_at};
+use pex_set::{FileNames, NameNumbers, Prelude, text_at};
 use pex_values::{Pex, PexFunction, PexObject, PexProperty, PexVariable};
 use std::alloc::Global;
 use std::collections::{HashMap, HashSet};
@@ -74,7 +74,7 @@ pub(crate) struct World<'a> {
     scripts: Vec<Script<'a>>,
     // What stands in the names that are made up, so that nothing in the set has one of them.
     infix: String,
-    table: NameTable,
+    table: NameNumbers,
     by_name: HashMap<usize, usize>,
     // Of each script its own name.
     names: HashMap<Key, ()>,
@@ -91,7 +91,7 @@ pub(crate) struct World<'a> {
 impl<'a> World<'a> {
     /// A world without scripts.
     pub(crate) fn new(alloc: Global, prelude: &'a Prelude) -> Result<World<'a>, OutOfMemory> {
-        let table = NameTable::new(alloc)?;
+        let table = NameNumbers::new(alloc)?;
         Ok(World {
             alloc,
             scripts: Vec::new(alloc),
@@ -313,7 +313,7 @@ static STEMS: [&str; 5] = ["number", "flag", "text", "object", "list"];
 /// What stands between the stem and the place in a made up name, so that no string of the files is such a name: nothing, or where
 // one is, a number between two `_`. Of the strings that end with digits it is told what stands before these.
 fn free_infix(alloc: Global, files: &[Pex]) -> Result<String, OutOfMemory> {
-    let mut heads = NameTable::new(alloc)?;
+    let mut heads = NameNumbers::new(alloc)?;
     for string in files.iter().flat_map(|file| file.strings.iter()) {
         let string = string.as_bytes();
         let last = string.iter().rposition(|byte| !byte.is_ascii_digit());
@@ -325,7 +325,7 @@ fn free_infix(alloc: Global, files: &[Pex]) -> Result<String, OutOfMemory> {
     least_free(alloc, &heads)
 }
 
-fn least_free(alloc: Global, heads: &NameTable) -> Result<String, OutOfMemory> {
+fn least_free(alloc: Global, heads: &NameNumbers) -> Result<String, OutOfMemory> {
     let mut infix = String::new(alloc);
     for number in 0..heads.count() {
         if is_free(alloc, heads, &infix)? {
@@ -337,7 +337,7 @@ fn least_free(alloc: Global, heads: &NameTable) -> Result<String, OutOfMemory> {
 }
 
 // Whether no stem with this infix is among the heads.
-fn is_free(alloc: Global, heads: &NameTable, infix: &str) -> Result<bool, OutOfMemory> {
+fn is_free(alloc: Global, heads: &NameNumbers, infix: &str) -> Result<bool, OutOfMemory> {
     for stem in STEMS.iter() {
         let head = format!(in alloc; "{stem}{infix}")?;
         if heads.find(alloc, head.as_bytes())?.is_some() {

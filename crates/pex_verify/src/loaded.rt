@@ -5,7 +5,7 @@ ghost use Rattle.pex_verify.specs.Files.{IsFile};
 use crate::members::{MemberTable, method_place};
 use core_tree::{CoreType, Outline};
 use papy_base::{Name, Text};
-use pex_set::{EMPTY_NAME, Made, NameTable};
+use pex_set::{EMPTY_NAME, Made, NameNumbers};
 use pex_values::Pex;
 use std::alloc::Global;
 use std::marker::Model;
@@ -104,7 +104,7 @@ pub struct Loaded {
     pub(crate) outline: Outline,
     pub(crate) files: Vec<Pex>,
     pub(crate) scripts: Vec<LoadedScript>,
-    pub(crate) table: NameTable,
+    pub(crate) table: NameNumbers,
     pub(crate) members: MemberTable,
 }
 

@@ -17,7 +17,7 @@ use crate::members::{MemberLists, MemberTable};
 use crate::sources::{DefaultMembers, SetFile};
 use crate::value_type::{TypeNames, ValueType};
 use core_tree::CoreType;
-use pex_set::{EMPTY_NAME, FileNames, LIBRARY_COUNT, Made, MemberPlace, NameTable, Objects};
+use pex_set::{EMPTY_NAME, FileNames, LIBRARY_COUNT, Made, MemberPlace, NameNumbers, Objects};
 use pex_values::{PexFunction, PexObject, PexProperty, PexState};
 use std::alloc::Global;
 
@@ -336,7 +336,7 @@ impl ScriptSet {
     /// The scripts of these files, the first of which is the prelude, whose objects are these.
     pub(crate) fn of(
         alloc: Global,
-        table: &NameTable,
+        table: &NameNumbers,
         members: &DefaultMembers<'_>,
         sources: &[SetFile<'_>],
         objects: Objects,

@@ -7,7 +7,7 @@ ghost use Rattle.pex_verify.specs.Sources.{object_count, objects_in, objects_of,
 
 use crate::fault::Site;
 use papy_base::{Name, Text};
-use pex_set::{FileNames, Made, NameTable, Objects, text_at};
+use pex_set::{FileNames, Made, NameNumbers, Objects, text_at};
 use pex_values::{Pex, PexFunction, PexObject};
 use std::alloc::Global;
 use std::collections::HashMap;
@@ -64,7 +64,7 @@ pub(crate) struct FileStrings {
 
 impl FileStrings {
     /// These strings, of which the table then has the numbers.
-    pub(crate) fn of(alloc: Global, table: &mut NameTable, strings: &[Text]) -> Made<FileStrings>
+    pub(crate) fn of(alloc: Global, table: &mut NameNumbers, strings: &[Text]) -> Made<FileStrings>
         ensures strings { IfOk result (AreStrings table.new strings.now) }
         ensures grows { OnOk result (IsGrown table.old table.new) }
     {
@@ -80,7 +80,7 @@ impl FileStrings {
 /// The strings of these files, in their order.
 pub(crate) fn strings_of_files(
     alloc: Global,
-    table: &mut NameTable,
+    table: &mut NameNumbers,
     files: &[Pex],
 ) -> Made<Vec<FileStrings>>
     ensures strings { IfOk result (λ strings. AreNamed table.new files.now strings.items) }

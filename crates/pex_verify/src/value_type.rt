@@ -4,7 +4,7 @@ ghost use Rattle.pex_verify.specs.Meanings.{element_type, script_type, takes_non
 ghost use Rattle.pex_verify.specs.Types.{IsValueTypeAmong};
 
 use core_tree::CoreType;
-use pex_set::{LIBRARY_COUNT, Made, NameTable, Objects};
+use pex_set::{LIBRARY_COUNT, Made, NameNumbers, Objects};
 use std::alloc::Global;
 use std::marker::Model;
 
@@ -109,7 +109,7 @@ impl Model for TypeNames {
 
 impl TypeNames {
     /// What the names of the table mean, where the scripts are these objects.
-    pub(crate) fn of(alloc: Global, table: &NameTable, objects: &Objects) -> Made<TypeNames>
+    pub(crate) fn of(alloc: Global, table: &NameNumbers, objects: &Objects) -> Made<TypeNames>
         ensures scripts { IfOk result (λ types. types.scripts ≡ length objects.now) }
         ensures meanings { IfOk result (λ types. (name : ℕ) → IsValueTypeAmong types.scripts (result_meaning types name)) }
     {
@@ -129,7 +129,7 @@ impl TypeNames {
     }
 }
 
-fn meanings_of_names(alloc: Global, table: &NameTable, objects: &Objects) -> Made<Vec<ValueType>>
+fn meanings_of_names(alloc: Global, table: &NameNumbers, objects: &Objects) -> Made<Vec<ValueType>>
     ensures { IfOk result (λ meanings. All (IsValueTypeAmong (length objects.now)) meanings.items) }
 {
     let mut meanings = Vec::with_capacity(alloc, table.count())?;
@@ -139,7 +139,12 @@ fn meanings_of_names(alloc: Global, table: &NameTable, objects: &Objects) -> Mad
     Ok(meanings)
 }
 
-fn meaning_of(alloc: Global, table: &NameTable, objects: &Objects, number: usize) -> Made<ValueType>
+fn meaning_of(
+    alloc: Global,
+    table: &NameNumbers,
+    objects: &Objects,
+    number: usize,
+) -> Made<ValueType>
     ensures { IfOk result (IsValueTypeAmong (length objects.now)) }
 {
     let name = table.name(number);

@@ -24,7 +24,7 @@ use crate::sources::{
     strings_of_files,
 };
 use core_tree::{Outline, OutlineScript};
-use pex_set::{EMPTY_NAME, LIBRARY_COUNT, NameTable, Objects, Prelude, on_circles, text_at};
+use pex_set::{EMPTY_NAME, LIBRARY_COUNT, NameNumbers, Objects, Prelude, on_circles, text_at};
 use pex_values::{Pex, PexObject};
 use std::alloc::Global;
 
@@ -41,7 +41,7 @@ pub fn verify(alloc: Global, files: Vec<Pex>) -> Result<Loaded, VerifyFault>
     ensures files { IfOk result (λ loaded. loaded.files ≡ files.items) }
     ensures count { IfOk result (λ loaded. length loaded.scripts ≡ script_count files.items) }
 {
-    let mut table = NameTable::new(alloc)?;
+    let mut table = NameNumbers::new(alloc)?;
     let tables = load_all(alloc, &mut table, files.as_slice())?;
     Ok(Loaded {
         outline: Outline {
@@ -69,7 +69,7 @@ struct Tables {
 }
 
 // All scripts of these files, behind those of the prelude.
-fn load_all(alloc: Global, table: &mut NameTable, files: &[Pex]) -> Valid<Tables>
+fn load_all(alloc: Global, table: &mut NameNumbers, files: &[Pex]) -> Valid<Tables>
     requires few { length files.now < 65536 }
     requires valid { All IsFile files.now }
     ensures count { IfOk result (λ tables. vec_len tables.parts.scripts ≡ script_count files.now) }
@@ -83,7 +83,7 @@ fn load_all(alloc: Global, table: &mut NameTable, files: &[Pex]) -> Valid<Tables
 // The same behind this prelude.
 fn load_behind(
     alloc: Global,
-    table: &mut NameTable,
+    table: &mut NameNumbers,
     prelude: &Prelude,
     files: &[Pex],
 ) -> Valid<Tables>
@@ -110,7 +110,7 @@ fn load_behind(
 // The scripts of these files, the first of which is the prelude.
 fn load_set(
     alloc: Global,
-    table: &NameTable,
+    table: &NameNumbers,
     files: &[Pex],
     members: &DefaultMembers<'_>,
     sources: &[SetFile<'_>],
@@ -137,7 +137,7 @@ fn load_set(
 // What the scripts offer, once their names, parents and numbers were judged.
 fn judged_scripts(
     alloc: Global,
-    table: &NameTable,
+    table: &NameNumbers,
     files: &[Pex],
     members: &DefaultMembers<'_>,
     sources: &[SetFile<'_>],

@@ -153,7 +153,7 @@ pub(crate) fn member_fault(
     let passes_limit = passes_limit(number - PRELUDE_COUNT, script);
     first.note(passes_limit, script.line, LinkRule::Limit);
     judge_fields(alloc, script, &mut first)?;
-    judge_functions(alloc, scripts, number, own, Place::EmptyState, &mut first)?;
+    judge_functions(alloc, scripts, number, own, Holder::EmptyState, &mut first)?;
     judge_states(alloc, scripts, number, script.states.as_slice(), &mut first)?;
     let properties = script.properties.as_slice();
     judge_properties(alloc, scripts, number, properties, &mut first)?;
@@ -193,7 +193,7 @@ fn has_few_members(script: &Script) -> bool
 
 /// Where functions stand.
 #[derive(Clone, Copy)]
-enum Place<'a> {
+enum Holder<'a> {
     EmptyState,
     /// In a state with a name.
     State,
@@ -207,7 +207,7 @@ fn judge_functions(
     scripts: &Scripts,
     number: usize,
     functions: &[Function],
-    place: Place<'_>,
+    place: Holder<'_>,
     first: &mut Earliest,
 ) -> Result<(), OutOfMemory>
     requires { number < length scripts.now }
@@ -220,7 +220,7 @@ fn judge_functions(
         first.note(is_taken, function.line, LinkRule::DuplicateMember);
         let is_late = has_late_parameter(function.heading.parameters.as_slice());
         first.note(is_late, function.line, LinkRule::DefaultOrder);
-        let is_alone = matches!(place, Place::State) && stands_alone(scripts, number, function);
+        let is_alone = matches!(place, Holder::State) && stands_alone(scripts, number, function);
         first.note(is_alone, function.line, LinkRule::StateFunctionAlone);
         let differs = differs(scripts, number, function, place);
         first.note(differs, function.line, LinkRule::SignatureDiffers);
@@ -269,7 +269,7 @@ fn judge_states(
         first.note(is_second, state.line, LinkRule::TwoAutoStates);
         has_auto = has_auto || state.is_auto;
         let functions = state.functions.as_slice();
-        judge_functions(alloc, scripts, number, functions, Place::State, first)?;
+        judge_functions(alloc, scripts, number, functions, Holder::State, first)?;
     }
     Ok(())
 }
@@ -305,7 +305,7 @@ fn judge_form(
     let PropertyForm::Full(functions) = &property.form else {
         return Ok(());
     };
-    let place = Place::Property(&property.kind);
+    let place = Holder::Property(&property.kind);
     judge_functions(alloc, scripts, number, functions.as_slice(), place, first)
 }
 
@@ -338,21 +338,21 @@ fn stands_alone(scripts: &Scripts, number: usize, function: &Function) -> bool
 // N9: whether this function isn't what its place asks for: in a state that it is neither Global nor Native, in a
 // property that it is a `Get` or `Set`, in the empty state of a script without parent that an event of a state
 // change is as every such script has it, and else that it is as the one that it replaces.
-fn differs(scripts: &Scripts, number: usize, function: &Function, place: Place<'_>) -> bool
+fn differs(scripts: &Scripts, number: usize, function: &Function, place: Holder<'_>) -> bool
     requires { number < length scripts.now }
 {
     let heading = &function.heading;
     match place {
-        Place::EmptyState => match scripts.parent(number) {
+        Holder::EmptyState => match scripts.parent(number) {
             Some(parent) => differs_from_nearest(scripts, parent, function),
             None => is_state_event(function) && !is_plain_event(heading),
         },
-        Place::State => {
+        Holder::State => {
             heading.is_global
                 || heading.is_native
                 || differs_from_nearest(scripts, number, function)
         }
-        Place::Property(kind) => !is_accessor(heading, kind),
+        Holder::Property(kind) => !is_accessor(heading, kind),
     }
 }
 

@@ -24,7 +24,7 @@ use std::mem;
 
 /// What ended a run of a stack.
 #[derive(Drop)]
-pub enum Ending {
+pub enum RunEnd {
     /// A loop pass.
     Pass,
     /// A call that needs a frame.
@@ -52,20 +52,20 @@ pub fn run_innermost<S: Sink>(
     has_room: bool,
     sink: &mut S,
     devices: &mut Vec<Box<dyn Device>>,
-) -> Result<Ending, TurnFault>
+) -> Result<RunEnd, TurnFault>
     ensures appended { WritesLines result (S.written sink.old) (S.written sink.new) }
     ensures count { CountsTurn result (S.faults sink.old) (S.faults sink.new) }
     ensures kinds { SameKinds (map (λ d. device_state d) devices.old.items) (map (λ d. device_state d) devices.new.items) }
 {
     let Some(frame) = stack.frames.last_mut() else {
-        return Ok(Ending::Pass);
+        return Ok(RunEnd::Pass);
     };
     if let Some(ending) = enter(turn, store, frame, sink, devices)? {
         return Ok(ending);
     }
     match frame {
         Frame::Running(running) => run_frame(turn, store, running, has_room, sink, devices),
-        Frame::Pending(_) => Ok(Ending::Pass),
+        Frame::Pending(_) => Ok(RunEnd::Pass),
     }
 }
 
@@ -76,7 +76,7 @@ fn enter<S: Sink>(
     frame: &mut Frame,
     sink: &mut S,
     devices: &mut Vec<Box<dyn Device>>,
-) -> Result<Option<Ending>, TurnFault>
+) -> Result<Option<RunEnd>, TurnFault>
     ensures appended { WritesLines result (S.written sink.old) (S.written sink.new) }
     ensures count { CountsTurn result (S.faults sink.old) (S.faults sink.new) }
     ensures kinds { SameKinds (map (λ d. device_state d) devices.old.items) (map (λ d. device_state d) devices.new.items) }
@@ -93,7 +93,7 @@ fn enter<S: Sink>(
         }
         Some(Found::Native(native)) => {
             let performed = perform(turn, native, &call.arguments, sink, devices)?;
-            Ok(Some(Ending::Returned(performed)))
+            Ok(Some(RunEnd::Returned(performed)))
         }
         Some(Found::Variable(property, variable)) => {
             let reply = set_or_get(store, call, property.script, variable)?;
@@ -132,8 +132,8 @@ fn set_or_get(store: &mut Store, call: &mut Call, script: u16, variable: u16) ->
     Ok(Value::NoneValue)
 }
 
-fn returning(reply: Value) -> Ending {
-    Ending::Returned(Performed { reply, rest: None })
+fn returning(reply: Value) -> RunEnd {
+    RunEnd::Returned(Performed { reply, rest: None })
 }
 
 // Runs a frame's body up to the act that ends the turn: the reply that it awaited is stored, and it goes on
@@ -145,13 +145,13 @@ fn run_frame<S: Sink>(
     has_room: bool,
     sink: &mut S,
     devices: &mut Vec<Box<dyn Device>>,
-) -> Result<Ending, TurnFault>
+) -> Result<RunEnd, TurnFault>
     ensures appended { WritesLines result (S.written sink.old) (S.written sink.new) }
     ensures count { CountsTurn result (S.faults sink.old) (S.faults sink.new) }
     ensures kinds { SameKinds (map (λ d. device_state d) devices.old.items) (map (λ d. device_state d) devices.new.items) }
 {
     let Some(function) = turn.setting.function(running.body) else {
-        return Ok(Ending::Pass);
+        return Ok(RunEnd::Pass);
     };
     let reply = running.reply.take();
     let mut executor = Executor {
@@ -180,7 +180,7 @@ fn run_body<S: Sink>(
     executor: &mut Executor<'_>,
     sink: &mut S,
     devices: &mut Vec<Box<dyn Device>>,
-) -> Result<Ending, TurnFault>
+) -> Result<RunEnd, TurnFault>
     ensures appended { WritesLines result (S.written sink.old) (S.written sink.new) }
     ensures count { CountsTurn result (S.faults sink.old) (S.faults sink.new) }
     ensures kinds { SameKinds (map (λ d. device_state d) devices.old.items) (map (λ d. device_state d) devices.new.items) }
@@ -188,7 +188,7 @@ fn run_body<S: Sink>(
     let quantum = executor.turn.setting.scene.quantum;
     for _ in 1..quantum {
         match run_pass(executor, sink, devices)? {
-            Ending::Pass => {}
+            RunEnd::Pass => {}
             ending => return Ok(ending),
         }
     }
@@ -200,7 +200,7 @@ fn run_pass<S: Sink>(
     executor: &mut Executor<'_>,
     sink: &mut S,
     devices: &mut Vec<Box<dyn Device>>,
-) -> Result<Ending, TurnFault>
+) -> Result<RunEnd, TurnFault>
     ensures appended { WritesLines result (S.written sink.old) (S.written sink.new) }
     ensures count { CountsTurn result (S.faults sink.old) (S.faults sink.new) }
     ensures kinds { SameKinds (map (λ d. device_state d) devices.old.items) (map (λ d. device_state d) devices.new.items) }
@@ -240,7 +240,7 @@ fn run_row(executor: &mut Executor<'_>, code: &[LoadedInstruction], from: usize)
 }
 
 // A body that ends without a return gives the default of its type.
-fn returned(executor: &Executor<'_>) -> Made<Ending> {
+fn returned(executor: &Executor<'_>) -> Made<RunEnd> {
     let value = default_of(executor.turn.alloc, executor.function.result)?;
     Ok(returning(value))
 }
@@ -252,7 +252,7 @@ fn follow<S: Sink>(
     sink: &mut S,
     devices: &mut Vec<Box<dyn Device>>,
     row: Row,
-) -> Result<Option<Ending>, TurnFault>
+) -> Result<Option<RunEnd>, TurnFault>
     ensures appended { WritesLines result (S.written sink.old) (S.written sink.new) }
     ensures count { CountsTurn result (S.faults sink.old) (S.faults sink.new) }
     ensures kinds { SameKinds (map (λ d. device_state d) devices.old.items) (map (λ d. device_state d) devices.new.items) }
@@ -262,7 +262,7 @@ fn follow<S: Sink>(
         Step::Done => Ok(Some(returned(executor)?)),
         Step::Jump(landing) => {
             executor.place = usize::from(landing);
-            Ok(Some(Ending::Pass))
+            Ok(Some(RunEnd::Pass))
         }
         Step::Faulted(fault) => refuse(executor, sink, fault),
         Step::Leaves => leave(executor, sink, devices),
@@ -274,7 +274,7 @@ fn leave<S: Sink>(
     executor: &mut Executor<'_>,
     sink: &mut S,
     devices: &mut Vec<Box<dyn Device>>,
-) -> Result<Option<Ending>, TurnFault>
+) -> Result<Option<RunEnd>, TurnFault>
     ensures appended { WritesLines result (S.written sink.old) (S.written sink.new) }
     ensures count { CountsTurn result (S.faults sink.old) (S.faults sink.new) }
     ensures kinds { SameKinds (map (λ d. device_state d) devices.old.items) (map (λ d. device_state d) devices.new.items) }
@@ -285,7 +285,7 @@ fn leave<S: Sink>(
     };
     match executor.leave(instruction)? {
         Event::Refused(fault) => refuse(executor, sink, fault),
-        Event::Called(call) => Ok(Some(Ending::Called(call))),
+        Event::Called(call) => Ok(Some(RunEnd::Called(call))),
         Event::Returned(value) => Ok(Some(returning(value))),
         Event::Native { at, arguments } => {
             let ending = run_native(executor, instruction, at, &arguments, sink, devices);
@@ -303,14 +303,14 @@ fn run_native<S: Sink>(
     arguments: &[Value],
     sink: &mut S,
     devices: &mut Vec<Box<dyn Device>>,
-) -> Result<Option<Ending>, TurnFault>
+) -> Result<Option<RunEnd>, TurnFault>
     ensures appended { WritesLines result (S.written sink.old) (S.written sink.new) }
     ensures count { CountsTurn result (S.faults sink.old) (S.faults sink.new) }
     ensures kinds { SameKinds (map (λ d. device_state d) devices.old.items) (map (λ d. device_state d) devices.new.items) }
 {
     let Performed { reply, rest } = perform(executor.turn, native, arguments, sink, devices)?;
     match rest {
-        Some(latency) => Ok(Some(Ending::Performed { reply, latency })),
+        Some(latency) => Ok(Some(RunEnd::Performed { reply, latency })),
         None => {
             executor.give(instruction, reply)?;
             Ok(None)
@@ -323,7 +323,7 @@ fn refuse<S: Sink>(
     executor: &Executor<'_>,
     sink: &mut S,
     fault: StackFault,
-) -> Result<Option<Ending>, TurnFault>
+) -> Result<Option<RunEnd>, TurnFault>
     ensures appended { WritesLines result (S.written sink.old) (S.written sink.new) }
     ensures count { CountsTurn result (S.faults sink.old) (S.faults sink.new) }
 {

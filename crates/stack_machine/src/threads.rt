@@ -11,7 +11,7 @@ ghost use Rattle.stack_machine.specs.Threads.{GoesToWait, HasGrown, IsOn, IsSame
 use crate::frame::{Call, CallWay, FRAME_LIMIT, Frame, Stack};
 use crate::moves::{Notes, Place, note_any};
 use crate::natives::Performed;
-use crate::run::Ending;
+use crate::run::RunEnd;
 use crate::status::Status;
 use core_tree::Value;
 use latent_natives::Sleepers;
@@ -391,17 +391,17 @@ impl Threads {
     // ---- what the acts of stacks do to their frames and their locks
 
     /// Does the act that ended a stack's turn.
-    pub fn act(&mut self, stack: u16, turn: u32, ending: Ending) -> Made<()>
+    pub fn act(&mut self, stack: u16, turn: u32, ending: RunEnd) -> Made<()>
         ensures { IsSameSize self.old self.new }
     {
         match ending {
-            Ending::Pass => Ok(()),
-            Ending::Called(call) => self.call(stack, call),
-            Ending::Performed { reply, latency } => {
+            RunEnd::Pass => Ok(()),
+            RunEnd::Called(call) => self.call(stack, call),
+            RunEnd::Performed { reply, latency } => {
                 self.rest_after_native(stack, turn, reply, latency);
                 Ok(())
             }
-            Ending::Returned(Performed { reply, rest }) => {
+            RunEnd::Returned(Performed { reply, rest }) => {
                 let instance = self.instance_of(stack);
                 drop(self.pop(stack));
                 match rest {

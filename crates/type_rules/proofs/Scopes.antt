@@ -9,7 +9,7 @@ use Rattle.core_tree.specs.Tree.{Block, Branches, Expression}
 use Rattle.expression_rules.specs.declared.scope.Scope.{Scope}
 use Rattle.expression_rules.specs.Scopes.{Keeps, ScopeInRange, scope_bounds}
 use Rattle.type_rules.specs.declared.statements.Promise.{Promise}
-use Rattle.type_rules.specs.declared.work.Work.{Work}
+use Rattle.type_rules.specs.declared.work.ScriptRules.{ScriptRules}
 use Rattle.type_rules.specs.Ranges.{Grows, PromiseInRange, WorkInRange}
 
 -- ---- nothing changes but what is noted
@@ -95,7 +95,7 @@ added-in_range a b kind catalog script added k r = record {
 
 -- ---- a scope of a function of which nothing is judged yet
 
-pub opened-in_range : (work : Work) (s : Scope) → s.catalog ≡ work.catalog → s.script ≡ work.number → s.locals.kinds.items ≡ [] → WorkInRange work → ScopeInRange s
+pub opened-in_range : (work : ScriptRules) (s : Scope) → s.catalog ≡ work.catalog → s.script ≡ work.number → s.locals.kinds.items ≡ [] → WorkInRange work → ScopeInRange s
 opened-in_range work s catalog script none r = record {
   script = rw (script, catalog) r;
   locals = rw none (All-nil (ResultInRange (scope_bounds s).functions));

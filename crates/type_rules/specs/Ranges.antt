@@ -13,7 +13,7 @@ use Rattle.expression_rules.specs.declared.scope.Scope.{Scope}
 use Rattle.expression_rules.specs.Scopes.{ScopeInRange}
 use Rattle.type_rules.specs.declared.statements.Promise.{Promise}
 use Rattle.type_rules.specs.declared.statements.Promise.TheVariants.{Nothing, Value}
-use Rattle.type_rules.specs.declared.work.Work.{Work}
+use Rattle.type_rules.specs.declared.work.ScriptRules.{ScriptRules}
 
 -- ---- functions
 -- the scripts of the set of a scope
@@ -43,32 +43,32 @@ pub record Grows (before after : Scope) : Type 0 where
 
 -- ---- scripts
 -- the scripts of the set
-abbrev pub set_of : Work → List SourceFile
+abbrev pub set_of : ScriptRules → List SourceFile
 set_of work = work.catalog.now.set.now
 
 -- the functions of the empty state of each script of the set, and the number of the script's variables
-abbrev pub functions_of : Work → Signatures
+abbrev pub functions_of : ScriptRules → Signatures
 functions_of work = signatures work.catalog.now.set.now
 
-abbrev pub variables_of : Work → ℕ
+abbrev pub variables_of : ScriptRules → ℕ
 variables_of work = vec_len work.layout.now.sources
 
 -- the script is one of the set
-abbrev pub WorkInRange : Work → Type 0
+abbrev pub WorkInRange : ScriptRules → Type 0
 WorkInRange work = work.number < length (functions_of work)
 
 -- the same script
-pub record KeepsScript (before after : Work) : Type 0 where
+pub record KeepsScript (before after : ScriptRules) : Type 0 where
   pub catalog : after.catalog ≡ before.catalog
   pub layout : after.layout ≡ before.layout
   pub number : after.number ≡ before.number
 
 -- functions, properties and states of a script
-abbrev pub CoreFunctionInRange : Work → CoreFunction → Type 0
+abbrev pub CoreFunctionInRange : ScriptRules → CoreFunction → Type 0
 CoreFunctionInRange work f = FunctionInRange (functions_of work) (variables_of work) (function_of f)
 
-abbrev pub CorePropertyInRange : Work → CoreProperty → Type 0
+abbrev pub CorePropertyInRange : ScriptRules → CoreProperty → Type 0
 CorePropertyInRange work p = PropertyInRange (functions_of work) (variables_of work) (property_of p)
 
-abbrev pub CoreStateInRange : Work → CoreState → Type 0
+abbrev pub CoreStateInRange : ScriptRules → CoreState → Type 0
 CoreStateInRange work s = StateInRange (functions_of work) (variables_of work) (state_of s)

@@ -14,7 +14,7 @@ ghost use Rattle.type_scope.specs.Types.{signatures};
 use crate::fault::TypeFault;
 use crate::functions::clone_text;
 use crate::members::{auto_state, core_properties, core_states, core_variables};
-use crate::work::{Result, Work};
+use crate::work::{Result, ScriptRules};
 use core_tree::{CoreProperty, CoreScript, CoreSet, CoreState, CoreVariable};
 use expression_rules::TypeRule;
 use script_linker::ScriptSet;
@@ -100,10 +100,10 @@ fn judge_layout(
     ensures states { IfOk result (λ judged. map core_state_head judged.0.states.items ≡ state_heads catalog.now.set.now script.now) }
     ensures in_range { number < length catalog.now.set.now → IfOk result (λ judged. MembersInRange (signatures catalog.now.set.now) judged.0) }
 {
-    judge_members(Work::new(catalog, layout, number), script)
+    judge_members(ScriptRules::new(catalog, layout, number), script)
 }
 
-fn judge_members(mut work: Work<'_>, script: &Script) -> Result<(Members, ScriptFaults)>
+fn judge_members(mut work: ScriptRules<'_>, script: &Script) -> Result<(Members, ScriptFaults)>
     ensures variables { IfOk result (λ judged. map core_variable_head judged.0.variables.items ≡ map (variable_head (set_of work.entry)) (map declaration work.entry.layout.now.sources.items)) }
     ensures properties { IfOk result (λ judged. map core_property_head judged.0.properties.items ≡ property_heads (set_of work.entry) script.now) }
     ensures states { IfOk result (λ judged. map core_state_head judged.0.states.items ≡ state_heads (set_of work.entry) script.now) }

@@ -12,7 +12,7 @@ ghost use Rattle.type_scope.specs.Types.{type_named};
 use crate::members::known;
 use crate::sizes::function_size;
 use crate::statements::{BLOCK_LIMIT, Promise, core_block};
-use crate::work::{Result, Work};
+use crate::work::{Result, ScriptRules};
 use core_tree::{CoreFunction, CoreLine, CoreType};
 use expression_rules::{Scope, TypeRule, default_fits};
 use line_parser::{Constant, Parameter, TypeName};
@@ -21,7 +21,7 @@ use script_parser::{Body, Function};
 use std::alloc::Global;
 
 /// A function. What its heading breaks is noted at its line, what its statements break at theirs.
-pub(crate) fn core_function(work: &mut Work<'_>, function: &Function) -> Result<CoreFunction>
+pub(crate) fn core_function(work: &mut ScriptRules<'_>, function: &Function) -> Result<CoreFunction>
     ensures head { IfOk result (λ made. core_function_head made ≡ function_head (set_of work.old) function.now) }
     ensures kept { OnOk result (KeepsScript work.old work.new) }
     ensures in_range { WorkInRange work.old → IfOk result (CoreFunctionInRange work.old) }

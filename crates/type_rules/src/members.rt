@@ -10,7 +10,7 @@ ghost use Rattle.type_rules.specs.Variables.{core_variable_head, variable_head};
 ghost use Rattle.type_scope.specs.Sources.{declaration, of_property, of_variable};
 
 use crate::functions::{clone_text, core_function};
-use crate::work::{Result, Work};
+use crate::work::{Result, ScriptRules};
 use core_tree::{
     Core, CoreAccess, CoreFunction, CoreLine, CoreProperty, CoreState, CoreStatement, CoreType,
     CoreVariable, Value,
@@ -26,7 +26,7 @@ use type_scope::{Kind, Source};
 const CONSTANT_GET_SIZE: u32 = 2;
 
 /// The variables of the script, those of its Auto properties among them, in order of line.
-pub(crate) fn core_variables(work: &mut Work<'_>) -> Result<Vec<CoreVariable>>
+pub(crate) fn core_variables(work: &mut ScriptRules<'_>) -> Result<Vec<CoreVariable>>
     ensures kept { KeepsScript work.old work.new }
     ensures heads { IfOk result (λ found. map core_variable_head found.items ≡ map (variable_head (set_of work.old)) (map declaration work.old.layout.now.sources.items)) }
     ensures count { IfOk result (λ found. vec_len found ≡ variables_of work.old) }
@@ -40,7 +40,7 @@ pub(crate) fn core_variables(work: &mut Work<'_>) -> Result<Vec<CoreVariable>>
     Ok(found)
 }
 
-fn source_variable(work: &mut Work<'_>, source: &Source<'_>) -> Result<CoreVariable>
+fn source_variable(work: &mut ScriptRules<'_>, source: &Source<'_>) -> Result<CoreVariable>
     ensures kept { KeepsScript work.old work.new }
     ensures head { IfOk result (λ made. core_variable_head made ≡ variable_head (set_of work.old) (declaration source.now)) }
     ensures in_range { IfOk result (VariableInRange (functions_of work.old)) }
@@ -51,7 +51,7 @@ fn source_variable(work: &mut Work<'_>, source: &Source<'_>) -> Result<CoreVaria
     }
 }
 
-fn declared_variable(work: &mut Work<'_>, variable: &Variable) -> Result<CoreVariable>
+fn declared_variable(work: &mut ScriptRules<'_>, variable: &Variable) -> Result<CoreVariable>
     ensures kept { KeepsScript work.old work.new }
     ensures head { IfOk result (λ made. core_variable_head made ≡ variable_head (set_of work.old) (of_variable variable.now)) }
     ensures in_range { IfOk result (VariableInRange (functions_of work.old)) }
@@ -66,7 +66,7 @@ fn declared_variable(work: &mut Work<'_>, variable: &Variable) -> Result<CoreVar
 }
 
 // The variable in which an Auto property keeps its value.
-fn property_variable(work: &mut Work<'_>, property: &Property) -> Result<CoreVariable>
+fn property_variable(work: &mut ScriptRules<'_>, property: &Property) -> Result<CoreVariable>
     ensures kept { KeepsScript work.old work.new }
     ensures head { IfOk result (λ made. core_variable_head made ≡ variable_head (set_of work.old) (of_property property.now)) }
     ensures in_range { IfOk result (VariableInRange (functions_of work.old)) }
@@ -80,7 +80,11 @@ fn property_variable(work: &mut Work<'_>, property: &Property) -> Result<CoreVar
     })
 }
 
-fn property_value(work: &mut Work<'_>, property: &Property, kind: Option<CoreType>) -> Result<Value>
+fn property_value(
+    work: &mut ScriptRules<'_>,
+    property: &Property,
+    kind: Option<CoreType>,
+) -> Result<Value>
     ensures kept { KeepsScript work.old work.new }
     ensures in_range { IfOk result LiteralInRange }
 {
@@ -102,7 +106,7 @@ fn variable_name(alloc: Global, property: &Name) -> Result<Name>
 
 /// The properties of the script, in their order.
 pub(crate) fn core_properties(
-    work: &mut Work<'_>,
+    work: &mut ScriptRules<'_>,
     properties: &[Property],
 ) -> Result<Vec<CoreProperty>>
     ensures heads { IfOk result (λ found. map core_property_head found.items ≡ map (property_head (set_of work.old)) properties.now) }
@@ -116,7 +120,11 @@ pub(crate) fn core_properties(
     Ok(found)
 }
 
-fn core_property(work: &mut Work<'_>, place: usize, property: &Property) -> Result<CoreProperty>
+fn core_property(
+    work: &mut ScriptRules<'_>,
+    place: usize,
+    property: &Property,
+) -> Result<CoreProperty>
     ensures head { IfOk result (λ made. core_property_head made ≡ property_head (set_of work.old) property.now) }
     ensures kept { OnOk result (KeepsScript work.old work.new) }
     ensures in_range { WorkInRange work.old → IfOk result (CorePropertyInRange work.old) }
@@ -136,7 +144,7 @@ fn core_property(work: &mut Work<'_>, place: usize, property: &Property) -> Resu
 
 // How a property of this type is read and written.
 fn core_access(
-    work: &mut Work<'_>,
+    work: &mut ScriptRules<'_>,
     place: usize,
     property: &Property,
     kind: Option<CoreType>,
@@ -162,7 +170,7 @@ fn core_access(
 
 // The Get of an AutoReadOnly property, which stands on the property's line.
 fn constant_get(
-    work: &mut Work<'_>,
+    work: &mut ScriptRules<'_>,
     line: u16,
     constant: &Constant,
     kind: Option<CoreType>,
@@ -219,7 +227,7 @@ fn is_get(name: &Name) -> bool
     name.as_bytes().eq_ignore_ascii_case(b"Get")
 }
 
-fn full_access(work: &mut Work<'_>, functions: &[Function]) -> Result<CoreAccess>
+fn full_access(work: &mut ScriptRules<'_>, functions: &[Function]) -> Result<CoreAccess>
     ensures head { IfOk result (λ access. core_access_head access
         ≡ ByFunctions (option_map (function_head (set_of work.old)) (getter functions.now)) (option_map (function_head (set_of work.old)) (setter functions.now))) }
     ensures kept { OnOk result (KeepsScript work.old work.new) }
@@ -237,7 +245,7 @@ fn full_access(work: &mut Work<'_>, functions: &[Function]) -> Result<CoreAccess
 }
 
 /// The states of the script, the empty state first.
-pub(crate) fn core_states(work: &mut Work<'_>, script: &Script) -> Result<Vec<CoreState>>
+pub(crate) fn core_states(work: &mut ScriptRules<'_>, script: &Script) -> Result<Vec<CoreState>>
     ensures heads { IfOk result (λ found. map core_state_head found.items ≡ state_heads (set_of work.old) script.now) }
     ensures kept { OnOk result (KeepsScript work.old work.new) }
     ensures in_range { WorkInRange work.old → IfOk result (λ found. All (CoreStateInRange work.old) found.items) }
@@ -253,7 +261,7 @@ pub(crate) fn core_states(work: &mut Work<'_>, script: &Script) -> Result<Vec<Co
     Ok(found)
 }
 
-fn core_state(work: &mut Work<'_>, name: Name, functions: &[Function]) -> Result<CoreState>
+fn core_state(work: &mut ScriptRules<'_>, name: Name, functions: &[Function]) -> Result<CoreState>
     ensures head { IfOk result (λ made. core_state_head made ≡ record { name = name; functions = map (function_head (set_of work.old)) functions.now }) }
     ensures kept { OnOk result (KeepsScript work.old work.new) }
     ensures in_range { WorkInRange work.old → IfOk result (CoreStateInRange work.old) }
@@ -263,7 +271,7 @@ fn core_state(work: &mut Work<'_>, name: Name, functions: &[Function]) -> Result
 }
 
 // The functions of a state, in their order.
-fn core_functions(work: &mut Work<'_>, functions: &[Function]) -> Result<Vec<CoreFunction>>
+fn core_functions(work: &mut ScriptRules<'_>, functions: &[Function]) -> Result<Vec<CoreFunction>>
     ensures heads { IfOk result (λ found. map core_function_head found.items ≡ map (function_head (set_of work.old)) functions.now) }
     ensures kept { OnOk result (KeepsScript work.old work.new) }
     ensures in_range { WorkInRange work.old → IfOk result (λ found. All (CoreFunctionInRange work.old) found.items) }
@@ -291,7 +299,7 @@ pub(crate) fn auto_state(alloc: Global, states: &[State]) -> Result<Option<Name>
 // with which such things begin. A constant of another type breaks K6, but None fits each script type
 // and array type.
 fn first_value(
-    work: &mut Work<'_>,
+    work: &mut ScriptRules<'_>,
     line: u16,
     constant: &Option<Constant>,
     kind: Option<CoreType>,
@@ -307,7 +315,7 @@ fn first_value(
 
 // The value that a constant at this line gives a thing of this type.
 fn constant_value(
-    work: &mut Work<'_>,
+    work: &mut ScriptRules<'_>,
     line: u16,
     constant: &Constant,
     kind: Option<CoreType>,

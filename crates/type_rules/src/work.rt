@@ -19,7 +19,7 @@ pub(crate) type Result<T> = std::result::Result<T, OutOfMemory>;
 
 /// A script while it is judged: what its names mean, and what was found so far.
 #[derive(Drop)]
-pub(crate) struct Work<'a> {
+pub(crate) struct ScriptRules<'a> {
     pub(crate) catalog: &'a Catalog<'a>,
     pub(crate) layout: &'a Layout<'a>,
     /// The script's number in the set.
@@ -28,13 +28,17 @@ pub(crate) struct Work<'a> {
     sizes: Sizes,
 }
 
-impl<'a> Work<'a> {
-    pub(crate) fn new(catalog: &'a Catalog<'a>, layout: &'a Layout<'a>, number: u16) -> Work<'a>
+impl<'a> ScriptRules<'a> {
+    pub(crate) fn new(
+        catalog: &'a Catalog<'a>,
+        layout: &'a Layout<'a>,
+        number: u16,
+    ) -> ScriptRules<'a>
         ensures catalog { result.catalog ≡ catalog.entry }
         ensures layout { result.layout ≡ layout.entry }
         ensures number { result.number ≡ number }
     {
-        Work {
+        ScriptRules {
             catalog,
             layout,
             number,

@@ -1,7 +1,7 @@
 use Rattle.std.proofs.Common.{sym, ap, subst, ◌∙◌}
 use Rattle.pex_set.specs.Names.{number_in, with_name, IsNumbered}
 use Rattle.pex_set.proofs.NameLemmas.{shown, inserted_name, inserted_number, IsNumbered-with_name}
-use Rattle.pex_set.proofs.names.NameTable.number.Goals as goal
+use Rattle.pex_set.proofs.names.NameNumbers.number.Goals as goal
 
 pub invariant_of-self-2 : goal.invariant_of-self-2
 invariant_of-self-2 c =

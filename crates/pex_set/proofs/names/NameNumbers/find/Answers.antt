@@ -1,7 +1,7 @@
 use Rattle.std.proofs.Common.{ap, ◌∙◌}
 use Rattle.pex_set.specs.Names.{number_in}
 use Rattle.pex_set.proofs.NameLemmas.{found_name}
-use Rattle.pex_set.proofs.names.NameTable.find.Goals as goal
+use Rattle.pex_set.proofs.names.NameNumbers.find.Goals as goal
 
 pub returns : goal.returns
 returns c =
