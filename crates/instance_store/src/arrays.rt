@@ -6,9 +6,9 @@ ghost use Rattle.instance_store.specs.declared.arrays.StoreFault.TheVariants.{Ou
 ghost use Rattle.instance_store.specs.Values.{is_array_type, default_value};
 ghost use Rattle.instance_store.specs.Arrays.{array_at, length_of, read, write_answer, arrays_with, found, item_of, write_answer_of, array_with, found_place, place_number, IsRefusal, IsCreated};
 
-use crate::values::{Made, copy_of, default_value, found_place, place_in, place_number};
+use crate::values::{copy_of, default_value, found_place, place_in, place_number};
 use core_tree::{CoreType, Value};
-use papy_base::{OutOfMemory, StackFault};
+use papy_base::{Made, OutOfMemory, StackFault};
 use std::alloc::Global;
 use std::marker::Model;
 use thiserror::Error;

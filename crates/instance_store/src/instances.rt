@@ -5,9 +5,9 @@ ghost use Rattle.std.specs.Option.{option_copied};
 ghost use Rattle.instance_store.specs.Values.{is_text};
 ghost use Rattle.instance_store.specs.Instances.{instance_at, place_of, values_of, variable_of, scripts_with, instance_with, lineage, parent_of, auto_state_of, initial_values, initial_values_of, start_state, started};
 
-use crate::values::{Made, copy_of};
+use crate::values::copy_of;
 use core_tree::{BoundInstance, Outline, OutlineScript, OutlineVariable, Scene, Value};
-use papy_base::{Name, Text};
+use papy_base::{Made, Name, Text};
 use std::alloc::Global;
 use std::marker::Model;
 

@@ -6,11 +6,8 @@ ghost use Rattle.instance_store.specs.Values.{is_text, equals, default_value};
 ghost use Rattle.instance_store.specs.Arrays.{place_in, first_equal, last_equal, first_place, end_behind, found_place, place_number};
 
 use core_tree::{CoreType, Value};
-use papy_base::{OutOfMemory, Text};
+use papy_base::{Made, Text};
 use std::alloc::Global;
-
-/// What was made, where there was room for it.
-pub type Made<T> = Result<T, OutOfMemory>;
 
 /// An equal value. Only the copy of a text takes memory.
 pub fn copy_of(alloc: Global, value: &Value) -> Made<Value>

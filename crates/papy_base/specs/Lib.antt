@@ -1,2 +1,7 @@
 pub mod Case
 pub mod Decimal
+pub mod Table
+pub mod Ranks
+pub mod Lineage
+pub mod Orders
+pub mod Circles

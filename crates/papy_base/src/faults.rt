@@ -9,6 +9,9 @@ use thiserror::Error;
 #[error("out of memory")]
 pub struct OutOfMemory;
 
+/// What was made, unless there was no memory for it.
+pub type Made<T> = Result<T, OutOfMemory>;
+
 impl From<AllocError> for OutOfMemory {
     fn from(_error: AllocError) -> OutOfMemory {
         OutOfMemory

@@ -1,16 +1,21 @@
-//! Names, texts and whole numbers of Papyrus scripts, on which every other crate stands.
+//! Names, texts and whole numbers of Papyrus scripts, tables of names, and what stands above what by the numbers of parents:
+//! what every other crate stands on.
 #![tactic(auto)]
 
 mod decimal;
+mod descent;
 mod faults;
 mod int;
 mod name;
 mod name_pool;
+mod name_table;
 mod text;
 
 pub use decimal::{read_int, write_int};
-pub use faults::{JoinFault, OutOfMemory, StackFault};
+pub use descent::{Descent, Span, on_circles};
+pub use faults::{JoinFault, Made, OutOfMemory, StackFault};
 pub use int::{add, div, mul, neg, rem, sub};
 pub use name::Name;
 pub use name_pool::NamePool;
+pub use name_table::NameTable;
 pub use text::{TEXT_LIMIT, Text};

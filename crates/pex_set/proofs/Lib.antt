@@ -1,17 +1,7 @@
-pub mod LineageLemmas
-pub mod LinkLemmas
-pub mod Lists
-pub mod WalkLemmas
-pub mod OrderLemmas
-pub mod ReachLemmas
-pub mod DescentLemmas
 pub mod NameLemmas
 pub mod ObjectLemmas
-pub mod CircleLemmas
 pub mod Positions
 pub mod Stretches
 pub mod Sweeps
 pub mod Members
-pub mod ClimbLemmas
-pub mod CircleWalks
 pub mod NearestLemmas

@@ -11,7 +11,7 @@ use Rattle.std.proofs.lemmas.Option.{none-some, slice_get_within, get_or_from_sl
 use Rattle.pex_set.specs.declared.inherited.MemberPlace.{MemberPlace}
 use Rattle.pex_set.specs.declared.inherited.OwnMember.{OwnMember}
 use Rattle.pex_set.specs.declared.inherited.Stretch.{Stretch}
-use Rattle.pex_set.specs.Ranks.{has}
+use Rattle.papy_base.specs.Ranks.{has}
 use Rattle.pex_set.specs.Inherited.{Names, position_cmp, is_up_to, found_in, Reaches, IsNearest, AreOfTree, AreLaminar}
 use Rattle.pex_set.specs.Sweep.{start_of, end_of, covers, starts_with, IsCover, AreCovered, AreSorted, AreInOrder}
 use Rattle.pex_set.proofs.Positions.{position_total, is_up_to-same, names-between, lt-not_up}

@@ -3,17 +3,17 @@ use Rattle.std.proofs.Common.{◌≡◌, ℕ, zero, suc, ◌<◌, ◌≤◌, ◌
 use Rattle.std.specs.Option.{option_map, option_or}
 use Rattle.std.proofs.lemmas.Bool.{true≢false, and_parts, and_from, eqb-true, eq-eqb, cases_eq}
 use Rattle.std.proofs.lemmas.Option.{slice_get_within, get_or_from_slice_get, slice_get-get_or}
-use Rattle.pex_set.specs.declared.descent.Span.{Span}
+use Rattle.papy_base.specs.declared.descent.Span.{Span}
 use Rattle.pex_set.specs.declared.inherited.MemberPlace.{MemberPlace}
 use Rattle.pex_set.specs.declared.inherited.OwnMember.{OwnMember}
 use Rattle.pex_set.specs.declared.inherited.Stretch.{Stretch}
-use Rattle.pex_set.specs.Inherited.{Names, AreApart, IsWithin, Reaches, IsInnermost, IsNearest, AreOfTree, AreLaminar, found_in}
-use Rattle.pex_set.specs.Lineage.{parent_of, upward, lineage, stands_below}
+use Rattle.pex_set.specs.Inherited.{Names, Reaches, IsInnermost, IsNearest, AreOfTree, AreLaminar, found_in}
+use Rattle.papy_base.specs.Lineage.{parent_of, upward, lineage, stands_below}
 use Rattle.pex_set.specs.Nearest.{is_own, own_member, nearest, AreRanked}
-use Rattle.pex_set.specs.Orders.{parent_number, IsForest, IsBelow, itself, below_parent}
-use Rattle.pex_set.specs.Ranks.{span_at, has, IsDescentOf}
-use Rattle.pex_set.proofs.DescentLemmas.{has_start, spans_nest, ranks_differ}
-use Rattle.pex_set.proofs.LineageLemmas.{below_below, not_above_itself, parent_cases, stands_from_below, below_from_stands}
+use Rattle.papy_base.specs.Orders.{parent_number, IsForest, IsBelow, itself, below_parent}
+use Rattle.papy_base.specs.Ranks.{span_at, has, IsDescentOf, AreApart, IsWithin}
+use Rattle.papy_base.proofs.DescentLemmas.{has_start, spans_nest, ranks_differ}
+use Rattle.papy_base.proofs.LineageLemmas.{below_below, not_above_itself, parent_cases, stands_from_below, below_from_stands}
 
 -- ---- the first of a list
 not_yet : {X : Type 0} (p : X → Bool) (x : X) (xs : List X) (k : ℕ) → p x ≡ false → ((j : ℕ) (y : X) → slice_get xs j ≡ Some y → p y ≡ true → k ≤ j) → (j : ℕ) (y : X) → slice_get (x ∷ xs) j ≡ Some y → p y ≡ true → suc k ≤ j

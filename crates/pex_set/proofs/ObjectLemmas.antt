@@ -6,7 +6,7 @@ use Rattle.std.proofs.lemmas.List.{length-map}
 use Rattle.std.proofs.lemmas.List.Elements.{All-map}
 use Rattle.std.proofs.lemmas.List.Quantifiers.{position-Some}
 use Rattle.pex_set.specs.declared.objects.Head.{Head}
-use Rattle.pex_set.specs.Lineage.{AreAmong}
+use Rattle.papy_base.specs.Lineage.{AreAmong}
 use Rattle.pex_set.specs.Names.{empty_name}
 use Rattle.pex_set.specs.Objects.{first_named, parent_in, parents_in}
 use Rattle.pex_set.proofs.NameLemmas.{position-head, position-tail}

@@ -2,11 +2,11 @@
 use Rattle.std.specs.Prelude.{◌≡◌, ◌≢◌, ℕ, ◌<◌, ◌≤◌, ◌⊎◌, Bool, true, List, [], ◌∷◌, Option, Some, None, if◌then◌else◌, IsTrue, All, slice_get}
 use Rattle.std.specs.Ordering.{is_le, nat_cmp, ordering_then}
 use Rattle.std.specs.declared.cmp.Ordering.{Ordering}
-use Rattle.pex_set.specs.declared.descent.Span.{Span}
+use Rattle.papy_base.specs.declared.descent.Span.{Span}
 use Rattle.pex_set.specs.declared.inherited.MemberPlace.{MemberPlace}
 use Rattle.pex_set.specs.declared.inherited.OwnMember.{OwnMember}
 use Rattle.pex_set.specs.declared.inherited.Stretch.{Stretch}
-use Rattle.pex_set.specs.Ranks.{has}
+use Rattle.papy_base.specs.Ranks.{has, IsWithin, AreApart}
 
 -- names of a state and of a member in it
 abbrev pub Names : Type 0
@@ -55,14 +55,6 @@ pub record IsInnermost (members : List OwnMember) (names : Names) (rank : ℕ) (
 abbrev pub IsNearest : List OwnMember → Names → ℕ → Option MemberPlace → Type 0
 IsNearest members names rank None = All (λ member. Reaches member names rank → ⊥) members
 IsNearest members names rank (Some place) = IsInnermost members names rank place
-
--- all ranks of the first are the other's
-abbrev pub IsWithin : Span → Span → Type 0
-IsWithin inner outer = (outer.start ≤ inner.start) × (inner.end ≤ outer.end)
-
--- no rank is one of both
-abbrev pub AreApart : Span → Span → Type 0
-AreApart a b = (a.end ≤ b.start) ⊎ (b.end ≤ a.start)
 
 -- two members of one object, which have its ranks, or two of different ones, of which one stands below the other or neither does
 abbrev pub AreOfTree : OwnMember → OwnMember → Type 0

@@ -1,11 +1,11 @@
 -- The members of objects, and which of them is the nearest in a lineage.
 use Rattle.std.specs.Prelude.{◌≡◌, ℕ, ◌<◌, ◌==◌, Bool, ◌&&◌, List, [], ◌∷◌, Option, None, All, find}
 use Rattle.std.specs.Option.{option_map, option_or}
-use Rattle.pex_set.specs.declared.descent.Span.{Span}
+use Rattle.papy_base.specs.declared.descent.Span.{Span}
 use Rattle.pex_set.specs.declared.inherited.MemberPlace.{MemberPlace}
 use Rattle.pex_set.specs.declared.inherited.OwnMember.{OwnMember}
 use Rattle.pex_set.specs.Inherited.{Names}
-use Rattle.pex_set.specs.Ranks.{span_at}
+use Rattle.papy_base.specs.Ranks.{span_at}
 
 -- whether it is a member of the object by these names
 abbrev pub is_own : ℕ → Names → OwnMember → Bool

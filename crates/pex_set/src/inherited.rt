@@ -5,8 +5,7 @@ ghost use Rattle.pex_set.specs.declared.inherited.OwnMember.{OwnMember};
 ghost use Rattle.pex_set.specs.Inherited.{found_in, is_up_to as comes_by, Ascends, Names, Reaches, AreLaminar, IsNearest};
 ghost use Rattle.pex_set.specs.Sweep.{member_of as member_by, is_reached, earlier_end, AreSorted, AreInOrder, AreCovered, IsBehind, Fits, IsOrdered, IsSwept, AreMoved, IsLastBehind, IsOpened};
 
-use crate::descent::Span;
-use crate::names::Made;
+use papy_base::{Made, Span};
 use std::alloc::Global;
 use std::marker::Model;
 

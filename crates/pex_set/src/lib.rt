@@ -2,14 +2,12 @@
 //! and the objects of a set with their parents.
 #![tactic(auto)]
 
-mod descent;
 mod inherited;
 mod names;
 mod objects;
 mod prelude;
 
-pub use descent::{Descent, Span, on_circles};
 pub use inherited::{Inherited, MemberNames, MemberPlace, OwnMembers};
-pub use names::{EMPTY_NAME, FileNames, Made, NameNumbers, folded, one_number_of_a_name, text_at};
+pub use names::{EMPTY_NAME, FileNames, NameNumbers, folded, one_number_of_a_name, text_at};
 pub use objects::{Head, Objects};
 pub use prelude::{LIBRARY_COUNT, PRELUDE_COUNT, Prelude};

@@ -4,12 +4,9 @@ ghost use Rattle.std.specs.Str.{str_to_ascii_lowercase, str_eq_ignore_ascii_case
 ghost use Rattle.pex_set.specs.Names.{number_in, with_name, with_names, IsGrown, IsNumbered};
 
 use indexmap::IndexSet;
-use papy_base::{OutOfMemory, Text};
+use papy_base::{Made, Text};
 use std::alloc::Global;
 use std::marker::Model;
-
-/// What was made, unless there was no memory for it.
-pub type Made<T> = Result<T, OutOfMemory>;
 
 /// The number of the empty name.
 pub const EMPTY_NAME: usize = 0;

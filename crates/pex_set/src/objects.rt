@@ -2,10 +2,11 @@
 ghost use Rattle.std.specs.Prelude.{◌≡◌, ◌+◌, ◌==◌, ℕ, [], ◌∷◌, ◌++◌, Some, None, length, vec_len, slice_get, nat_eq, if◌then◌else◌, IfOk, OnOk, OnErr};
 ghost use Rattle.std.specs.HashMap.{get};
 ghost use Rattle.std.specs.Option.{option_or};
-ghost use Rattle.pex_set.specs.Lineage.{AreAmong};
+ghost use Rattle.papy_base.specs.Lineage.{AreAmong};
 ghost use Rattle.pex_set.specs.Objects.{first_named, parent_in, parents_in, AddsFile};
 
-use crate::names::{EMPTY_NAME, FileNames, Made};
+use crate::names::{EMPTY_NAME, FileNames};
+use papy_base::Made;
 use pex_values::Pex;
 use std::alloc::Global;
 use std::collections::HashMap;

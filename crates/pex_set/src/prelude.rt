@@ -2,8 +2,7 @@
 ghost use Rattle.std.specs.Prelude.{◌≡◌, vec_len, All, IfOk};
 ghost use Rattle.pex_set.specs.Plain.{HasNoProperties};
 
-use crate::names::Made;
-use papy_base::Text;
+use papy_base::{Made, Text};
 use pex_values::{
     ASSIGN, CALL_METHOD, Datum, Instruction, Pex, PexFunction, PexObject, PexState, RETURN,
     SizeForm,

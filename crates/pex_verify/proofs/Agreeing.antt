@@ -8,8 +8,8 @@ use Rattle.std.proofs.lemmas.Option.{none-some, same_Some}
 use Rattle.core_tree.specs.Outlines.{ScriptShape}
 use Rattle.script_meaning.specs.Values.{lineage, parent_in}
 use Rattle.code_meaning.specs.Code.{Script}
-use Rattle.pex_set.specs.Lineage as objects
-use Rattle.pex_set.specs.Lineage.{AreRooted, parent_of}
+use Rattle.papy_base.specs.Lineage as objects
+use Rattle.papy_base.specs.Lineage.{AreRooted, parent_of}
 use Rattle.pex_set.specs.Names.{number_in}
 use Rattle.pex_set.specs.declared.inherited.MemberPlace.{MemberPlace}
 use Rattle.pex_set.specs.declared.inherited.OwnMember.{OwnMember}

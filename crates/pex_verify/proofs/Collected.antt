@@ -8,12 +8,12 @@ use Rattle.std.proofs.lemmas.Option.{slice_get-get_or}
 use Rattle.core_tree.specs.Outlines.{script_shape}
 use Rattle.core_tree.specs.declared.outline.OutlineScript.{OutlineScript}
 use Rattle.pex_set.specs.Inherited.{found_in}
-use Rattle.pex_set.specs.Lineage.{lineage, parent_of}
+use Rattle.papy_base.specs.Lineage.{lineage, parent_of}
 use Rattle.pex_set.specs.Names.{empty_name}
 use Rattle.pex_set.specs.Nearest.{nearest, own_member, AreRanked}
-use Rattle.pex_set.specs.Orders.{IsForest}
-use Rattle.pex_set.specs.Ranks.{span_at}
-use Rattle.pex_set.proofs.Lists.{In, Differ}
+use Rattle.papy_base.specs.Orders.{IsForest}
+use Rattle.papy_base.specs.Ranks.{span_at}
+use Rattle.papy_base.proofs.Lists.{In, Differ}
 use Rattle.pex_set.proofs.NearestLemmas.{nearest_in}
 use Rattle.pex_values.specs.declared.values.PexObject.{PexObject}
 use Rattle.pex_values.specs.declared.values.PexState.{PexState}

@@ -9,8 +9,8 @@ use Rattle.std.proofs.lemmas.List.Elements.{All-from_recursion, All-append}
 use Rattle.std.proofs.lemmas.List.Folds.{find-append}
 use Rattle.code_meaning.specs.LookUp.{numbered, one_on}
 use Rattle.pex_set.specs.Nearest.{is_own, own_member, AreRanked}
-use Rattle.pex_set.specs.Ranks.{span_at}
-use Rattle.pex_set.specs.declared.descent.Span.{Span}
+use Rattle.papy_base.specs.Ranks.{span_at}
+use Rattle.papy_base.specs.declared.descent.Span.{Span}
 use Rattle.pex_set.specs.declared.inherited.OwnMember.{OwnMember}
 use Rattle.pex_verify.specs.declared.members.MemberLists.{MemberLists}
 use Rattle.pex_verify.specs.declared.scripts.ScriptHead.{ScriptHead}

@@ -9,7 +9,7 @@ use Rattle.std.proofs.lemmas.Option.{none-some, slice_get-get_or, slice_get-map,
 use Rattle.core_tree.specs.Outlines.{script_shape}
 use Rattle.core_tree.specs.declared.outline.OutlineScript.{OutlineScript}
 use Rattle.script_meaning.specs.Values.{lineage, parent_in}
-use Rattle.pex_set.specs.Lineage.{AreAmong, parent_of}
+use Rattle.papy_base.specs.Lineage.{AreAmong, parent_of}
 use Rattle.pex_set.specs.Names.{empty_name, number_in}
 use Rattle.pex_set.specs.Objects.{first_named, parent_in as parent_of_head}
 use Rattle.pex_set.specs.declared.objects.Head.{Head}

@@ -16,7 +16,7 @@ use Rattle.script_meaning.specs.Values.{lineage, parent_in}
 use Rattle.code_meaning.specs.Code.{Function, Access, Property, State}
 use Rattle.code_meaning.specs.LookUp.{BodyPlace, OfState, OfGet, OfSet, script_of, states_in, properties_in, functions_in, reader_in, writer_in, function_at}
 use Rattle.code_meaning.specs.Typed.{IsTyped, IsTypedSet}
-use Rattle.pex_set.specs.Lineage as objects_above
+use Rattle.papy_base.specs.Lineage as objects_above
 use Rattle.pex_values.specs.declared.values.PexFunction.{PexFunction}
 use Rattle.pex_values.specs.declared.values.PexProperty.{PexProperty}
 use Rattle.pex_values.specs.declared.values.PexState.{PexState}

@@ -3,8 +3,8 @@ use Rattle.std.proofs.Common.{Bool, ◌||◌, List, refl, ap}
 use Rattle.std.proofs.lemmas.Bool.{eq-eqb}
 use Rattle.core_tree.specs.declared.core_type.CoreType.{CoreType}
 use Rattle.core_tree.specs.declared.core_type.CoreType.TheVariants as kinds
-use Rattle.pex_set.specs.Ranks.{has, span_at}
-use Rattle.pex_set.specs.declared.descent.Span.{Span}
+use Rattle.papy_base.specs.Ranks.{has, span_at}
+use Rattle.papy_base.specs.declared.descent.Span.{Span}
 use Rattle.pex_verify.specs.declared.value_type.ValueType.TheVariants.{Of}
 use Rattle.pex_verify.specs.Fitting.{FitsIn}
 

@@ -6,7 +6,7 @@ use Rattle.std.specs.Str.{str_eq_ignore_ascii_case}
 use Rattle.std.proofs.lemmas.Bool.{eq-eqb}
 use Rattle.core_tree.specs.Outlines.{ScriptShape}
 use Rattle.script_meaning.specs.Values.{upward, parent_in, is_child}
-use Rattle.pex_set.specs.Lineage.{stands_below, parent_of}
+use Rattle.papy_base.specs.Lineage.{stands_below, parent_of}
 use Rattle.pex_set.specs.Names.{number_in}
 use Rattle.pex_set.specs.Objects.{first_named}
 use Rattle.pex_set.specs.declared.objects.Head.{Head}

@@ -11,7 +11,7 @@ use Rattle.pex_set.specs.Names.{empty_name}
 use Rattle.pex_set.specs.Nearest.{is_own, own_member}
 use Rattle.pex_set.specs.declared.inherited.MemberPlace.{MemberPlace}
 use Rattle.pex_set.specs.declared.inherited.OwnMember.{OwnMember}
-use Rattle.pex_set.proofs.Lists.{In, Differ}
+use Rattle.papy_base.proofs.Lists.{In, Differ}
 use Rattle.pex_values.specs.declared.values.PexFunction.{PexFunction}
 use Rattle.pex_values.specs.declared.values.PexState.{PexState}
 use Rattle.pex_verify.specs.declared.scripts.PropertyHead.{PropertyHead}

@@ -12,8 +12,8 @@ use Rattle.core_tree.specs.Outlines.{ScriptShape, script_shape}
 use Rattle.script_meaning.specs.Values.{is_child, parent_in}
 use Rattle.pex_set.specs.Names.{number_in}
 use Rattle.pex_set.specs.Objects.{first_named}
-use Rattle.pex_set.specs.Ranks.{has, no_ranks, span_at}
-use Rattle.pex_set.specs.declared.descent.Span.{Span}
+use Rattle.papy_base.specs.Ranks.{has, no_ranks, span_at}
+use Rattle.papy_base.specs.declared.descent.Span.{Span}
 use Rattle.pex_set.specs.declared.objects.Head.{Head}
 use Rattle.pex_values.specs.declared.values.PexObject.{PexObject}
 use Rattle.pex_verify.specs.declared.scripts.ScriptHead.{ScriptHead}

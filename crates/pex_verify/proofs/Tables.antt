@@ -1,8 +1,8 @@
 -- The members of a set, as its scripts come one behind the other.
 use Rattle.std.proofs.Common.{◌≡◌, ℕ, ◌+◌, ◌≤◌, suc, List, [], ◌∷◌, ◌++◌, length, map, take, Option, refl, sym, ap, subst, ◌∙◌, length-append, arith}
 use Rattle.std.proofs.lemmas.List.{length-map, length-take-le}
-use Rattle.pex_set.specs.Ranks.{IsDescentOf}
-use Rattle.pex_set.specs.declared.descent.Span.{Span}
+use Rattle.papy_base.specs.Ranks.{IsDescentOf}
+use Rattle.papy_base.specs.declared.descent.Span.{Span}
 use Rattle.pex_set.specs.declared.inherited.OwnMember.{OwnMember}
 use Rattle.pex_verify.specs.declared.members.MemberLists.{MemberLists}
 use Rattle.pex_verify.specs.declared.members.MemberTable.{MemberTable}

@@ -6,8 +6,8 @@ use Rattle.std.specs.Option.{option_and_then}
 use Rattle.std.proofs.lemmas.Option.{none-some}
 use Rattle.core_tree.specs.Outlines.{ScriptShape}
 use Rattle.script_meaning.specs.Values.{upward, lineage, parent_in, is_child}
-use Rattle.pex_set.specs.Lineage as objects
-use Rattle.pex_set.specs.Lineage.{AreRooted, stands_below, parent_of}
+use Rattle.papy_base.specs.Lineage as objects
+use Rattle.papy_base.specs.Lineage.{AreRooted, stands_below, parent_of}
 
 module _ (outline : List ScriptShape) (parents : List (Option ℕ)) (count : length outline ≡ length parents) (same : (script : ℕ) → parent_in (slice_get outline script) ≡ parent_of parents script) where
   same_upward : (left : ℕ) (script : Option ℕ) → upward left outline script ≡ objects.upward left parents script

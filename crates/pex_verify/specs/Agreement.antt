@@ -6,7 +6,7 @@ use Rattle.script_meaning.specs.Fits.{variable_kinds}
 use Rattle.script_meaning.specs.Values.{is_child, lineage, parent_in}
 use Rattle.pex_set.specs.Names.{empty_name, number_in}
 use Rattle.pex_set.specs.Objects.{first_named}
-use Rattle.pex_set.specs.Ranks.{is_below}
+use Rattle.papy_base.specs.Ranks.{is_below}
 use Rattle.code_meaning.specs.Code.{Function, Script}
 use Rattle.code_meaning.specs.LookUp.{first_method, first_property, method_in}
 use Rattle.code_meaning.specs.Operands.{slot_kinds}

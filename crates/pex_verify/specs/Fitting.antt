@@ -1,8 +1,8 @@
 -- Which values fit which types.
 use Rattle.std.specs.Prelude.{◌≡◌, ◌⊎◌, true, List, Option, Some, None}
 use Rattle.core_tree.specs.declared.core_type.CoreType.TheVariants as kinds
-use Rattle.pex_set.specs.Ranks.{is_below}
-use Rattle.pex_set.specs.declared.descent.Span.{Span}
+use Rattle.papy_base.specs.Ranks.{is_below}
+use Rattle.papy_base.specs.declared.descent.Span.{Span}
 use Rattle.script_meaning.specs.Fits.{holds_none}
 use Rattle.pex_verify.specs.declared.value_type.ValueType.{ValueType}
 use Rattle.pex_verify.specs.declared.value_type.ValueType.TheVariants.{Nothing, Float, Unknown, Of}

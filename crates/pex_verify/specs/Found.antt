@@ -4,7 +4,7 @@ use Rattle.std.specs.Option.{option_and_then}
 use Rattle.pex_set.specs.Inherited.{found_in}
 use Rattle.pex_set.specs.Names.{empty_name}
 use Rattle.pex_set.specs.Objects.{first_named}
-use Rattle.pex_set.specs.Ranks.{span_at}
+use Rattle.papy_base.specs.Ranks.{span_at}
 use Rattle.pex_set.specs.declared.inherited.MemberPlace.{MemberPlace}
 use Rattle.pex_values.specs.declared.values.Datum.{Datum}
 use Rattle.pex_values.specs.declared.values.Datum.TheVariants.{Word}

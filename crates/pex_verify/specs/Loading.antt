@@ -1,7 +1,7 @@
 -- The scripts of a set, as its objects say.
 use Rattle.std.specs.Prelude.{◌≡◌, ℕ, ◌<◌, List, length, map, vec_len, slice_index_or, All}
 use Rattle.core_tree.specs.declared.outline.OutlineScript.{OutlineScript}
-use Rattle.pex_set.specs.Lineage.{AreRooted}
+use Rattle.papy_base.specs.Lineage.{AreRooted}
 use Rattle.pex_set.specs.Objects.{parents_in}
 use Rattle.pex_values.specs.declared.values.PexProperty.{PexProperty}
 use Rattle.pex_verify.specs.declared.loaded.LoadedProperty.{LoadedProperty}

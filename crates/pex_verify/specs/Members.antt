@@ -1,8 +1,8 @@
 -- The members of scripts, by their names and places, as they are collected.
 use Rattle.std.specs.Prelude.{ℕ, suc, ◌==◌, List, [], ◌∷◌, ◌++◌, if◌then◌else◌}
 use Rattle.pex_set.specs.Names.{empty_name}
-use Rattle.pex_set.specs.Ranks.{span_at}
-use Rattle.pex_set.specs.declared.descent.Span.{Span}
+use Rattle.papy_base.specs.Ranks.{span_at}
+use Rattle.papy_base.specs.declared.descent.Span.{Span}
 use Rattle.pex_set.specs.declared.inherited.OwnMember.{OwnMember}
 use Rattle.pex_values.specs.declared.values.PexFunction.{PexFunction}
 use Rattle.pex_values.specs.declared.values.PexObject.{PexObject}

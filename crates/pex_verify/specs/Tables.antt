@@ -1,8 +1,8 @@
 -- The table of a set's members, by what its scripts have.
 use Rattle.std.specs.Prelude.{◌≡◌, ℕ, suc, List, [], ◌∷◌, length, Option}
 use Rattle.pex_set.specs.Inherited.{Names, AreLaminar, IsNearest, found_in}
-use Rattle.pex_set.specs.Ranks.{IsDescentOf}
-use Rattle.pex_set.specs.declared.descent.Span.{Span}
+use Rattle.papy_base.specs.Ranks.{IsDescentOf}
+use Rattle.papy_base.specs.declared.descent.Span.{Span}
 use Rattle.pex_set.specs.declared.inherited.OwnMember.{OwnMember}
 use Rattle.pex_set.specs.declared.inherited.Stretch.{Stretch}
 use Rattle.pex_verify.specs.declared.members.MemberLists.{MemberLists}

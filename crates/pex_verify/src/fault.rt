@@ -2,8 +2,7 @@ ghost use Rattle.std.specs.Prelude.{◌≡◌, IsTrue, OnOk};
 ghost use Rattle.pex_verify.specs.declared.fault.VerifyFault.TheVariants.{OutOfMemory as NoMemoryToVerify};
 ghost use Rattle.pex_verify.specs.declared.fault.Refusal.TheVariants.{OutOfMemory as NoMemory};
 
-use papy_base::{OutOfMemory, Text};
-use pex_set::Made;
+use papy_base::{Made, OutOfMemory, Text};
 use std::alloc::{AllocError, AllocFailed, Global};
 use thiserror::Error;
 

@@ -4,8 +4,8 @@ ghost use Rattle.pex_verify.specs.Files.{IsFile};
 
 use crate::members::{MemberTable, method_place};
 use core_tree::{CoreType, Outline};
-use papy_base::{Name, Text};
-use pex_set::{EMPTY_NAME, Made, NameNumbers};
+use papy_base::{Made, Name, Text};
+use pex_set::{EMPTY_NAME, NameNumbers};
 use pex_values::Pex;
 use std::alloc::Global;
 use std::marker::Model;

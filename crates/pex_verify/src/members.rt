@@ -3,13 +3,14 @@ ghost use Rattle.std.specs.Prelude.{◌≡◌, [], ◌∷◌, length, IfOk, IfSo
 ghost use Rattle.pex_verify.specs.Members.{owner_in, member_of, properties_of, functions_of, methods_in, methods_of_state, methods_of_states, with_methods, with_properties, with_script};
 ghost use Rattle.pex_set.specs.Inherited.{found_in};
 ghost use Rattle.pex_set.specs.Names.{empty_name};
-ghost use Rattle.pex_set.specs.Lineage.{AreAmong, AreRooted};
-ghost use Rattle.pex_set.specs.Ranks.{is_below, span_at, IsDescentOf};
+ghost use Rattle.papy_base.specs.Lineage.{AreAmong, AreRooted};
+ghost use Rattle.papy_base.specs.Ranks.{is_below, span_at, IsDescentOf};
 ghost use Rattle.pex_verify.specs.Tables.{Inherits};
 
 use crate::loaded::MethodPlace;
 use crate::scripts::{PropertyHead, ScriptHead, Signature};
-use pex_set::{Descent, EMPTY_NAME, FileNames, Inherited, Made, MemberPlace, OwnMembers};
+use papy_base::{Descent, Made};
+use pex_set::{EMPTY_NAME, FileNames, Inherited, MemberPlace, OwnMembers};
 use pex_values::{PexFunction, PexObject, PexState};
 use std::alloc::Global;
 

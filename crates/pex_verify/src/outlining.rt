@@ -10,8 +10,7 @@ use crate::loaded::{LoadedFunction, LoadedProperty, LoadedScript};
 use crate::scope::Home;
 use crate::sources::SetFile;
 use core_tree::{CoreType, OutlineFunction, OutlineProperty, OutlineScript, OutlineVariable};
-use papy_base::Name;
-use pex_set::Made;
+use papy_base::{Made, Name};
 use std::alloc::Global;
 
 /// A script's name, parent, auto state, variables, auto properties and functions of the empty state.

@@ -10,7 +10,7 @@ use crate::scripts::ScriptSet;
 use crate::sources::{DefaultMembers, FileLines, SetFile};
 use crate::value_type::{BOOL, INT, TEXT, ValueType};
 use core_tree::{CoreType, OutlineVariable};
-use pex_set::Made;
+use papy_base::Made;
 use pex_values::PexObject;
 use std::alloc::Global;
 

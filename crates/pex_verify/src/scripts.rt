@@ -8,16 +8,17 @@ ghost use Rattle.pex_verify.specs.Sources.{object_count};
 ghost use Rattle.pex_verify.specs.Heads.{Placed, placed_in, placed_objects, Members, members_of, member_at, parent_at, property_by, empty_state_of, functions_of_state, lacking_in, IsHeadOf, AreHeads};
 ghost use Rattle.pex_verify.specs.Parents.{parent_in, parent_among};
 ghost use Rattle.pex_verify.specs.Tables.{no_members, all_members, IsTable};
-ghost use Rattle.pex_set.specs.Lineage.{AreAmong, AreRooted};
+ghost use Rattle.papy_base.specs.Lineage.{AreAmong, AreRooted};
 ghost use Rattle.pex_set.specs.Names.{empty_name};
-ghost use Rattle.pex_set.specs.declared.descent.Span.{Span};
+ghost use Rattle.papy_base.specs.declared.descent.Span.{Span};
 ghost use Rattle.pex_values.specs.declared.values.PexObject.{PexObject};
 
 use crate::members::{MemberLists, MemberTable};
 use crate::sources::{DefaultMembers, SetFile};
 use crate::value_type::{TypeNames, ValueType};
 use core_tree::CoreType;
-use pex_set::{EMPTY_NAME, FileNames, LIBRARY_COUNT, Made, MemberPlace, NameNumbers, Objects};
+use papy_base::Made;
+use pex_set::{EMPTY_NAME, FileNames, LIBRARY_COUNT, MemberPlace, NameNumbers, Objects};
 use pex_values::{PexFunction, PexObject, PexProperty, PexState};
 use std::alloc::Global;
 

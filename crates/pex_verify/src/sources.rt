@@ -6,8 +6,8 @@ ghost use Rattle.pex_verify.specs.Heads.{placed_objects, AreNumbered};
 ghost use Rattle.pex_verify.specs.Sources.{object_count, objects_in, objects_of, AreStrings, AreNamed, HaveParts, IsNamed};
 
 use crate::fault::Site;
-use papy_base::{Name, Text};
-use pex_set::{FileNames, Made, NameNumbers, Objects, text_at};
+use papy_base::{Made, Name, Text};
+use pex_set::{FileNames, NameNumbers, Objects, text_at};
 use pex_values::{Pex, PexFunction, PexObject};
 use std::alloc::Global;
 use std::collections::HashMap;

@@ -4,7 +4,7 @@ ghost use Rattle.pex_verify.specs.Files.{IsFile};
 ghost use Rattle.pex_verify.specs.Sources.{object_count, script_count};
 ghost use Rattle.pex_verify.specs.Sets.{AreSoundOutlines, AreSoundScripts};
 ghost use Rattle.pex_verify.specs.Heads.{Placed, placed, placed_in, placed_objects, members_of, AreNumbered, AreHeads};
-ghost use Rattle.pex_set.specs.Lineage.{AreRooted, AreAmong};
+ghost use Rattle.papy_base.specs.Lineage.{AreRooted, AreAmong};
 ghost use Rattle.pex_set.specs.Names.{empty_name, number_in};
 ghost use Rattle.pex_set.specs.Objects.{parents_in};
 ghost use Rattle.pex_set.specs.Plain.{HasNoProperties};
@@ -24,7 +24,8 @@ use crate::sources::{
     strings_of_files,
 };
 use core_tree::{Outline, OutlineScript};
-use pex_set::{EMPTY_NAME, LIBRARY_COUNT, NameNumbers, Objects, Prelude, on_circles, text_at};
+use papy_base::on_circles;
+use pex_set::{EMPTY_NAME, LIBRARY_COUNT, NameNumbers, Objects, Prelude, text_at};
 use pex_values::{Pex, PexObject};
 use std::alloc::Global;
 

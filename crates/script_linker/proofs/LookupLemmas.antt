@@ -5,9 +5,9 @@ use Rattle.std.proofs.lemmas.List.{get_or_default, get_or_past}
 use Rattle.std.proofs.lemmas.Bool.{cases_lt}
 use Rattle.std.proofs.lemmas.Option.{slice_get-get_or, slice_get_cases}
 use Rattle.papy_base.specs.Case.{folded}
-use Rattle.script_linker.specs.Table.{number_in, place_of}
-use Rattle.script_linker.proofs.TableLemmas.{position-below}
-use Rattle.script_linker.specs.declared.name_table.NameTable.{NameTable}
+use Rattle.papy_base.specs.Table.{number_in, place_of}
+use Rattle.papy_base.proofs.TableLemmas.{position-below}
+use Rattle.papy_base.specs.declared.name_table.NameTable.{NameTable}
 use Rattle.script_linker.specs.declared.set.SourceFile.{SourceFile}
 use Rattle.script_linker.specs.Index.{IsIndexed, Rises}
 use Rattle.script_linker.specs.Lookup.{HasNumbers, IsFunctionOf, IsPropertyOf, RanksSome, IsRanked, HasPreludeParents, first_rank, script_named}

@@ -17,7 +17,7 @@ use Rattle.script_parser.specs.declared.script.StatementForm.{StatementForm}
 use Rattle.script_parser.specs.declared.script.StatementForm.TheVariants as statements
 use Rattle.script_linker.specs.declared.set.SourceFile.{SourceFile}
 use Rattle.script_linker.specs.Lookup.{function_name}
-use Rattle.script_linker.specs.Table.{place_of}
+use Rattle.papy_base.specs.Table.{place_of}
 
 -- ---- the members
 

@@ -1,8 +1,8 @@
 -- What scripts with tables keep.
 use Rattle.std.specs.Prelude.{ℕ, ◌≡◌, ◌<◌, List, length, Option, Some, slice_index, slice_index_or}
-use Rattle.script_linker.specs.declared.name_table.NameTable.{NameTable}
+use Rattle.papy_base.specs.declared.name_table.NameTable.{NameTable}
 use Rattle.script_linker.specs.declared.set.SourceFile.{SourceFile}
-use Rattle.script_linker.specs.Table.{IsPlaceTable}
+use Rattle.papy_base.specs.Table.{IsPlaceTable}
 use Rattle.script_linker.specs.Lookup.{function_name, property_name, parents_of, parent_at, IsWithin}
 
 -- each file has a table of its functions

@@ -5,7 +5,7 @@ use Rattle.script_parser.specs.declared.script.Script.{Script}
 use Rattle.script_parser.specs.declared.script.Function.{Function}
 use Rattle.script_parser.specs.declared.script.Property.{Property}
 use Rattle.script_linker.specs.declared.set.SourceFile.{SourceFile}
-use Rattle.script_linker.specs.Table.{place_of}
+use Rattle.papy_base.specs.Table.{place_of}
 
 abbrev pub script_name : SourceFile → List ℕ
 script_name file = file.script.name

@@ -3,7 +3,7 @@ ghost use Rattle.script_linker.specs.declared.fault.LinkFault.TheVariants.{Broke
 ghost use Rattle.script_linker.specs.declared.set.SourceFile.{SourceFile};
 ghost use Rattle.script_linker.specs.Generated.{AreStandard, HaveGiven, standard_scripts};
 ghost use Rattle.script_linker.specs.Lookup.{HasSmallScript, IsRanked, StartsWithPrelude, parents_of, script_name};
-ghost use Rattle.script_linker.specs.Table.{IsPlaceTable};
+ghost use Rattle.papy_base.specs.Table.{IsPlaceTable};
 ghost use Rattle.script_parser.specs.Lines.{heading_lines};
 ghost use Rattle.script_linker.specs.Link.{AreFilesOf, AreResolved, IsFaultOf, IsFaultOn, declared_lines, function_count};
 

@@ -1,7 +1,7 @@
 // Names looked up with the case of A to Z ignored, and the things of a script that have one.
 ghost use Rattle.std.specs.Prelude.{◌≡◌, ℕ, List, IfOk, OnOk};
 ghost use Rattle.papy_base.specs.Case.{folded};
-ghost use Rattle.script_linker.specs.Table.{number_in, least_of, Sets, Notes, IsPlaceTable};
+ghost use Rattle.papy_base.specs.Table.{number_in, least_of, Sets, Notes, IsPlaceTable};
 
 use crate::set::SourceFile;
 use papy_base::{Name, OutOfMemory};

@@ -1,7 +1,7 @@
 // Which script stands above which.
 ghost use Rattle.std.specs.Prelude.{◌≡◌, ℕ, ◌+◌, ◌<◌, ◌≤◌, length, All, IfOk, IfNone, IfSome, option_and_then, slice_index, vec_len, IsTrue, ◌↔◌, Some};
 ghost use Rattle.papy_base.specs.Case.{folded};
-ghost use Rattle.script_linker.specs.Table.{IsPlaceTable, number_in};
+ghost use Rattle.papy_base.specs.Table.{IsPlaceTable, number_in};
 ghost use Rattle.script_linker.specs.Lookup.{script_name, parents_of, IsWithin, RanksSome, IsRanked, StartsWithPrelude, HasPreludeParents, first_rank};
 
 use crate::name_table::NameTable;

@@ -5,7 +5,7 @@ ghost use Rattle.papy_base.specs.Case.{folded};
 ghost use Rattle.script_linker.specs.Generated.{AreMembers, AreStandard, Calls, Does, HasGiven, HaveGiven, IsMember, IsStandard, IsStatement, Member, Pairwise, Returns, Sets, Standard, acts_of_goto, get_state, goto_state, is_lacking, is_native_body, lacking, plain_type, quiet_event, random_int, sleep, standard_child, standard_scripts, trace};
 ghost use Rattle.script_linker.specs.Link.{IsCompleted, AreCompleted};
 ghost use Rattle.script_linker.specs.Lookup.{HasSmallScript, StartsWithPrelude, function_name};
-ghost use Rattle.script_linker.specs.Table.{place_of};
+ghost use Rattle.papy_base.specs.Table.{place_of};
 
 use crate::set::SourceFile;
 use line_parser::{Constant, Expr, Heading, Parameter, TypeName};

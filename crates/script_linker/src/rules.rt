@@ -6,7 +6,7 @@ ghost use Rattle.script_linker.specs.Found.{Before, FindsAmong, IsFirst};
 ghost use Rattle.script_linker.specs.Link.{IsResolved};
 ghost use Rattle.script_linker.specs.Lookup.{HasFewMembers, HasSmallScript, Nearest, own_function, parents_of, script_name};
 ghost use Rattle.script_linker.specs.Rules.{IsBelow, IsNoParent};
-ghost use Rattle.script_linker.specs.Table.{IsPlaceTable, number_in};
+ghost use Rattle.papy_base.specs.Table.{IsPlaceTable, number_in};
 ghost use Rattle.script_linker.specs.declared.set.SourceFile.{SourceFile};
 ghost use Rattle.script_parser.specs.Lines.{accessors, function_line, heading_lines, import_line, own_lines, property_line, property_lines, state_lines, variable_line};
 

@@ -1,8 +1,8 @@
 // Scripts with their parents and the tables of their members, whether or not they break a rule.
 ghost use Rattle.std.specs.Prelude.{◌≡◌, ℕ, ◌<◌, ◌↔◌, List, Option, length, IfOk, IfSome, IsTrue, slice_index_or};
 ghost use Rattle.papy_base.specs.Case.{folded};
-ghost use Rattle.script_linker.specs.Table.{number_in};
-ghost use Rattle.script_linker.specs.declared.name_table.NameTable.{NameTable};
+ghost use Rattle.papy_base.specs.Table.{number_in};
+ghost use Rattle.papy_base.specs.declared.name_table.NameTable.{NameTable};
 ghost use Rattle.script_linker.specs.Index.{HasFunctionTables, HasPropertyTables, Rises};
 ghost use Rattle.script_linker.specs.Lookup.{parents_of, parent_at, IsWithin, Nearest, StandsAbove, HasNoCircle, own_function, own_property, IsFunctionOf, IsPropertyOf};
 

@@ -9,8 +9,7 @@ use crate::setting::Setting;
 use crate::store::Store;
 use core_tree::{CoreType, Value};
 use instance_store::Arrays;
-use papy_base::{Text, read_int, write_int};
-use pex_set::Made;
+use papy_base::{Made, Text, read_int, write_int};
 use pex_verify::LoadedInstruction;
 use std::alloc::Global;
 

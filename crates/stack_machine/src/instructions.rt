@@ -19,8 +19,7 @@ use crate::frame::{Call, CallWay};
 use crate::operands::Executor;
 use core_tree::{CoreType, Value};
 use instance_store::{StoreFault, equals};
-use papy_base::{JoinFault, OutOfMemory, StackFault, Text, add, div, mul, neg, rem, sub};
-use pex_set::Made;
+use papy_base::{JoinFault, Made, OutOfMemory, StackFault, Text, add, div, mul, neg, rem, sub};
 use pex_verify::{Action, LoadedInstruction, MethodPlace, Operand, action_of};
 
 /// What an instruction did.

@@ -6,8 +6,7 @@ ghost use Rattle.stack_machine.specs.Lines.{escaped, escaped_byte, fault_line, f
 
 use crate::operands::Executor;
 use crate::setting::Setting;
-use papy_base::{StackFault, Text};
-use pex_set::Made;
+use papy_base::{Made, StackFault, Text};
 use std::alloc::Global;
 
 /// The line of a fault of the instruction at a place: `!k Script.function:line Kind`.

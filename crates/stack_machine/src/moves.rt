@@ -5,7 +5,7 @@ ghost use Rattle.std.specs.Option.{option_to_list};
 ghost use Rattle.run_replay.specs.declared.lock_move.LockMove.{LockMove};
 ghost use Rattle.stack_machine.specs.Moves.{Adds, Arrives, LetsGo};
 
-use pex_set::Made;
+use papy_base::Made;
 use run_replay::LockMove;
 
 /// What is told the moves of a turn, in order.

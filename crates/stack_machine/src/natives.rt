@@ -19,8 +19,8 @@ use crate::setting::Setting;
 use crate::status::TurnFault;
 use core_tree::{Binding, CoreType, Value};
 use latent_natives::{Device, call_device};
+use papy_base::Made;
 use papy_io::Sink;
-use pex_set::Made;
 use pex_verify::MethodPlace;
 use std::alloc::Global;
 

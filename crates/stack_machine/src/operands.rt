@@ -11,7 +11,7 @@ use crate::casts::{counts_as_true, number_of};
 use crate::setting::Setting;
 use crate::store::{Store, default_of};
 use core_tree::{CoreType, Value};
-use pex_set::Made;
+use papy_base::Made;
 use pex_verify::{LoadedFunction, LoadedInstruction, Operand};
 use std::alloc::Global;
 

@@ -6,8 +6,7 @@ ghost use Rattle.stack_machine.specs.Natives.{binding_in};
 ghost use Rattle.stack_machine.specs.Plans.{ArePlanned};
 
 use core_tree::{Binding, BoundCall, BoundNative, Outline, Scene};
-use papy_base::Text;
-use pex_set::Made;
+use papy_base::{Made, Text};
 use pex_verify::{Loaded, MethodPlace};
 use std::alloc::Global;
 

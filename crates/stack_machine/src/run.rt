@@ -16,9 +16,8 @@ use crate::status::TurnFault;
 use crate::store::{Store, default_of};
 use core_tree::Value;
 use latent_natives::Device;
-use papy_base::StackFault;
+use papy_base::{Made, StackFault};
 use papy_io::Sink;
-use pex_set::Made;
 use pex_verify::{LoadedInstruction, MethodPlace};
 use std::mem;
 

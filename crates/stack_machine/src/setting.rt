@@ -10,8 +10,7 @@ use crate::frame::{CallWay, FunctionPlace};
 use crate::plan::Plan;
 use core_tree::{CoreType, Scene};
 use machine_state::{BodyPlace, Way};
-use papy_base::Name;
-use pex_set::Made;
+use papy_base::{Made, Name};
 use pex_verify::{Loaded, LoadedFunction, LoadedProperty, MethodPlace, Operand, PropertyPlace};
 use std::alloc::Global;
 

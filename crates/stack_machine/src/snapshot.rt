@@ -15,8 +15,7 @@ use core_tree::{CoreType, DeviceKind, Value};
 use instance_store::ScriptVariables;
 use latent_natives::Device;
 use machine_state::{BodyPlace, FrameState, MachineState, Way};
-use papy_base::{OutOfMemory, Text};
-use pex_set::Made;
+use papy_base::{Made, OutOfMemory, Text};
 use pex_verify::{LoadedInstruction, MethodPlace, Operand};
 use std::alloc::Global;
 

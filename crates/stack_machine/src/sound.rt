@@ -13,8 +13,7 @@ use crate::setting::{Found, Setting, slot_type};
 use crate::threads::ALL_FRAMES;
 use core_tree::{BoundCall, CoreType, DeviceKind, Scene, Value};
 use machine_state::{BodyPlace, FrameState, MachineState, Way};
-use papy_base::TEXT_LIMIT;
-use pex_set::{Descent, Made};
+use papy_base::{Descent, Made, TEXT_LIMIT};
 use pex_verify::{LoadedFunction, LoadedInstruction, action_of};
 use std::alloc::Global;
 

@@ -6,8 +6,7 @@ ghost use Rattle.stack_machine.specs.Stores.{array_in, default_in};
 
 use core_tree::{CoreType, Scene, Value};
 use instance_store::{Arrays, Instances};
-use papy_base::Text;
-use pex_set::Made;
+use papy_base::{Made, Text};
 use pex_verify::Loaded;
 use std::alloc::Global;
 

@@ -16,7 +16,7 @@ use crate::status::Status;
 use core_tree::Value;
 use latent_natives::Sleepers;
 use lock_queue::Locks;
-use pex_set::Made;
+use papy_base::Made;
 use run_replay::LockMove;
 use std::alloc::Global;
 use std::marker::Model;

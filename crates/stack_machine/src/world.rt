@@ -22,8 +22,8 @@ use crate::store::{Store, copies};
 use crate::threads::Threads;
 use core_tree::{Scene, TurnOrder};
 use latent_natives::Device;
+use papy_base::Made;
 use papy_io::Sink;
-use pex_set::Made;
 use run_replay::LockMove;
 use std::alloc::Global;
 

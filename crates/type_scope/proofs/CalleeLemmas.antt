@@ -9,7 +9,7 @@ use Rattle.std.proofs.lemmas.Option.{get_or_from_slice_get, slice_get-map, slice
 use Rattle.core_tree.specs.InRange.{Signature, function_at}
 use Rattle.papy_base.specs.Case.{SameIgnoringCase, folded}
 use Rattle.script_linker.specs.Lookup.{Nearest, here, further, nowhere, function_name, own_function, parents_of}
-use Rattle.script_linker.specs.Table.{place_of}
+use Rattle.papy_base.specs.Table.{place_of}
 use Rattle.script_linker.specs.declared.set.SourceFile.{SourceFile}
 use Rattle.script_parser.specs.declared.script.Function.{Function}
 use Rattle.type_scope.specs.Types.{file_signatures, signature_of, signatures}

@@ -3,9 +3,9 @@ use Rattle.std.proofs.Common.{◌≡◌, ℕ, ◌<◌, ◌+◌, List, length, ta
 use Rattle.std.proofs.lemmas.List.{length-take-le, take_more}
 use Rattle.std.proofs.lemmas.Option.{slice_get_cases}
 use Rattle.script_linker.specs.Lookup.{script_name}
-use Rattle.script_linker.proofs.TableLemmas.{IsPlaceTable-push}
-use Rattle.script_linker.specs.Table.{IsPlaceTable, Notes}
-use Rattle.script_linker.specs.declared.name_table.NameTable.{NameTable}
+use Rattle.papy_base.proofs.TableLemmas.{IsPlaceTable-push}
+use Rattle.papy_base.specs.Table.{IsPlaceTable, Notes}
+use Rattle.papy_base.specs.declared.name_table.NameTable.{NameTable}
 use Rattle.script_linker.specs.declared.set.SourceFile.{SourceFile}
 use Rattle.script_parser.specs.declared.script.Script.{Script}
 

@@ -2,7 +2,7 @@
 ghost use Rattle.std.specs.Prelude.{◌≡◌, ◌<◌, ◌≤◌, length, IfNone, IfOk, IfSome, OnSome, slice_index_or};
 ghost use Rattle.core_tree.specs.InRange.{Signatures, TypeInRange, ResultInRange};
 ghost use Rattle.script_linker.specs.Lookup.{parent_in, script_name, script_named};
-ghost use Rattle.script_linker.specs.Table.{IsPlaceTable};
+ghost use Rattle.papy_base.specs.Table.{IsPlaceTable};
 ghost use Rattle.type_scope.specs.Scope.{IsCallee, KindInRange};
 ghost use Rattle.type_scope.specs.Types.{array_of, element_named, plain_type, signatures, type_named};
 

@@ -1,5 +1,5 @@
 use Rattle.std.proofs.Common.{◌≡◌, ◌+◌, List, ◌++◌, length, map, take, vec_len}
-use Rattle.pex_set.specs.declared.descent.Span.{Span}
+use Rattle.papy_base.specs.declared.descent.Span.{Span}
 use Rattle.pex_verify.specs.Tables.{all_members}
 use Rattle.pex_verify.specs.Heads.{Placed, AreHeads, members_of, placed}
 use Rattle.pex_verify.proofs.scripts.add_heads.Given as goal

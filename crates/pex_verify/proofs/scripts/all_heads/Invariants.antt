@@ -1,6 +1,6 @@
 use Rattle.std.proofs.Common.{◌≡◌, List, take, vec_len}
 use Rattle.pex_verify.specs.Heads.{AreHeads, members_of, placed_objects}
-use Rattle.pex_set.specs.declared.descent.Span.{Span}
+use Rattle.papy_base.specs.declared.descent.Span.{Span}
 use Rattle.pex_verify.specs.Tables.{no_members, all_members}
 use Rattle.pex_verify.specs.Sources.{object_count}
 use Rattle.pex_verify.proofs.scripts.all_heads.Given as goal

@@ -3,7 +3,7 @@ use Rattle.std.proofs.lemmas.Bool.{cases_lt}
 use Rattle.std.proofs.lemmas.List.{get_or_default}
 use Rattle.papy_base.specs.Case.{folded}
 use Rattle.script_parser.specs.Lines.{import_line}
-use Rattle.script_linker.specs.Table.{number_in}
+use Rattle.papy_base.specs.Table.{number_in}
 use Rattle.script_linker.proofs.FoundLemmas.{AreAmong-item, FindsAmong-nothing, FindsAmong-then, IsSome-unless, unbroken}
 use Rattle.script_linker.proofs.rules.judge_imports.Goals as goal
 

@@ -3,7 +3,7 @@ use Rattle.std.proofs.Common.{ℕ, ◌≡◌, ◌<◌, List, IsSome, None, map, 
 use Rattle.papy_base.specs.Case.{folded}
 use Rattle.script_linker.specs.Found.{FindsAmong}
 use Rattle.script_parser.specs.Lines.{import_line}
-use Rattle.script_linker.specs.Table.{number_in}
+use Rattle.papy_base.specs.Table.{number_in}
 use Rattle.script_linker.proofs.rules.judge_imports.Given as goal
 
 abbrev pub invariant-loop-import : goal.invariant-loop-import

@@ -1,9 +1,9 @@
 use Rattle.std.proofs.Common.{length-append, arith}
-use Rattle.script_linker.specs.declared.name_table.NameTable.{NameTable}
+use Rattle.papy_base.specs.declared.name_table.NameTable.{NameTable}
 use Rattle.script_linker.specs.declared.set.SourceFile.{SourceFile}
 use Rattle.script_linker.specs.Lookup.{function_name, property_name}
-use Rattle.script_linker.specs.Table.{IsPlaceTable}
-use Rattle.script_linker.proofs.TableLemmas.{each-push}
+use Rattle.papy_base.specs.Table.{IsPlaceTable}
+use Rattle.papy_base.proofs.TableLemmas.{each-push}
 use Rattle.script_linker.proofs.scripts.tables.Goals as goal
 
 HasFunctions : SourceFile → NameTable → Type 0

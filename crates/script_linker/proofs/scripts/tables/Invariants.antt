@@ -1,7 +1,7 @@
 use Rattle.std.proofs.Common.{◌≡◌, ◌<◌, ℕ, length, get_or}
-use Rattle.script_linker.specs.declared.name_table.NameTable.{NameTable}
+use Rattle.papy_base.specs.declared.name_table.NameTable.{NameTable}
 use Rattle.script_linker.specs.declared.set.SourceFile.{SourceFile}
-use Rattle.script_linker.specs.Table.{IsPlaceTable}
+use Rattle.papy_base.specs.Table.{IsPlaceTable}
 use Rattle.script_linker.specs.Lookup.{function_name, property_name}
 use Rattle.script_linker.proofs.scripts.tables.Given as goal
 

@@ -1,6 +1,6 @@
 use Rattle.std.proofs.Common.{◌≡◌, sym, subst, arith}
 use Rattle.std.proofs.lemmas.Grind.{common_steps}
-use Rattle.pex_set.specs.Lineage.{AreAmong}
+use Rattle.papy_base.specs.Lineage.{AreAmong}
 use Rattle.pex_set.specs.Objects.{parents_in}
 use Rattle.pex_set.proofs.ObjectLemmas.{AreAmong-parents_in}
 use Rattle.pex_set.proofs.objects.Objects.parents.Goals as goal

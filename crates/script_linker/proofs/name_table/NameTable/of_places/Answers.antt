@@ -1,7 +1,7 @@
 use Rattle.std.proofs.Common.{◌≡◌, ◌∷◌, ◌++◌, [], take, length, subst, sym, ap, ◌∙◌, arith, length-take}
 use Rattle.std.proofs.lemmas.List.{take_more}
-use Rattle.script_linker.specs.Table.{IsPlaceTable, Notes}
-use Rattle.script_linker.proofs.TableLemmas.{IsPlaceTable-push}
+use Rattle.papy_base.specs.Table.{IsPlaceTable, Notes}
+use Rattle.papy_base.proofs.TableLemmas.{IsPlaceTable-push}
 use Rattle.script_linker.proofs.name_table.NameTable.of_places.Goals as goal
 
 pub loop-place-preserved : goal.loop-place-preserved

@@ -1,5 +1,5 @@
 use Rattle.std.proofs.Common.{take}
-use Rattle.script_linker.specs.Table.{IsPlaceTable}
+use Rattle.papy_base.specs.Table.{IsPlaceTable}
 use Rattle.script_linker.proofs.name_table.NameTable.of_places.Given as goal
 
 abbrev pub invariant-loop-place : goal.invariant-loop-place

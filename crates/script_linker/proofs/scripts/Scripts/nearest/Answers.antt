@@ -1,7 +1,7 @@
 use Rattle.std.proofs.Common.{sym, ◌∙◌, ap, IfSome, ◌<◌, length, subst}
 use Rattle.papy_base.specs.Case.{folded}
 use Rattle.script_linker.specs.Lookup.{here, further, nowhere}
-use Rattle.script_linker.specs.Table.{number_in}
+use Rattle.papy_base.specs.Table.{number_in}
 use Rattle.script_linker.proofs.LookupLemmas.{parent_read, parent_within}
 use Rattle.script_linker.proofs.scripts.Scripts.nearest.Goals as goal
 

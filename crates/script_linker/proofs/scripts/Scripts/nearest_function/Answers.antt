@@ -1,7 +1,7 @@
 use Rattle.std.proofs.Common.{◌≡◌, ◌∙◌, ap, get_or, length, sym, subst}
 use Rattle.papy_base.specs.Case.{folded}
 use Rattle.script_linker.specs.Lookup.{own_function}
-use Rattle.script_linker.specs.Table.{number_in}
+use Rattle.papy_base.specs.Table.{number_in}
 use Rattle.script_linker.proofs.LookupLemmas.{Nearest-function, own_function-read}
 use Rattle.script_linker.proofs.scripts.Scripts.nearest_function.Goals as goal
 

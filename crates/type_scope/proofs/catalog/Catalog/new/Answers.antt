@@ -1,5 +1,5 @@
 use Rattle.std.proofs.Common.{ℕ, subst, arith}
-use Rattle.script_linker.specs.Table.{Notes}
+use Rattle.papy_base.specs.Table.{Notes}
 use Rattle.type_scope.proofs.ScopeLemmas.{noted-more}
 use Rattle.type_scope.proofs.catalog.Catalog.new.Goals as goal
 

@@ -1,7 +1,7 @@
 -- The scripts so far are noted.
 use Rattle.std.proofs.Common.{take}
 use Rattle.script_linker.specs.Lookup.{script_name}
-use Rattle.script_linker.specs.Table.{IsPlaceTable}
+use Rattle.papy_base.specs.Table.{IsPlaceTable}
 use Rattle.type_scope.proofs.catalog.Catalog.new.Given as goal
 
 abbrev pub invariant-loop-number : goal.invariant-loop-number

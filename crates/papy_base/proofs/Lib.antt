@@ -1,0 +1,11 @@
+pub mod TableLemmas
+pub mod LineageLemmas
+pub mod LinkLemmas
+pub mod Lists
+pub mod WalkLemmas
+pub mod OrderLemmas
+pub mod ReachLemmas
+pub mod DescentLemmas
+pub mod CircleLemmas
+pub mod ClimbLemmas
+pub mod CircleWalks

@@ -1,6 +1,0 @@
-use Rattle.pex_set.specs.Circles.{AreSearched}
-use Rattle.pex_set.specs.Lineage.{AreAmong}
-use Rattle.pex_set.proofs.descent.on_circles.Given as goal
-
-abbrev pub invariant-loop-start : goal.invariant-loop-start
-invariant-loop-start l = AreAmong l.parents → AreSearched l.parents l.walks.items l.is_above_itself.items l.start

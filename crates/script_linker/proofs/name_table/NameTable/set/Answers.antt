@@ -1,7 +1,0 @@
-use Rattle.std.proofs.Common.{Some}
-use Rattle.script_linker.proofs.TableLemmas.{get_by-updates}
-use Rattle.script_linker.proofs.name_table.NameTable.set.Goals as goal
-
-pub returns : goal.returns
-returns c = λ bytes.
-    get_by-updates (λ k. k.items) c.args.folded.items c.args.self.now.numbers c.insert.new.self (Some c.args.number) c.in_ok-insert.ensures.updates bytes
