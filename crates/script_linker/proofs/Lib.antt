@@ -2,4 +2,4 @@ pub mod FoundLemmas
 pub mod GeneratedLemmas
 pub mod LinkLemmas
 pub mod LookupLemmas
-pub mod TableLemmas
+pub mod Growing

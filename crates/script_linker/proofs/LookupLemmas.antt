@@ -1,23 +1,27 @@
 -- What a step upward is in the list of files, and what it leaves of the look-ups.
-use Rattle.std.proofs.Common.{ℕ, zero, suc, [], ◌∷◌, ◌≡◌, ◌≢◌, ◌<◌, ◌≤◌, List, length, map, get_or, Option, Some, None, IfSome, IsTrue, is_some, not, Bool, true, false, ◌↔◌, option_and_then, refl, sym, ap, subst, ◌∙◌, ⊎_elim, arith}
+use Rattle.std.proofs.Common.{All, ℕ, zero, suc, [], ◌∷◌, ◌≡◌, ◌≢◌, ◌<◌, ◌≤◌, List, length, map, get_or, Option, Some, None, IfSome, IsTrue, is_some, not, Bool, true, false, ◌↔◌, option_and_then, refl, sym, ap, subst, ◌∙◌, ⊎_elim, arith}
 use Rattle.std.proofs.lemmas.List.{length-map}
 use Rattle.std.proofs.lemmas.List.{get_or_default, get_or_past}
 use Rattle.std.proofs.lemmas.Bool.{cases_lt}
 use Rattle.std.proofs.lemmas.Option.{slice_get-get_or, slice_get_cases}
 use Rattle.papy_base.specs.Case.{folded}
 use Rattle.papy_base.specs.Table.{number_in, place_of}
+use Rattle.papy_base.specs.Lineage.{parent_of, lineage, AreAmong, AreRooted}
+use Rattle.papy_base.specs.Circles.{climb, is_marked, MarksCircles, NoneMarked}
+use Rattle.papy_base.proofs.ClimbLemmas.{climb-one, climb-next, climb-stays, no_end}
+use Rattle.std.proofs.lemmas.Bool.{cases_Bool}
+use Rattle.std.proofs.lemmas.List.Elements.{All-map, All-from_get_or}
 use Rattle.papy_base.proofs.TableLemmas.{position-below}
 use Rattle.papy_base.specs.declared.name_table.NameTable.{NameTable}
 use Rattle.script_linker.specs.declared.set.SourceFile.{SourceFile}
-use Rattle.script_linker.specs.Index.{IsIndexed, Rises}
-use Rattle.script_linker.specs.Lookup.{HasNumbers, IsFunctionOf, IsPropertyOf, RanksSome, IsRanked, HasPreludeParents, first_rank, script_named}
-use Rattle.std.proofs.lemmas.Bool.Decides.{nat_tests}
-use Rattle.script_linker.specs.Lookup.{own_function, own_property, function_name, property_name, parents_of, parent_at, parent_in, IsWithin, StandsAbove, HasNoCircle, Nearest, itself, here, further, nowhere}
+use Rattle.script_linker.specs.Index.{IsIndexed}
+use Rattle.script_linker.specs.Lookup.{HasNumbers, IsFunctionOf, IsPropertyOf, HasPreludeParents, script_named}
+use Rattle.script_linker.specs.Lookup.{own_function, own_property, function_name, property_name, parents_of, parent_at, parent_in, StandsAbove, HasNoCircle, Nearest, itself, here, further, nowhere}
 
-length-parents_of : (files : List SourceFile) → length (parents_of files) ≡ length files
+pub length-parents_of : (files : List SourceFile) → length (parents_of files) ≡ length files
 length-parents_of files = length-map files (parent_in files)
 
-module _ {files now : List SourceFile} {functions properties : List NameTable} {parents : List (Option ℕ)} {ranks : List ℕ} (index : IsIndexed files functions properties parents ranks) (same : files ≡ now) where
+module _ {files now : List SourceFile} {functions properties : List NameTable} {parents : List (Option ℕ)} (index : IsIndexed files functions properties parents) (same : files ≡ now) where
   parents-now : parents ≡ parents_of now
   parents-now = index.parents_are ∙ ap parents_of same
 
@@ -31,9 +35,10 @@ module _ {files now : List SourceFile} {functions properties : List NameTable} {
       ap (λ ps. get_or ps n None) (sym parents-now) ∙ get_or_default parents n None found short ∙ sym is
 
   pub parent_within : (n : ℕ) (found : Option ℕ) → n < length now → found ≡ get_or parents n found → IfSome found (λ p. p < length now)
-  parent_within n None lt is = tt
-  parent_within n (Some p) lt is =
-      rw length-parents at (index.within n p (ap (λ ps. get_or ps n None) parents-now ∙ parent_read n (Some p) lt is))
+  parent_within n found lt is =
+      let short : n < length parents = rw length-parents lt in
+      let at : get_or parents n None ≡ found = get_or_default parents n None found short ∙ sym is in
+      subst (λ k. IfSome found (λ p. p < k)) length-parents (subst (λ o. IfSome o (λ p. p < length parents)) at (index.among n None short))
 
   -- what a script's table has for a name is the place of its own function
   pub own_function-read : (name : List ℕ) (n : ℕ) (table : NameTable) → n < length now → number_in (get_or functions n table) (folded name) ≡ own_function now name n
@@ -65,17 +70,32 @@ pub StandsAbove-root : {parents : List (Option ℕ)} {n a : ℕ} → parent_at p
 StandsAbove-root e ne (itself n) = ne refl
 StandsAbove-root e ne (further n q a is up) = cc
 
--- what stands above a script has no higher rank
-StandsAbove-rank : {parents : List (Option ℕ)} (ranks : List ℕ) {n a : ℕ} → Rises parents ranks → StandsAbove parents n a → get_or ranks a 0 ≤ get_or ranks n 0
-StandsAbove-rank ranks rises (itself n) = omega arith
-StandsAbove-rank ranks rises (further n p a is up) =
-    let lower : get_or ranks p 0 < get_or ranks n 0 = rises n p is in
-    omega (arith, StandsAbove-rank ranks rises up)
+-- how many scripts stand above a script, itself among them
+abbrev pub height : List (Option ℕ) → ℕ → ℕ
+height parents n = length (lineage parents (Some n))
 
-pub HasNoCircle-from_ranks : (parents : List (Option ℕ)) (ranks : List ℕ) → Rises parents ranks → HasNoCircle parents
-HasNoCircle-from_ranks parents ranks rises = λ n p is up.
-    let lower : get_or ranks p 0 < get_or ranks n 0 = rises n p is in
-    omega (arith, StandsAbove-rank ranks rises up)
+-- a parent stands on fewer
+pub height-parent : (parents : List (Option ℕ)) → AreRooted parents → (n p : ℕ) → parent_at parents n ≡ Some p → height parents p < height parents n
+height-parent parents rooted n p is =
+    ⊎_elim
+    (λ (lt : n < length parents).
+    let above : parent_of parents n ≡ Some p = ap (option_and_then (λ (o : Option ℕ). o)) (slice_get-get_or parents n None lt) ∙ is in
+    let up : lineage parents (Some n) ≡ n ∷ lineage parents (Some p) = rooted n lt ∙ ap (λ o. n ∷ lineage parents o) above in
+    let more : height parents n ≡ suc (height parents p) = ap length up in
+    omega (arith, more))
+    (λ (past : length parents ≤ n). let none : get_or parents n None ≡ None = get_or_past parents n None past in cc)
+    (cases_lt n (length parents))
+
+StandsAbove-height : (parents : List (Option ℕ)) {n a : ℕ} → AreRooted parents → StandsAbove parents n a → height parents a ≤ height parents n
+StandsAbove-height parents rooted (itself n) = omega arith
+StandsAbove-height parents rooted (further n p a is up) =
+    let lower : height parents p < height parents n = height-parent parents rooted n p is in
+    omega (arith, StandsAbove-height parents rooted up)
+
+HasNoCircle-from_rooted : (parents : List (Option ℕ)) → AreRooted parents → HasNoCircle parents
+HasNoCircle-from_rooted parents rooted = λ n p is up.
+    let lower : height parents p < height parents n = height-parent parents rooted n p is in
+    omega (arith, StandsAbove-height parents rooted up)
 
 -- the place that a script's own function was found at is one of its functions
 own_function-below : (files : List SourceFile) (name : List ℕ) (n k : ℕ) (file : SourceFile) → n < length files → own_function files name n ≡ Some k → k < length (get_or files n file).script.functions.items
@@ -91,83 +111,66 @@ own_property-below files name n k file lt is =
     let at : place_of property_name found.script.properties.items (folded name) ≡ Some k = sym (ap (λ o. option_and_then (λ f. place_of property_name f.script.properties.items (folded name)) o) (slice_get-get_or files n file lt)) ∙ is in
     subst (λ o. IfSome o (λ p. p < length found.script.properties.items)) at (position-below _ found.script.properties.items)
 
+-- a parent that was read stands on fewer scripts
+pub parent_lower : {files now : List SourceFile} {functions properties : List NameTable} {parents : List (Option ℕ)} → IsIndexed files functions properties parents → files ≡ now → (n p : ℕ) (found : Option ℕ) → n < length now → found ≡ get_or parents n found → found ≡ Some p → height parents p < height parents n
+parent_lower {files} {now} {functions} {properties} {parents} index same n p found lt is some =
+    let short : n < length parents = subst (λ k. n < k) (sym (length-parents index same)) lt in
+    height-parent parents index.rooted n p (get_or_default parents n None found short ∙ sym is ∙ some)
+
 -- the files of scripts with tables stand on no circle
-pub HasNoCircle-now : {files now : List SourceFile} {functions properties : List NameTable} {parents : List (Option ℕ)} {ranks : List ℕ} → IsIndexed files functions properties parents ranks → files ≡ now → HasNoCircle (parents_of now)
-HasNoCircle-now {files} {now} {functions} {properties} {parents} {ranks} index same =
-    subst HasNoCircle (index.parents_are ∙ ap parents_of same) (HasNoCircle-from_ranks parents ranks index.rises)
+pub HasNoCircle-now : {files now : List SourceFile} {functions properties : List NameTable} {parents : List (Option ℕ)} → IsIndexed files functions properties parents → files ≡ now → HasNoCircle (parents_of now)
+HasNoCircle-now {files} {now} {functions} {properties} {parents} index same =
+    subst HasNoCircle (index.parents_are ∙ ap parents_of same) (HasNoCircle-from_rooted parents index.rooted)
 
-parent_in-below : (files : List SourceFile) (file : SourceFile) (p : ℕ) → parent_in files file ≡ Some p → p < length files
-parent_in-below files file p is = go file.script.parent is
+parent_in-below : (files : List SourceFile) (file : SourceFile) → IfSome (parent_in files file) (λ p. p < length files)
+parent_in-below files file = go file.script.parent
   where
-    go : (name : Option (List ℕ)) → option_and_then (script_named files) name ≡ Some p → p < length files
-    go None e = cc
-    go (Some name) e = subst (λ o. IfSome o (λ k. k < length files)) e (position-below _ files)
-
-parents-below : (all files : List SourceFile) (n p : ℕ) → get_or (map (parent_in all) files) n None ≡ Some p → p < length all
-parents-below all [] n p is = cc
-parents-below all (file ∷ files) zero p is = parent_in-below all file p is
-parents-below all (file ∷ files) (suc n) p is = parents-below all files n p is
+    go : (name : Option (List ℕ)) → IfSome (option_and_then (script_named files) name) (λ p. p < length files)
+    go None = tt
+    go (Some name) = position-below _ files
 
 -- each parent is a script of the set
-pub IsWithin-parents_of : (files : List SourceFile) → IsWithin (parents_of files)
-IsWithin-parents_of files = λ n p is. rw length-parents_of (parents-below files files n p is)
+pub AreAmong-parents_of : (files : List SourceFile) → AreAmong (parents_of files)
+AreAmong-parents_of files =
+    subst (λ k. All (λ parent. IfSome parent (λ n. n < k)) (parents_of files)) (sym (length-parents_of files)) (All-map (λ parent. IfSome parent (λ n. n < length files)) (parent_in files) files (λ n d below. parent_in-below files (get_or files n d)))
 
-pub Rises-from_ranked : (parents : List (Option ℕ)) (ranks : List ℕ) → RanksSome parents ranks → IsRanked ranks → Rises parents ranks
-Rises-from_ranked parents ranks some all = λ n p is.
-    ⊎_elim
-    (λ (l : n < length parents). some.lower n p is (all n (omega (arith, some.one_each))))
-    (λ (g : length parents ≤ n). let none : get_or parents n None ≡ None = get_or_past parents n None g in cc)
-    (cases_lt n (length parents))
+-- the scripts of the prelude stand on no circle
+module _ (parents : List (Option ℕ)) (known : HasPreludeParents parents) where
+  parent_of-at : (n : ℕ) → n < length parents → parent_of parents n ≡ parent_at parents n
+  parent_of-at n lt = ap (option_and_then (λ (o : Option ℕ). o)) (slice_get-get_or parents n None lt)
 
-module _ (parents : List (Option ℕ)) (ranks : List ℕ) (same : length ranks ≡ length parents) (each : (k : ℕ) → k < length ranks → get_or ranks k 0 ≡ first_rank k) where
-  first_rank-past : (n : ℕ) → 6 ≤ n → get_or ranks n 0 ≡ 0
-  first_rank-past n past =
+  ends_above : (n : ℕ) → n < 6 → 6 ≤ length parents → climb parents 2 (Some n) ≡ None
+  ends_above n below count = go (parent_at parents n) refl
+    where
+      first : climb parents 1 (Some n) ≡ parent_at parents n
+      first = climb-one parents (Some n) ∙ parent_of-at n (omega arith)
+
+      no_parent : (o : Option ℕ) → parent_at parents 3 ≡ o → parent_at parents 3 ≡ None
+      no_parent None is = is
+      no_parent (Some q) is = absurd (omega (arith, (known 3 q (omega arith) is).0))
+
+      go : (o : Option ℕ) → parent_at parents n ≡ o → climb parents 2 (Some n) ≡ None
+      go None is = climb-stays parents 1 2 (Some n) (omega arith) (first ∙ is)
+      go (Some p) is =
+          climb-next parents 1 (Some n) p (first ∙ is) ∙ ap (parent_of parents) (known n p below is).1 ∙ parent_of-at 3 (omega arith) ∙ no_parent (parent_at parents 3) refl
+
+  -- no script is on a circle where none behind the prelude is
+  pub NoneMarked-behind : (marks : List Bool) → 6 ≤ length parents → length marks ≡ length parents → MarksCircles parents marks → ((n : ℕ) → 6 ≤ n → n < length parents → is_marked marks n ≡ false) → NoneMarked marks
+  NoneMarked-behind marks count same exact behind =
+      All-from_get_or (λ mark. mark ≡ false) marks false (λ n lt.
       ⊎_elim
-      (λ (l : n < length ranks). each n l ∙ first_rank-file n past)
-      (λ (g : length ranks ≤ n). get_or_past ranks n 0 g)
-      (cases_lt n (length ranks))
+      (λ (below : n < 6). unmarked n below (omega (arith, lt, same)))
+      (λ (past : 6 ≤ n). behind n past (omega (arith, lt, same)))
+      (cases_lt n 6))
     where
-      first_rank-file : (k : ℕ) → 6 ≤ k → first_rank k ≡ 0
-      first_rank-file k past = grind (arith, nat_tests)
-
-  pub first_ranks-low : (n : ℕ) → get_or ranks n 0 ≤ 2
-  first_ranks-low n =
-      ⊎_elim
-      (λ (l : n < length ranks). rw (each n l) (first_rank-low n))
-      (λ (g : length ranks ≤ n). rw (get_or_past ranks n 0 g) (omega arith))
-      (cases_lt n (length ranks))
-    where
-      first_rank-low : (k : ℕ) → first_rank k ≤ 2
-      first_rank-low k = grind (arith, nat_tests)
-
-  pub first_ranks-prelude : 6 ≤ length parents → (n : ℕ) → n < 6 → 0 < get_or ranks n 0
-  first_ranks-prelude enough n l =
-      let inside : n < length ranks = omega arith in
-      rw (each n inside) (first_rank-some n l)
-    where
-      first_rank-some : (k : ℕ) → k < 6 → 0 < first_rank k
-      first_rank-some k l = grind (arith, nat_tests)
-
-  pub first_ranks-some : 6 ≤ length parents → HasPreludeParents parents → RanksSome parents ranks
-  first_ranks-some enough known = record {
-    one_each = same;
-    parent_ranked = λ n p is some. let at = first n p is some in rw at.2 (first_ranks-prelude enough 3 (omega arith));
-    lower = λ n p is some.
-        let at = first n p is some in
-        let three : get_or ranks 3 0 ≡ 1 = each 3 (omega arith) in
-        let two : get_or ranks n 0 ≡ 2 = each n (omega arith) ∙ first_rank-child n at.1 at.0 in
-        rw (at.2, three, two) (omega arith);
-  }
-    where
-      first_rank-child : (k : ℕ) → 3 < k → k < 6 → first_rank k ≡ 2
-      first_rank-child k a b = grind (arith, nat_tests)
-
-      first : (n p : ℕ) → parent_at parents n ≡ Some p → 0 < get_or ranks n 0 → (n < 6) × (3 < n) × (p ≡ 3)
-      first n p is some =
+      unmarked : (n : ℕ) → n < 6 → n < length parents → is_marked marks n ≡ false
+      unmarked n below lt =
           ⊎_elim
-          (λ (l : n < 6). let at = known n p l is in (l, at.0, at.1))
-          (λ (g : 6 ≤ n). absurd (omega (arith, first_rank-past n g)))
-          (cases_lt n 6)
+          (λ (is : is_marked marks n ≡ true).
+          let round = (exact n lt).0 is in
+          no_end parents round.0 n 2 round.1 round.2 (ends_above n below count))
+          (λ (is : is_marked marks n ≡ false). is)
+          (cases_Bool (is_marked marks n))
 
 pub function_place-fits : (files : List SourceFile) (n place : ℕ) → HasNumbers files → IsFunctionOf files (n, place) → place < 65536
 function_place-fits files n place numbers of =

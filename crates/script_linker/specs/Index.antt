@@ -2,8 +2,9 @@
 use Rattle.std.specs.Prelude.{ℕ, ◌≡◌, ◌<◌, List, length, Option, Some, slice_index, slice_index_or}
 use Rattle.papy_base.specs.declared.name_table.NameTable.{NameTable}
 use Rattle.script_linker.specs.declared.set.SourceFile.{SourceFile}
+use Rattle.papy_base.specs.Lineage.{AreAmong, AreRooted}
 use Rattle.papy_base.specs.Table.{IsPlaceTable}
-use Rattle.script_linker.specs.Lookup.{function_name, property_name, parents_of, parent_at, IsWithin}
+use Rattle.script_linker.specs.Lookup.{function_name, property_name, parents_of}
 
 -- each file has a table of its functions
 abbrev pub HasFunctionTables : List SourceFile → List NameTable → Type 0
@@ -15,16 +16,12 @@ abbrev pub HasPropertyTables : List SourceFile → List NameTable → Type 0
 HasPropertyTables files tables =
     (n : ℕ) (file : SourceFile) (table : NameTable) → n < length files → IsPlaceTable property_name (slice_index_or files n file).script.properties.items (slice_index_or tables n table)
 
--- each parent has a lower rank than its children
-abbrev pub Rises : List (Option ℕ) → List ℕ → Type 0
-Rises parents ranks = (n p : ℕ) → parent_at parents n ≡ Some p → slice_index ranks p < slice_index ranks n
-
--- the tables, parents and ranks are those of the files
-pub record IsIndexed (files : List SourceFile) (functions properties : List NameTable) (parents : List (Option ℕ)) (ranks : List ℕ) : Type 0 where
+-- the tables and parents are those of the files, and no script stands above itself
+pub record IsIndexed (files : List SourceFile) (functions properties : List NameTable) (parents : List (Option ℕ)) : Type 0 where
   pub function_count : length functions ≡ length files
   pub property_count : length properties ≡ length files
   pub function_tables : HasFunctionTables files functions
   pub property_tables : HasPropertyTables files properties
   pub parents_are : parents ≡ parents_of files
-  pub within : IsWithin parents
-  pub rises : Rises parents ranks
+  pub among : AreAmong parents
+  pub rooted : AreRooted parents

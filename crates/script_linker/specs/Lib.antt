@@ -6,4 +6,3 @@ pub mod Lookup
 pub mod Refs
 pub mod Rules
 pub mod Signature
-pub mod Table

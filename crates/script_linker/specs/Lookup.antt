@@ -54,20 +54,6 @@ own_function files name n = option_and_then (λ file. place_of function_name fil
 abbrev pub own_property : List SourceFile → List ℕ → ℕ → Option ℕ
 own_property files name n = option_and_then (λ file. place_of property_name file.script.properties.items (folded name)) (slice_get files n)
 
--- each parent is a script of the set
-abbrev pub IsWithin : List (Option ℕ) → Type 0
-IsWithin parents = (n p : ℕ) → parent_at parents n ≡ Some p → p < length parents
-
--- scripts have a rank or 0, and where a script has one its parent has a lower one
-pub record RanksSome (parents : List (Option ℕ)) (ranks : List ℕ) : Type 0 where
-  pub one_each : length ranks ≡ length parents
-  pub parent_ranked : (n p : ℕ) → parent_at parents n ≡ Some p → 0 < slice_index ranks n → 0 < slice_index ranks p
-  pub lower : (n p : ℕ) → parent_at parents n ≡ Some p → 0 < slice_index ranks n → slice_index ranks p < slice_index ranks n
-
--- every script has a rank
-abbrev pub IsRanked : List ℕ → Type 0
-IsRanked ranks = (n : ℕ) → n < length ranks → 0 < slice_index ranks n
-
 -- a script of the set, and a place among its functions
 abbrev pub IsFunctionOf : List SourceFile → ℕ × ℕ → Type 0
 IsFunctionOf files (n, place) = (n < length files) × ((file : SourceFile) → place < length (slice_index_or files n file).script.functions.items)
@@ -96,10 +82,6 @@ pub record StartsWithPrelude (files : List SourceFile) : Type 0 where
 -- of the first six scripts only Quest and ObjectReference have a parent, which is Form
 abbrev pub HasPreludeParents : List (Option ℕ) → Type 0
 HasPreludeParents parents = (n p : ℕ) → n < 6 → parent_at parents n ≡ Some p → (3 < n) × (p ≡ 3)
-
--- the rank that a script has at first: 1 where it is one of the prelude's without parent, 2 where it is another one of the prelude's
-abbrev pub first_rank : ℕ → ℕ
-first_rank n = if nat_lt n 4 then 1 else (if nat_lt n 6 then 2 else 0)
 
 -- the places of a script's functions and properties have 16 bits
 abbrev pub HasFewMembers : Script → Type 0

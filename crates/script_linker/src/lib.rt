@@ -2,9 +2,9 @@
 //! a set, by the Papyrus language reference (Creation Kit wiki) with the choices of this project.
 #![tactic(auto)]
 
+mod declarations;
 mod fault;
 mod linker;
-mod name_table;
 mod parents;
 mod prelude;
 mod rules;
@@ -14,5 +14,4 @@ mod signatures;
 
 pub use fault::{LinkFault, LinkRule};
 pub use linker::link;
-pub use name_table::NameTable;
 pub use set::{FunctionRef, PropertyRef, ScriptSet, SourceFile};

@@ -1,20 +1,21 @@
-ghost use Rattle.std.specs.Prelude.{◌≡◌, ℕ, ◌+◌, ◌-◌, ◌<◌, ◌≤◌, All, drop, length, map, slice_index, slice_index_or, take, IfOk, IfErr, OnOk, vec_len};
+ghost use Rattle.std.specs.Prelude.{◌≡◌, ℕ, ◌+◌, ◌-◌, ◌<◌, ◌≤◌, All, drop, length, map, false, slice_index_or, take, IfOk, IfErr, OnOk, vec_len};
 ghost use Rattle.script_linker.specs.declared.fault.LinkFault.TheVariants.{Broken};
 ghost use Rattle.script_linker.specs.declared.set.SourceFile.{SourceFile};
 ghost use Rattle.script_linker.specs.Generated.{AreStandard, HaveGiven, standard_scripts};
-ghost use Rattle.script_linker.specs.Lookup.{HasSmallScript, IsRanked, StartsWithPrelude, parents_of, script_name};
+ghost use Rattle.script_linker.specs.Lookup.{HasSmallScript, StartsWithPrelude, parents_of, script_name};
+ghost use Rattle.papy_base.specs.Circles.{is_marked};
 ghost use Rattle.papy_base.specs.Table.{IsPlaceTable};
 ghost use Rattle.script_parser.specs.Lines.{heading_lines};
 ghost use Rattle.script_linker.specs.Link.{AreFilesOf, AreResolved, IsFaultOf, IsFaultOn, declared_lines, function_count};
 
-use crate::fault::{LinkFault, LinkRule};
-use crate::name_table::NameTable;
-use crate::parents::{first_unranked, parent_numbers, peel, ranks};
+use crate::declarations::places;
+use crate::fault::LinkFault;
+use crate::parents::parent_numbers;
 use crate::prelude::{PRELUDE_COUNT, add_generated, prelude_files};
 use crate::rules::{Found, member_fault, script_fault};
 use crate::scripts::Scripts;
 use crate::set::{ScriptSet, SourceFile};
-use papy_base::OutOfMemory;
+use papy_base::{Made, NameTable, OutOfMemory, on_circles};
 use std::alloc::Global;
 
 /// The set of these files, of which there are fewer than 65,530.
@@ -74,16 +75,11 @@ fn link_set(
     ensures resolved { IfOk result AreResolved }
     ensures broken { IfErr result (IsFaultOn (declared_lines declared.now) files.items) }
 {
-    let names = NameTable::of_places(alloc, files.as_slice())?;
+    let names = places(alloc, files.as_slice())?;
     let parents = parent_numbers(alloc, files.as_slice(), &names)?;
-    let parent_list = parents.as_slice();
-    let peeled = peel(alloc, parent_list)?;
-    let ranks = ranks(alloc, parent_list, peeled.order.as_slice())?;
-    let children = peeled.children.as_slice();
-    judge_scripts(alloc, files.as_slice(), &names, parent_list, children)?;
-    let rank_list = ranks.as_slice();
-    refuse_circle(files.as_slice(), rank_list)?;
-    let scripts = Scripts::new(alloc, files, parents, ranks)?;
+    let circles = on_circles(alloc, parents.as_slice())?;
+    judge_scripts(alloc, files.as_slice(), &names, &parents, &circles)?;
+    let scripts = Scripts::new(alloc, files, parents)?;
     judge_members(alloc, &scripts, declared)?;
     Ok(ScriptSet { scripts })
 }
@@ -94,43 +90,25 @@ fn judge_scripts(
     files: &[SourceFile],
     names: &NameTable,
     parents: &[Option<usize>],
-    children: &[usize],
+    circles: &[bool],
 ) -> Result<(), LinkFault>
     requires start { 6 ≤ length files.now }
     requires count { length files.now < 65536 }
     requires parents { length parents.now ≡ length files.now }
-    requires children { length children.now ≡ length files.now }
+    requires circles { length circles.now ≡ length files.now }
     requires names { IsPlaceTable script_name files.now names.now }
     requires parents_of { parents.now ≡ parents_of files.now }
     ensures resolved { OnOk result (AreResolved files.now) }
+    ensures rooted { OnOk result ((n : ℕ) → 6 ≤ n → n < length files.now → is_marked circles.now n ≡ false) }
     ensures broken { IfErr result (IsFaultOn (λ file. heading_lines) files.now) }
 {
-    let file_names = NameTable::of_places(alloc, &files[PRELUDE_COUNT..])?;
+    let file_names = places(alloc, &files[PRELUDE_COUNT..])?;
     for number in PRELUDE_COUNT..files.len() {
-        if let Some(found) = script_fault(files, names, &file_names, parents, children, number) {
+        if let Some(found) = script_fault(files, names, &file_names, parents, circles, number) {
             return Err(fault(number, found));
         }
     }
     Ok(())
-}
-
-// Refuses scripts without a rank. They stand on a circle or below one, so the rules of scripts have
-// refused them before.
-fn refuse_circle(files: &[SourceFile], ranks: &[usize]) -> Result<(), LinkFault>
-    requires count { length files.now < 65536 }
-    requires ranks { length ranks.now ≡ length files.now }
-    requires prelude { (n : ℕ) → n < 6 → 0 < slice_index ranks.now n }
-    ensures ranked { OnOk result (IsRanked ranks.now) }
-    ensures broken { IfErr result (IsFaultOn (λ file. heading_lines) files.now) }
-{
-    match first_unranked(ranks) {
-        Some(number) => {
-            let line = files[number].script.line;
-            let rule = LinkRule::ExtendsCycle;
-            Err(fault(number, Found { line, rule }))
-        }
-        None => Ok(()),
-    }
 }
 
 // N6 to N12, in order of file, line and rule. Of each script the first `declared` functions are its

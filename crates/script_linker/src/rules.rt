@@ -6,18 +6,19 @@ ghost use Rattle.script_linker.specs.Found.{Before, FindsAmong, IsFirst};
 ghost use Rattle.script_linker.specs.Link.{IsResolved};
 ghost use Rattle.script_linker.specs.Lookup.{HasFewMembers, HasSmallScript, Nearest, own_function, parents_of, script_name};
 ghost use Rattle.script_linker.specs.Rules.{IsBelow, IsNoParent};
+ghost use Rattle.papy_base.specs.Circles.{is_marked};
 ghost use Rattle.papy_base.specs.Table.{IsPlaceTable, number_in};
 ghost use Rattle.script_linker.specs.declared.set.SourceFile.{SourceFile};
 ghost use Rattle.script_parser.specs.Lines.{accessors, function_line, heading_lines, import_line, own_lines, property_line, property_lines, state_lines, variable_line};
 
+use crate::declarations::{Declared, note_lines};
 use crate::fault::LinkRule;
-use crate::name_table::{Declared, NameTable};
 use crate::prelude::{LIBRARY_COUNT, PRELUDE_COUNT};
 use crate::scripts::Scripts;
 use crate::set::SourceFile;
 use crate::signatures::{has_late_parameter, is_accessor, is_plain_event, is_word, same_signature};
 use line_parser::TypeName;
-use papy_base::{Name, OutOfMemory};
+use papy_base::{Name, NameTable, OutOfMemory};
 use script_parser::{Function, Property, PropertyForm, Script, State};
 use std::alloc::Global;
 
@@ -74,20 +75,20 @@ fn comes_before(line: u16, rule: LinkRule, other: Found) -> bool
 }
 
 /// The first broken rule of N1 to N5 in the script of this number. `names` has the first script of
-/// each name, and `file_names` the first that is none of the prelude's; a script on a circle of
-/// parents has children left.
+/// each name, and `file_names` the first that is none of the prelude's; `circles` says which scripts
+/// stand on a circle of parents.
 pub(crate) fn script_fault(
     files: &[SourceFile],
     names: &NameTable,
     file_names: &NameTable,
     parents: &[Option<usize>],
-    children: &[usize],
+    circles: &[bool],
     number: usize,
 ) -> Option<Found>
     requires start { 6 ≤ number }
     requires file { number < length files.now }
     requires parents { length parents.now ≡ length files.now }
-    requires children { length children.now ≡ length files.now }
+    requires circles { length circles.now ≡ length files.now }
     requires names { IsPlaceTable script_name files.now names.now }
     requires file_names { IsPlaceTable script_name (drop 6 files.now) file_names.now }
     requires parents_of { parents.now ≡ parents_of files.now }
@@ -95,6 +96,7 @@ pub(crate) fn script_fault(
         (λ found. (file : SourceFile) → Contains (heading_lines (slice_index_or files.now number file).script) found.line) }
     ensures resolved { IfNone result
         ((file : SourceFile) → IsResolved files.now number (slice_index_or files.now number file).script) }
+    ensures rooted { IfNone result (is_marked circles.now number ≡ false) }
 {
     let script = &files[number].script;
     let mut first = Earliest { found: None };
@@ -104,7 +106,7 @@ pub(crate) fn script_fault(
     first.note(is_prelude, script.line, LinkRule::PreludeName);
     let lacks_parent = lacks_parent(script, parents[number]);
     first.note(lacks_parent, script.line, LinkRule::UnknownParent);
-    first.note(children[number] != 0, script.line, LinkRule::ExtendsCycle);
+    first.note(circles[number], script.line, LinkRule::ExtendsCycle);
     judge_imports(names, script.imports.as_slice(), &mut first);
     first.found
 }
@@ -214,7 +216,7 @@ fn judge_functions(
     ensures { OnOk result (FindsAmong (map function_line functions.now) first.old first.new) }
 {
     let mut lines = NameTable::new(alloc);
-    lines.note_lines(alloc, functions)?;
+    note_lines(alloc, &mut lines, functions)?;
     for function in functions {
         let is_taken = repeats(&lines, function) || has_reserved_name(function);
         first.note(is_taken, function.line, LinkRule::DuplicateMember);
@@ -233,8 +235,8 @@ fn judge_fields(alloc: Global, script: &Script, first: &mut Earliest) -> Result<
     ensures { OnOk result (FindsAmong (map variable_line script.now.variables.items ++ map property_line script.now.properties.items) first.old first.new) }
 {
     let mut lines = NameTable::new(alloc);
-    lines.note_lines(alloc, script.variables.as_slice())?;
-    lines.note_lines(alloc, script.properties.as_slice())?;
+    note_lines(alloc, &mut lines, script.variables.as_slice())?;
+    note_lines(alloc, &mut lines, script.properties.as_slice())?;
     judge_names(&lines, script.variables.as_slice(), first);
     judge_names(&lines, script.properties.as_slice(), first);
     Ok(())
@@ -260,7 +262,7 @@ fn judge_states(
     ensures { OnOk result (FindsAmong (flat_map state_lines states.now) first.old first.new) }
 {
     let mut lines = NameTable::new(alloc);
-    lines.note_lines(alloc, states)?;
+    note_lines(alloc, &mut lines, states)?;
     let mut has_auto = false;
     for state in states {
         let repeats = repeats(&lines, state);

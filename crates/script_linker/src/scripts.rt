@@ -1,14 +1,15 @@
 // Scripts with their parents and the tables of their members, whether or not they break a rule.
 ghost use Rattle.std.specs.Prelude.{◌≡◌, ℕ, ◌<◌, ◌↔◌, List, Option, length, IfOk, IfSome, IsTrue, slice_index_or};
 ghost use Rattle.papy_base.specs.Case.{folded};
+ghost use Rattle.papy_base.specs.Lineage.{AreAmong, AreRooted};
 ghost use Rattle.papy_base.specs.Table.{number_in};
 ghost use Rattle.papy_base.specs.declared.name_table.NameTable.{NameTable};
-ghost use Rattle.script_linker.specs.Index.{HasFunctionTables, HasPropertyTables, Rises};
-ghost use Rattle.script_linker.specs.Lookup.{parents_of, parent_at, IsWithin, Nearest, StandsAbove, HasNoCircle, own_function, own_property, IsFunctionOf, IsPropertyOf};
+ghost use Rattle.script_linker.specs.Index.{HasFunctionTables, HasPropertyTables};
+ghost use Rattle.script_linker.specs.Lookup.{parents_of, parent_at, Nearest, StandsAbove, HasNoCircle, own_function, own_property, IsFunctionOf, IsPropertyOf};
 
-use crate::name_table::NameTable;
+use crate::declarations::places;
 use crate::set::SourceFile;
-use papy_base::{Name, OutOfMemory};
+use papy_base::{Made, Name, NameTable};
 use std::alloc::Global;
 use std::marker::Model;
 
@@ -19,8 +20,6 @@ pub(crate) struct Scripts {
     functions: Vec<NameTable>,
     properties: Vec<NameTable>,
     parents: Vec<Option<usize>>,
-    // The rank of a parent is lower than its children's.
-    ranks: Vec<usize>,
 }
 
 impl Model for Scripts {
@@ -36,7 +35,7 @@ impl Model for Scripts {
 
     ghost view = { λ s. s.files.items };
 
-    ghost invariant = { λ s. IsIndexed s.files.items s.functions.items s.properties.items s.parents.items s.ranks.items };
+    ghost invariant = { λ s. IsIndexed s.files.items s.functions.items s.properties.items s.parents.items };
 }
 
 impl Scripts {
@@ -45,11 +44,10 @@ impl Scripts {
         alloc: Global,
         files: Vec<SourceFile>,
         parents: Vec<Option<usize>>,
-        ranks: Vec<usize>,
-    ) -> Result<Scripts, OutOfMemory>
+    ) -> Made<Scripts>
         requires parents { parents.items ≡ parents_of files.items }
-        requires within { IsWithin parents.items }
-        requires ranks { Rises parents.items ranks.items }
+        requires among { AreAmong parents.items }
+        requires rooted { AreRooted parents.items }
         ensures { IfOk result (λ scripts. scripts ≡ files.items) }
     {
         let (functions, properties) = tables(alloc, files.as_slice())?;
@@ -58,7 +56,6 @@ impl Scripts {
             functions,
             properties,
             parents,
-            ranks,
         })
     }
 
@@ -143,10 +140,7 @@ impl Scripts {
 }
 
 // The tables of each file's functions, and those of its properties.
-fn tables(
-    alloc: Global,
-    files: &[SourceFile],
-) -> Result<(Vec<NameTable>, Vec<NameTable>), OutOfMemory>
+fn tables(alloc: Global, files: &[SourceFile]) -> Made<(Vec<NameTable>, Vec<NameTable>)>
     ensures function_count { IfOk result (λ tables. length tables.0.items ≡ length files.now) }
     ensures property_count { IfOk result (λ tables. length tables.1.items ≡ length files.now) }
     ensures functions { IfOk result (λ tables. HasFunctionTables files.now tables.0.items) }
@@ -155,8 +149,8 @@ fn tables(
     let mut functions = Vec::with_capacity(alloc, files.len())?;
     let mut properties = Vec::with_capacity(alloc, files.len())?;
     for file in files {
-        functions.push(NameTable::of_places(alloc, file.script.functions.as_slice())?)?;
-        properties.push(NameTable::of_places(alloc, file.script.properties.as_slice())?)?;
+        functions.push(places(alloc, file.script.functions.as_slice())?)?;
+        properties.push(places(alloc, file.script.properties.as_slice())?)?;
     }
     Ok((functions, properties))
 }

@@ -9,8 +9,8 @@ ghost use Rattle.type_scope.specs.Types.{array_of, element_named, plain_type, si
 use crate::COMPARED_LIMIT;
 use core_tree::{CoreType, FunctionPlace};
 use line_parser::{Heading, TypeName};
-use papy_base::{Name, OutOfMemory};
-use script_linker::{NameTable, PropertyRef, ScriptSet};
+use papy_base::{Name, NameTable, OutOfMemory};
+use script_linker::{PropertyRef, ScriptSet};
 use script_parser::{Property, Script};
 use std::alloc::Global;
 

@@ -4,8 +4,7 @@ ghost use Rattle.type_scope.specs.Sources.{InOrderOfLine, auto_declarations, dec
 
 use crate::COMPARED_LIMIT;
 use line_parser::TypeName;
-use papy_base::{Name, OutOfMemory};
-use script_linker::NameTable;
+use papy_base::{Name, NameTable, OutOfMemory};
 use script_parser::{Property, PropertyForm, Script, Variable};
 use std::alloc::Global;
 

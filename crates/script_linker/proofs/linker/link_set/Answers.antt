@@ -1,28 +1,29 @@
-use Rattle.std.proofs.Common.{rules, IfErr, sym, subst, arith}
+use Rattle.std.proofs.Common.{rules, ℕ, ◌≡◌, ◌<◌, ◌≤◌, ◌∙◌, false, length, ap, IfErr, sym, subst, arith}
 use Rattle.std.proofs.lemmas.Result.{IfErr-weaker}
-use Rattle.script_linker.specs.Lookup.{RanksSome, IsRanked, IsWithin, HasPreludeParents, StartsWithPrelude}
+use Rattle.papy_base.specs.Circles.{is_marked, MarksCircles, NoneMarked}
+use Rattle.papy_base.specs.Lineage.{AreAmong, AreRooted}
+use Rattle.script_linker.specs.Lookup.{HasPreludeParents, StartsWithPrelude}
 use Rattle.script_parser.specs.Lines.{heading_lines}
 use Rattle.script_linker.specs.Link.{IsFaultOn, declared_lines}
 use Rattle.script_linker.proofs.FoundLemmas.{of_heading}
 use Rattle.script_linker.proofs.LinkLemmas.{HasNumbers-behind, IsFaultOn-more}
-use Rattle.script_linker.proofs.LookupLemmas.{Rises-from_ranked}
+use Rattle.script_linker.proofs.LookupLemmas.{NoneMarked-behind, length-parents_of}
 use Rattle.script_linker.proofs.linker.link_set.Goals as goal
 
-pub ranks-requires-clause-within : goal.ranks-requires-clause-within
-ranks-requires-clause-within c = subst IsWithin (sym c.as_slice-parent_list.ensures.value) c.in_ok-parents.ensures.within
-
-pub ranks-requires-clause-prelude : goal.ranks-requires-clause-prelude
-ranks-requires-clause-prelude c =
-    let start = subst StartsWithPrelude (sym c.as_slice-2.ensures.value) c.requires.start in
-    subst HasPreludeParents (sym c.as_slice-parent_list.ensures.value) (c.in_ok-parents.ensures.prelude start)
-
-pub new-requires-clause-ranks : goal.new-requires-clause-ranks
-new-requires-clause-ranks c =
+pub new-requires-clause-rooted : goal.new-requires-clause-rooted
+new-requires-clause-rooted c =
+    let files = c.args.files.items in
     let parents = c.in_ok-parents.parents.items in
-    let ranks = c.in_ok-ranks.ranks.items in
-    let some = subst (λ ps. RanksSome ps ranks) c.as_slice-parent_list.ensures.value c.in_ok-ranks.ensures.some in
-    let all = subst IsRanked c.as_slice-rank_list.ensures.value c.in_ok-refuse_circle.ensures.ranked in
-    Rises-from_ranked parents ranks some all
+    let marks = c.in_ok-circles.circles.items in
+    let same : c.as_slice-3.result.now ≡ parents = c.as_slice-3.ensures.value in
+    let among : AreAmong parents = c.in_ok-parents.ensures.among in
+    let exact = subst (λ ps. AreAmong ps → MarksCircles ps marks) same c.in_ok-circles.ensures.exact among in
+    let rooted = subst (λ ps. AreAmong ps → NoneMarked marks → AreRooted ps) same c.in_ok-circles.ensures.rooted among in
+    let known : HasPreludeParents parents = c.in_ok-parents.ensures.prelude (subst StartsWithPrelude (sym c.as_slice-2.ensures.value) c.requires.start) in
+    let count : length parents ≡ length files = ap length c.in_ok-parents.ensures.parents ∙ length-parents_of c.as_slice-2.result.now ∙ ap length c.as_slice-2.ensures.value in
+    let long : length marks ≡ length parents = sym c.in_ok-circles.circles.ok.0 ∙ c.in_ok-circles.ensures.length ∙ ap length same in
+    let behind = subst (λ ms. (n : ℕ) → 6 ≤ n → n < length files → is_marked ms n ≡ false) c.deref-2.ensures.value (subst (λ fs. (n : ℕ) → 6 ≤ n → n < length fs → is_marked c.deref-2.result.now n ≡ false) c.as_slice-4.ensures.value c.in_ok-judge_scripts.ensures.rooted) in
+    rooted (NoneMarked-behind parents known marks (omega (arith, c.requires.start.count, count)) long exact (λ n past below. behind n past (omega (arith, count, below))))
 
 pub returns-in_err-judge_scripts-clause-broken : goal.returns-in_err-judge_scripts-clause-broken
 returns-in_err-judge_scripts-clause-broken c =
@@ -30,13 +31,6 @@ returns-in_err-judge_scripts-clause-broken c =
     let files = c.args.files.items in
     let on : IfErr result (IsFaultOn (λ n. heading_lines) c.as_slice-4.result.now) = search rules in
     IfErr-weaker result _ _ (IsFaultOn-more (λ n. heading_lines) (declared_lines c.args.declared.now) (λ n script. of_heading _ script) files) (rw c.as_slice-4.ensures.value at on)
-
-pub returns-in_err-refuse_circle-clause-broken : goal.returns-in_err-refuse_circle-clause-broken
-returns-in_err-refuse_circle-clause-broken c =
-    let result = c.from_residual-in_err-refuse_circle.result in
-    let files = c.args.files.items in
-    let on : IfErr result (IsFaultOn (λ n. heading_lines) c.as_slice-5.result.now) = search rules in
-    IfErr-weaker result _ _ (IsFaultOn-more (λ n. heading_lines) (declared_lines c.args.declared.now) (λ n script. of_heading _ script) files) (rw c.as_slice-5.ensures.value at on)
 
 pub invariant_of-result : goal.invariant_of-result
 invariant_of-result c =

@@ -1,5 +1,7 @@
-use Rattle.std.proofs.Common.{◌≡◌, ◌-◌, None, IsSome, map, get_or, subst, sym, ap, refl, ◌∙◌}
+use Rattle.std.proofs.Common.{true, false, ⊎_elim, ◌≡◌, ◌-◌, None, IsSome, map, get_or, subst, sym, ap, refl, ◌∙◌}
 use Rattle.std.proofs.lemmas.List.{get_or_default, get_or-map}
+use Rattle.std.proofs.lemmas.Bool.{cases_Bool}
+use Rattle.papy_base.specs.Circles.{is_marked}
 use Rattle.papy_base.specs.Case.{folded}
 use Rattle.script_parser.specs.Lines.{heading_lines, import_line}
 use Rattle.script_linker.specs.Link.{IsResolved}
@@ -44,3 +46,11 @@ returns-clause-resolved c =
       parent = parent_found files script.parent (get_or c.args.parents.now number None) found (λ both. lacks (c.lacks_parent-lacks_parent.ensures.1 both));
       imports = λ k d below. subst IsSome (c.requires.names (folded (get_or script.imports.items k d).1)) (known k d below);
     }))
+
+pub returns-clause-rooted : goal.returns-clause-rooted
+returns-clause-rooted c =
+    let mark = get_or c.args.circles.now c.args.number false in
+    IfNone-from c.judge_imports.new.first.found (mark ≡ false) (λ none.
+    let after4 : c.note-4.new.self.found ≡ None = c.judge_imports.ensures.among.stays none in
+    let stays = unbroken mark c.note-4.new.self.found c.note-4.ensures.noted after4 in
+    ⊎_elim (λ (is : mark ≡ true). absurd (stays is)) (λ (is : mark ≡ false). is) (cases_Bool mark))

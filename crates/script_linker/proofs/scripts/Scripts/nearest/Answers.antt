@@ -2,7 +2,7 @@ use Rattle.std.proofs.Common.{sym, ◌∙◌, ap, IfSome, ◌<◌, length, subst
 use Rattle.papy_base.specs.Case.{folded}
 use Rattle.script_linker.specs.Lookup.{here, further, nowhere}
 use Rattle.papy_base.specs.Table.{number_in}
-use Rattle.script_linker.proofs.LookupLemmas.{parent_read, parent_within}
+use Rattle.script_linker.proofs.LookupLemmas.{parent_read, parent_within, parent_lower}
 use Rattle.script_linker.proofs.scripts.Scripts.nearest.Goals as goal
 
 pub returns-in-Some : goal.returns-in-Some
@@ -27,3 +27,7 @@ returns-in-None g c =
     let read = ap (λ t. number_in t (folded c.args.name.now)) c.index-tables-here.is ∙ c.requires.1.1 c.upward.here table c.upward.invariant.0 in
     let at = parent_read c.self.invariant c.self.view_is c.upward.here c.index.result.now c.upward.invariant.0 c.index.ensures in
     c.upward.invariant.1 _ (nowhere _ (sym read ∙ sym c.find.ensures ∙ c.in_default.is) (at ∙ c.in-None.is))
+
+pub upward-smaller : goal.upward-smaller
+upward-smaller g c =
+    parent_lower c.self.invariant c.self.view_is c.upward.here c.in-Some-index.parent c.index.result.now c.upward.invariant.0 c.index.ensures c.in-Some-index.is

@@ -1,6 +1,6 @@
 use Rattle.std.proofs.Common.{◌∙◌, refl, IfSome, ◌<◌, length, subst}
 use Rattle.script_linker.specs.Lookup.{StandsAbove, parents_of, itself, further}
-use Rattle.script_linker.proofs.LookupLemmas.{parent_read, parent_within, StandsAbove-step, StandsAbove-root, HasNoCircle-now}
+use Rattle.script_linker.proofs.LookupLemmas.{parent_read, parent_within, parent_lower, StandsAbove-step, StandsAbove-root, HasNoCircle-now}
 use Rattle.script_linker.proofs.scripts.Scripts.stands_below.Goals as goal
 
 pub returns-then-here-parent-clause-above : goal.returns-then-here-parent-clause-above
@@ -32,3 +32,7 @@ returns-in-None-clause-above c =
       λ y. cc,
       λ up. absurd (StandsAbove-root (at ∙ c.in-None.is) c.if-here-parent.false (c.upward.invariant.1.1 up)),
     )
+
+pub upward-smaller : goal.upward-smaller
+upward-smaller c =
+    parent_lower c.self.invariant c.self.view_is c.upward.here c.in-Some.above c.index.result.now c.upward.invariant.0 c.index.ensures c.in-Some.is

@@ -1,5 +1,6 @@
-use Rattle.std.proofs.Common.{◌<◌, ◌↔◌, length, get_or}
+use Rattle.std.proofs.Common.{◌<◌, ◌↔◌, length}
 use Rattle.script_linker.specs.Lookup.{StandsAbove, parents_of}
+use Rattle.script_linker.proofs.LookupLemmas.{height}
 use Rattle.script_linker.proofs.scripts.Scripts.stands_below.Given as goal
 
 abbrev pub invariant-upward : goal.invariant-upward
@@ -7,4 +8,4 @@ invariant-upward l =
     (l.here < length l.self) × (StandsAbove (parents_of l.self) l.here l.parent ↔ StandsAbove (parents_of l.self) l.script l.parent)
 
 abbrev pub decreases-upward : goal.decreases-upward
-decreases-upward l = get_or l.self-inside.ranks.items l.here 0
+decreases-upward l = height l.self-inside.parents.items l.here

@@ -2,7 +2,7 @@ use Rattle.std.proofs.Common.{◌≡◌, ◌∷◌, ◌++◌, [], take, length, 
 use Rattle.std.proofs.lemmas.List.{take_more}
 use Rattle.papy_base.specs.Table.{IsPlaceTable, Notes}
 use Rattle.papy_base.proofs.TableLemmas.{IsPlaceTable-push}
-use Rattle.script_linker.proofs.name_table.NameTable.of_places.Goals as goal
+use Rattle.script_linker.proofs.declarations.places.Goals as goal
 
 pub loop-place-preserved : goal.loop-place-preserved
 loop-place-preserved g c =
