@@ -16,14 +16,11 @@ use crate::writer::{Writer, flag_bits};
 use core_tree::{
     CoreAccess, CoreFunction, CoreProperty, CoreScript, CoreSet, CoreState, CoreVariable,
 };
-use papy_base::{OutOfMemory, Text};
+use papy_base::{OutOfMemory, PRELUDE_COUNT, Text};
 use pex_values::{
     Pex, PexDebug, PexFunction, PexObject, PexProperty, PexState, PexVariable, SizeForm,
 };
 use std::alloc::Global;
-
-/// How many scripts of a set have no files: those of the prelude, which stand first.
-pub const PRELUDE_COUNT: usize = 6;
 
 /// The kinds of debug entries: of a state's function, of a Get and of a Set.
 const STATE_FUNCTION: u8 = 0;

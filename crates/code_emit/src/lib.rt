@@ -11,5 +11,5 @@ mod statements;
 mod strings;
 mod writer;
 
-pub use emitter::{PRELUDE_COUNT, emit};
+pub use emitter::emit;
 pub use faults::EmitFault;

@@ -3,8 +3,8 @@ ghost use Rattle.std.specs.Prelude.{◌≡◌, length, vec_len, IfOk};
 use crate::declarations::script_text;
 use crate::fault::SourceFault;
 use crate::world::World;
-use papy_base::Text;
-use pex_set::{PRELUDE_COUNT, Prelude};
+use papy_base::{PRELUDE_COUNT, Text};
+use pex_set::Prelude;
 use pex_values::Pex;
 use std::alloc::Global;
 

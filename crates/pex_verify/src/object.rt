@@ -25,7 +25,7 @@ use crate::scripts::{KIND_BITS, ScriptSet, Signature};
 use crate::sources::{DefaultMembers, FileLines, OF_STATE, SetFile};
 use crate::value_type::ValueType;
 use core_tree::{CoreType, OutlineScript, OutlineVariable, Value};
-use papy_base::{TEXT_LIMIT, Made, Name, Text};
+use papy_base::{Made, Name, TEXT_LIMIT, Text};
 use pex_set::EMPTY_NAME;
 use pex_values::{Datum, PexFunction, PexObject, PexState, PexVariable};
 use std::alloc::Global;

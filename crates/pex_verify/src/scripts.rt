@@ -17,8 +17,8 @@ use crate::members::{MemberLists, MemberTable};
 use crate::sources::{DefaultMembers, SetFile};
 use crate::value_type::{TypeNames, ValueType};
 use core_tree::CoreType;
-use papy_base::Made;
-use pex_set::{EMPTY_NAME, FileNames, LIBRARY_COUNT, MemberPlace, NameNumbers, Objects};
+use papy_base::{LIBRARY_COUNT, Made};
+use pex_set::{EMPTY_NAME, FileNames, MemberPlace, NameNumbers, Objects};
 use pex_values::{PexFunction, PexObject, PexProperty, PexState};
 use std::alloc::Global;
 

@@ -4,8 +4,8 @@ ghost use Rattle.pex_verify.specs.Meanings.{element_type, script_type, takes_non
 ghost use Rattle.pex_verify.specs.Types.{IsValueTypeAmong};
 
 use core_tree::CoreType;
-use papy_base::Made;
-use pex_set::{LIBRARY_COUNT, NameNumbers, Objects};
+use papy_base::{LIBRARY_COUNT, Made};
+use pex_set::{NameNumbers, Objects};
 use std::alloc::Global;
 use std::marker::Model;
 

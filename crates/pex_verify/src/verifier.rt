@@ -24,8 +24,8 @@ use crate::sources::{
     strings_of_files,
 };
 use core_tree::{Outline, OutlineScript};
-use papy_base::on_circles;
-use pex_set::{EMPTY_NAME, LIBRARY_COUNT, NameNumbers, Objects, Prelude, text_at};
+use papy_base::{LIBRARY_COUNT, on_circles};
+use pex_set::{EMPTY_NAME, NameNumbers, Objects, Prelude, text_at};
 use pex_values::{Pex, PexObject};
 use std::alloc::Global;
 

@@ -10,12 +10,10 @@ ghost use Rattle.run_commands.specs.Answers.{OnceAnswers};
 use crate::run_command::run_set;
 use command_files::{Ending, accept};
 use latent_natives::Device;
+use papy_base::PRELUDE_COUNT;
 use papy_io::{Desk, Sink};
 use scene_runner::default_scene;
 use std::alloc::Global;
-
-/// The number of the prelude's scripts, which stand before those of the words.
-const PRELUDE_COUNT: usize = 6;
 
 /// Runs scripts with one instance of the first and one call of its `OnInit`, and writes the report.
 pub fn once<D: Desk, S: Sink>(

@@ -17,14 +17,12 @@ use crate::members::{auto_state, core_properties, core_states, core_variables};
 use crate::work::{Result, ScriptRules};
 use core_tree::{CoreProperty, CoreScript, CoreSet, CoreState, CoreVariable};
 use expression_rules::TypeRule;
+use papy_base::PRELUDE_COUNT;
 use script_linker::ScriptSet;
 use script_parser::Script;
 use std::alloc::Global;
 use std::mem;
 use type_scope::{Catalog, Layout};
-
-// How many scripts of a set are those of the prelude. They stand first and break no rule.
-const PRELUDE_COUNT: u16 = 6;
 
 /// The set with every word resolved, and every conversion and default argument written out.
 ///
@@ -168,7 +166,7 @@ impl FirstFaults {
         ensures broken_below { (count : ℕ) → script < count → HasFaultBelow count self.old.broken → HasFaultBelow count self.new.broken }
         ensures too_large_below { (count : ℕ) → script < count → HasFaultBelow count self.old.too_large → HasFaultBelow count self.new.too_large }
     {
-        let Some(file) = script.checked_sub(PRELUDE_COUNT) else {
+        let Some(file) = script.checked_sub(PRELUDE_COUNT as u16) else {
             return;
         };
         let broken = earlier(self.broken, broken_in(file, faults.broken));

@@ -9,13 +9,10 @@ ghost use Rattle.type_scope.specs.Types.{array_of, element_named, plain_type, si
 use crate::COMPARED_LIMIT;
 use core_tree::{CoreType, FunctionPlace};
 use line_parser::{Heading, TypeName};
-use papy_base::{Name, NameTable, OutOfMemory};
+use papy_base::{LIBRARY_COUNT, Name, NameTable, OutOfMemory};
 use script_linker::{PropertyRef, ScriptSet};
 use script_parser::{Property, Script};
 use std::alloc::Global;
-
-// The first scripts of a set, Debug, Utility and Scene, are no types.
-const LIBRARY_COUNT: u16 = 3;
 
 /// What is known of the type of an expression.
 #[derive(Clone, Copy, PartialEq, Eq)]
@@ -130,7 +127,7 @@ impl<'a> Catalog<'a> {
             return Some(found);
         }
         match self.find_script(word) {
-            Some(script) if script >= LIBRARY_COUNT => Some(CoreType::Script(script)),
+            Some(script) if usize::from(script) >= LIBRARY_COUNT => Some(CoreType::Script(script)),
             _ => None,
         }
     }
