@@ -1,11 +1,11 @@
 // Turns of the machine, and the report behind them.
 ghost use Rattle.std.specs.Prelude.{◌<◌, ◌≡◌, IfOk, None, vec_len};
 
-use crate::files::files_of;
 use core_tree::{Scene, Value};
 use latent_natives::{Device, Dice, Latch, Sum, Tape};
 use papy_base::OutOfMemory;
 use papy_io::MemorySink;
+use pex_listing::assemble;
 use pex_verify::{Loaded, verify};
 use scene_runner::{bind, read_scene, write_closing};
 use stack_machine::{Machine, Status, TurnEnd, TurnFault};
@@ -38,11 +38,9 @@ fn four_devices(alloc: Global) -> Result<Vec<Box<dyn Device>>, Fail> {
     Ok(devices)
 }
 
-fn loaded_of(alloc: Global, set: &[u8]) -> Result<Loaded, OutOfMemory> {
-    let files = files_of(alloc, set)?;
-    if files.len() > 9 {
-        return Err(OutOfMemory);
-    }
+fn loaded_of(alloc: Global, listing: &[u8]) -> Result<Loaded, OutOfMemory> {
+    let file = assemble(alloc, listing).map_err(|_| OutOfMemory)?;
+    let files = vec![in alloc; file]?;
     verify(alloc, files).map_err(|_| OutOfMemory)
 }
 

@@ -20,6 +20,7 @@ use crate::operands::Executor;
 use core_tree::{CoreType, Value};
 use instance_store::{StoreFault, equals};
 use papy_base::{JoinFault, Made, OutOfMemory, StackFault, Text, add, div, mul, neg, rem, sub};
+use pex_values::{ARRAY_RFINDELEMENT, CMP_GT, CMP_LE, CMP_LT, IADD, IDIV, IMUL, ISUB, JMPT};
 use pex_verify::{Action, LoadedInstruction, MethodPlace, Operand, action_of};
 
 /// What an instruction did.
@@ -53,25 +54,6 @@ pub enum Event {
 
 // The fault with which an instruction is done, if any.
 type Answer = Made<Option<StackFault>>;
-
-// The opcodes that one action has.
-const ADD: u8 = 0x01;
-
-const SUBTRACT: u8 = 0x03;
-
-const MULTIPLY: u8 = 0x05;
-
-const DIVIDE: u8 = 0x07;
-
-const LESS: u8 = 0x10;
-
-const LESS_EQUAL: u8 = 0x11;
-
-const GREATER: u8 = 0x12;
-
-const JUMP_IF_TRUE: u8 = 0x15;
-
-const FIND_BACK: u8 = 0x23;
 
 impl Executor<'_> {
     /// Runs an instruction, but for one that calls or returns.
@@ -131,7 +113,7 @@ impl Executor<'_> {
     // jmpt, jmpf: a condition and an offset.
     fn jump_if(&mut self, instruction: &LoadedInstruction) -> Made<Step> {
         let truth = self.truth(instruction, 0)?;
-        if truth == (instruction.opcode == JUMP_IF_TRUE) {
+        if truth == (instruction.opcode == JMPT) {
             return Ok(jump(instruction));
         }
         Ok(Step::Done)
@@ -273,7 +255,7 @@ impl Executor<'_> {
         let target = self.value(instruction, 0)?;
         let value = self.value(instruction, 2)?;
         let start = self.number(instruction, 3)?;
-        let back = instruction.opcode == FIND_BACK;
+        let back = instruction.opcode == ARRAY_RFINDELEMENT;
         let store = &*self.store;
         let answer = store
             .arrays
@@ -403,11 +385,11 @@ fn compute(opcode: u8, left: i32, right: i32) -> Option<i32>
     ensures { result ≡ computed opcode left right }
 {
     match opcode {
-        ADD => Some(add(left, right)),
-        SUBTRACT => Some(sub(left, right)),
-        MULTIPLY => Some(mul(left, right)),
+        IADD => Some(add(left, right)),
+        ISUB => Some(sub(left, right)),
+        IMUL => Some(mul(left, right)),
         _ if right == 0 => None,
-        DIVIDE => Some(div(left, right)),
+        IDIV => Some(div(left, right)),
         _ => Some(rem(left, right)),
     }
 }
@@ -416,9 +398,9 @@ fn is_in_order(opcode: u8, left: i32, right: i32) -> bool
     ensures { result ≡ is_ordered opcode left right }
 {
     match opcode {
-        LESS => left < right,
-        LESS_EQUAL => left <= right,
-        GREATER => left > right,
+        CMP_LT => left < right,
+        CMP_LE => left <= right,
+        CMP_GT => left > right,
         _ => left >= right,
     }
 }
