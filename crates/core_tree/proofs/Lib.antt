@@ -1,3 +1,4 @@
+pub mod Lineages
 pub mod Ranges
 pub mod StatementViews
 pub mod Views

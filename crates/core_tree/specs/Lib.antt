@@ -1,5 +1,6 @@
 pub mod Device
 pub mod InRange
+pub mod Lineage
 pub mod Outlines
 pub mod Scenes
 pub mod Set

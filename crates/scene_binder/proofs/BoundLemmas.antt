@@ -1,5 +1,5 @@
 -- Values of types one by one, and the members of scripts.
-use Rattle.std.proofs.Common.{ℕ, ◌≡◌, ◌≤◌, length, List, [], ◌∷◌, ◌++◌, map, Option, Some, None, IfSome, ap, sym, subst, ◌∙◌}
+use Rattle.std.proofs.Common.{ℕ, ◌≡◌, ◌≤◌, length, List, [], ◌∷◌, ◌++◌, map, Some, None, ap, sym, subst, ◌∙◌}
 use Rattle.std.specs.List.{All, AllZip, Contains, slice_get}
 use Rattle.std.specs.Option.{option_map}
 use Rattle.std.proofs.lemmas.List.{length-map}
@@ -15,10 +15,9 @@ use Rattle.core_tree.specs.declared.value.Value.{Value}
 use Rattle.scene_binder.specs.declared.scripts.ScriptMembers.{ScriptMembers}
 use Rattle.scene_binder.specs.Bound.{AreBoundNatives, AreOfTypes, IsBound, IsBoundCall, IsBoundInstance, IsOfType, script_of}
 use Rattle.scene_binder.specs.Instances.{tree_script}
-use Rattle.scene_binder.specs.Keys.{function_key, property_key}
 use Rattle.scene_binder.specs.Meant.{IsInstanceMeant}
-use Rattle.scene_binder.specs.Members.{HasFunction, HasProperty, Nearest, StandsAbove, further, functions_in, itself, of_its_own, of_one_above, own_function, own_property, parent_in, properties_in, script_named}
-use Rattle.scene_binder.specs.Names.{first_of}
+use Rattle.scene_binder.specs.Members.{HasFunction, HasProperty, functions_in, own_function, own_property, properties_in, script_named}
+use Rattle.scene_binder.specs.Names.{first_of, function_name, property_name}
 use Rattle.scene_binder.specs.Scope.{IsSetOf}
 
 -- one more type with a value of it
@@ -42,52 +41,20 @@ pub HasProperty-from : (list : List ScriptMembers) (n : ℕ) (m : ScriptMembers)
 HasProperty-from list n m p is own = subst (λ o. Contains (properties_in o) p) (sym (script_at list n m is)) own
 
 -- what the script of a number has of its own under a name
-pub own_property-there : (list : List ScriptMembers) (n : ℕ) (m : ScriptMembers) (bytes : List ℕ) → slice_get list n ≡ Some m → own_property (scripts_in list) bytes n ≡ first_of property_key m.script.now.properties.items bytes
-own_property-there list n m bytes is = ap (λ o. first_of property_key (properties_in o) bytes) (script_at list n m is)
+pub own_property-there : (list : List ScriptMembers) (n : ℕ) (m : ScriptMembers) (bytes : List ℕ) → slice_get list n ≡ Some m → own_property (scripts_in list) bytes n ≡ first_of property_name m.script.now.properties.items bytes
+own_property-there list n m bytes is = ap (λ o. first_of property_name (properties_in o) bytes) (script_at list n m is)
 
-pub own_function-there : (list : List ScriptMembers) (n : ℕ) (m : ScriptMembers) (bytes : List ℕ) → slice_get list n ≡ Some m → own_function (scripts_in list) bytes n ≡ first_of function_key m.script.now.functions.items bytes
-own_function-there list n m bytes is = ap (λ o. first_of function_key (functions_in o) bytes) (script_at list n m is)
+pub own_function-there : (list : List ScriptMembers) (n : ℕ) (m : ScriptMembers) (bytes : List ℕ) → slice_get list n ≡ Some m → own_function (scripts_in list) bytes n ≡ first_of function_name m.script.now.functions.items bytes
+own_function-there list n m bytes is = ap (λ o. first_of function_name (functions_in o) bytes) (script_at list n m is)
 
 no_script : (list : List ScriptMembers) (n : ℕ) → length list ≤ n → slice_get (scripts_in list) n ≡ None
 no_script list n past = slice_get_past (scripts_in list) n (simp length-map past)
 
 pub own_property-nowhere : (list : List ScriptMembers) (n : ℕ) (bytes : List ℕ) → length list ≤ n → own_property (scripts_in list) bytes n ≡ None
-own_property-nowhere list n bytes past = ap (λ o. first_of property_key (properties_in o) bytes) (no_script list n past)
+own_property-nowhere list n bytes past = ap (λ o. first_of property_name (properties_in o) bytes) (no_script list n past)
 
 pub own_function-nowhere : (list : List ScriptMembers) (n : ℕ) (bytes : List ℕ) → length list ≤ n → own_function (scripts_in list) bytes n ≡ None
-own_function-nowhere list n bytes past = ap (λ o. first_of function_key (functions_in o) bytes) (no_script list n past)
-
--- a walk from the first script upward, past scripts that have nothing of their own
-module _ {X : Type 0} (scripts : List OutlineScript) (own : ℕ → Option X) (first : ℕ) where
-  -- what is nearest to the script that is next is nearest to the first one
-  abbrev pub LeadsTo : Option ℕ → Type 0
-  LeadsTo next = IfSome next (λ n. (owner : ℕ) (x : X) → Nearest {X = X} scripts own n owner x → Nearest {X = X} scripts own first owner x)
-
-  pub nearest-here : (n : ℕ) (next : Option ℕ) (x : X) → next ≡ Some n → own n ≡ Some x → LeadsTo next → Nearest {X = X} scripts own first n x
-  nearest-here n next x e is h = subst LeadsTo e h n x (of_its_own n x is)
-
-  nearest-step : (n : ℕ) (next : Option ℕ) → next ≡ parent_in (slice_get scripts n) → own n ≡ None → LeadsTo (Some n) → LeadsTo next
-  nearest-step n None e none h = tt
-  nearest-step n (Some p) e none h = λ owner x up. h owner x (of_one_above n p owner x none (sym e) up)
-
-  pub nearest-next : (n : ℕ) (now next : Option ℕ) → now ≡ Some n → next ≡ parent_in (slice_get scripts n) → own n ≡ None → LeadsTo now → LeadsTo next
-  nearest-next n now next is e none h = nearest-step n next e none (subst LeadsTo is h)
-
--- a step of a walk from the first script upward: what stands above the parent stands above the first one
-pub upward-step : (scripts : List OutlineScript) (first here : ℕ) (next : Option ℕ) → next ≡ parent_in (slice_get scripts here) → ((a : ℕ) → StandsAbove scripts here a → StandsAbove scripts first a) → IfSome next (λ n. (a : ℕ) → StandsAbove scripts n a → StandsAbove scripts first a)
-upward-step scripts first here None e h = tt
-upward-step scripts first here (Some p) e h = λ a up. h a (further here p a (sym e) up)
-
--- and the script to which a walk has come stands above the first one
-pub upward-here : (scripts : List OutlineScript) (first here : ℕ) (next : Option ℕ) → next ≡ Some here → IfSome next (λ n. (a : ℕ) → StandsAbove scripts n a → StandsAbove scripts first a) → StandsAbove scripts first here
-upward-here scripts first here next e h =
-    subst (λ o. IfSome o (λ n. (a : ℕ) → StandsAbove scripts n a → StandsAbove scripts first a)) e h here (itself here)
-
--- a step of a walk upward from the script to which it has come
-pub upward-next : (scripts : List OutlineScript) (first here : ℕ) (now next : Option ℕ) → now ≡ Some here → next ≡ parent_in (slice_get scripts here) → IfSome now (λ n. (a : ℕ) → StandsAbove scripts n a → StandsAbove scripts first a)
-    → IfSome next (λ n. (a : ℕ) → StandsAbove scripts n a → StandsAbove scripts first a)
-upward-next scripts first here now next is e h =
-    upward-step scripts first here next e (subst (λ o. IfSome o (λ n. (a : ℕ) → StandsAbove scripts n a → StandsAbove scripts first a)) is h)
+own_function-nowhere list n bytes past = ap (λ o. first_of function_name (functions_in o) bytes) (no_script list n past)
 
 -- a scene is bound whose parts are, with the scripts of its instances in order
 pub IsBound-from : (scripts : List OutlineScript) (instances : List ℕ) (scene : Scene) → map script_of scene.instances.items ≡ instances → All (IsBoundInstance scripts instances) scene.instances.items → AreBoundNatives scripts scene.devices scene.natives.items

@@ -10,19 +10,20 @@ use Rattle.std.proofs.lemmas.List.{drop_more, map-set, set-get_or, get_or-map}
 use Rattle.std.proofs.lemmas.List.Elements.{All-get_or, All-set, All-weaker}
 use Rattle.std.proofs.lemmas.Option.{IfSome_then, none-some, same_Some, slice_get_read}
 use Rattle.papy_base.specs.Case.{folded}
+use Rattle.papy_base.specs.Table.{IsPlaceTable, Notes, number_in}
+use Rattle.papy_base.proofs.TableLemmas.{IsPlaceTable-push}
 use Rattle.core_tree.specs.declared.outline.OutlineFunction.{OutlineFunction}
 use Rattle.core_tree.specs.declared.outline.OutlineScript.{OutlineScript}
 use Rattle.core_tree.specs.declared.scene_tree.Binding.{Binding}
 use Rattle.scene_binder.specs.declared.natives.Native.{Native}
 use Rattle.scene_binder.specs.declared.natives.Natives.{Natives}
 use Rattle.scene_binder.specs.Bound.{IsBoundNative}
-use Rattle.scene_binder.specs.Keys.{entry_key}
 use Rattle.scene_binder.specs.Meant.{IsNativeMeant, binding_in, binding_meant, default_entries, full_name}
 use Rattle.scene_binder.specs.Members.{name_in}
-use Rattle.scene_binder.specs.Names.{IsTableOf, Notes, number_in}
-use Rattle.scene_binder.specs.NativeList.{Adds, AreBoundBy, AreLeft, AreMeant, AreNatives, AreTabled, HasEntry, HasMeaning, HoldsNative, IsUnbound, MayDo, native_key, native_place}
+use Rattle.scene_binder.specs.Names.{entry_name}
+use Rattle.scene_binder.specs.NativeList.{Adds, AreBoundBy, AreLeft, AreMeant, AreNatives, AreTabled, HasEntry, HasMeaning, HoldsNative, IsUnbound, MayDo, native_key, native_name, native_place}
 use Rattle.scene_binder.specs.Natives.{native_place_here, native_places_from, native_places_in, native_places_of}
-use Rattle.scene_binder.proofs.NameLemmas.{IsTableOf-key, IsTableOf-notes, IsTableOf-set}
+use Rattle.scene_binder.proofs.NameLemmas.{IsPlaceTable-named, IsPlaceTable-set}
 
 -- after one native got a binding that its types allow
 pub AreNatives-bind : (scripts : List OutlineScript) (old new : Natives) (n : ℕ) (native : Native) (b : Binding) → n < length old.natives.items → native ≡ get_or old.natives.items n native
@@ -38,7 +39,7 @@ AreNatives-bind scripts old new n native b lt is now names same may h =
     record {
       each_once = ap (map native_place) now ∙ (map-set native_place items n bound ∙ (ap (λ p. set (map native_place items) n p) place ∙ (set-get_or (map native_place items) n (native_place native) ∙ h.each_once)));
       hold = subst (λ d. All (HoldsNative scripts d) new.natives.items) (sym same) (subst (All holds) (sym now) (All-set holds items n bound put h.hold));
-      tabled = subst (λ table. IsTableOf (native_key scripts) new.natives.items table) (sym names) (subst (λ natives. IsTableOf (native_key scripts) natives old.names) (sym now) (IsTableOf-set (native_key scripts) items n bound native old.names (ap (native_key scripts) is) h.tabled));
+      tabled = subst (λ table. IsPlaceTable (native_name scripts) new.natives.items table) (sym names) (subst (λ natives. IsPlaceTable (native_name scripts) natives old.names) (sym now) (IsPlaceTable-set (native_name scripts) items n bound native old.names (ap (native_name scripts) is) h.tabled));
     }
 
 -- a native that has a binding is a bound one
@@ -93,11 +94,11 @@ Adds-same old new script fitting number same places h = record {
 }
 
 -- a table of natives is one of one native more, once its name was noted
-pub AreTabled-notes : (scripts : List OutlineScript) (old new : Natives) (native : Native) (script : OutlineScript) (is_new : Bool) → slice_get scripts native.script ≡ Some script → Notes old.names new.names (folded (full_name script.name native.function.now.name)) (length old.natives.items) is_new
+pub AreTabled-notes : (scripts : List OutlineScript) (old new : Natives) (native : Native) (script : OutlineScript) → slice_get scripts native.script ≡ Some script → Notes old.names new.names (full_name script.name native.function.now.name) (length old.natives.items)
     → new.natives.items ≡ old.natives.items ++ native ∷ [] → AreTabled scripts old → AreTabled scripts new
-AreTabled-notes scripts old new native script is_new there noted grown h =
-    let here = subst (λ s. Notes old.names new.names (folded (full_name (name_in s) native.function.now.name)) (length old.natives.items) is_new) (sym there) noted in
-    subst (λ natives. IsTableOf (native_key scripts) natives new.names) (sym grown) (IsTableOf-notes (native_key scripts) old.natives.items native old.names new.names is_new h here)
+AreTabled-notes scripts old new native script there noted grown h =
+    let here = subst (λ s. Notes old.names new.names (full_name (name_in s) native.function.now.name) (length old.natives.items)) (sym there) noted in
+    subst (λ natives. IsPlaceTable (native_name scripts) natives new.names) (sym grown) (IsPlaceTable-push (native_name scripts) old.natives.items native old.names new.names h here)
 
 cond_or : {X : Type 0} (b : Bool) (x : X) (o other : Option X) → cond b (Some x) (option_or o other) ≡ option_or (cond b (Some x) o) other
 cond_or false x o other = refl
@@ -115,14 +116,14 @@ option_map-or f (Some x) other = refl
 -- what entries say of a name, with one entry more
 binding_in-push : (entries : List (List ℕ × Binding)) (entry : List ℕ × Binding) (bytes : List ℕ) → binding_in (entries ++ entry ∷ []) bytes ≡ option_or (binding_in entries bytes) (binding_in (entry ∷ []) bytes)
 binding_in-push entries entry bytes =
-    let test = λ (e : List ℕ × Binding). bytes_eq bytes (entry_key e) in
+    let test = λ (e : List ℕ × Binding). bytes_eq bytes (folded (entry_name e)) in
     ap (option_map (λ (e : List ℕ × Binding). e.1)) (find-push test entries entry) ∙ option_map-or (λ (e : List ℕ × Binding). e.1) (find test entries) (find test (entry ∷ []))
 
-binding_in-this : (entry : List ℕ × Binding) (bytes : List ℕ) → bytes_eq bytes (entry_key entry) ≡ true → binding_in (entry ∷ []) bytes ≡ Some entry.1
-binding_in-this entry bytes e = ap (option_map (λ x. x.1)) (cond-true (bytes_eq bytes (entry_key entry)) (Some entry) None e)
+binding_in-this : (entry : List ℕ × Binding) (bytes : List ℕ) → bytes_eq bytes (folded (entry_name entry)) ≡ true → binding_in (entry ∷ []) bytes ≡ Some entry.1
+binding_in-this entry bytes e = ap (option_map (λ x. x.1)) (cond-true (bytes_eq bytes (folded (entry_name entry))) (Some entry) None e)
 
-binding_in-other : (entry : List ℕ × Binding) (bytes : List ℕ) → bytes_eq bytes (entry_key entry) ≡ false → binding_in (entry ∷ []) bytes ≡ None
-binding_in-other entry bytes e = ap (option_map (λ x. x.1)) (cond-false (bytes_eq bytes (entry_key entry)) (Some entry) None e)
+binding_in-other : (entry : List ℕ × Binding) (bytes : List ℕ) → bytes_eq bytes (folded (entry_name entry)) ≡ false → binding_in (entry ∷ []) bytes ≡ None
+binding_in-other entry bytes e = ap (option_map (λ x. x.1)) (cond-false (bytes_eq bytes (folded (entry_name entry))) (Some entry) None e)
 
 -- an item of a list of which one was replaced
 set_item : {X : Type 0} (xs : List X) (i n : ℕ) (y x : X) → slice_get (set xs i y) n ≡ Some x → (y ≡ x) ⊎ (slice_get xs n ≡ Some x)
@@ -147,7 +148,7 @@ module _ (scripts : List OutlineScript) (entries : List (List ℕ × Binding)) (
   bound_native = record native { binding = Some b }
 
   key_is : native_key scripts native ≡ folded name
-  key_is = ap (native_key scripts) is ∙ IsTableOf-key (native_key scripts) old.natives.items old.names (folded name) n native tabled found
+  key_is = ap (native_key scripts) is ∙ IsPlaceTable-named (native_name scripts) old.natives.items old.names (folded name) n native tabled found
 
   was_left : AreLeft entries old → binding_in entries (folded name) ≡ None
   was_left left = left (folded name) n native found (slice_get_read old.natives.items (length old.natives.items) n native refl lt is) none

@@ -1,6 +1,5 @@
 pub mod Bound
 pub mod Instances
-pub mod Keys
 pub mod Kept
 pub mod Limits
 pub mod Meant

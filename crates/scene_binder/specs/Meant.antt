@@ -3,6 +3,7 @@ use Rattle.std.specs.Prelude.{ℕ, ◌≡◌, List, [], ◌∷◌, ◌++◌, cod
 use Rattle.std.specs.List.{All, AllZip}
 use Rattle.std.specs.Option.{option_or}
 use Rattle.papy_base.specs.Case.{folded}
+use Rattle.papy_base.specs.Table.{place_of}
 use Rattle.core_tree.specs.declared.outline.OutlineFunction.{OutlineFunction}
 use Rattle.core_tree.specs.declared.outline.OutlineProperty.{OutlineProperty}
 use Rattle.core_tree.specs.declared.outline.OutlineScript.{OutlineScript}
@@ -19,14 +20,14 @@ use Rattle.core_tree.specs.declared.scene_tree.SceneValue.{SceneValue}
 use Rattle.core_tree.specs.declared.scene_tree.SceneValue.TheVariants as written
 use Rattle.core_tree.specs.declared.value.Value.{Value}
 use Rattle.core_tree.specs.declared.value.Value.TheVariants as values
-use Rattle.scene_binder.specs.Keys.{entry_key, instance_key}
+use Rattle.scene_binder.specs.Instances.{tree_name}
 use Rattle.scene_binder.specs.Members.{IsNearestProperty, name_in, script_named}
-use Rattle.scene_binder.specs.Names.{first_of, place_in}
+use Rattle.scene_binder.specs.Names.{entry_name, first_of}
 use Rattle.scene_binder.specs.Natives.{IsFunctionAt}
 
 -- the number of the instance of this name, where these are the instances of the scene
 abbrev pub instance_named : List SceneInstance → List ℕ → Option ℕ
-instance_named instances name = place_in instance_key instances (folded name)
+instance_named instances name = place_of tree_name instances (folded name)
 
 -- the value that is written: itself, and the number of the instance that it names
 abbrev pub value_meant : List SceneInstance → SceneValue → Option Value
@@ -68,7 +69,7 @@ default_entries =
 
 -- the binding of the first of these entries whose folded name has these bytes
 abbrev pub binding_in : List (List ℕ × Binding) → List ℕ → Option Binding
-binding_in entries bytes = option_map (λ entry. entry.1) (first_of entry_key entries bytes)
+binding_in entries bytes = option_map (λ entry. entry.1) (first_of entry_name entries bytes)
 
 -- the binding of the native function of this name: that of the scene's entry, or else the one without an entry
 abbrev pub binding_meant : List (List ℕ × Binding) → List ℕ → Option Binding

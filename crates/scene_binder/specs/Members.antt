@@ -2,24 +2,21 @@
 use Rattle.std.specs.Prelude.{ℕ, ◌≡◌, List, [], Option, Some, None, slice_get}
 use Rattle.std.specs.List.{Contains}
 use Rattle.papy_base.specs.Case.{SameIgnoringCase, folded}
+use Rattle.papy_base.specs.Table.{place_of}
+use Rattle.core_tree.specs.Lineage.{parent_of}
 use Rattle.core_tree.specs.declared.outline.OutlineFunction.{OutlineFunction}
 use Rattle.core_tree.specs.declared.outline.OutlineProperty.{OutlineProperty}
 use Rattle.core_tree.specs.declared.outline.OutlineScript.{OutlineScript}
-use Rattle.scene_binder.specs.Keys.{function_key, property_key, script_key}
-use Rattle.scene_binder.specs.Names.{first_of, place_in}
+use Rattle.scene_binder.specs.Names.{first_of, function_name, property_name, script_name}
 
 -- the number of the script of this name, the first where there are more
 abbrev pub script_named : List OutlineScript → List ℕ → Option ℕ
-script_named scripts name = place_in script_key scripts (folded name)
-
-abbrev pub parent_in : Option OutlineScript → Option ℕ
-parent_in None = None
-parent_in (Some script) = script.parent
+script_named scripts name = place_of script_name scripts (folded name)
 
 -- the script a is the script n itself or stands above it
 pub data StandsAbove (scripts : List OutlineScript) : ℕ → ℕ → Type 0 where
   itself : (n : ℕ) → StandsAbove scripts n n
-  further : (n p a : ℕ) → parent_in (slice_get scripts n) ≡ Some p → StandsAbove scripts p a → StandsAbove scripts n a
+  further : (n p a : ℕ) → parent_of (slice_get scripts n) ≡ Some p → StandsAbove scripts p a → StandsAbove scripts n a
 
 abbrev pub name_in : Option OutlineScript → List ℕ
 name_in None = []
@@ -43,16 +40,16 @@ HasProperty scripts n property = Contains (properties_in (slice_get scripts n)) 
 
 -- the Auto property that the script n has of its own under a name with these folded bytes
 abbrev pub own_property : List OutlineScript → List ℕ → ℕ → Option OutlineProperty
-own_property scripts bytes n = first_of property_key (properties_in (slice_get scripts n)) bytes
+own_property scripts bytes n = first_of property_name (properties_in (slice_get scripts n)) bytes
 
 -- and the function of its empty state
 abbrev pub own_function : List OutlineScript → List ℕ → ℕ → Option OutlineFunction
-own_function scripts bytes n = first_of function_key (functions_in (slice_get scripts n)) bytes
+own_function scripts bytes n = first_of function_name (functions_in (slice_get scripts n)) bytes
 
 -- from the script n upward, the first script that has something of its own, and what it has
 pub data Nearest {X : Type 0} (scripts : List OutlineScript) (own : ℕ → Option X) : ℕ → ℕ → X → Type 0 where
   of_its_own : (n : ℕ) (x : X) → own n ≡ Some x → Nearest scripts own n n x
-  of_one_above : (n p owner : ℕ) (x : X) → own n ≡ None → parent_in (slice_get scripts n) ≡ Some p → Nearest scripts own p owner x → Nearest scripts own n owner x
+  of_one_above : (n p owner : ℕ) (x : X) → own n ≡ None → parent_of (slice_get scripts n) ≡ Some p → Nearest scripts own p owner x → Nearest scripts own n owner x
 
 -- of the Auto properties of this name that the script n and those above it have, the nearest, after the number of its script
 abbrev pub IsNearestProperty : List OutlineScript → List ℕ → ℕ → ℕ → OutlineProperty → Type 0

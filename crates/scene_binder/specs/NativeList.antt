@@ -2,6 +2,7 @@
 use Rattle.std.specs.Prelude.{ℕ, ◌≡◌, List, ◌++◌, map, true, Some, None, IfSome, slice_get}
 use Rattle.std.specs.List.{All}
 use Rattle.papy_base.specs.Case.{folded}
+use Rattle.papy_base.specs.Table.{IsPlaceTable, number_in}
 use Rattle.core_tree.specs.declared.outline.OutlineFunction.{OutlineFunction}
 use Rattle.core_tree.specs.declared.outline.OutlineScript.{OutlineScript}
 use Rattle.core_tree.specs.declared.scene_tree.Binding.{Binding}
@@ -10,19 +11,22 @@ use Rattle.scene_binder.specs.declared.natives.Natives.{Natives}
 use Rattle.scene_binder.specs.Limits.{NativesKeepLimits}
 use Rattle.scene_binder.specs.Meant.{binding_in, binding_meant, full_name}
 use Rattle.scene_binder.specs.Members.{name_in}
-use Rattle.scene_binder.specs.Names.{IsTableOf, number_in}
 use Rattle.scene_binder.specs.Natives.{AllowsBinding, HasDevice, IsFunctionAt, native_places}
 
 abbrev pub native_place : Native → ℕ × ℕ
 native_place native = (native.script, native.place)
 
--- under which bytes a native is found: those of `Script.Function`
+-- `Script.Function`, under which a native is found
+abbrev pub native_name : List OutlineScript → Native → List ℕ
+native_name scripts native = full_name (name_in (slice_get scripts native.script)) native.function.now.name
+
+-- and its bytes with A to Z read as a to z
 abbrev pub native_key : List OutlineScript → Native → List ℕ
-native_key scripts native = folded (full_name (name_in (slice_get scripts native.script)) native.function.now.name)
+native_key scripts native = folded (native_name scripts native)
 
 -- the table has the natives by name
 abbrev pub AreTabled : List OutlineScript → Natives → Type 0
-AreTabled scripts natives = IsTableOf (native_key scripts) natives.natives.items natives.names
+AreTabled scripts natives = IsPlaceTable (native_name scripts) natives.natives.items natives.names
 
 abbrev pub IsUnbound : Native → Type 0
 IsUnbound native = native.binding ≡ None

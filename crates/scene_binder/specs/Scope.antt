@@ -1,6 +1,7 @@
 -- What is said of a part of a scene while its instances are known by a table alone: it holds of each list that has the table.
 use Rattle.std.specs.Prelude.{ℕ, List}
 use Rattle.std.specs.List.{AllZip}
+use Rattle.papy_base.specs.Table.{IsPlaceTable}
 use Rattle.core_tree.specs.declared.outline.OutlineScript.{OutlineScript}
 use Rattle.core_tree.specs.declared.scene.BoundCall.{BoundCall}
 use Rattle.core_tree.specs.declared.scene.BoundInstance.{BoundInstance}
@@ -10,13 +11,12 @@ use Rattle.core_tree.specs.declared.scene_tree.SceneValue.{SceneValue}
 use Rattle.core_tree.specs.declared.scene_tree.SceneValue.TheVariants as written
 use Rattle.core_tree.specs.declared.value.Value.{Value}
 use Rattle.scene_binder.specs.declared.binder.Instances.{Instances}
-use Rattle.scene_binder.specs.Keys.{instance_key}
+use Rattle.scene_binder.specs.Instances.{tree_name}
 use Rattle.scene_binder.specs.Meant.{IsCallMeant, IsEntryMeant, IsValueMeant}
-use Rattle.scene_binder.specs.Names.{IsTableOf}
 
 -- these are the instances that the table names
 abbrev pub AreNamed : Instances → List SceneInstance → Type 0
-AreNamed known instances = IsTableOf instance_key instances known.names
+AreNamed known instances = IsPlaceTable tree_name instances known.names
 
 abbrev pub ValueIs : Instances → SceneValue → Value → Type 0
 ValueIs known value bound = (instances : List SceneInstance) → AreNamed known instances → IsValueMeant instances value bound

@@ -1,23 +1,23 @@
 // A scene bound to an outline, step by step: its instances and what they set, what native functions do, and its calls.
-ghost use Rattle.std.specs.Prelude.{IfOk, IfSome, IsTrue, Some, length, map, slice_get, ◌↔◌, ◌≡◌, ◌≤◌};
+ghost use Rattle.std.specs.Prelude.{IfOk, IfSome, IsErrOf, IsTrue, None, OnOk, Some, is_some, length, map, slice_get, ◌↔◌, ◌≡◌, ◌≤◌};
 ghost use Rattle.std.specs.List.{All};
 ghost use Rattle.papy_base.specs.Case.{folded};
+ghost use Rattle.papy_base.specs.Table.{Notes, number_in};
 ghost use Rattle.scene_reader.specs.Limits.{CallKeeps, EntryKeeps, InstanceKeeps, KeepsLimits, NativeKeeps, ValueKeeps};
 ghost use Rattle.scene_binder.specs.Bound.{AreBoundNatives, AreOfTypes, IsBound, IsBoundCall, IsBoundEntry, IsBoundInstance, IsCallableOn, IsInstanceOf, IsOfType, MayBeNone, call_parts, instance_name, script_of};
 ghost use Rattle.scene_binder.specs.Instances.{IsInstantiable, tree_call_parts, tree_name, tree_script};
 ghost use Rattle.scene_binder.specs.Kept.{IsOfTree};
 ghost use Rattle.scene_binder.specs.Limits.{CallKeepsLimits, InstanceKeepsLimits, IsShortEntry, IsShortValue, NativeKeepsLimits, SceneKeepsLimits};
 ghost use Rattle.scene_binder.specs.Meant.{IsMeant, IsNativeMeant};
-ghost use Rattle.scene_binder.specs.Names.{number_in};
 ghost use Rattle.scene_binder.specs.Scope.{AreNamed, CallIs, CallsAre, EntriesAre, EntryIs, InstanceIs, SetIs, SetsAre, ValueIs, ValuesAre};
 
 use crate::natives::Natives;
-use crate::scripts::{NameTable, OutlineScripts};
+use crate::scripts::OutlineScripts;
 use core_tree::{
     BoundCall, BoundInstance, BoundNative, CoreType, Outline, OutlineFunction, Scene, SceneCall,
     SceneInstance, SceneTree, SceneValue, Value,
 };
-use papy_base::{Name, OutOfMemory, Text};
+use papy_base::{Name, NameTable, OutOfMemory, Text};
 use scene_reader::{SceneFault, SceneRule};
 use std::alloc::Global;
 
@@ -106,9 +106,7 @@ impl Instances {
         let mut names = NameTable::new(alloc);
         let mut scripts = Vec::with_capacity(alloc, instances.len())?;
         for (number, instance) in instances.iter().enumerate() {
-            if !names.note(alloc, instance.name.as_bytes(), number)? {
-                return Err(SceneFault::of(SceneRule::DuplicateName));
-            }
+            note_new(alloc, &mut names, &instance.name, number)?;
             scripts.push(outline.find_instantiable(alloc, instance.script.as_bytes())?)?;
         }
         Ok(Instances { names, scripts })
@@ -118,7 +116,7 @@ impl Instances {
     fn find(&self, alloc: Global, name: &Text) -> Result<Option<u16>, OutOfMemory>
         ensures { IfOk result (λ found. IfSome found (λ n. number_in self.now.names (folded name.now) ≡ Some n)) }
     {
-        let number = self.names.find(alloc, name.as_bytes())?;
+        let number = self.names.find(&Name::from_bytes(alloc, name.as_bytes())?);
         Ok(number.and_then(|number| u16::try_from(number).ok()))
     }
 
@@ -128,6 +126,20 @@ impl Instances {
     {
         self.scripts.as_slice().get(usize::from(instance)).copied()
     }
+}
+
+/// Notes the number of a name. `DuplicateName` comes where the name has one.
+fn note_new(alloc: Global, names: &mut NameTable, name: &Text, number: usize) -> Bound<()>
+    ensures noted { OnOk result (Notes names.old names.new name.now number) }
+    ensures is_new { OnOk result (number_in names.old (folded name.now) ≡ None) }
+    ensures duplicate { IsErrOf result (SceneFault.Broken SceneRule.DuplicateName) → IsTrue (is_some (number_in names.old (folded name.now))) }
+{
+    let name = Name::from_bytes(alloc, name.as_bytes())?;
+    if names.find(&name).is_some() {
+        return Err(SceneFault::of(SceneRule::DuplicateName));
+    }
+    names.note(alloc, &name, number)?;
+    Ok(())
 }
 
 /// What values may name.
@@ -181,9 +193,7 @@ impl<'s, 'a> Known<'s, 'a> {
         let mut names = NameTable::new(self.alloc);
         let mut bound = Vec::with_capacity(self.alloc, set.len())?;
         for (place, entry) in set.iter().enumerate() {
-            if !names.note(self.alloc, entry.0.as_bytes(), place)? {
-                return Err(SceneFault::of(SceneRule::DuplicateName));
-            }
+            note_new(self.alloc, &mut names, &entry.0, place)?;
             bound.push(self.bind_entry(script, &entry.0, &entry.1)?)?;
         }
         Ok(bound)

@@ -2,6 +2,7 @@
 ghost use Rattle.std.specs.Prelude.{◌≡◌, ◌↔◌, ◌<◌, ℕ, List, [], ◌∷◌, ◌++◌, length, IsTrue, IfOk, OnOk, IfSome, Some, slice_get};
 ghost use Rattle.std.specs.List.{All};
 ghost use Rattle.papy_base.specs.Case.{folded};
+ghost use Rattle.papy_base.specs.Table.{number_in};
 ghost use Rattle.core_tree.specs.declared.outline.OutlineScript.{OutlineScript};
 ghost use Rattle.core_tree.specs.declared.scene_tree.Binding.{Binding as NativeBinding};
 ghost use Rattle.scene_reader.specs.Limits.{BindingKeeps, NativeKeeps};
@@ -9,12 +10,10 @@ ghost use Rattle.scene_binder.specs.Bound.{AreBoundNatives};
 ghost use Rattle.scene_binder.specs.Limits.{NativeKeepsLimits, NativesKeepLimits};
 ghost use Rattle.scene_binder.specs.Natives.{AllowsBinding, HasDevice, IsCell, IsReply, native_place_here, native_places_from, native_places_in};
 ghost use Rattle.scene_binder.specs.Meant.{IsNativeMeant, binding_in, default_entries, full_name as named_in};
-ghost use Rattle.scene_binder.specs.Names.{number_in};
 ghost use Rattle.scene_binder.specs.NativeList.{Adds, AreBoundBy, AreMeant, AreNatives, IsFunctionOf, IsUnbound};
 
-use crate::scripts::NameTable;
 use core_tree::{Binding, BoundNative, CoreType, Outline, OutlineFunction, OutlineScript};
-use papy_base::{Name, OutOfMemory, Text};
+use papy_base::{Name, NameTable, OutOfMemory, Text};
 use scene_reader::{SceneFault, SceneRule};
 use std::alloc::Global;
 
@@ -149,7 +148,8 @@ impl<'a> Natives<'a> {
         ensures there { IfOk result (λ found. IfSome found (λ number. number < length self.now.natives.items)) }
         ensures named { IfOk result (λ found. IfSome found (λ number. number_in self.now.names (folded name.now) ≡ Some number)) }
     {
-        match self.names.find(*self.natives.allocator(), name)? {
+        let name = Name::from_bytes(*self.natives.allocator(), name)?;
+        match self.names.find(&name) {
             Some(number) if number < self.natives.len() => Ok(Some(number)),
             _ => Ok(None),
         }
@@ -208,13 +208,13 @@ impl<'a> Natives<'a> {
 }
 
 // `Script.Function`, as scenes name a native.
-fn full_name(alloc: Global, script: &Name, function: &Name) -> Result<Vec<u8>, OutOfMemory>
-    ensures { IfOk result (λ name. name.items ≡ named_in script.now function.now) }
+fn full_name(alloc: Global, script: &Name, function: &Name) -> Result<Name, OutOfMemory>
+    ensures { IfOk result (λ name. name ≡ named_in script.now function.now) }
 {
     let mut name = script.as_bytes().to_vec(alloc)?;
     name.push(b'.')?;
     name.extend_from_slice(function.as_bytes())?;
-    Ok(name)
+    Name::from_bytes(alloc, &name)
 }
 
 fn has_device(binding: Binding, devices: u16) -> bool

@@ -1,7 +1,7 @@
 use Rattle.std.proofs.Common.{take}
-use Rattle.scene_binder.specs.Keys.{property_key}
-use Rattle.scene_binder.specs.Names.{IsTableOf}
+use Rattle.papy_base.specs.Table.{IsPlaceTable}
+use Rattle.scene_binder.specs.Names.{property_name}
 use Rattle.scene_binder.proofs.scripts.property_table.Given as goal
 
 abbrev pub invariant-loop-place : goal.invariant-loop-place
-invariant-loop-place l = IsTableOf property_key (take l.place l.properties) l.table
+invariant-loop-place l = IsPlaceTable property_name (take l.place l.properties) l.table

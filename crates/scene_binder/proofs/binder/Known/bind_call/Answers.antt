@@ -4,7 +4,7 @@ use Rattle.scene_reader.specs.Limits.{IsShort, ValueKeeps}
 use Rattle.scene_binder.specs.Bound.{AreOfTypes, IsCallableOn}
 use Rattle.papy_base.specs.Case.{folded}
 use Rattle.scene_binder.specs.Meant.{IsValueMeant}
-use Rattle.scene_binder.specs.Names.{number_in}
+use Rattle.papy_base.specs.Table.{number_in}
 use Rattle.scene_binder.proofs.binder.Known.bind_call.Goals as goal
 
 pub returns-clause-bound : goal.returns-clause-bound

@@ -2,7 +2,7 @@ use Rattle.std.proofs.Common.{◌≡◌, IfSome, Some, sym, ap, subst, ◌∙◌
 use Rattle.std.specs.Option.{option_map}
 use Rattle.papy_base.specs.Case.{folded}
 use Rattle.core_tree.specs.declared.value.Value.TheVariants as values
-use Rattle.scene_binder.specs.Names.{number_in}
+use Rattle.papy_base.specs.Table.{number_in}
 use Rattle.scene_binder.proofs.binder.Known.instance_for.Goals as goal
 
 pub returns-in-Some-clause-meant : goal.returns-in-Some-clause-meant

@@ -2,7 +2,7 @@ use Rattle.std.proofs.Common.{◌≡◌, ◌<◌, Some, None, false, is_some, le
 use Rattle.std.proofs.lemmas.List.Elements.{All-set}
 use Rattle.scene_binder.specs.Limits.{MayKeepLimits}
 use Rattle.papy_base.specs.Case.{folded}
-use Rattle.scene_binder.specs.Names.{number_in}
+use Rattle.papy_base.specs.Table.{number_in}
 use Rattle.scene_binder.specs.NativeList.{MayDo}
 use Rattle.scene_binder.proofs.ListLemmas.{same_item}
 use Rattle.scene_binder.proofs.NativeLemmas.{AreBoundBy-bind, AreMeant-bind, AreNatives-bind, none_from}

@@ -1,33 +1,24 @@
-use Rattle.std.proofs.Common.{◌≡◌, ◌∙◌, None, Some, sym, ap}
-use Rattle.std.specs.Option.{option_copied}
+use Rattle.std.proofs.Common.{◌≡◌, Some, get_or, sym, ap, ◌∙◌, arith}
 use Rattle.papy_base.specs.Case.{folded}
+use Rattle.core_tree.specs.Lineage.{lineage}
 use Rattle.core_tree.specs.declared.outline.OutlineFunction.{OutlineFunction}
-use Rattle.scene_binder.specs.Members.{own_function}
-use Rattle.scene_binder.proofs.BoundLemmas.{nearest-here, nearest-next, upward-here, upward-next}
+use Rattle.scene_binder.specs.Members.{IsNearestFunction, own_function}
+use Rattle.scene_binder.proofs.LineageLemmas.{Nearest-above, lineage-nearest}
 use Rattle.scene_binder.proofs.scripts.OutlineScripts.find_function.Goals as goal
 
-pub returns-in-Some-own_function : goal.returns-in-Some-own_function
-returns-in-Some-own_function c =
+pub returns-in-Some : goal.returns-in-Some
+returns-in-Some c =
     let scripts = c.args.self.now in
-    let own = own_function scripts (folded c.args.name.now) in
-    let function = c.in-Some-own_function.function.now in
-    let bytes = c.deref.ensures.value ∙ c.in_ok-folded.ensures in
-    let is : own c.in-Some.script ≡ Some function = ap (λ bs. own_function scripts bs c.in-Some.script) (sym bytes) ∙ sym c.in-Some-own_function.ensures.first in
+    let above = c.deref-script-items.result.now in
+    let at = c.loop-script.script-index in
+    let function = c.in-Some.function.now in
+    let is : above ≡ lineage scripts c.args.first = c.deref-script-items.ensures.value ∙ c.in_ok-above.ensures ∙ ap (λ all. lineage all c.args.first) c.self.view_is in
+    let some : own_function scripts (folded c.args.name.now) (get_or above at 0) ≡ Some function = ap (λ name. own_function scripts (folded name) (get_or above at 0)) (sym c.in_ok-name.ensures) ∙ sym c.in-Some.ensures.first in
+    let nearest : IsNearestFunction scripts c.args.name.now c.args.first (get_or above at 0) function = lineage-nearest {X = OutlineFunction} scripts (own_function scripts (folded c.args.name.now)) function above c.args.first at is (record { within = omega arith; none = c.loop-script.invariant; some = some }) in
     record {
-      owner = c.in-Some.script;
-      above = upward-here scripts c.args.first c.in-Some.script c.upward.next c.in-Some.is c.upward.invariant.above;
-      there = c.in-Some-own_function.ensures.there;
-      named = c.in-Some-own_function.ensures.named ∙ bytes;
-      nearest = nearest-here {X = OutlineFunction} scripts own c.args.first c.in-Some.script c.upward.next function c.in-Some.is is c.upward.invariant.nearest;
-    }
-
-pub upward-preserved : goal.upward-preserved
-upward-preserved c =
-    let scripts = c.args.self.now in
-    let own = own_function scripts (folded c.args.name.now) in
-    let bytes = c.deref.ensures.value ∙ c.in_ok-folded.ensures in
-    let none : own c.in-Some.script ≡ None = ap (λ bs. own_function scripts bs c.in-Some.script) (sym bytes) ∙ (sym c.own_function.ensures.first ∙ ap option_copied c.in_default-own_function.is) in
-    record {
-      above = upward-next scripts c.args.first c.in-Some.script c.upward.next c.parent_of-next.result c.in-Some.is c.parent_of-next.ensures c.upward.invariant.above;
-      nearest = nearest-next {X = OutlineFunction} scripts own c.args.first c.in-Some.script c.upward.next c.parent_of-next.result c.in-Some.is c.parent_of-next.ensures none c.upward.invariant.nearest;
+      owner = get_or above at 0;
+      above = Nearest-above {X = OutlineFunction} scripts (own_function scripts (folded c.args.name.now)) nearest;
+      there = c.in-Some.ensures.there;
+      named = c.in-Some.ensures.named ∙ ap folded c.in_ok-name.ensures;
+      nearest = nearest;
     }

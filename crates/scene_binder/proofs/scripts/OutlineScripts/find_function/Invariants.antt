@@ -1,11 +1,9 @@
-use Rattle.std.proofs.Common.{ℕ, IfSome}
-use Rattle.core_tree.specs.declared.outline.OutlineFunction.{OutlineFunction}
-use Rattle.scene_binder.specs.Members.{IsNearestFunction, StandsAbove}
+use Rattle.std.proofs.Common.{ℕ, ◌≡◌, ◌<◌, None, get_or}
+use Rattle.papy_base.specs.Case.{folded}
+use Rattle.scene_binder.specs.Members.{own_function}
 use Rattle.scene_binder.proofs.scripts.OutlineScripts.find_function.Given as goal
 
--- what stands above the script that is next stands above the first one, and what is nearest to it is nearest to the first one
-abbrev pub invariant-upward : goal.invariant-upward
-invariant-upward l = record {
-  above : IfSome l.next (λ n. (a : ℕ) → StandsAbove l.self n a → StandsAbove l.self l.first a);
-  nearest : IfSome l.next (λ n. (owner : ℕ) (function : OutlineFunction) → IsNearestFunction l.self l.name n owner function → IsNearestFunction l.self l.name l.first owner function);
-}
+-- no script so far has one of its own
+abbrev pub invariant-loop-script : goal.invariant-loop-script
+invariant-loop-script l =
+    (k : ℕ) → k < l.script-index → own_function l.self (folded l.name) (get_or l.script-items k 0) ≡ None

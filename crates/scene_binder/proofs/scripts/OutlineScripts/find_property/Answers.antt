@@ -1,32 +1,21 @@
-use Rattle.std.proofs.Common.{◌≡◌, None, Some, sym, ap, ◌∙◌}
-use Rattle.std.specs.Option.{option_copied}
-use Rattle.core_tree.specs.declared.outline.OutlineProperty.{OutlineProperty}
+use Rattle.std.proofs.Common.{◌≡◌, Some, get_or, sym, ap, ◌∙◌, arith}
 use Rattle.papy_base.specs.Case.{folded}
-use Rattle.scene_binder.specs.Members.{own_property}
-use Rattle.scene_binder.proofs.BoundLemmas.{nearest-here, nearest-next, upward-here, upward-next}
+use Rattle.core_tree.specs.Lineage.{lineage}
+use Rattle.core_tree.specs.declared.outline.OutlineProperty.{OutlineProperty}
+use Rattle.scene_binder.specs.Members.{IsNearestProperty, own_property}
+use Rattle.scene_binder.proofs.LineageLemmas.{Nearest-above, lineage-nearest}
 use Rattle.scene_binder.proofs.scripts.OutlineScripts.find_property.Goals as goal
 
-pub returns-in-Some-own_property-clause-there : goal.returns-in-Some-own_property-clause-there
-returns-in-Some-own_property-clause-there c = (
-  upward-here c.args.self.now c.args.first c.in-Some.script c.upward.next c.in-Some.is c.upward.invariant.above,
-  c.in-Some-own_property.ensures.there,
-)
-
-pub returns-in-Some-own_property-clause-nearest : goal.returns-in-Some-own_property-clause-nearest
-returns-in-Some-own_property-clause-nearest c =
+pub returns-in-Some : goal.returns-in-Some
+returns-in-Some c =
     let scripts = c.args.self.now in
-    let own = own_property scripts (folded c.args.name.now) in
-    let bytes = c.deref.ensures.value ∙ c.in_ok-folded.ensures in
-    let is : own c.in-Some.script ≡ Some c.in-Some-own_property.property.now = ap (λ bs. own_property scripts bs c.in-Some.script) (sym bytes) ∙ sym c.in-Some-own_property.ensures.first in
-    nearest-here {X = OutlineProperty} scripts own c.args.first c.in-Some.script c.upward.next c.in-Some-own_property.property.now c.in-Some.is is c.upward.invariant.nearest
-
-pub upward-preserved : goal.upward-preserved
-upward-preserved c =
-    let scripts = c.args.self.now in
-    let own = own_property scripts (folded c.args.name.now) in
-    let bytes = c.deref.ensures.value ∙ c.in_ok-folded.ensures in
-    let none : own c.in-Some.script ≡ None = ap (λ bs. own_property scripts bs c.in-Some.script) (sym bytes) ∙ (sym c.own_property.ensures.first ∙ ap option_copied c.in_default-own_property.is) in
+    let above = c.deref-script-items.result.now in
+    let at = c.loop-script.script-index in
+    let property = c.in-Some.property.now in
+    let is : above ≡ lineage scripts c.args.first = c.deref-script-items.ensures.value ∙ c.in_ok-above.ensures ∙ ap (λ all. lineage all c.args.first) c.self.view_is in
+    let some : own_property scripts (folded c.args.name.now) (get_or above at 0) ≡ Some property = ap (λ name. own_property scripts (folded name) (get_or above at 0)) (sym c.in_ok-name.ensures) ∙ sym c.in-Some.ensures.first in
+    let nearest : IsNearestProperty scripts c.args.name.now c.args.first (get_or above at 0) property = lineage-nearest {X = OutlineProperty} scripts (own_property scripts (folded c.args.name.now)) property above c.args.first at is (record { within = omega arith; none = c.loop-script.invariant; some = some }) in
     record {
-      above = upward-next scripts c.args.first c.in-Some.script c.upward.next c.parent_of-next.result c.in-Some.is c.parent_of-next.ensures c.upward.invariant.above;
-      nearest = nearest-next {X = OutlineProperty} scripts own c.args.first c.in-Some.script c.upward.next c.parent_of-next.result c.in-Some.is c.parent_of-next.ensures none c.upward.invariant.nearest;
+      there = (Nearest-above {X = OutlineProperty} scripts (own_property scripts (folded c.args.name.now)) nearest, c.in-Some.ensures.there);
+      nearest = nearest;
     }

@@ -1,11 +1,9 @@
-use Rattle.std.proofs.Common.{ℕ, IfSome}
-use Rattle.core_tree.specs.declared.outline.OutlineProperty.{OutlineProperty}
-use Rattle.scene_binder.specs.Members.{IsNearestProperty, StandsAbove}
+use Rattle.std.proofs.Common.{ℕ, ◌≡◌, ◌<◌, None, get_or}
+use Rattle.papy_base.specs.Case.{folded}
+use Rattle.scene_binder.specs.Members.{own_property}
 use Rattle.scene_binder.proofs.scripts.OutlineScripts.find_property.Given as goal
 
--- what stands above the script that is next stands above the first one, and what is nearest to it is nearest to the first one
-abbrev pub invariant-upward : goal.invariant-upward
-invariant-upward l = record {
-  above : IfSome l.next (λ n. (a : ℕ) → StandsAbove l.self n a → StandsAbove l.self l.first a);
-  nearest : IfSome l.next (λ n. (owner : ℕ) (property : OutlineProperty) → IsNearestProperty l.self l.name n owner property → IsNearestProperty l.self l.name l.first owner property);
-}
+-- no script so far has one of its own
+abbrev pub invariant-loop-script : goal.invariant-loop-script
+invariant-loop-script l =
+    (k : ℕ) → k < l.script-index → own_property l.self (folded l.name) (get_or l.script-items k 0) ≡ None

@@ -1,20 +1,11 @@
-use Rattle.std.proofs.Common.{◌<◌, length, subst, ap, arith}
+use Rattle.std.proofs.Common.{arith}
 use Rattle.std.proofs.lemmas.Grind.{common_steps}
-use Rattle.papy_base.specs.Case.{folded}
-use Rattle.scene_binder.specs.Keys.{script_key}
-use Rattle.scene_binder.specs.Names.{Notes}
-use Rattle.scene_binder.proofs.NameLemmas.{IsTableOf-notes_next}
+use Rattle.scene_binder.specs.Names.{script_name}
+use Rattle.scene_binder.proofs.NameLemmas.{IsPlaceTable-next}
 use Rattle.scene_binder.proofs.scripts.OutlineScripts.new.Goals as goal
 
 pub loop-number-preserved : goal.loop-number-preserved
-loop-number-preserved c =
-    let listed = c.args.outline.now.scripts.items in
-    let number = c.loop-number.number in
-    let old = c.loop-number.numbers in
-    let new = c.note.new.self in
-    let lt : number < length listed = omega (arith, ap length c.deref-script-items.ensures.value) in
-    let noted = subst (λ bytes. Notes old new (folded bytes) number c.in_ok-note.field-0) c.as_bytes.ensures c.in_ok-note.ensures in
-    record {
-      scripts = grind (arith, common_steps);
-      named = IsTableOf-notes_next script_key listed number c.script-item.result old new c.in_ok-note.field-0 lt (cc) c.loop-number.invariant.named noted;
-    }
+loop-number-preserved c = record {
+  members = grind (arith, common_steps);
+  named = IsPlaceTable-next script_name c.as_slice-scripts.result.now c.loop-number.number c.index-scripts-number.result c.loop-number.numbers c.note.new.self c.loop-number-test.true c.index-scripts-number.is c.loop-number.invariant.named c.in_ok-note.ensures;
+}

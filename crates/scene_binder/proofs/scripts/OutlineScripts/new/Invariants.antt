@@ -1,10 +1,10 @@
 use Rattle.std.proofs.Common.{◌≡◌, map, take}
-use Rattle.scene_binder.specs.Keys.{script_key}
-use Rattle.scene_binder.specs.Names.{IsTableOf}
+use Rattle.papy_base.specs.Table.{IsPlaceTable}
+use Rattle.scene_binder.specs.Names.{script_name}
 use Rattle.scene_binder.proofs.scripts.OutlineScripts.new.Given as goal
 
 abbrev pub invariant-loop-number : goal.invariant-loop-number
 invariant-loop-number l = record {
-  scripts : map (λ members. members.script.now) l.scripts.items ≡ take l.number l.outline.scripts.items;
-  named : IsTableOf script_key (take l.number l.outline.scripts.items) l.numbers;
+  members : map (λ members. members.script.now) l.members.items ≡ take l.number l.scripts;
+  named : IsPlaceTable script_name (take l.number l.scripts) l.numbers;
 }
