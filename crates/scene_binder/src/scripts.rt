@@ -8,7 +8,7 @@ ghost use Rattle.scene_binder.specs.Members.{HasFunction, HasFunctionNamed, HasP
 ghost use Rattle.scene_binder.specs.Names.{first_of, function_name, property_name};
 
 use core_tree::{Outline, OutlineFunction, OutlineProperty, OutlineScript, is_child, lineage_of};
-use papy_base::{Name, NameTable, OutOfMemory};
+use papy_base::{LIBRARY_COUNT, Name, NameTable, OutOfMemory};
 use scene_reader::{SceneFault, SceneRule};
 use std::alloc::Global;
 use std::marker::Model;
@@ -74,9 +74,6 @@ fn function_table(alloc: Global, functions: &[OutlineFunction]) -> Result<NameTa
     }
     Ok(table)
 }
-
-// The first scripts of a set, Debug, Utility and Scene, have no instances.
-const LIBRARY_COUNT: usize = 3;
 
 /// The scripts of an outline. A name that two scripts bear means the first. Contracts see the list of them.
 #[derive(Drop)]
