@@ -5,8 +5,8 @@ use Rattle.std.proofs.lemmas.Bool.{false≢true, cond_both, and_parts, or_cases,
 use Rattle.std.proofs.lemmas.Option.{slice_get_past, slice_get_within}
 use Rattle.run_replay.specs.declared.lock_move.LockMove.{LockMove}
 use Rattle.run_replay.specs.declared.lock_move.LockMove.TheVariants as moves
-use Rattle.run_replay.specs.declared.book.Place.{Place}
-use Rattle.run_replay.specs.declared.book.Place.TheVariants as places
+use Rattle.run_replay.specs.declared.book.StackPlace.{StackPlace}
+use Rattle.run_replay.specs.declared.book.StackPlace.TheVariants as places
 use Rattle.run_replay.specs.declared.book.Stage.{Stage}
 use Rattle.run_replay.specs.declared.book.Stage.TheVariants as stages
 use Rattle.run_replay.specs.declared.book.Waiter.{Waiter}
@@ -16,37 +16,37 @@ use Rattle.run_replay.specs.Discipline.{Stands, OneHolder, InOrder, LetsGo}
 
 -- places
 
-get_other : (ps : List Place) (k j : ℕ) (p : Place) → (j ≡ k → ⊥) → slice_get (slice_set ps k p) j ≡ slice_get ps j
+get_other : (ps : List StackPlace) (k j : ℕ) (p : StackPlace) → (j ≡ k → ⊥) → slice_get (slice_set ps k p) j ≡ slice_get ps j
 get_other [] k j p ne = refl
 get_other (x ∷ xs) zero zero p ne = absurd (ne refl)
 get_other (x ∷ xs) zero (suc j) p ne = refl
 get_other (x ∷ xs) (suc k) zero p ne = refl
 get_other (x ∷ xs) (suc k) (suc j) p ne = get_other xs k j p (λ e. ne (ap suc e))
 
-get_same : (ps : List Place) (k : ℕ) (p : Place) → k < length ps → slice_get (slice_set ps k p) k ≡ Some p
+get_same : (ps : List StackPlace) (k : ℕ) (p : StackPlace) → k < length ps → slice_get (slice_set ps k p) k ≡ Some p
 get_same [] k p inside = absurd (omega arith)
 get_same (x ∷ xs) zero p inside = refl
 get_same (x ∷ xs) (suc k) p inside = get_same xs k p (omega arith)
 
-get_push : (ps qs : List Place) (j : ℕ) (p : Place) → slice_get ps j ≡ Some p → slice_get (ps ++ qs) j ≡ Some p
+get_push : (ps qs : List StackPlace) (j : ℕ) (p : StackPlace) → slice_get ps j ≡ Some p → slice_get (ps ++ qs) j ≡ Some p
 get_push [] qs j p e = absurd (cc)
 get_push (x ∷ xs) qs zero p e = e
 get_push (x ∷ xs) qs (suc j) p e = get_push xs qs j p e
 
-get_last : (ps : List Place) (p : Place) → slice_get (ps ++ p ∷ []) (length ps) ≡ Some p
+get_last : (ps : List StackPlace) (p : StackPlace) → slice_get (ps ++ p ∷ []) (length ps) ≡ Some p
 get_last [] p = refl
 get_last (x ∷ xs) p = get_last xs p
 
 -- of two stacks whose places differ under a test, each is another
-differ : (T : Option Place → Bool) (ps : List Place) (j k : ℕ) (p : Place) → slice_get ps j ≡ Some p → T (Some p) ≡ false → T (slice_get ps k) ≡ true → j ≡ k → ⊥
+differ : (T : Option StackPlace → Bool) (ps : List StackPlace) (j k : ℕ) (p : StackPlace) → slice_get ps j ≡ Some p → T (Some p) ≡ false → T (slice_get ps k) ≡ true → j ≡ k → ⊥
 differ T ps j k p here fails passes same =
     false≢true (sym fails ∙ ap T (sym here) ∙ ap (λ (n : ℕ). T (slice_get ps n)) same ∙ passes)
 
-stays : (T : Option Place → Bool) (ps : List Place) (j k : ℕ) (p q : Place) → slice_get ps j ≡ Some p → T (Some p) ≡ false → T (slice_get ps k) ≡ true → slice_get (slice_set ps k q) j ≡ Some p
+stays : (T : Option StackPlace → Bool) (ps : List StackPlace) (j k : ℕ) (p q : StackPlace) → slice_get ps j ≡ Some p → T (Some p) ≡ false → T (slice_get ps k) ≡ true → slice_get (slice_set ps k q) j ≡ Some p
 stays T ps j k p q here fails passes = get_other ps k j q (differ T ps j k p here fails passes) ∙ here
 
 -- neither waiting nor holding nor free
-abbrev pub away : Option Place → Bool
+abbrev pub away : Option StackPlace → Bool
 away (Some places.Free) = false
 away (Some (places.Waits n)) = false
 away (Some (places.Holds n)) = false
@@ -55,7 +55,7 @@ away (Some places.Done) = false
 away (Some places.Between) = true
 away None = true
 
-due_away : (turns : ℕ) (p : Option Place) → is_due turns p ≡ true → away p ≡ true
+due_away : (turns : ℕ) (p : Option StackPlace) → is_due turns p ≡ true → away p ≡ true
 due_away turns (Some places.Free) e = absurd (false≢true e)
 due_away turns (Some (places.Waits n)) e = absurd (false≢true e)
 due_away turns (Some (places.Holds n)) e = absurd (false≢true e)
@@ -64,7 +64,7 @@ due_away turns (Some places.Done) e = absurd (false≢true e)
 due_away turns (Some places.Between) e = refl
 due_away turns None e = refl
 
-between_away : (p : Option Place) → is_between p ≡ true → away p ≡ true
+between_away : (p : Option StackPlace) → is_between p ≡ true → away p ≡ true
 between_away (Some places.Free) e = absurd (false≢true e)
 between_away (Some (places.Waits n)) e = absurd (false≢true e)
 between_away (Some (places.Holds n)) e = absurd (false≢true e)
@@ -73,17 +73,17 @@ between_away (Some places.Done) e = absurd (false≢true e)
 between_away (Some places.Between) e = refl
 between_away None e = refl
 
-due_some : (turns : ℕ) (ps : List Place) (k : ℕ) → is_due turns (slice_get ps k) ≡ true → k < length ps
+due_some : (turns : ℕ) (ps : List StackPlace) (k : ℕ) → is_due turns (slice_get ps k) ≡ true → k < length ps
 due_some turns [] k e = absurd (false≢true e)
 due_some turns (x ∷ xs) zero e = omega arith
 due_some turns (x ∷ xs) (suc k) e = let rest = due_some turns xs k e in omega arith
 
-between_some : (ps : List Place) (k : ℕ) → is_between (slice_get ps k) ≡ true → k < length ps
+between_some : (ps : List StackPlace) (k : ℕ) → is_between (slice_get ps k) ≡ true → k < length ps
 between_some [] k e = absurd (false≢true e)
 between_some (x ∷ xs) zero e = omega arith
 between_some (x ∷ xs) (suc k) e = let rest = between_some xs k e in omega arith
 
-waits_is : (i : ℕ) (p : Option Place) → waits i p ≡ true → p ≡ Some (places.Waits i)
+waits_is : (i : ℕ) (p : Option StackPlace) → waits i p ≡ true → p ≡ Some (places.Waits i)
 waits_is i (Some places.Free) e = absurd (false≢true e)
 waits_is i (Some (places.Waits n)) e = ap (λ (n : ℕ). Some (places.Waits n)) (eqb-true n i e)
 waits_is i (Some (places.Holds n)) e = absurd (false≢true e)
@@ -92,7 +92,7 @@ waits_is i (Some places.Done) e = absurd (false≢true e)
 waits_is i (Some places.Between) e = absurd (false≢true e)
 waits_is i None e = absurd (false≢true e)
 
-holds_is : (i : ℕ) (p : Option Place) → holds i p ≡ true → p ≡ Some (places.Holds i)
+holds_is : (i : ℕ) (p : Option StackPlace) → holds i p ≡ true → p ≡ Some (places.Holds i)
 holds_is i (Some places.Free) e = absurd (false≢true e)
 holds_is i (Some (places.Waits n)) e = absurd (false≢true e)
 holds_is i (Some (places.Holds n)) e = ap (λ (n : ℕ). Some (places.Holds n)) (eqb-true n i e)
@@ -151,15 +151,15 @@ joins_away s k e = ⊎_elim
     (joins s k e)
 
 -- a place that isn't away stays where another stack joins
-join_stays : (s : Standing) (k i j : ℕ) (p : Place) → move_is_allowed s (moves.Join k i) ≡ true → away (Some p) ≡ false → place_of s j ≡ Some p → place_of (moved s (moves.Join k i)) j ≡ Some p
+join_stays : (s : Standing) (k i j : ℕ) (p : StackPlace) → move_is_allowed s (moves.Join k i) ≡ true → away (Some p) ≡ false → place_of s j ≡ Some p → place_of (moved s (moves.Join k i)) j ≡ Some p
 join_stays s k i j p allowed there here =
-    cond_both (k == length s.places) (s.places ++ places.Waits i ∷ []) (slice_set s.places k (places.Waits i)) (λ (qs : List Place). slice_get qs j ≡ Some p)
+    cond_both (k == length s.places) (s.places ++ places.Waits i ∷ []) (slice_set s.places k (places.Waits i)) (λ (qs : List StackPlace). slice_get qs j ≡ Some p)
     (λ new. get_push s.places (places.Waits i ∷ []) j p here)
     (λ old. stays away s.places j k p (places.Waits i) here there (joins_away s k allowed))
 
 join_waits : (s : Standing) (k i : ℕ) → move_is_allowed s (moves.Join k i) ≡ true → place_of (moved s (moves.Join k i)) k ≡ Some (places.Waits i)
 join_waits s k i allowed =
-    cond_both (k == length s.places) (s.places ++ places.Waits i ∷ []) (slice_set s.places k (places.Waits i)) (λ (qs : List Place). slice_get qs k ≡ Some (places.Waits i))
+    cond_both (k == length s.places) (s.places ++ places.Waits i ∷ []) (slice_set s.places k (places.Waits i)) (λ (qs : List StackPlace). slice_get qs k ≡ Some (places.Waits i))
     (λ new. ap (λ (n : ℕ). slice_get (s.places ++ places.Waits i ∷ []) n) (eqb-true k (length s.places) new) ∙ get_last s.places (places.Waits i))
     (λ old. get_same s.places k (places.Waits i) (⊎_elim (λ new. absurd (eqb-false k (length s.places) old new)) (λ (was : WasAway s k). was.begun) (joins s k allowed)))
 
@@ -207,10 +207,10 @@ waits_move s moves.Idle j i allowed here = inr here
 
 -- the list of waiters
 
-abbrev pub WaitsAt : List Place → Waiter → Type 0
+abbrev pub WaitsAt : List StackPlace → Waiter → Type 0
 WaitsAt ps w = slice_get ps w.stack ≡ Some (places.Waits w.instance)
 
-abbrev pub AllWait : List Place → List Waiter → Type 0
+abbrev pub AllWait : List StackPlace → List Waiter → Type 0
 AllWait ps [] = Unit {0}
 AllWait ps (w ∷ ws) = WaitsAt ps w × AllWait ps ws
 
@@ -222,15 +222,15 @@ abbrev pub Differ : List Waiter → Type 0
 Differ [] = Unit {0}
 Differ (w ∷ ws) = NoStack w.stack ws × Differ ws
 
-all_wait : (ps qs : List Place) (ws : List Waiter) → ((w : Waiter) → WaitsAt ps w → WaitsAt qs w) → AllWait ps ws → AllWait qs ws
+all_wait : (ps qs : List StackPlace) (ws : List Waiter) → ((w : Waiter) → WaitsAt ps w → WaitsAt qs w) → AllWait ps ws → AllWait qs ws
 all_wait ps qs [] keep all = tt
 all_wait ps qs (w ∷ ws) keep all = (keep w all.0, all_wait ps qs ws keep all.1)
 
-all_push : (ps : List Place) (ws : List Waiter) (x : Waiter) → AllWait ps ws → WaitsAt ps x → AllWait ps (ws ++ x ∷ [])
+all_push : (ps : List StackPlace) (ws : List Waiter) (x : Waiter) → AllWait ps ws → WaitsAt ps x → AllWait ps (ws ++ x ∷ [])
 all_push ps [] x all last = (last, tt)
 all_push ps (w ∷ ws) x all last = (all.0, all_push ps ws x all.1 last)
 
-nobody : (ps : List Place) (k : ℕ) (ws : List Waiter) → AllWait ps ws → away (slice_get ps k) ≡ true → NoStack k ws
+nobody : (ps : List StackPlace) (k : ℕ) (ws : List Waiter) → AllWait ps ws → away (slice_get ps k) ≡ true → NoStack k ws
 nobody ps k [] all passes = tt
 nobody ps k (w ∷ ws) all passes = (differ away ps w.stack k (places.Waits w.instance) all.0 refl passes, nobody ps k ws all.1 passes)
 
@@ -251,18 +251,18 @@ differ_without n [] apart = tt
 differ_without n (w ∷ ws) apart = cond_both (is_other n w) (w ∷ without_stack n ws) ws (λ (vs : List Waiter). Differ vs) (λ t. (no_without w.stack n ws apart.0, differ_without n ws apart.1)) (λ t. apart.1)
 
 -- those that stay wait on
-wait_others : (ps : List Place) (k : ℕ) (q : Place) (ws : List Waiter) → AllWait ps ws → NoStack k ws → AllWait (slice_set ps k q) ws
+wait_others : (ps : List StackPlace) (k : ℕ) (q : StackPlace) (ws : List Waiter) → AllWait ps ws → NoStack k ws → AllWait (slice_set ps k q) ws
 wait_others ps k q [] all none = tt
 wait_others ps k q (w ∷ ws) all none = (get_other ps k w.stack q none.0 ∙ all.0, wait_others ps k q ws all.1 none.1)
 
-wait_without : (ps : List Place) (k : ℕ) (q : Place) (ws : List Waiter) → AllWait ps ws → Differ ws → AllWait (slice_set ps k q) (without_stack k ws)
+wait_without : (ps : List StackPlace) (k : ℕ) (q : StackPlace) (ws : List Waiter) → AllWait ps ws → Differ ws → AllWait (slice_set ps k q) (without_stack k ws)
 wait_without ps k q [] all apart = tt
 wait_without ps k q (w ∷ ws) all apart = cond_both (is_other k w) (w ∷ without_stack k ws) ws (λ (vs : List Waiter). AllWait (slice_set ps k q) vs)
     (λ t. (get_other ps k w.stack q (eqb-false w.stack k (not-true (w.stack == k) t)) ∙ all.0, wait_without ps k q ws all.1 apart.1))
     (λ t. wait_others ps k q ws all.1 (subst (λ (n : ℕ). NoStack n ws) (eqb-true w.stack k (not-false (w.stack == k) t)) apart.0))
 
 -- the runner was ready, and nothing has moved since
-abbrev pub ReadyIfRan : List Place → List Waiter → Stage → Type 0
+abbrev pub ReadyIfRan : List StackPlace → List Waiter → Stage → Type 0
 ReadyIfRan ps ws stages.Start = Unit {0}
 ReadyIfRan ps ws stages.Instances = Unit {0}
 ReadyIfRan ps ws stages.Begun = Unit {0}
@@ -273,7 +273,7 @@ ReadyIfRan ps ws (stages.Left n) = Unit {0}
 ReadyIfRan ps ws stages.Idle = Unit {0}
 ReadyIfRan ps ws stages.Ended = Unit {0}
 
-calm : (ps : List Place) (ws : List Waiter) (stage : Stage) (k : ℕ) → ReadyIfRan ps ws (stage_after stage k)
+calm : (ps : List StackPlace) (ws : List Waiter) (stage : Stage) (k : ℕ) → ReadyIfRan ps ws (stage_after stage k)
 calm ps ws stages.Start k = tt
 calm ps ws stages.Instances k = tt
 calm ps ws stages.Begun k = tt
@@ -360,7 +360,7 @@ pub record Takes (s : Standing) (k i : ℕ) : Type 0 where
   pub free : nobody_holds i s.places ≡ true
   pub first : is_first i k s.waiters ≡ true
 
-ran_ready : (ps : List Place) (ws : List Waiter) (stage : Stage) (k : ℕ) → ReadyIfRan ps ws stage → just_ran stage k ≡ true → ready_at ps ws k (slice_get ps k) ≡ true
+ran_ready : (ps : List StackPlace) (ws : List Waiter) (stage : Stage) (k : ℕ) → ReadyIfRan ps ws stage → just_ran stage k ≡ true → ready_at ps ws k (slice_get ps k) ≡ true
 ran_ready ps ws stages.Start k ready e = absurd (false≢true e)
 ran_ready ps ws stages.Instances k ready e = absurd (false≢true e)
 ran_ready ps ws stages.Begun k ready e = absurd (false≢true e)
@@ -379,11 +379,11 @@ takes s k i good allowed =
     let both = and_parts _ _ ready in
     record { waited = waited; free = both.0; first = both.1 }
 
-holder_shows : (i : ℕ) (ps : List Place) (j : ℕ) → slice_get ps j ≡ Some (places.Holds i) → nobody_holds i ps ≡ true → ⊥
+holder_shows : (i : ℕ) (ps : List StackPlace) (j : ℕ) → slice_get ps j ≡ Some (places.Holds i) → nobody_holds i ps ≡ true → ⊥
 holder_shows i [] j here nobody = absurd (cc)
 holder_shows i (p ∷ ps) zero here nobody =
     let is : p ≡ places.Holds i = cc in
-    let unheld : not (i == i) ≡ true = ap (λ (q : Place). not (holds i (Some q))) (sym is) ∙ (and_parts _ _ nobody).0 in
+    let unheld : not (i == i) ≡ true = ap (λ (q : StackPlace). not (holds i (Some q))) (sym is) ∙ (and_parts _ _ nobody).0 in
     false≢true (sym (not-true (i == i) unheld) ∙ eq-eqb i i refl)
 holder_shows i (p ∷ ps) (suc j) here nobody = holder_shows i ps j here (and_parts _ _ nobody).1
 
@@ -440,7 +440,7 @@ among_without i j n (w ∷ ws) other among = cond_both (is_other n w) (w ∷ wit
     (λ t. ⊎_elim (λ (is : IsEntry i j w). inl is) (λ (rest : Among i j ws). inr (among_without i j n ws other rest)) among)
     (λ t. ⊎_elim (λ (is : IsEntry i j w). absurd (other (sym is.1 ∙ eqb-true w.stack n (not-false (w.stack == n) t)))) (λ (rest : Among i j ws). rest) among)
 
-among_waits : (ps : List Place) (i j : ℕ) (ws : List Waiter) → AllWait ps ws → Among i j ws → slice_get ps j ≡ Some (places.Waits i)
+among_waits : (ps : List StackPlace) (i j : ℕ) (ws : List Waiter) → AllWait ps ws → Among i j ws → slice_get ps j ≡ Some (places.Waits i)
 among_waits ps i j [] all among = absurd among
 among_waits ps i j (w ∷ ws) all among = ⊎_elim
     (λ (is : IsEntry i j w). ap (slice_get ps) (sym is.1) ∙ all.0 ∙ ap (λ (n : ℕ). Some (places.Waits n)) is.0)

@@ -3,8 +3,8 @@ use Rattle.std.specs.Prelude.{ℕ, ◌≡◌, ◌≢◌, ◌+◌, ◌-◌, ◌<�
 use Rattle.std.specs.List.{list_all}
 use Rattle.run_replay.specs.declared.lock_move.LockMove.{LockMove}
 use Rattle.run_replay.specs.declared.lock_move.LockMove.TheVariants as moves
-use Rattle.run_replay.specs.declared.book.Place.{Place}
-use Rattle.run_replay.specs.declared.book.Place.TheVariants as places
+use Rattle.run_replay.specs.declared.book.StackPlace.{StackPlace}
+use Rattle.run_replay.specs.declared.book.StackPlace.TheVariants as places
 use Rattle.run_replay.specs.declared.book.Stage.{Stage}
 use Rattle.run_replay.specs.declared.book.Stage.TheVariants as stages
 use Rattle.run_replay.specs.declared.book.Waiter.{Waiter}
@@ -24,7 +24,7 @@ pub record Standing : Type 0 where
   -- for how many turns stacks waited for each instance, up to their takes
   pub waited : List ℕ
   -- where each stack is that has begun
-  pub places : List Place
+  pub places : List StackPlace
   -- the stacks that wait, in order of joining
   pub waiters : List Waiter
 
@@ -32,11 +32,11 @@ abbrev pub start : Standing
 start = record { stage = stages.Start; names = []; turns = 0; turn = 0; waited = []; places = []; waiters = [] }
 
 -- where a stack is; a new stack is nowhere
-abbrev pub place_of : Standing → ℕ → Option Place
+abbrev pub place_of : Standing → ℕ → Option StackPlace
 place_of s stack = slice_get s.places stack
 
 -- it sleeps, and its turn has begun
-abbrev pub is_due : ℕ → Option Place → Bool
+abbrev pub is_due : ℕ → Option StackPlace → Bool
 is_due turns (Some (places.Asleep until)) = nat_lt until turns
 is_due turns (Some places.Free) = false
 is_due turns (Some (places.Waits instance)) = false
@@ -45,7 +45,7 @@ is_due turns (Some places.Done) = false
 is_due turns (Some places.Between) = false
 is_due turns None = false
 
-abbrev pub is_between : Option Place → Bool
+abbrev pub is_between : Option StackPlace → Bool
 is_between (Some places.Between) = true
 is_between (Some (places.Asleep until)) = false
 is_between (Some places.Free) = false
@@ -54,7 +54,7 @@ is_between (Some (places.Holds instance)) = false
 is_between (Some places.Done) = false
 is_between None = false
 
-abbrev pub is_free : Option Place → Bool
+abbrev pub is_free : Option StackPlace → Bool
 is_free (Some places.Free) = true
 is_free (Some places.Between) = false
 is_free (Some (places.Asleep until)) = false
@@ -63,7 +63,7 @@ is_free (Some (places.Holds instance)) = false
 is_free (Some places.Done) = false
 is_free None = false
 
-abbrev pub holds : ℕ → Option Place → Bool
+abbrev pub holds : ℕ → Option StackPlace → Bool
 holds instance (Some (places.Holds held)) = held == instance
 holds instance (Some places.Free) = false
 holds instance (Some places.Between) = false
@@ -72,7 +72,7 @@ holds instance (Some (places.Waits awaited)) = false
 holds instance (Some places.Done) = false
 holds instance None = false
 
-abbrev pub waits : ℕ → Option Place → Bool
+abbrev pub waits : ℕ → Option StackPlace → Bool
 waits instance (Some (places.Waits awaited)) = awaited == instance
 waits instance (Some places.Free) = false
 waits instance (Some places.Between) = false
@@ -81,7 +81,7 @@ waits instance (Some (places.Holds held)) = false
 waits instance (Some places.Done) = false
 waits instance None = false
 
-abbrev pub is_waiting : Option Place → Bool
+abbrev pub is_waiting : Option StackPlace → Bool
 is_waiting (Some (places.Waits awaited)) = true
 is_waiting (Some places.Free) = false
 is_waiting (Some places.Between) = false
@@ -91,10 +91,10 @@ is_waiting (Some places.Done) = false
 is_waiting None = false
 
 -- nobody sleeps whose turn has begun
-abbrev pub nobody_due : ℕ → List Place → Bool
+abbrev pub nobody_due : ℕ → List StackPlace → Bool
 nobody_due turns ps = list_all (λ place. not (is_due turns (Some place))) ps
 
-abbrev pub nobody_holds : ℕ → List Place → Bool
+abbrev pub nobody_holds : ℕ → List StackPlace → Bool
 nobody_holds instance ps = list_all (λ place. not (holds instance (Some place))) ps
 
 -- of those that wait for the instance, this stack joined first
@@ -104,7 +104,7 @@ is_first instance stack (waiter ∷ waiters) =
     if waiter.instance == instance then waiter.stack == stack else is_first instance stack waiters
 
 -- It is free or holds an instance; or nobody holds the one that it waits for, and nobody joined that one before it.
-abbrev pub ready_at : List Place → List Waiter → ℕ → Option Place → Bool
+abbrev pub ready_at : List StackPlace → List Waiter → ℕ → Option StackPlace → Bool
 ready_at ps waiters stack (Some places.Free) = true
 ready_at ps waiters stack (Some (places.Holds instance)) = true
 ready_at ps waiters stack (Some (places.Waits instance)) = nobody_holds instance ps && is_first instance stack waiters
@@ -291,11 +291,11 @@ stage_after (stages.Woken last) stack = stages.Woken stack
 stage_after stages.Idle stack = stages.Woken stack
 stage_after stages.Ended stack = stages.Woken stack
 
-abbrev pub placed : Standing → ℕ → Place → List Place
+abbrev pub placed : Standing → ℕ → StackPlace → List StackPlace
 placed s stack place = slice_set s.places stack place
 
 -- a stack moves to a place
-abbrev pub settled_at : Standing → ℕ → Place → Standing
+abbrev pub settled_at : Standing → ℕ → StackPlace → Standing
 settled_at s stack place = record s { stage = stage_after s.stage stack; places = placed s stack place }
 
 abbrev pub queued : Standing → ℕ → ℕ → List Waiter
@@ -324,7 +324,7 @@ counted [] turns counts = counts
 counted (waiter ∷ waiters) turns counts = counted waiters turns (added counts waiter.instance (turns - waiter.since))
 
 -- a stack that begins stands behind all others
-abbrev pub places_with : Standing → ℕ → Place → List Place
+abbrev pub places_with : Standing → ℕ → StackPlace → List StackPlace
 places_with s stack place = if stack == length s.places then s.places ++ place ∷ [] else placed s stack place
 
 abbrev pub stage_with : Standing → ℕ → Stage

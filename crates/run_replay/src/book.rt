@@ -17,7 +17,7 @@ const INSTANCE_LIMIT: usize = 256;
 
 /// Where a stack is that has begun.
 #[derive(Clone, Copy)]
-pub(crate) enum Place {
+pub(crate) enum StackPlace {
     /// It runs without an instance.
     Free,
     /// It waits for this instance.
@@ -32,34 +32,34 @@ pub(crate) enum Place {
 }
 
 /// Whether the stack sleeps and its turn has come, where this many turns have begun.
-fn is_due(place: Option<Place>, turns: u32) -> bool
+fn is_due(place: Option<StackPlace>, turns: u32) -> bool
     ensures { result ≡ is_due turns place }
 {
-    matches!(place, Some(Place::Asleep(until)) if until < turns)
+    matches!(place, Some(StackPlace::Asleep(until)) if until < turns)
 }
 
-fn is_between(place: Option<Place>) -> bool
+fn is_between(place: Option<StackPlace>) -> bool
     ensures { result ≡ is_between place }
 {
-    matches!(place, Some(Place::Between))
+    matches!(place, Some(StackPlace::Between))
 }
 
-fn is_free(place: Option<Place>) -> bool
+fn is_free(place: Option<StackPlace>) -> bool
     ensures { result ≡ is_free place }
 {
-    matches!(place, Some(Place::Free))
+    matches!(place, Some(StackPlace::Free))
 }
 
-fn holds(place: Option<Place>, instance: u16) -> bool
+fn holds(place: Option<StackPlace>, instance: u16) -> bool
     ensures { result ≡ holds instance place }
 {
-    matches!(place, Some(Place::Holds(held)) if held == instance)
+    matches!(place, Some(StackPlace::Holds(held)) if held == instance)
 }
 
-fn waits(place: Option<Place>, instance: u16) -> bool
+fn waits(place: Option<StackPlace>, instance: u16) -> bool
     ensures { result ≡ waits instance place }
 {
-    matches!(place, Some(Place::Waits(awaited)) if awaited == instance)
+    matches!(place, Some(StackPlace::Waits(awaited)) if awaited == instance)
 }
 
 /// A stack that waits for an instance.
@@ -192,19 +192,19 @@ fn stage_after(stage: Stage, stack: u16) -> Stage
 }
 
 // Nobody sleeps whose turn has begun.
-fn nobody_due(turns: u32, places: &[Place]) -> bool
+fn nobody_due(turns: u32, places: &[StackPlace]) -> bool
     ensures { result ≡ nobody_due turns places.now }
 {
     places.iter().all(|place| !is_due(Some(*place), turns))
 }
 
-fn nobody_holds(instance: u16, places: &[Place]) -> bool
+fn nobody_holds(instance: u16, places: &[StackPlace]) -> bool
     ensures { result ≡ nobody_holds instance places.now }
 {
     places.iter().all(|place| !holds(Some(*place), instance))
 }
 
-fn put(stack: u16, place: Place, places: &mut Vec<Place>)
+fn put(stack: u16, place: StackPlace, places: &mut Vec<StackPlace>)
     ensures { places.new.items ≡ slice_set places.old.items stack place }
 {
     let at = usize::from(stack);
@@ -220,7 +220,7 @@ pub(crate) struct Book {
     instances: Vec<(Text, u64)>,
     turns: u32,
     turn: u32,
-    places: Vec<Place>,
+    places: Vec<StackPlace>,
     waiters: Vec<Waiter>,
 }
 
@@ -255,7 +255,7 @@ impl Book {
         }
     }
 
-    fn place_of(&self, stack: u16) -> Option<Place>
+    fn place_of(&self, stack: u16) -> Option<StackPlace>
         ensures { result ≡ place_of self.now stack }
     {
         self.places.get(usize::from(stack)).copied()
@@ -265,8 +265,8 @@ impl Book {
         ensures { result ≡ is_ready self.now stack }
     {
         match self.place_of(stack) {
-            Some(Place::Free | Place::Holds(_)) => true,
-            Some(Place::Waits(instance)) => {
+            Some(StackPlace::Free | StackPlace::Holds(_)) => true,
+            Some(StackPlace::Waits(instance)) => {
                 nobody_holds(instance, self.places.as_slice())
                     && is_first(instance, stack, self.waiters.as_slice())
             }
@@ -308,7 +308,7 @@ impl Book {
         ensures { result ≡ is_settled self.now self.now.stage }
     {
         match self.stage {
-            Stage::Ran(stack) => !matches!(self.place_of(stack), Some(Place::Waits(_))),
+            Stage::Ran(stack) => !matches!(self.place_of(stack), Some(StackPlace::Waits(_))),
             Stage::Left(stack) => !is_between(self.place_of(stack)),
             _ => true,
         }
@@ -375,7 +375,7 @@ impl Book {
     }
 
     // A stack moves to a place.
-    fn settle(&mut self, stack: u16, place: Place)
+    fn settle(&mut self, stack: u16, place: StackPlace)
         ensures { self.new ≡ settled_at self.old stack place }
     {
         self.stage = stage_after(self.stage, stack);
@@ -385,7 +385,7 @@ impl Book {
     fn join(&mut self, stack: u16, instance: u16) -> Result<(), OutOfMemory>
         ensures { OnOk result (self.new ≡ joined self.old stack instance) }
     {
-        let place = Place::Waits(instance);
+        let place = StackPlace::Waits(instance);
         if usize::from(stack) == self.places.len() {
             self.stage = Stage::Begun;
             self.places.push(place)?;
@@ -408,7 +408,7 @@ impl Book {
         let waited = self.turn.saturating_sub(since);
         add_to(instance, waited, &mut self.instances);
         self.stage = Stage::Acting(stack);
-        put(stack, Place::Holds(instance), &mut self.places);
+        put(stack, StackPlace::Holds(instance), &mut self.places);
         remove_stack(stack, &mut self.waiters);
     }
 
@@ -422,11 +422,11 @@ impl Book {
             LockMove::Take(stack, instance) => self.take(stack, instance),
             LockMove::Release(stack, _) | LockMove::Leave(stack) => {
                 self.stage = Stage::Left(stack);
-                put(stack, Place::Between, &mut self.places);
+                put(stack, StackPlace::Between, &mut self.places);
             }
-            LockMove::Free(stack) => self.settle(stack, Place::Free),
-            LockMove::Sleep(stack, until) => self.settle(stack, Place::Asleep(until)),
-            LockMove::Done(stack) => self.settle(stack, Place::Done),
+            LockMove::Free(stack) => self.settle(stack, StackPlace::Free),
+            LockMove::Sleep(stack, until) => self.settle(stack, StackPlace::Asleep(until)),
+            LockMove::Done(stack) => self.settle(stack, StackPlace::Done),
             LockMove::Run(stack) => self.stage = Stage::Ran(stack),
             LockMove::Idle => self.stage = Stage::Idle,
         }

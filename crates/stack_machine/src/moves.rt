@@ -52,7 +52,7 @@ pub fn note_any<N: Notes>(moved: Option<LockMove>, notes: &mut N) -> Made<()>
 
 /// Where a stack is that has started.
 #[derive(Clone, Copy, PartialEq, Eq)]
-pub enum Place {
+pub enum StackPlace {
     /// It runs without an instance.
     Free,
     /// It waits for this instance.
@@ -66,7 +66,7 @@ pub enum Place {
 }
 
 /// The two moves of a stack from one place to another, none where it stays.
-pub fn moves_between(stack: u16, from: Place, to: Place) -> Option<(LockMove, LockMove)>
+pub fn moves_between(stack: u16, from: StackPlace, to: StackPlace) -> Option<(LockMove, LockMove)>
     ensures { IfSome result (λ moves. LetsGo stack moves.0 × Arrives stack moves.1) }
 {
     if from == to {
@@ -76,24 +76,24 @@ pub fn moves_between(stack: u16, from: Place, to: Place) -> Option<(LockMove, Lo
 }
 
 // How a stack lets go of its place.
-fn departure(stack: u16, from: Place) -> LockMove
+fn departure(stack: u16, from: StackPlace) -> LockMove
     ensures { LetsGo stack result }
 {
     match from {
-        Place::Holds(instance) => LockMove::Release(stack, instance),
+        StackPlace::Holds(instance) => LockMove::Release(stack, instance),
         _ => LockMove::Leave(stack),
     }
 }
 
 // How it finds another. No act gives a stack an instance.
-fn arrival(stack: u16, to: Place) -> Option<LockMove>
+fn arrival(stack: u16, to: StackPlace) -> Option<LockMove>
     ensures { IfSome result (Arrives stack) }
 {
     match to {
-        Place::Free => Some(LockMove::Free(stack)),
-        Place::Waits(instance) => Some(LockMove::Join(stack, instance)),
-        Place::Asleep(until) => Some(LockMove::Sleep(stack, until)),
-        Place::Done => Some(LockMove::Done(stack)),
-        Place::Holds(_) => None,
+        StackPlace::Free => Some(LockMove::Free(stack)),
+        StackPlace::Waits(instance) => Some(LockMove::Join(stack, instance)),
+        StackPlace::Asleep(until) => Some(LockMove::Sleep(stack, until)),
+        StackPlace::Done => Some(LockMove::Done(stack)),
+        StackPlace::Holds(_) => None,
     }
 }

@@ -6,7 +6,7 @@ ghost use Rattle.machine_state.specs.Savable.{IsSavable};
 
 use crate::frame::{Call, CallWay, Frame, Running};
 use crate::machine::Machine;
-use crate::moves::Place;
+use crate::moves::StackPlace;
 use crate::savable::is_savable;
 use crate::setting::{Setting, name_of};
 use crate::store::copies;
@@ -126,7 +126,7 @@ impl Teller<'_> {
         let threads = &self.world.threads;
         let mut free = Vec::new(self.alloc);
         for stack in 0..threads.count() {
-            if matches!(threads.place_of(stack), Place::Free) {
+            if matches!(threads.place_of(stack), StackPlace::Free) {
                 free.push(stack)?;
             }
         }
@@ -138,7 +138,7 @@ impl Teller<'_> {
         let threads = &self.world.threads;
         let mut asleep = Vec::new(self.alloc);
         for stack in 0..threads.count() {
-            if let Place::Asleep(until) = threads.place_of(stack) {
+            if let StackPlace::Asleep(until) = threads.place_of(stack) {
                 asleep.push((stack, until))?;
             }
         }

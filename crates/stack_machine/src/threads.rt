@@ -9,7 +9,7 @@ ghost use Rattle.stack_machine.specs.Moves.{AddsSome, AreWakes, Begins, Noted, T
 ghost use Rattle.stack_machine.specs.Threads.{GoesToWait, HasGrown, IsOn, IsSameSize, due_after, let_go, put_to_sleep, taken};
 
 use crate::frame::{Call, CallWay, FRAME_LIMIT, Frame, Stack};
-use crate::moves::{Notes, Place, note_any};
+use crate::moves::{Notes, StackPlace, note_any};
 use crate::natives::Performed;
 use crate::run::RunEnd;
 use crate::status::Status;
@@ -199,29 +199,29 @@ impl Threads {
     }
 
     /// Where a stack is that has started.
-    pub fn place_of(&self, stack: u16) -> Place {
+    pub fn place_of(&self, stack: u16) -> StackPlace {
         if stack >= self.room || self.is_done(stack) {
-            return Place::Done;
+            return StackPlace::Done;
         }
         if let Some(until) = self.sleepers.until(stack) {
-            return Place::Asleep(until);
+            return StackPlace::Asleep(until);
         }
         if let Some(instance) = self.locks.held_by(stack) {
-            return Place::Holds(instance);
+            return StackPlace::Holds(instance);
         }
         match self.locks.waits_for(stack) {
-            Some(instance) => Place::Waits(instance),
-            None => Place::Free,
+            Some(instance) => StackPlace::Waits(instance),
+            None => StackPlace::Free,
         }
     }
 
     /// What a stack that has started is doing.
     pub fn status_of(&self, stack: u16) -> Status {
         match self.place_of(stack) {
-            Place::Done => Status::Done,
-            Place::Asleep(until) => Status::Asleep(until),
-            Place::Waits(instance) if !self.is_ready(stack) => Status::Waits(instance),
-            Place::Free | Place::Waits(_) | Place::Holds(_) => Status::Ready,
+            StackPlace::Done => Status::Done,
+            StackPlace::Asleep(until) => Status::Asleep(until),
+            StackPlace::Waits(instance) if !self.is_ready(stack) => Status::Waits(instance),
+            StackPlace::Free | StackPlace::Waits(_) | StackPlace::Holds(_) => Status::Ready,
         }
     }
 

@@ -12,7 +12,7 @@ ghost use Rattle.stack_machine.specs.Threads.{HasGrown, IsSameSize};
 ghost use Rattle.stack_machine.specs.Written.{WritesLines};
 
 use crate::frame::{Call, CallWay, Frame};
-use crate::moves::{Notes, Place, moves_between, note_any};
+use crate::moves::{Notes, StackPlace, moves_between, note_any};
 use crate::operands::Turn;
 use crate::plan::PlannedCall;
 use crate::run::run_innermost;
@@ -98,7 +98,7 @@ impl World {
     }
 
     // Notes the moves of a stack's act, which began at a place.
-    fn note_act<N: Notes>(&self, stack: u16, from: Place, notes: &mut N) -> Made<()>
+    fn note_act<N: Notes>(&self, stack: u16, from: StackPlace, notes: &mut N) -> Made<()>
         ensures { MatchResult result (λ _. Noted (IsAct stack) (N.noted notes.old) (N.noted notes.new)) (λ _. AddsSome (N.noted notes.old) (N.noted notes.new)) }
     {
         let to = self.threads.place_of(stack);
