@@ -1,5 +1,5 @@
-//! Names, texts and whole numbers of Papyrus scripts, tables of names, and what stands above what by the numbers of parents:
-//! what every other crate stands on.
+//! Names, texts and whole numbers of Papyrus scripts, tables of names, what stands above what by the numbers of parents, and
+//! what every set declares: what every other crate stands on.
 #![tactic(auto)]
 
 mod decimal;
@@ -9,6 +9,7 @@ mod int;
 mod name;
 mod name_pool;
 mod name_table;
+mod prelude;
 mod text;
 
 pub use decimal::{read_int, write_int};
@@ -18,4 +19,8 @@ pub use int::{add, div, mul, neg, rem, sub};
 pub use name::Name;
 pub use name_pool::NamePool;
 pub use name_table::NameTable;
+pub use prelude::{
+    LIBRARY_COUNT, PRELUDE, PRELUDE_COUNT, STATE_MEMBERS, StandardBody, StandardFunction,
+    StandardParameter, StandardScript,
+};
 pub use text::{TEXT_LIMIT, Text};

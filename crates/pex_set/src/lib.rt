@@ -10,4 +10,5 @@ mod prelude;
 pub use inherited::{Inherited, MemberNames, MemberPlace, OwnMembers};
 pub use names::{EMPTY_NAME, FileNames, NameNumbers, folded, one_number_of_a_name, text_at};
 pub use objects::{Head, Objects};
-pub use prelude::{LIBRARY_COUNT, PRELUDE_COUNT, Prelude};
+pub use papy_base::{LIBRARY_COUNT, PRELUDE_COUNT};
+pub use prelude::Prelude;

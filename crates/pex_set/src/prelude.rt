@@ -1,19 +1,16 @@
 // The scripts that every set has, and the members of every script without parent.
-ghost use Rattle.std.specs.Prelude.{◌≡◌, vec_len, All, IfOk};
+ghost use Rattle.std.specs.Prelude.{◌≡◌, vec_len, length, All, IfOk};
 ghost use Rattle.pex_set.specs.Plain.{HasNoProperties};
 
-use papy_base::{Made, Text};
+use papy_base::{
+    Made, PRELUDE, STATE_MEMBERS, StandardBody, StandardFunction, StandardParameter,
+    StandardScript, Text,
+};
 use pex_values::{
     ASSIGN, CALL_METHOD, Datum, Instruction, Pex, PexFunction, PexObject, PexState, RETURN,
     SizeForm,
 };
 use std::alloc::Global;
-
-/// How many scripts the prelude has: Debug, Utility, Scene, Form, Quest and ObjectReference.
-pub const PRELUDE_COUNT: usize = 6;
-
-/// How many of them, the first ones, are libraries: no types, and without the members of other scripts.
-pub const LIBRARY_COUNT: usize = 3;
 
 /// What stands before the files of a set.
 #[derive(Drop)]
@@ -24,14 +21,7 @@ pub struct Prelude {
     pub members: Vec<(u16, PexFunction)>,
 }
 
-// The strings of the prelude.
-#[rattlefmt::skip]
-static STRINGS: [&str; 27] = [
-    "", "None", "Int", "String", "Debug", "Utility", "Scene", "Form", "Quest", "ObjectReference",
-    "Trace", "asTextToPrint", "aiSeverity", "RandomInt", "aiMin", "aiMax", "Sleep", "turns", "OnInit",
-    "GotoState", "GetState", "OnBeginState", "OnEndState", "asNewState", "self", "::State", "::NoneVar",
-];
-
+// The reference to the empty string.
 const EMPTY: u16 = 0;
 
 // The bits of a global native function.
@@ -44,155 +34,160 @@ impl Prelude {
         ensures members { IfOk result (λ prelude. vec_len prelude.members ≡ 4) }
         ensures plain { IfOk result (λ prelude. All HasNoProperties prelude.file.objects.items) }
     {
+        let mut strings = vec![in alloc; Text::try_from_bytes(alloc, &[])?]?;
+        let objects = objects(alloc, &mut strings)?;
+        let members = functions(alloc, &mut strings, &STATE_MEMBERS)?;
         let file = Pex {
             minor: 2,
             time: 0,
             source: Text::try_from_bytes(alloc, &[])?,
             user: Text::try_from_bytes(alloc, &[])?,
             machine: Text::try_from_bytes(alloc, &[])?,
-            strings: strings(alloc)?,
+            strings,
             debug: None,
             user_flags: Vec::new(alloc),
-            objects: objects(alloc)?,
+            objects,
         };
-        Ok(Prelude {
-            file,
-            members: members(alloc)?,
-        })
+        Ok(Prelude { file, members })
     }
 }
 
-fn strings(alloc: Global) -> Made<Vec<Text>> {
-    let mut strings = Vec::with_capacity(alloc, STRINGS.len())?;
-    for string in &STRINGS {
-        strings.push(Text::try_from_bytes(alloc, string.as_bytes())?)?;
+// The reference to a word, which stands behind the strings where they lack it.
+fn reference(alloc: Global, strings: &mut Vec<Text>, word: &str) -> Made<u16> {
+    let found = strings
+        .iter()
+        .position(|string| string.as_bytes() == word.as_bytes());
+    let place = found.unwrap_or(strings.len());
+    if found.is_none() {
+        strings.push(Text::try_from_bytes(alloc, word.as_bytes())?)?;
     }
-    Ok(strings)
+    Ok(place.min(usize::from(u16::MAX)) as u16)
 }
 
-// The reference to one of these strings.
-fn reference(wanted: &str) -> u16 {
-    let place = STRINGS.iter().position(|string| *string == wanted);
-    place.map_or(0, |place| place as u16)
-}
-
-fn objects(alloc: Global) -> Made<Vec<PexObject>>
+fn objects(alloc: Global, strings: &mut Vec<Text>) -> Made<Vec<PexObject>>
     ensures count { IfOk result (λ objects. vec_len objects ≡ 6) }
     ensures plain { IfOk result (λ objects. All HasNoProperties objects.items) }
 {
-    let traced = [("asTextToPrint", "String"), ("aiSeverity", "Int")];
-    let bounds = [("aiMin", "Int"), ("aiMax", "Int")];
-    let trace = native(alloc, "Trace", "None", &traced)?;
-    let random_int = native(alloc, "RandomInt", "Int", &bounds)?;
-    let sleep = native(alloc, "Sleep", "None", &[("turns", "Int")])?;
-    let mut objects = Vec::with_capacity(alloc, PRELUDE_COUNT)?;
-    objects.push(object(alloc, "Debug", "", trace))?;
-    objects.push(object(alloc, "Utility", "", random_int))?;
-    objects.push(object(alloc, "Scene", "", sleep))?;
-    objects.push(object(alloc, "Form", "", Vec::new(alloc)))?;
-    objects.push(object(alloc, "Quest", "Form", on_init(alloc)?))?;
-    objects.push(object(alloc, "ObjectReference", "Form", on_init(alloc)?))?;
+    let mut objects = Vec::with_capacity(alloc, PRELUDE.len())?;
+    for script in &PRELUDE {
+        objects.push(object(alloc, strings, script)?)?;
+    }
     Ok(objects)
 }
 
-fn object(alloc: Global, name: &str, parent: &str, states: Vec<PexState>) -> PexObject
-    ensures { HasNoProperties result }
+fn object(alloc: Global, strings: &mut Vec<Text>, script: &StandardScript) -> Made<PexObject>
+    ensures { IfOk result HasNoProperties }
 {
-    PexObject {
-        name: reference(name),
+    Ok(PexObject {
+        name: reference(alloc, strings, script.name)?,
         size_form: SizeForm::Counted,
-        parent: reference(parent),
+        parent: reference(alloc, strings, script.parent.unwrap_or(""))?,
         doc: EMPTY,
         flags: 0,
         auto_state: EMPTY,
         variables: Vec::new(alloc),
         properties: Vec::new(alloc),
-        states,
+        states: states(alloc, strings, script.functions)?,
+    })
+}
+
+// The empty state with these functions, and no state where there are none.
+fn states(
+    alloc: Global,
+    strings: &mut Vec<Text>,
+    declared: &[StandardFunction],
+) -> Made<Vec<PexState>> {
+    let mut states = Vec::new(alloc);
+    if !declared.is_empty() {
+        states.push(PexState {
+            name: EMPTY,
+            functions: functions(alloc, strings, declared)?,
+        })?;
     }
+    Ok(states)
 }
 
-// The empty state, with a global native function that has a result of this type.
-fn native(alloc: Global, name: &str, kind: &str, taken: &[(&str, &str)]) -> Made<Vec<PexState>> {
-    let mut parameters = Vec::with_capacity(alloc, taken.len())?;
-    for (name, declared) in taken {
-        parameters.push((reference(*name), reference(*declared)))?;
+fn functions(
+    alloc: Global,
+    strings: &mut Vec<Text>,
+    declared: &[StandardFunction],
+) -> Made<Vec<(u16, PexFunction)>>
+    ensures { IfOk result (λ functions. vec_len functions ≡ length declared.now) }
+{
+    let mut functions = Vec::with_capacity(alloc, declared.len())?;
+    for function in declared {
+        let name = reference(alloc, strings, function.name)?;
+        functions.push((name, with_body(alloc, strings, function)?))?;
     }
-    let function = PexFunction {
-        result: reference(kind),
-        bits: GLOBAL_NATIVE,
-        parameters,
-        ..event(alloc)
-    };
-    states_of(alloc, name, function)
+    Ok(functions)
 }
 
-// The empty state, with the event of an instance that begins.
-fn on_init(alloc: Global) -> Made<Vec<PexState>> {
-    states_of(alloc, "OnInit", event(alloc))
-}
-
-// The empty state, with this function alone.
-fn states_of(alloc: Global, name: &str, function: PexFunction) -> Made<Vec<PexState>> {
-    let functions = vec![in alloc; (reference(name), function)]?;
-    let state = PexState {
-        name: EMPTY,
-        functions,
-    };
-    Ok(vec![in alloc; state]?)
-}
-
-// An event without parameters that does nothing.
-fn event(alloc: Global) -> PexFunction {
-    PexFunction {
-        result: reference("None"),
+fn with_body(
+    alloc: Global,
+    strings: &mut Vec<Text>,
+    declared: &StandardFunction,
+) -> Made<PexFunction> {
+    let mut function = PexFunction {
+        result: reference(alloc, strings, declared.result.unwrap_or("None"))?,
         doc: EMPTY,
         flags: 0,
         bits: 0,
-        parameters: Vec::new(alloc),
+        parameters: parameters(alloc, strings, declared.parameters)?,
         locals: Vec::new(alloc),
         code: Vec::new(alloc),
+    };
+    match declared.body {
+        StandardBody::Native => function.bits = GLOBAL_NATIVE,
+        StandardBody::EmptyEvent => {}
+        StandardBody::ChangeState => {
+            let kind = reference(alloc, strings, "None")?;
+            function
+                .locals
+                .push((reference(alloc, strings, "::NoneVar")?, kind))?;
+            function.code = change_state(alloc, strings)?;
+        }
+        StandardBody::ReturnState => {
+            let line = instruction(alloc, strings, RETURN, &["::State"])?;
+            function.code = vec![in alloc; line]?;
+        }
     }
+    Ok(function)
 }
 
-fn members(alloc: Global) -> Made<Vec<(u16, PexFunction)>>
-    ensures { IfOk result (λ members. vec_len members ≡ 4) }
-{
-    let mut members = Vec::with_capacity(alloc, 4)?;
-    members.push((reference("GotoState"), goto_state(alloc)?))?;
-    members.push((reference("GetState"), get_state(alloc)?))?;
-    members.push((reference("OnBeginState"), event(alloc)))?;
-    members.push((reference("OnEndState"), event(alloc)))?;
-    Ok(members)
+fn parameters(
+    alloc: Global,
+    strings: &mut Vec<Text>,
+    declared: &[StandardParameter],
+) -> Made<Vec<(u16, u16)>> {
+    let mut parameters = Vec::with_capacity(alloc, declared.len())?;
+    for parameter in declared {
+        let name = reference(alloc, strings, parameter.name)?;
+        parameters.push((name, reference(alloc, strings, parameter.kind)?))?;
+    }
+    Ok(parameters)
 }
 
 // Calls OnEndState, changes the state, and calls OnBeginState.
-fn goto_state(alloc: Global) -> Made<PexFunction> {
+fn change_state(alloc: Global, strings: &mut Vec<Text>) -> Made<Vec<Instruction>> {
+    let end = ["OnEndState", "self", "::NoneVar"];
+    let begin = ["OnBeginState", "self", "::NoneVar"];
     let mut code = Vec::with_capacity(alloc, 3)?;
-    code.push(instruction(alloc, CALL_METHOD, &["OnEndState", "self", "::NoneVar"])?)?;
-    code.push(instruction(alloc, ASSIGN, &["::State", "asNewState"])?)?;
-    code.push(instruction(alloc, CALL_METHOD, &["OnBeginState", "self", "::NoneVar"])?)?;
-    Ok(PexFunction {
-        parameters: vec![in alloc; (reference("asNewState"), reference("String"))]?,
-        locals: vec![in alloc; (reference("::NoneVar"), reference("None"))]?,
-        code,
-        ..event(alloc)
-    })
-}
-
-// Gives the name of the state.
-fn get_state(alloc: Global) -> Made<PexFunction> {
-    Ok(PexFunction {
-        result: reference("String"),
-        code: vec![in alloc; instruction(alloc, RETURN, &["::State"])?]?,
-        ..event(alloc)
-    })
+    code.push(instruction(alloc, strings, CALL_METHOD, &end)?)?;
+    code.push(instruction(alloc, strings, ASSIGN, &["::State", "asNewState"])?)?;
+    code.push(instruction(alloc, strings, CALL_METHOD, &begin)?)?;
+    Ok(code)
 }
 
 // An instruction of which each operand is a name.
-fn instruction(alloc: Global, opcode: u8, names: &[&str]) -> Made<Instruction> {
+fn instruction(
+    alloc: Global,
+    strings: &mut Vec<Text>,
+    opcode: u8,
+    names: &[&str],
+) -> Made<Instruction> {
     let mut fixed = Vec::with_capacity(alloc, names.len())?;
     for name in names {
-        fixed.push(Datum::Word(reference(*name)))?;
+        fixed.push(Datum::Word(reference(alloc, strings, *name)?))?;
     }
     Ok(Instruction {
         opcode,
