@@ -21,8 +21,8 @@ pub struct StandardFunction {
     pub name: &'static str,
     /// The word of its result's type.
     pub result: Option<&'static str>,
-    pub parameters: &'static [StandardParameter],
     pub body: StandardBody,
+    pub parameters: &'static [StandardParameter],
 }
 
 /// What a function of the prelude does.
@@ -60,51 +60,40 @@ pub static PRELUDE: [StandardScript; PRELUDE_COUNT] = [
 
 #[rattlefmt::skip]
 const TRACE: StandardFunction = StandardFunction {
-    name: "Trace",
-    result: None,
+    name: "Trace", result: None, body: StandardBody::Native,
     parameters: &[
         StandardParameter { kind: "String", name: "asTextToPrint", default: None },
         StandardParameter { kind: "Int", name: "aiSeverity", default: Some(0) },
     ],
-    body: StandardBody::Native,
 };
 
 #[rattlefmt::skip]
 const RANDOM_INT: StandardFunction = StandardFunction {
-    name: "RandomInt",
-    result: Some("Int"),
+    name: "RandomInt", result: Some("Int"), body: StandardBody::Native,
     parameters: &[
         StandardParameter { kind: "Int", name: "aiMin", default: Some(0) },
         StandardParameter { kind: "Int", name: "aiMax", default: Some(100) },
     ],
-    body: StandardBody::Native,
 };
 
 #[rattlefmt::skip]
 const SLEEP: StandardFunction = StandardFunction {
-    name: "Sleep",
-    result: None,
+    name: "Sleep", result: None, body: StandardBody::Native,
     parameters: &[StandardParameter { kind: "Int", name: "turns", default: None }],
-    body: StandardBody::Native,
 };
 
-const ON_INIT: StandardFunction = StandardFunction {
-    name: "OnInit",
-    result: None,
-    parameters: &[],
-    body: StandardBody::EmptyEvent,
-};
+#[rattlefmt::skip]
+const ON_INIT: StandardFunction =
+    StandardFunction { name: "OnInit", result: None, body: StandardBody::EmptyEvent, parameters: &[] };
 
 /// The members that every script without parent has, but for the libraries, in their order.
 #[rattlefmt::skip]
 pub static STATE_MEMBERS: [StandardFunction; 4] = [
     StandardFunction {
-        name: "GotoState",
-        result: None,
+        name: "GotoState", result: None, body: StandardBody::ChangeState,
         parameters: &[StandardParameter { kind: "String", name: "asNewState", default: None }],
-        body: StandardBody::ChangeState,
     },
-    StandardFunction { name: "GetState", result: Some("String"), parameters: &[], body: StandardBody::ReturnState },
-    StandardFunction { name: "OnBeginState", result: None, parameters: &[], body: StandardBody::EmptyEvent },
-    StandardFunction { name: "OnEndState", result: None, parameters: &[], body: StandardBody::EmptyEvent },
+    StandardFunction { name: "GetState", result: Some("String"), body: StandardBody::ReturnState, parameters: &[] },
+    StandardFunction { name: "OnBeginState", result: None, body: StandardBody::EmptyEvent, parameters: &[] },
+    StandardFunction { name: "OnEndState", result: None, body: StandardBody::EmptyEvent, parameters: &[] },
 ];

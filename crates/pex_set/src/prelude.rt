@@ -21,6 +21,9 @@ pub struct Prelude {
     pub members: Vec<(u16, PexFunction)>,
 }
 
+// The strings of a file, each once.
+type Strings = Vec<Text>;
+
 // The reference to the empty string.
 const EMPTY: u16 = 0;
 
@@ -53,7 +56,7 @@ impl Prelude {
 }
 
 // The reference to a word, which stands behind the strings where they lack it.
-fn reference(alloc: Global, strings: &mut Vec<Text>, word: &str) -> Made<u16> {
+fn reference(alloc: Global, strings: &mut Strings, word: &str) -> Made<u16> {
     let found = strings
         .iter()
         .position(|string| string.as_bytes() == word.as_bytes());
@@ -64,7 +67,7 @@ fn reference(alloc: Global, strings: &mut Vec<Text>, word: &str) -> Made<u16> {
     Ok(place.min(usize::from(u16::MAX)) as u16)
 }
 
-fn objects(alloc: Global, strings: &mut Vec<Text>) -> Made<Vec<PexObject>>
+fn objects(alloc: Global, strings: &mut Strings) -> Made<Vec<PexObject>>
     ensures count { IfOk result (λ objects. vec_len objects ≡ 6) }
     ensures plain { IfOk result (λ objects. All HasNoProperties objects.items) }
 {
@@ -75,7 +78,7 @@ fn objects(alloc: Global, strings: &mut Vec<Text>) -> Made<Vec<PexObject>>
     Ok(objects)
 }
 
-fn object(alloc: Global, strings: &mut Vec<Text>, script: &StandardScript) -> Made<PexObject>
+fn object(alloc: Global, strings: &mut Strings, script: &StandardScript) -> Made<PexObject>
     ensures { IfOk result HasNoProperties }
 {
     Ok(PexObject {
@@ -92,16 +95,12 @@ fn object(alloc: Global, strings: &mut Vec<Text>, script: &StandardScript) -> Ma
 }
 
 // The empty state with these functions, and no state where there are none.
-fn states(
-    alloc: Global,
-    strings: &mut Vec<Text>,
-    declared: &[StandardFunction],
-) -> Made<Vec<PexState>> {
+fn states(alloc: Global, strings: &mut Strings, rows: &[StandardFunction]) -> Made<Vec<PexState>> {
     let mut states = Vec::new(alloc);
-    if !declared.is_empty() {
+    if !rows.is_empty() {
         states.push(PexState {
             name: EMPTY,
-            functions: functions(alloc, strings, declared)?,
+            functions: functions(alloc, strings, rows)?,
         })?;
     }
     Ok(states)
@@ -109,34 +108,30 @@ fn states(
 
 fn functions(
     alloc: Global,
-    strings: &mut Vec<Text>,
-    declared: &[StandardFunction],
+    strings: &mut Strings,
+    rows: &[StandardFunction],
 ) -> Made<Vec<(u16, PexFunction)>>
-    ensures { IfOk result (λ functions. vec_len functions ≡ length declared.now) }
+    ensures { IfOk result (λ functions. vec_len functions ≡ length rows.now) }
 {
-    let mut functions = Vec::with_capacity(alloc, declared.len())?;
-    for function in declared {
-        let name = reference(alloc, strings, function.name)?;
-        functions.push((name, with_body(alloc, strings, function)?))?;
+    let mut functions = Vec::with_capacity(alloc, rows.len())?;
+    for row in rows {
+        let name = reference(alloc, strings, row.name)?;
+        functions.push((name, function(alloc, strings, row)?))?;
     }
     Ok(functions)
 }
 
-fn with_body(
-    alloc: Global,
-    strings: &mut Vec<Text>,
-    declared: &StandardFunction,
-) -> Made<PexFunction> {
+fn function(alloc: Global, strings: &mut Strings, row: &StandardFunction) -> Made<PexFunction> {
     let mut function = PexFunction {
-        result: reference(alloc, strings, declared.result.unwrap_or("None"))?,
+        result: reference(alloc, strings, row.result.unwrap_or("None"))?,
         doc: EMPTY,
         flags: 0,
         bits: 0,
-        parameters: parameters(alloc, strings, declared.parameters)?,
+        parameters: parameters(alloc, strings, row.parameters)?,
         locals: Vec::new(alloc),
         code: Vec::new(alloc),
     };
-    match declared.body {
+    match row.body {
         StandardBody::Native => function.bits = GLOBAL_NATIVE,
         StandardBody::EmptyEvent => {}
         StandardBody::ChangeState => {
@@ -156,19 +151,19 @@ fn with_body(
 
 fn parameters(
     alloc: Global,
-    strings: &mut Vec<Text>,
-    declared: &[StandardParameter],
+    strings: &mut Strings,
+    rows: &[StandardParameter],
 ) -> Made<Vec<(u16, u16)>> {
-    let mut parameters = Vec::with_capacity(alloc, declared.len())?;
-    for parameter in declared {
-        let name = reference(alloc, strings, parameter.name)?;
-        parameters.push((name, reference(alloc, strings, parameter.kind)?))?;
+    let mut parameters = Vec::with_capacity(alloc, rows.len())?;
+    for row in rows {
+        let name = reference(alloc, strings, row.name)?;
+        parameters.push((name, reference(alloc, strings, row.kind)?))?;
     }
     Ok(parameters)
 }
 
 // Calls OnEndState, changes the state, and calls OnBeginState.
-fn change_state(alloc: Global, strings: &mut Vec<Text>) -> Made<Vec<Instruction>> {
+fn change_state(alloc: Global, strings: &mut Strings) -> Made<Vec<Instruction>> {
     let end = ["OnEndState", "self", "::NoneVar"];
     let begin = ["OnBeginState", "self", "::NoneVar"];
     let mut code = Vec::with_capacity(alloc, 3)?;
@@ -181,7 +176,7 @@ fn change_state(alloc: Global, strings: &mut Vec<Text>) -> Made<Vec<Instruction>
 // An instruction of which each operand is a name.
 fn instruction(
     alloc: Global,
-    strings: &mut Vec<Text>,
+    strings: &mut Strings,
     opcode: u8,
     names: &[&str],
 ) -> Made<Instruction> {

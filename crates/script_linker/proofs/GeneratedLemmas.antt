@@ -1,13 +1,17 @@
 -- Which members a script is given, one after the other.
-use Rattle.std.proofs.Common.{ℕ, suc, codes, ◌≡◌, ◌+◌, ◌<◌, ◌≤◌, Bool, true, false, List, [], ◌∷◌, ◌++◌, cond, map, length, take, drop, get_or, set, Option, Some, None, filter, is_some, sym, ap, subst, ◌∙◌, ⊎_elim, refl, arith}
-use Rattle.std.proofs.lemmas.List.{get_or_default, get_or-set_same, get_or-set_other, take-append-le, take_all, take_more}
-use Rattle.std.proofs.lemmas.List.Elements.{filter-append}
-use Rattle.std.proofs.lemmas.Bool.{cases_lt}
+use Rattle.std.proofs.Common.{ℕ, suc, ◌≡◌, ◌+◌, ◌<◌, ◌≤◌, Bool, true, false, List, [], ◌∷◌, ◌++◌, ◌||◌, cond, map, length, take, drop, get_or, set, Option, Some, None, filter, is_some, sym, ap, subst, ◌∙◌, ⊎_elim, refl, arith, rules, All}
+use Rattle.std.proofs.lemmas.List.{get_or_default, get_or-set_same, get_or-set_other, map_more, take-append-le, take_all}
+use Rattle.std.proofs.lemmas.List.Elements.{All-cons, All-nil, filter-append}
+use Rattle.std.specs.List.{AllByRecursion}
+use Rattle.std.proofs.lemmas.Bool.{cases_lt, cond-true}
 use Rattle.std.proofs.Math.Seq.{drop-append_seam, drop-length}
 use Rattle.script_parser.specs.declared.script.Function.{Function}
 use Rattle.script_linker.specs.declared.set.SourceFile.{SourceFile}
-use Rattle.script_linker.specs.Lookup.{StartsWithPrelude, script_name, script_parent}
-use Rattle.script_linker.specs.Generated.{IsStandard, standard_scripts, AreMembers, AreStandard, HasGiven, HaveGiven, IsMember, Member, Pairwise, given_to, Standard, is_lacking, lacking, goto_state, get_state, quiet_event}
+use Rattle.script_linker.specs.Lookup.{HasSmallScript, StartsWithPrelude, script_name, script_parent}
+use Rattle.script_linker.specs.Generated.{IsStandard, standard_scripts, AreMembers, AreStandard, HasGiven, HaveGiven, IsMember, Member, Pairwise, given_to, Standard, is_lacking, lacking, state_members}
+use Rattle.script_linker.specs.Rows.{lacking_among, member_of, standard_of}
+use Rattle.papy_base.specs.declared.prelude.StandardFunction.{StandardFunction}
+use Rattle.papy_base.specs.declared.prelude.StandardScript.{StandardScript}
 
 pub Pairwise-append : {X Y : Type 0} (R : X → Y → Type 0) (xs : List X) (ys : List Y) (vs : List X) (ws : List Y) → Pairwise R xs ys → Pairwise R vs ws → Pairwise R (xs ++ vs) (ys ++ ws)
 Pairwise-append R [] [] vs ws front back = back
@@ -15,10 +19,7 @@ Pairwise-append R [] (y ∷ ys) vs ws front back = absurd front
 Pairwise-append R (x ∷ xs) [] vs ws front back = absurd front
 Pairwise-append R (x ∷ xs) (y ∷ ys) vs ws front back = (front.0, Pairwise-append R xs ys vs ws front.1 back)
 
--- those of these members that the functions lack, and those of made functions whose names they lack
-abbrev pub lacked : List Function → List Member → List Member
-lacked functions members = filter (λ member. is_lacking functions member.name) members
-
+-- those of made functions whose names the functions lack
 abbrev pub made_for : List Function → Function → List Function
 made_for functions one = filter (λ made. is_lacking functions made.heading.name) (one ∷ [])
 
@@ -26,30 +27,33 @@ either : (b : Bool) (member : Member) (made : Function) → IsMember member made
 either true member made is = (is, tt)
 either false member made is = tt
 
-AreMembers-one : (functions : List Function) (member : Member) (made : Function) → IsMember member made → AreMembers (lacked functions (member ∷ [])) (made_for functions made)
+AreMembers-one : (functions : List Function) (member : Member) (made : Function) → IsMember member made → AreMembers (lacking_among (member ∷ []) functions) (made_for functions made)
 AreMembers-one functions member made is =
-    subst (λ name. AreMembers (lacked functions (member ∷ [])) (cond (is_lacking functions name) (made ∷ []) [])) (sym is.name) (either (is_lacking functions member.name) member made is)
+    subst (λ name. AreMembers (lacking_among (member ∷ []) functions) (cond (is_lacking functions name) (made ∷ []) [])) (sym is.name) (either (is_lacking functions member.name) member made is)
 
-AreMembers-more : (functions : List Function) (members : List Member) (before after : List Function) (member : Member) (made : Function) → AreMembers (lacked functions members) before → after ≡ before ++ made_for functions made
-    → IsMember member made → AreMembers (lacked functions (members ++ member ∷ [])) after
+AreMembers-more : (functions : List Function) (members : List Member) (before after : List Function) (member : Member) (made : Function) → AreMembers (lacking_among members functions) before → after ≡ before ++ made_for functions made
+    → IsMember member made → AreMembers (lacking_among (members ++ member ∷ []) functions) after
 AreMembers-more functions members before after member made done added is =
-    let both = Pairwise-append IsMember (lacked functions members) before (lacked functions (member ∷ [])) (made_for functions made) done (AreMembers-one functions member made is) in
+    let both = Pairwise-append IsMember (lacking_among members functions) before (lacking_among (member ∷ []) functions) (made_for functions made) done (AreMembers-one functions member made is) in
     let p : Member → Bool = λ m. is_lacking functions m.name in
     let wanted = subst (λ ms. AreMembers ms (before ++ made_for functions made)) (sym (filter-append p members (member ∷ []))) both in
-    subst (AreMembers (lacked functions (members ++ member ∷ []))) (sym added) wanted
+    subst (AreMembers (lacking_among (members ++ member ∷ []) functions)) (sym added) wanted
 
--- after the four members were added in order where they lack, what was added is what lacks
-pub lacking_added : (functions l0 l1 l2 l3 l4 : List Function) (goto get begin end : Function) → l0 ≡ [] → l1 ≡ l0 ++ made_for functions goto → l2 ≡ l1 ++ made_for functions get → l3 ≡ l2 ++ made_for functions begin
-    → l4 ≡ l3 ++ made_for functions end → IsMember goto_state goto → IsMember get_state get → IsMember (quiet_event (codes "OnBeginState")) begin → IsMember (quiet_event (codes "OnEndState")) end → AreMembers (lacking functions) l4
-lacking_added functions l0 l1 l2 l3 l4 goto get begin end none first second third fourth is_goto is_get is_begin is_end =
-    let m1 = goto_state ∷ [] in
-    let m2 = goto_state ∷ get_state ∷ [] in
-    let m3 = goto_state ∷ get_state ∷ quiet_event (codes "OnBeginState") ∷ [] in
-    let d0 : AreMembers (lacked functions []) l0 = subst (AreMembers []) (sym none) tt in
-    let d1 = AreMembers-more functions [] l0 l1 goto_state goto d0 first is_goto in
-    let d2 = AreMembers-more functions m1 l1 l2 get_state get d1 second is_get in
-    let d3 = AreMembers-more functions m2 l2 l3 (quiet_event (codes "OnBeginState")) begin d2 third is_begin in
-    AreMembers-more functions m3 l3 l4 (quiet_event (codes "OnEndState")) end d3 fourth is_end
+-- so do those of one more row
+pub lacking-more : (functions : List Function) (rows : List StandardFunction) (i : ℕ) (row : StandardFunction) (before after : List Function) (made : Function) → i < length rows → AreMembers (lacking_among (map member_of (take i rows)) functions) before
+    → after ≡ before ++ made_for functions made → IsMember (member_of (get_or rows i row)) made → AreMembers (lacking_among (map member_of (take (i + 1) rows)) functions) after
+lacking-more functions rows i row before after made inside done added is =
+    subst (λ members. AreMembers (lacking_among members functions) after) (sym (map_more member_of rows i row inside)) (AreMembers-more functions (map member_of (take i rows)) before after (member_of (get_or rows i row)) made done added is)
+
+-- no functions lack every member
+pub lacking-all : (members : List Member) → lacking_among members [] ≡ members
+lacking-all [] = refl
+lacking-all (member ∷ members) = ap (λ (rest : List Member). member ∷ rest) (lacking-all members)
+
+-- a library and a script with a parent have the functions of their rows
+pub own_members : (row : StandardScript) → (row.is_library || is_some row.parent) ≡ true → lacking_among (map member_of row.functions.now) [] ≡ (standard_of row).members
+own_members row own =
+    lacking-all (map member_of row.functions.now) ∙ sym (cond-true (row.is_library || is_some row.parent) (map member_of row.functions.now) state_members own)
 
 -- ---- one file
 
@@ -135,7 +139,27 @@ StartsWithPrelude-standard files are =
       parents = ap (map script_parent) whole ∙ Pairwise-map IsStandard row_parent script_parent (λ row file is. is.parent) standard_scripts files are;
     }
 
--- behind the first things stands the next one
-pub Pairwise-more : {X Y : Type 0} (R : X → Y → Type 0) (xs : List X) (ys : List Y) (n : ℕ) (x : X) (y : Y) → n < length xs → Pairwise R (take n xs) ys → R (get_or xs n x) y → Pairwise R (take (n + 1) xs) (ys ++ y ∷ [])
-Pairwise-more R xs ys n x y lt front one =
-    subst (λ first. Pairwise R first (ys ++ y ∷ [])) (sym (take_more xs n x lt)) (Pairwise-append R (take n xs) ys (get_or xs n x ∷ []) (y ∷ []) front (one, tt))
+-- behind what the first rows declare stands what the next one declares
+pub Pairwise-more : {W X Y : Type 0} (R : X → Y → Type 0) (f : W → X) (rows : List W) (before after : List Y) (i : ℕ) (row : W) (y : Y) → i < length rows → Pairwise R (map f (take i rows)) before → after ≡ before ++ y ∷ []
+    → R (f (get_or rows i row)) y → Pairwise R (map f (take (i + 1) rows)) after
+Pairwise-more R f rows before after i row y inside front is one =
+    let more = Pairwise-append R (map f (take i rows)) before (f (get_or rows i row) ∷ []) (y ∷ []) front (one, tt) in
+    subst (λ first. Pairwise R first after) (sym (map_more f rows i row inside)) (subst (Pairwise R (map f (take i rows) ++ f (get_or rows i row) ∷ [])) (sym is) more)
+
+abbrev pub HasFewRows : Standard → Type 0
+HasFewRows row = length row.members < 65536
+
+small_file : (row : Standard) (file : SourceFile) → HasFewRows row → IsStandard row file → HasSmallScript file
+small_file row file few is =
+    let count = Pairwise-length IsMember row.members file.script.functions.items is.functions in
+    (omega (arith, count), subst (λ properties. length properties < 65536) (sym is.properties) (omega arith))
+
+pub small_files : (rows : List Standard) (files : List SourceFile) → AllByRecursion HasFewRows rows → AreStandard rows files → All HasSmallScript files
+small_files [] [] few are = All-nil HasSmallScript
+small_files [] (file ∷ files) few are = absurd are
+small_files (row ∷ rows) [] few are = absurd are
+small_files (row ∷ rows) (file ∷ files) few are =
+    All-cons HasSmallScript file files (small_file row file few.0 are.0) (small_files rows files few.1 are.1)
+
+pub small_standard : (files : List SourceFile) → AreStandard standard_scripts files → All HasSmallScript files
+small_standard files are = small_files standard_scripts files (search rules) are

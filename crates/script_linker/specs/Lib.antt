@@ -1,5 +1,6 @@
 pub mod Found
 pub mod Generated
+pub mod Rows
 pub mod Index
 pub mod Link
 pub mod Lookup

@@ -11,11 +11,11 @@ ghost use Rattle.script_linker.specs.Link.{AreFilesOf, AreResolved, IsFaultOf, I
 use crate::declarations::places;
 use crate::fault::LinkFault;
 use crate::parents::parent_numbers;
-use crate::prelude::{PRELUDE_COUNT, add_generated, prelude_files};
+use crate::prelude::{add_generated, prelude_files};
 use crate::rules::{Found, member_fault, script_fault};
 use crate::scripts::Scripts;
 use crate::set::{ScriptSet, SourceFile};
-use papy_base::{Made, NameTable, OutOfMemory, on_circles};
+use papy_base::{Made, NameTable, OutOfMemory, PRELUDE_COUNT, on_circles};
 use std::alloc::Global;
 
 /// The set of these files, of which there are fewer than 65,530.

@@ -1,24 +1,22 @@
-// The six scripts that every set begins with, and the four members that every script without parent has. Their lines
-// and flags are 0.
-ghost use Rattle.std.specs.Prelude.{◌≡◌, ◌<◌, ◌++◌, false, None, List, [], ◌∷◌, All, IfOk, OnOk, codes, filter, slice_index_or, vec_len};
+// The six scripts that every set begins with, and the four members that every script without parent has, from the rows of
+// their table. Their lines and flags are 0.
+ghost use Rattle.std.specs.Prelude.{◌≡◌, ◌++◌, None, List, [], ◌∷◌, All, IfOk, OnOk, codes, filter, is_none, map, option_map, vec_len};
 ghost use Rattle.papy_base.specs.Case.{folded};
-ghost use Rattle.script_linker.specs.Generated.{AreMembers, AreStandard, Calls, Does, HasGiven, HaveGiven, IsMember, IsStandard, IsStatement, Member, Pairwise, Returns, Sets, Standard, acts_of_goto, get_state, goto_state, is_lacking, is_native_body, lacking, plain_type, quiet_event, random_int, sleep, standard_child, standard_scripts, trace};
+ghost use Rattle.papy_base.specs.Table.{place_of};
+ghost use Rattle.script_linker.specs.Generated.{AreMembers, AreStandard, Calls, Does, HasGiven, HaveGiven, IsBody, IsMember, IsStandard, IsStatement, Pairwise, Returns, Sets, acts_of_goto, is_lacking, lacking, plain_type, standard_scripts};
 ghost use Rattle.script_linker.specs.Link.{IsCompleted, AreCompleted};
 ghost use Rattle.script_linker.specs.Lookup.{HasSmallScript, StartsWithPrelude, function_name};
-ghost use Rattle.papy_base.specs.Table.{place_of};
+ghost use Rattle.script_linker.specs.Rows.{acts_of, is_event, lacking_among, member_of, parameter_of, standard_of};
 
 use crate::set::SourceFile;
 use line_parser::{Constant, Expr, Heading, Parameter, TypeName};
-use papy_base::{Name, OutOfMemory, Text};
+use papy_base::{
+    Name, OutOfMemory, PRELUDE, STATE_MEMBERS, StandardBody, StandardFunction, StandardParameter,
+    StandardScript, Text,
+};
 use script_lexer::Sign;
 use script_parser::{Body, Function, Script, Statement, StatementForm};
 use std::alloc::Global;
-
-/// How many scripts the prelude has. They have the numbers from 0 on.
-pub(crate) const PRELUDE_COUNT: usize = 6;
-
-/// How many scripts of the prelude, its first ones, are libraries and no types: Debug, Utility and Scene.
-pub(crate) const LIBRARY_COUNT: usize = 3;
 
 /// The variable that holds the name of an instance's state. No script can write this word.
 const STATE_WORD: &[u8] = b"::State";
@@ -31,53 +29,29 @@ pub(crate) fn prelude_files(alloc: Global) -> Result<Vec<SourceFile>, OutOfMemor
     ensures few { IfOk result (λ files. All HasSmallScript files.items) }
     ensures standard { IfOk result (λ files. AreStandard standard_scripts files.items) }
 {
-    let mut files = Vec::with_capacity(alloc, PRELUDE_COUNT)?;
-    for number in 0..PRELUDE_COUNT {
-        files.push(prelude_file(alloc, number)?)?;
+    declared_files(alloc, &PRELUDE)
+}
+
+fn declared_files(alloc: Global, rows: &[StandardScript]) -> Result<Vec<SourceFile>, OutOfMemory>
+    ensures { IfOk result (λ files. AreStandard (map standard_of rows.now) files.items) }
+{
+    let mut files = Vec::with_capacity(alloc, rows.len())?;
+    for row in rows {
+        files.push(declared_file(alloc, row)?)?;
     }
     Ok(files)
 }
 
-fn prelude_file(alloc: Global, number: usize) -> Result<SourceFile, OutOfMemory>
-    requires { number < 6 }
-    ensures few { IfOk result HasSmallScript }
-    ensures standard { (row : Standard) → IfOk result (IsStandard (slice_index_or standard_scripts number row)) }
-{
-    match number {
-        0 => file(alloc, b"Debug", None, one(alloc, trace(alloc)?)?),
-        1 => file(alloc, b"Utility", None, one(alloc, random_int(alloc)?)?),
-        2 => file(alloc, b"Scene", None, one(alloc, sleep(alloc)?)?),
-        3 => file(alloc, b"Form", None, lacking_members(alloc, &[])?),
-        4 => child_of_form(alloc, b"Quest"),
-        _ => child_of_form(alloc, b"ObjectReference"),
-    }
-}
-
-// A script that extends Form and has an empty event OnInit.
-fn child_of_form(alloc: Global, name: &[u8]) -> Result<SourceFile, OutOfMemory>
-    ensures few { IfOk result HasSmallScript }
-    ensures standard { IfOk result (IsStandard (standard_child name.now)) }
-{
-    let form = Name::from_bytes(alloc, b"Form")?;
-    let functions = one(alloc, empty_event(alloc, b"OnInit")?)?;
-    file(alloc, name, Some(form), functions)
-}
-
-// A script of the prelude.
-fn file(
-    alloc: Global,
-    name: &[u8],
-    parent: Option<Name>,
-    functions: Vec<Function>,
-) -> Result<SourceFile, OutOfMemory>
-    ensures few { vec_len functions < 65536 → IfOk result HasSmallScript }
-    ensures standard { (members : List Member) → AreMembers members functions.items
-        → IfOk result (IsStandard (record { name = name.now; parent = parent; members = members })) }
+// The script that the row declares, in a file without a name.
+fn declared_file(alloc: Global, row: &StandardScript) -> Result<SourceFile, OutOfMemory>
+    ensures { IfOk result (IsStandard (standard_of row.now)) }
 {
     let file_name = Text::try_from_bytes(alloc, b"")?;
-    let script_name = Name::from_bytes(alloc, name)?;
+    let name = Name::from_bytes(alloc, row.name.as_bytes())?;
+    let parent = optional_name(alloc, row.parent)?;
+    let functions = file_functions(alloc, row)?;
     let script = Script {
-        name: script_name,
+        name,
         line: 0,
         parent,
         flags: 0,
@@ -95,42 +69,15 @@ fn file(
     })
 }
 
-fn one(alloc: Global, function: Function) -> Result<Vec<Function>, OutOfMemory>
-    ensures { IfOk result (λ functions. functions.items ≡ function ∷ []) }
+// A type without parent has the members of such scripts, and any other script what its row has.
+fn file_functions(alloc: Global, row: &StandardScript) -> Result<Vec<Function>, OutOfMemory>
+    ensures { IfOk result (λ functions. AreMembers (standard_of row.now).members functions.items) }
 {
-    Ok(vec![in alloc; function]?)
-}
-
-// `Trace(String asTextToPrint, Int aiSeverity = 0)`
-fn trace(alloc: Global) -> Result<Function, OutOfMemory>
-    ensures { IfOk result (IsMember trace) }
-{
-    let name = Name::from_bytes(alloc, b"Trace")?;
-    let mut parameters = Vec::with_capacity(alloc, 2)?;
-    parameters.push(parameter(alloc, b"String", b"asTextToPrint", None)?)?;
-    parameters.push(parameter(alloc, b"Int", b"aiSeverity", Some(Constant::Int(0)))?)?;
-    Ok(member(None, name, parameters, Body::Native))
-}
-
-// `Int Function RandomInt(Int aiMin = 0, Int aiMax = 100)`
-fn random_int(alloc: Global) -> Result<Function, OutOfMemory>
-    ensures { IfOk result (IsMember random_int) }
-{
-    let whole = type_name(alloc, b"Int")?;
-    let name = Name::from_bytes(alloc, b"RandomInt")?;
-    let mut parameters = Vec::with_capacity(alloc, 2)?;
-    parameters.push(parameter(alloc, b"Int", b"aiMin", Some(Constant::Int(0)))?)?;
-    parameters.push(parameter(alloc, b"Int", b"aiMax", Some(Constant::Int(100)))?)?;
-    Ok(member(Some(whole), name, parameters, Body::Native))
-}
-
-// `Sleep(Int turns)`
-fn sleep(alloc: Global) -> Result<Function, OutOfMemory>
-    ensures { IfOk result (IsMember sleep) }
-{
-    let name = Name::from_bytes(alloc, b"Sleep")?;
-    let parameters = vec![in alloc; parameter(alloc, b"Int", b"turns", None)?]?;
-    Ok(member(None, name, parameters, Body::Native))
+    if row.is_library || row.parent.is_some() {
+        lacking_functions(alloc, &[], row.functions)
+    } else {
+        lacking_members(alloc, &[])
+    }
 }
 
 /// Adds to each script without parent those of the members GotoState, GetState, OnBeginState and
@@ -162,11 +109,21 @@ fn complete(alloc: Global, file: &mut SourceFile) -> Result<(), OutOfMemory>
 fn lacking_members(alloc: Global, functions: &[Function]) -> Result<Vec<Function>, OutOfMemory>
     ensures { IfOk result (λ added. AreMembers (lacking functions.now) added.items) }
 {
-    let mut added = Vec::with_capacity(alloc, 4)?;
-    add_lacking(&mut added, functions, goto_state(alloc)?)?;
-    add_lacking(&mut added, functions, get_state(alloc)?)?;
-    add_lacking(&mut added, functions, empty_event(alloc, b"OnBeginState")?)?;
-    add_lacking(&mut added, functions, empty_event(alloc, b"OnEndState")?)?;
+    lacking_functions(alloc, functions, &STATE_MEMBERS)
+}
+
+// What those of the rows declare whose names these functions lack.
+fn lacking_functions(
+    alloc: Global,
+    functions: &[Function],
+    rows: &[StandardFunction],
+) -> Result<Vec<Function>, OutOfMemory>
+    ensures { IfOk result (λ added. AreMembers (lacking_among (map member_of rows.now) functions.now) added.items) }
+{
+    let mut added = Vec::with_capacity(alloc, rows.len())?;
+    for row in rows {
+        add_lacking(&mut added, functions, declared_function(alloc, row)?)?;
+    }
     Ok(added)
 }
 
@@ -196,16 +153,79 @@ fn first_named(functions: &[Function], name: &Name) -> Option<usize>
         .position(|function| name.same(&function.heading.name))
 }
 
-// `GotoState(String asNewState)`, which calls OnEndState, changes the state, and calls OnBeginState.
-fn goto_state(alloc: Global) -> Result<Function, OutOfMemory>
-    ensures { IfOk result (IsMember goto_state) }
+// The function that the row declares. A native one is Global too.
+fn declared_function(alloc: Global, row: &StandardFunction) -> Result<Function, OutOfMemory>
+    ensures { IfOk result (IsMember (member_of row.now)) }
 {
-    let name = Name::from_bytes(alloc, b"GotoState")?;
-    let parameters = vec![in alloc; parameter(alloc, b"String", b"asNewState", None)?]?;
-    let lines = goto_lines(alloc)?;
-    Ok(member(None, name, parameters, Body::Lines(lines)))
+    let name = Name::from_bytes(alloc, row.name.as_bytes())?;
+    let result_word = optional_name(alloc, row.result)?;
+    let parameters = parameters(alloc, row.parameters)?;
+    let body = body(alloc, row.body)?;
+    let is_native = is_native(row.body);
+    Ok(Function {
+        heading: Heading {
+            result: result_word.map(|word| plain_type(word)),
+            name,
+            parameters,
+            is_event: is_event(row.body),
+            is_global: is_native,
+            is_native,
+            flags: 0,
+        },
+        doc: None,
+        body,
+        line: 0,
+        end_line: 0,
+    })
 }
 
+fn is_native(body: StandardBody) -> bool
+    ensures { result ≡ is_none (acts_of body) }
+{
+    matches!(body, StandardBody::Native)
+}
+
+fn is_event(body: StandardBody) -> bool
+    ensures { result ≡ is_event body }
+{
+    matches!(body, StandardBody::EmptyEvent)
+}
+
+fn optional_name(alloc: Global, word: Option<&str>) -> Result<Option<Name>, OutOfMemory>
+    ensures { IfOk result (λ name. name ≡ option_map (λ word. word.now) word.entry) }
+{
+    match word {
+        Some(word) => Ok(Some(Name::from_bytes(alloc, word.as_bytes())?)),
+        None => Ok(None),
+    }
+}
+
+fn parameters(alloc: Global, rows: &[StandardParameter]) -> Result<Vec<Parameter>, OutOfMemory>
+    ensures { IfOk result (λ parameters. parameters.items ≡ map parameter_of rows.now) }
+{
+    let mut parameters = Vec::with_capacity(alloc, rows.len())?;
+    for row in rows {
+        parameters.push(Parameter {
+            kind: plain_type(Name::from_bytes(alloc, row.kind.as_bytes())?),
+            name: Name::from_bytes(alloc, row.name.as_bytes())?,
+            default: row.default.map(|value| Constant::Int(value)),
+        })?;
+    }
+    Ok(parameters)
+}
+
+fn body(alloc: Global, body: StandardBody) -> Result<Body, OutOfMemory>
+    ensures { IfOk result (IsBody (acts_of body)) }
+{
+    match body {
+        StandardBody::Native => Ok(Body::Native),
+        StandardBody::EmptyEvent => Ok(Body::Lines(Vec::new(alloc))),
+        StandardBody::ChangeState => Ok(Body::Lines(goto_lines(alloc)?)),
+        StandardBody::ReturnState => Ok(Body::Lines(get_lines(alloc)?)),
+    }
+}
+
+// Calls OnEndState, changes the state, and calls OnBeginState.
 fn goto_lines(alloc: Global) -> Result<Vec<Statement>, OutOfMemory>
     ensures { IfOk result (λ lines. Pairwise IsStatement acts_of_goto lines.items) }
 {
@@ -228,16 +248,7 @@ fn state_change(alloc: Global) -> Result<StatementForm, OutOfMemory>
     })
 }
 
-// `String GetState()`, which gives the name of the state.
-fn get_state(alloc: Global) -> Result<Function, OutOfMemory>
-    ensures { IfOk result (IsMember get_state) }
-{
-    let text = type_name(alloc, b"String")?;
-    let name = Name::from_bytes(alloc, b"GetState")?;
-    let lines = get_lines(alloc)?;
-    Ok(member(Some(text), name, Vec::new(alloc), Body::Lines(lines)))
-}
-
+// Returns the name of the state.
 fn get_lines(alloc: Global) -> Result<Vec<Statement>, OutOfMemory>
     ensures { IfOk result (λ lines. Pairwise IsStatement (Returns (codes "::State") ∷ []) lines.items) }
 {
@@ -246,74 +257,14 @@ fn get_lines(alloc: Global) -> Result<Vec<Statement>, OutOfMemory>
     Ok(vec![in alloc; line]?)
 }
 
-// An event without parameters that does nothing.
-fn empty_event(alloc: Global, name: &[u8]) -> Result<Function, OutOfMemory>
-    ensures { IfOk result (IsMember (quiet_event name.now)) }
-{
-    let name = Name::from_bytes(alloc, name)?;
-    let mut event = member(None, name, Vec::new(alloc), Body::Lines(Vec::new(alloc)));
-    event.heading.is_event = true;
-    Ok(event)
-}
-
-// A function, Global and Native where it has no lines.
-fn member(kind: Option<TypeName>, name: Name, parameters: Vec<Parameter>, body: Body) -> Function
-    ensures { result ≡ record {
-      heading = record { result = kind; name = name; parameters = parameters; is_event = false; is_global = is_native_body body; is_native = is_native_body body; flags = 0 };
-      doc = None;
-      body = body;
-      line = 0;
-      end_line = 0;
-    } }
-{
-    let is_native = is_native(&body);
-    Function {
-        heading: Heading {
-            result: kind,
-            name,
-            parameters,
-            is_event: false,
-            is_global: is_native,
-            is_native,
-            flags: 0,
-        },
-        doc: None,
-        body,
-        line: 0,
-        end_line: 0,
-    }
-}
-
-fn is_native(body: &Body) -> bool
-    ensures { result ≡ is_native_body body.now }
-{
-    matches!(body, Body::Native)
-}
-
-fn parameter(
-    alloc: Global,
-    kind: &[u8],
-    name: &[u8],
-    default: Option<Constant>,
-) -> Result<Parameter, OutOfMemory>
-    ensures { IfOk result
-        (λ made. made ≡ record { kind = plain_type kind.now; name = name.now; default = default }) }
-{
-    Ok(Parameter {
-        kind: type_name(alloc, kind)?,
-        name: Name::from_bytes(alloc, name)?,
-        default,
-    })
-}
-
 // A type that is no array.
-fn type_name(alloc: Global, word: &[u8]) -> Result<TypeName, OutOfMemory>
-    ensures { IfOk result (λ kind. kind ≡ plain_type word.now) }
+fn plain_type(word: Name) -> TypeName
+    ensures { result ≡ plain_type word }
 {
-    Ok(TypeName {
-        word: Name::from_bytes(alloc, word)?,
+    TypeName {
+        word,
         is_array: false,
-    })
+    }
 }
 
 fn statement(form: StatementForm) -> Statement

@@ -13,12 +13,11 @@ ghost use Rattle.script_parser.specs.Lines.{accessors, function_line, heading_li
 
 use crate::declarations::{Declared, note_lines};
 use crate::fault::LinkRule;
-use crate::prelude::{LIBRARY_COUNT, PRELUDE_COUNT};
 use crate::scripts::Scripts;
 use crate::set::SourceFile;
 use crate::signatures::{has_late_parameter, is_accessor, is_plain_event, is_word, same_signature};
 use line_parser::TypeName;
-use papy_base::{Name, NameTable, OutOfMemory};
+use papy_base::{LIBRARY_COUNT, Name, NameTable, OutOfMemory, PRELUDE_COUNT};
 use script_parser::{Function, Property, PropertyForm, Script, State};
 use std::alloc::Global;
 

@@ -1,5 +1,5 @@
 use Rattle.std.proofs.Common.{◌≡◌, vec_len}
 use Rattle.pex_set.proofs.prelude.functions.Given as goal
 
-abbrev pub invariant-loop-function : goal.invariant-loop-function
-invariant-loop-function l = vec_len l.functions ≡ l.function-index
+abbrev pub invariant-loop-row : goal.invariant-loop-row
+invariant-loop-row l = vec_len l.functions ≡ l.row-index
