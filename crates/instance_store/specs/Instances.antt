@@ -1,5 +1,6 @@
 -- The instances of a world, by number: the text of each one's state, and the values of its variables.
-use Rattle.std.specs.Prelude.{ℕ, zero, suc, ◌==◌, List, [], ◌∷◌, Option, Some, None, length, map, position, slice_get, slice_index_or, slice_set}
+use Rattle.std.specs.Prelude.{ℕ, ◌==◌, List, [], ◌∷◌, Option, Some, None, map, position, slice_get, slice_index_or, slice_set}
+use Rattle.core_tree.specs.Lineage.{lineage}
 use Rattle.core_tree.specs.declared.value.Value.{Value}
 use Rattle.core_tree.specs.declared.value.Value.TheVariants.{NoneValue}
 use Rattle.core_tree.specs.declared.outline.OutlineScript.{OutlineScript}
@@ -57,20 +58,6 @@ instance_with instance script variable value =
     record instance { scripts = scripts_with instance.scripts script variable value }
 
 -- ---- the start
-abbrev pub parent_of : Option OutlineScript → Option ℕ
-parent_of None = None
-parent_of (Some script) = script.parent
-
--- the scripts from this one upward, at most so many
-abbrev pub upward : ℕ → List OutlineScript → Option ℕ → List ℕ
-upward zero scripts next = []
-upward (suc left) scripts None = []
-upward (suc left) scripts (Some script) = script ∷ upward left scripts (parent_of (slice_get scripts script))
-
--- a script and its parents: as many as there are scripts are enough
-abbrev pub lineage : List OutlineScript → ℕ → List ℕ
-lineage scripts script = upward (length scripts) scripts (Some script)
-
 abbrev pub initial_values_of : Option OutlineScript → List Value
 initial_values_of None = []
 initial_values_of (Some script) = map (λ variable. variable.value) script.variables.items

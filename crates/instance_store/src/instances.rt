@@ -3,10 +3,10 @@
 ghost use Rattle.std.specs.Prelude.{◌≡◌, ◌↔◌, ◌<◌, List, ℕ, IfOk, OnErr, IsTrue, length, map, slice_get, slice_set};
 ghost use Rattle.std.specs.Option.{option_copied};
 ghost use Rattle.instance_store.specs.Values.{is_text};
-ghost use Rattle.instance_store.specs.Instances.{instance_at, place_of, values_of, variable_of, scripts_with, instance_with, lineage, parent_of, auto_state_of, initial_values, initial_values_of, start_state, started};
+ghost use Rattle.instance_store.specs.Instances.{instance_at, place_of, values_of, variable_of, scripts_with, instance_with, auto_state_of, initial_values, initial_values_of, start_state, started};
 
 use crate::values::copy_of;
-use core_tree::{BoundInstance, Outline, OutlineScript, OutlineVariable, Scene, Value};
+use core_tree::{BoundInstance, Outline, OutlineScript, OutlineVariable, Scene, Value, lineage_of};
 use papy_base::{Made, Name, Text};
 use std::alloc::Global;
 use std::marker::Model;
@@ -212,37 +212,13 @@ fn start_instance(
 ) -> Made<Instance>
     ensures { IfOk result (λ found. found ≡ started scripts.now instance.now) }
 {
-    let above = lineage(alloc, scripts, instance.script)?;
+    let above = lineage_of(alloc, scripts, instance.script)?;
     let state = start_state(alloc, scripts, &above)?;
     let mut variables = all_initial_values(alloc, scripts, &above)?;
     for entry in &instance.set {
         write(&mut variables, entry.0, entry.1, copy_of(alloc, &entry.2)?);
     }
     Ok(Instance::new(state, variables))
-}
-
-/// A script and its parents, upward.
-pub fn lineage(alloc: Global, scripts: &[OutlineScript], script: u16) -> Made<Vec<u16>>
-    ensures { IfOk result (λ above. above.items ≡ lineage scripts.now script) }
-{
-    let mut above = Vec::new(alloc);
-    let mut next = Some(script);
-    let mut left = scripts.len();
-    while left > 0 {
-        left -= 1;
-        let Some(script) = next else {
-            break;
-        };
-        above.push(script)?;
-        next = parent_of(scripts, script);
-    }
-    Ok(above)
-}
-
-fn parent_of(scripts: &[OutlineScript], script: u16) -> Option<u16>
-    ensures { result ≡ parent_of (slice_get scripts.now script) }
-{
-    scripts.get(usize::from(script))?.parent
 }
 
 fn start_state(alloc: Global, scripts: &[OutlineScript], above: &[u16]) -> Made<Text>

@@ -6,5 +6,5 @@ mod instances;
 mod values;
 
 pub use arrays::{Arrays, StoreFault};
-pub use instances::{Instance, Instances, ScriptVariables, lineage};
+pub use instances::{Instance, Instances, ScriptVariables};
 pub use values::equals;

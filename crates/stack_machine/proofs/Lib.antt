@@ -2,7 +2,6 @@ pub mod AsMany
 pub mod Begun
 pub mod Noting
 pub mod Planning
-pub mod Scripts
 pub mod Seats
 pub mod Sinks
 pub mod Starts

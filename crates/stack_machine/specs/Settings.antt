@@ -1,11 +1,9 @@
 -- What is found among loaded scripts.
-use Rattle.std.specs.Prelude.{ℕ, ◌-◌, ◌==◌, List, Bool, Option, Some, None, length, slice_get}
-use Rattle.std.specs.List.{list_any}
+use Rattle.std.specs.Prelude.{ℕ, ◌-◌, List, Option, Some, None, length, slice_get}
 use Rattle.std.specs.Option.{option_and_then, option_map, option_or}
 use Rattle.core_tree.specs.declared.core_type.CoreType.{CoreType}
 use Rattle.core_tree.specs.declared.core_type.CoreType.TheVariants as kinds
 use Rattle.core_tree.specs.declared.outline.OutlineScript.{OutlineScript}
-use Rattle.instance_store.specs.Instances.{lineage}
 use Rattle.pex_verify.specs.declared.loaded.LoadedFunction.{LoadedFunction}
 use Rattle.pex_verify.specs.declared.loaded.LoadedProperty.{LoadedProperty}
 use Rattle.pex_verify.specs.declared.loaded.LoadedScript.{LoadedScript}
@@ -29,10 +27,6 @@ abbrev pub function_of : List LoadedScript → FunctionPlace → Option LoadedFu
 function_of scripts (bodies.Method at) = method_at scripts at
 function_of scripts (bodies.Reader at) = option_and_then (λ property. property.read) (property_at scripts at)
 function_of scripts (bodies.Writer at) = option_and_then (λ property. property.write) (property_at scripts at)
-
--- ---- scripts above scripts
-abbrev pub is_above : List OutlineScript → ℕ → ℕ → Bool
-is_above scripts child parent = list_any (λ script. script == parent) (lineage scripts child)
 
 -- ---- the types of what operands store
 abbrev pub slot_type : LoadedFunction → ℕ → Option CoreType

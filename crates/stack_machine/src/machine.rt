@@ -284,9 +284,12 @@ impl Machine {
     ///
     /// # Errors
     ///
-    /// `OutOfMemory` comes only of a text.
+    /// `OutOfMemory` comes where there is no room.
     pub fn property_at(&self, instance: u16, property: u32) -> Made<Value> {
-        match self.setting.property_place(instance, property) {
+        match self
+            .setting
+            .property_place(self.world.alloc, instance, property)?
+        {
             Some((script, variable)) => self.world.store.variable(instance, script, variable),
             None => Ok(Value::NoneValue),
         }

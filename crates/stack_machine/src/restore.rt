@@ -16,8 +16,8 @@ use crate::status::RestoreFault;
 use crate::store::Store;
 use crate::threads::Threads;
 use crate::world::World;
-use core_tree::{CoreType, Outline, Scene, Value};
-use instance_store::{Arrays, Instance, Instances, ScriptVariables, lineage};
+use core_tree::{CoreType, Outline, Scene, Value, lineage_of};
+use instance_store::{Arrays, Instance, Instances, ScriptVariables};
 use latent_natives::{Device, load_device};
 use machine_state::{FrameState, MachineState};
 use papy_base::{Made, OutOfMemory, Text};
@@ -205,7 +205,7 @@ fn revived_scripts(
     script: u16,
     values: &mut Vec<Value>,
 ) -> Made<Vec<ScriptVariables>> {
-    let numbers = lineage(alloc, &outline.scripts, script)?;
+    let numbers = lineage_of(alloc, &outline.scripts, script)?;
     let mut scripts = Vec::with_capacity(alloc, numbers.len())?;
     for number in &numbers {
         if let Some(found) = outline.scripts.get(usize::from(*number)) {

@@ -2,13 +2,13 @@
 
 ghost use Rattle.std.specs.Prelude.{◌≡◌, slice_get};
 ghost use Rattle.std.specs.Option.{option_copied, option_map};
-ghost use Rattle.instance_store.specs.Instances.{parent_of};
+ghost use Rattle.core_tree.specs.Lineage.{is_above, parent_of};
 ghost use Rattle.machine_state.specs.Savable.{name_of};
-ghost use Rattle.stack_machine.specs.Settings.{function_of, is_above, method_at, property_at, slot_type, type_of};
+ghost use Rattle.stack_machine.specs.Settings.{function_of, method_at, property_at, slot_type, type_of};
 
 use crate::frame::{CallWay, FunctionPlace};
 use crate::plan::Plan;
-use core_tree::{CoreType, Scene};
+use core_tree::{CoreType, Scene, is_child, lineage_of, parent_of};
 use machine_state::{BodyPlace, Way};
 use papy_base::{Made, Name};
 use pex_verify::{Loaded, LoadedFunction, LoadedProperty, MethodPlace, Operand, PropertyPlace};
@@ -82,8 +82,7 @@ impl Setting {
     pub fn parent_of(&self, script: u16) -> Option<u16>
         ensures { result ≡ parent_of (slice_get self.now.loaded.outline script) }
     {
-        let scripts = &self.loaded.outline().scripts;
-        scripts.get(usize::from(script))?.parent
+        parent_of(&self.loaded.outline().scripts, script)
     }
 
     /// The number of an instance's script.
@@ -94,21 +93,10 @@ impl Setting {
     }
 
     /// Whether the second script is the first one or stands above it.
-    #[tactic(auto, using(crate::proofs::Scripts::steps_upward))]
     pub fn is_child(&self, child: u16, parent: u16) -> bool
         ensures { result ≡ is_above self.now.loaded.outline child parent }
     {
-        let mut script = child;
-        for _ in 0..self.loaded.outline().scripts.len() {
-            if script == parent {
-                return true;
-            }
-            let Some(above) = self.parent_of(script) else {
-                return false;
-            };
-            script = above;
-        }
-        false
+        is_child(&self.loaded.outline().scripts, child, parent)
     }
 
     /// The type of what is stored in an operand of a script's function, none where what is stored is dropped.
@@ -219,34 +207,30 @@ impl Setting {
         Some(CallWay::Global(found))
     }
 
-    /// The script and the variable of an instance's Auto property of this number, in the order of the report.
-    pub fn property_place(&self, instance: u16, property: u32) -> Option<(u16, u16)> {
+    /// The script and the variable of an instance's Auto property of this number, in the order of the report: those of
+    /// the root script come first.
+    pub fn property_place(
+        &self,
+        alloc: Global,
+        instance: u16,
+        property: u32,
+    ) -> Made<Option<(u16, u16)>> {
+        let Some(script) = self.script_of(instance) else {
+            return Ok(None);
+        };
         let scripts = &self.loaded.outline().scripts;
-        let (mut script, property) = (self.script_of(instance)?, property as usize);
-        let mut above = self.properties_upward(script);
-        for _ in 0..scripts.len() {
-            let found = scripts.get(usize::from(script))?;
-            above = above.saturating_sub(found.properties.len());
-            if property >= above {
-                return Some((script, found.properties.get(property - above)?.variable));
-            }
-            script = found.parent?;
-        }
-        None
-    }
-
-    // How many Auto properties a script and those above it have.
-    fn properties_upward(&self, script: u16) -> usize {
-        let scripts = &self.loaded.outline().scripts;
-        let (mut count, mut next) = (0usize, Some(script));
-        for _ in 0..scripts.len() {
-            let Some(found) = next.and_then(|number| scripts.get(usize::from(number))) else {
-                break;
+        let mut left = property as usize;
+        let above = lineage_of(alloc, scripts, script)?;
+        for number in above.iter().rev() {
+            let Some(found) = scripts.get(usize::from(*number)) else {
+                continue;
             };
-            count = count.saturating_add(found.properties.len());
-            next = found.parent;
+            if let Some(property) = found.properties.get(left) {
+                return Ok(Some((*number, property.variable)));
+            }
+            left = left.saturating_sub(found.properties.len());
         }
-        count
+        Ok(None)
     }
 }
 
