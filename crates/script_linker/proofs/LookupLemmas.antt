@@ -1,5 +1,5 @@
 -- What a step upward is in the list of files, and what it leaves of the look-ups.
-use Rattle.std.proofs.Common.{All, ℕ, zero, suc, [], ◌∷◌, ◌≡◌, ◌≢◌, ◌<◌, ◌≤◌, List, length, map, get_or, Option, Some, None, IfSome, IsTrue, is_some, not, Bool, true, false, ◌↔◌, option_and_then, refl, sym, ap, subst, ◌∙◌, ⊎_elim, arith}
+use Rattle.std.proofs.Common.{All, ℕ, suc, ◌∷◌, ◌≡◌, ◌≢◌, ◌<◌, ◌≤◌, List, length, get_or, Option, Some, None, IfSome, IsTrue, is_some, not, Bool, true, false, ◌↔◌, option_and_then, refl, sym, ap, subst, ◌∙◌, ⊎_elim, arith}
 use Rattle.std.proofs.lemmas.List.{length-map}
 use Rattle.std.proofs.lemmas.List.{get_or_default, get_or_past}
 use Rattle.std.proofs.lemmas.Bool.{cases_lt}

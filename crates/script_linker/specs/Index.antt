@@ -1,5 +1,5 @@
 -- What scripts with tables keep.
-use Rattle.std.specs.Prelude.{ℕ, ◌≡◌, ◌<◌, List, length, Option, Some, slice_index, slice_index_or}
+use Rattle.std.specs.Prelude.{ℕ, ◌≡◌, ◌<◌, List, length, Option, slice_index_or}
 use Rattle.papy_base.specs.declared.name_table.NameTable.{NameTable}
 use Rattle.script_linker.specs.declared.set.SourceFile.{SourceFile}
 use Rattle.papy_base.specs.Lineage.{AreAmong, AreRooted}

@@ -1,5 +1,5 @@
 -- What the look-ups of a set of scripts find, said of the list of its files.
-use Rattle.std.specs.Prelude.{ℕ, ◌≡◌, ◌<◌, ◌≤◌, List, [], ◌∷◌, take, codes, nat_lt, if◌then◌else◌, length, map, Option, Some, None, option_and_then, slice_get, slice_index, slice_index_or}
+use Rattle.std.specs.Prelude.{ℕ, ◌≡◌, ◌<◌, ◌≤◌, List, [], ◌∷◌, take, codes, length, map, Option, Some, None, option_and_then, slice_get, slice_index_or}
 use Rattle.papy_base.specs.Case.{folded}
 use Rattle.script_parser.specs.declared.script.Script.{Script}
 use Rattle.script_parser.specs.declared.script.Function.{Function}

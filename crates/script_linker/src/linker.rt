@@ -15,7 +15,7 @@ use crate::prelude::{add_generated, prelude_files};
 use crate::rules::{Found, member_fault, script_fault};
 use crate::scripts::Scripts;
 use crate::set::{ScriptSet, SourceFile};
-use papy_base::{Made, NameTable, OutOfMemory, PRELUDE_COUNT, on_circles};
+use papy_base::{NameTable, OutOfMemory, PRELUDE_COUNT, on_circles};
 use std::alloc::Global;
 
 /// The set of these files, of which there are fewer than 65,530.

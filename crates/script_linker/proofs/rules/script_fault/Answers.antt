@@ -1,7 +1,6 @@
 use Rattle.std.proofs.Common.{true, false, ⊎_elim, ◌≡◌, ◌-◌, None, IsSome, map, get_or, subst, sym, ap, refl, ◌∙◌}
 use Rattle.std.proofs.lemmas.List.{get_or_default, get_or-map}
 use Rattle.std.proofs.lemmas.Bool.{cases_Bool}
-use Rattle.papy_base.specs.Circles.{is_marked}
 use Rattle.papy_base.specs.Case.{folded}
 use Rattle.script_parser.specs.Lines.{heading_lines, import_line}
 use Rattle.script_linker.specs.Link.{IsResolved}
