@@ -7,8 +7,8 @@ ghost use Rattle.papy_io.specs.Sink.{Appended, AppendsSome};
 ghost use Rattle.scene_runner.specs.Report.{Closes};
 
 use crate::lines::{instance_line, property_line, stack_line, turns_line};
-use core_tree::OutlineProperty;
-use papy_base::OutOfMemory;
+use core_tree::{OutlineProperty, lineage_of};
+use papy_base::Made;
 use papy_io::{IoFault, Sink};
 use stack_machine::{Machine, TurnFault};
 use std::alloc::Global;
@@ -117,22 +117,9 @@ fn properties_of(machine: &Machine, script: u16) -> &[OutlineProperty] {
 }
 
 // The script of an instance, and those above it in turn.
-fn scripts_of(alloc: Global, machine: &Machine, instance: u16) -> Result<Vec<u16>, OutOfMemory> {
-    let mut found = Vec::new(alloc);
-    let scripts = &machine.outline().scripts;
-    let mut next = match machine.scene().instances.get(usize::from(instance)) {
-        Some(bound) => Some(bound.script),
-        None => None,
-    };
-    for _ in 0..scripts.len() {
-        let Some(script) = next else {
-            break;
-        };
-        found.push(script)?;
-        next = match scripts.get(usize::from(script)) {
-            Some(outline) => outline.parent,
-            None => None,
-        };
+fn scripts_of(alloc: Global, machine: &Machine, instance: u16) -> Made<Vec<u16>> {
+    match machine.scene().instances.get(usize::from(instance)) {
+        Some(bound) => lineage_of(alloc, &machine.outline().scripts, bound.script),
+        None => Ok(Vec::new(alloc)),
     }
-    Ok(found)
 }

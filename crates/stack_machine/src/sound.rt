@@ -11,7 +11,7 @@ use crate::restore::{ARRAY_LIMIT, ELEMENT_LIMIT};
 use crate::savable::{is_element_type, pairs_ascend, sleepers_ascend, stacks_ascend};
 use crate::setting::{Found, Setting, slot_type};
 use crate::threads::ALL_FRAMES;
-use core_tree::{BoundCall, CoreType, DeviceKind, Scene, Value};
+use core_tree::{BoundCall, CoreType, DeviceKind, Scene, Value, lineage_of};
 use machine_state::{BodyPlace, FrameState, MachineState, Way};
 use papy_base::{Descent, Made, TEXT_LIMIT};
 use pex_verify::{LoadedFunction, LoadedInstruction, action_of};
@@ -60,7 +60,7 @@ fn descent_of(alloc: Global, setting: &Setting) -> Made<Descent> {
 impl Judged<'_> {
     // What is sound beside the numbers of turns, stacks and instances.
     fn is_sound(&self) -> Made<bool> {
-        if !self.has_sound_values()
+        if !self.has_sound_values()?
             || !has_sound_stacks(self.state)
             || !has_sound_locks(self.alloc, self.state)?
         {
@@ -86,41 +86,54 @@ impl Judged<'_> {
 
     // Instances have as many values as their scripts have variables, of their types, arrays have 1 to 128 elements of theirs,
     // and devices are what loading them with their own cells and place makes.
-    fn has_sound_values(&self) -> bool {
-        let (state, bound) = (self.state, &self.setting.scene.instances);
-        state.instances.iter().zip(bound).all(|(instance, bound)| {
-            instance.0.as_bytes().len() <= TEXT_LIMIT && self.fit_scripts(&instance.1, bound.script)
-        }) && state.arrays.len() <= usize::from(ARRAY_LIMIT)
-            && state
-                .arrays
-                .iter()
-                .all(|array| self.is_sound_array(array.0, &array.1))
-            && state
-                .devices
-                .iter()
-                .all(|device| is_sound_device(device.0, &device.1, device.2))
+    fn has_sound_values(&self) -> Made<bool> {
+        let state = self.state;
+        Ok(
+            self.has_sound_instances()?
+                && state.arrays.len() <= usize::from(ARRAY_LIMIT)
+                && state
+                    .arrays
+                    .iter()
+                    .all(|array| self.is_sound_array(array.0, &array.1))
+                && state
+                    .devices
+                    .iter()
+                    .all(|device| is_sound_device(device.0, &device.1, device.2)),
+        )
+    }
+
+    fn has_sound_instances(&self) -> Made<bool> {
+        let bound = &self.setting.scene.instances;
+        for (instance, bound) in self.state.instances.iter().zip(bound) {
+            if instance.0.as_bytes().len() > TEXT_LIMIT
+                || !self.fit_scripts(&instance.1, bound.script)?
+            {
+                return Ok(false);
+            }
+        }
+        Ok(true)
     }
 
     // Whether values are those of a script and all above it. The script's own stand last.
-    fn fit_scripts(&self, values: &[Value], script: u16) -> bool {
+    fn fit_scripts(&self, values: &[Value], script: u16) -> Made<bool> {
         let scripts = &self.setting.loaded.outline().scripts;
-        let (mut left, mut next) = (values, Some(script));
-        for _ in 0..scripts.len() {
-            let Some(outline) = next.and_then(|number| scripts.get(usize::from(number))) else {
+        let numbers = lineage_of(self.alloc, scripts, script)?;
+        let mut left = values;
+        for number in &numbers {
+            let Some(outline) = scripts.get(usize::from(*number)) else {
                 break;
             };
             if left.len() < outline.variables.len() {
-                return false;
+                return Ok(false);
             }
             let (above, own) = left.split_at(left.len() - outline.variables.len());
             let mut own = own.iter().zip(&outline.variables);
             if !own.all(|(value, variable)| self.fits(value, Some(variable.kind))) {
-                return false;
+                return Ok(false);
             }
             left = above;
-            next = outline.parent;
         }
-        left.is_empty()
+        Ok(left.is_empty())
     }
 
     // The script that the type of an array's elements names is there.
