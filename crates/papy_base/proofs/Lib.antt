@@ -5,6 +5,7 @@ pub mod Lists
 pub mod WalkLemmas
 pub mod OrderLemmas
 pub mod ReachLemmas
+pub mod StandingLemmas
 pub mod DescentLemmas
 pub mod CircleLemmas
 pub mod ClimbLemmas

@@ -29,3 +29,14 @@ AreAmong parents = All (λ parent. IfSome parent (λ n. n < length parents)) par
 abbrev pub AreRooted : List (Option ℕ) → Type 0
 AreRooted parents =
     (object : ℕ) → object < length parents → lineage parents (Some object) ≡ object ∷ lineage parents (parent_of parents object)
+
+-- the second object is the first itself or stands above it
+pub data StandsAbove (parents : List (Option ℕ)) : ℕ → ℕ → Type 0 where
+  itself : (n : ℕ) → StandsAbove parents n n
+  further : (n p a : ℕ) → parent_of parents n ≡ Some p → StandsAbove parents p a → StandsAbove parents n a
+
+-- from an object upward, the first that has something of its own, with what it has
+pub data Nearest {X : Type 0} (parents : List (Option ℕ)) (own : ℕ → Option X) : ℕ → Option (ℕ × X) → Type 0 where
+  here : (n : ℕ) (x : X) → own n ≡ Some x → Nearest parents own n (Some (n, x))
+  further : (n p : ℕ) (found : Option (ℕ × X)) → own n ≡ None → parent_of parents n ≡ Some p → Nearest parents own p found → Nearest parents own n found
+  nowhere : (n : ℕ) → own n ≡ None → parent_of parents n ≡ None → Nearest parents own n None

@@ -1,4 +1,5 @@
 ghost use Rattle.std.specs.Prelude.{◌≡◌};
+ghost use Rattle.papy_base.specs.declared.faults.Fault.TheVariants.{OutOfMemory as NoMemory};
 ghost use Rattle.papy_base.specs.declared.faults.JoinFault.TheVariants.{OutOfMemory as JoinOutOfMemory};
 
 use std::alloc::{AllocError, AllocFailed};
@@ -21,6 +22,39 @@ impl From<AllocError> for OutOfMemory {
 impl<T: Drop> From<AllocFailed<T>> for OutOfMemory {
     fn from(_error: AllocFailed<T>) -> OutOfMemory {
         OutOfMemory
+    }
+}
+
+/// Why a part gives nothing, before its place is known: what is broken in it, or that no memory was found.
+#[derive(Clone, Copy, PartialEq, Eq)]
+pub enum Fault<B> {
+    /// What is broken.
+    Broken(B),
+    /// No memory was found.
+    OutOfMemory,
+}
+
+impl<B> From<OutOfMemory> for Fault<B> {
+    ghost from_gives = { λ _ fault. fault ≡ NoMemory };
+
+    fn from(_error: OutOfMemory) -> Fault<B> {
+        Fault::OutOfMemory
+    }
+}
+
+impl<B> From<AllocError> for Fault<B> {
+    ghost from_gives = { λ _ fault. fault ≡ NoMemory };
+
+    fn from(_error: AllocError) -> Fault<B> {
+        Fault::OutOfMemory
+    }
+}
+
+impl<B, T: Drop> From<AllocFailed<T>> for Fault<B> {
+    ghost from_gives = { λ _ fault. fault ≡ NoMemory };
+
+    fn from(_error: AllocFailed<T>) -> Fault<B> {
+        Fault::OutOfMemory
     }
 }
 

@@ -6,6 +6,7 @@ mod decimal;
 mod descent;
 mod faults;
 mod int;
+mod lineage;
 mod name;
 mod name_pool;
 mod name_table;
@@ -14,11 +15,12 @@ mod text;
 
 pub use decimal::{read_int, write_int};
 pub use descent::{Descent, Span, on_circles};
-pub use faults::{JoinFault, Made, OutOfMemory, StackFault};
+pub use faults::{Fault, JoinFault, Made, OutOfMemory, StackFault};
 pub use int::{add, div, mul, neg, rem, sub};
+pub use lineage::{HasParent, Lineage, is_below, lineage_of, parent_of, upward};
 pub use name::Name;
 pub use name_pool::NamePool;
-pub use name_table::NameTable;
+pub use name_table::{NameTable, Named};
 pub use prelude::{
     LIBRARY_COUNT, PRELUDE, PRELUDE_COUNT, STATE_MEMBERS, StandardBody, StandardFunction,
     StandardParameter, StandardScript,

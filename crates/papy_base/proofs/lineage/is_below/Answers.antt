@@ -1,0 +1,4 @@
+use Rattle.papy_base.proofs.lineage.is_below.Goals as goal
+
+pub returns : goal.returns
+returns g c = ?
