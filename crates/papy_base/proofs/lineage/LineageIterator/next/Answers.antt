@@ -26,3 +26,8 @@ returns-clause-steps g c =
     ∙ ap (upward way.left parents) (search rules)
     ∙ upward-some way.left parents c.in_ok-here.here some
     ∙ ap (λ next. c.in_ok-here.here ∷ upward (way.left - 1) parents next) (sym c.parent_of-self-inside.ensures)
+
+pub returns-clause-goes : goal.returns-clause-goes
+returns-clause-goes g c =
+    let shorter = ap length (returns-clause-steps g c) in
+    record { on = λ _. (tt, tt, omega (arith, shorter)); keeps = tt; rests = λ _. tt }
