@@ -8,7 +8,9 @@ pub const LIBRARY_COUNT: usize = 3;
 
 /// What a script of the prelude declares.
 pub struct StandardScript {
+    /// Its name.
     pub name: &'static str,
+    /// The name of its parent, none where it has none.
     pub parent: Option<&'static str>,
     /// Whether it is one of the libraries.
     pub is_library: bool,
@@ -18,10 +20,13 @@ pub struct StandardScript {
 
 /// What a function of the prelude declares, or a member that every script without parent has.
 pub struct StandardFunction {
+    /// Its name.
     pub name: &'static str,
-    /// The word of its result's type.
+    /// The word of its result's type, none where it gives nothing.
     pub result: Option<&'static str>,
+    /// What it does.
     pub body: StandardBody,
+    /// Its parameters, in their order.
     pub parameters: &'static [StandardParameter],
 }
 
@@ -42,6 +47,7 @@ pub enum StandardBody {
 pub struct StandardParameter {
     /// The word of its type.
     pub kind: &'static str,
+    /// Its name.
     pub name: &'static str,
     /// The value where an argument is left out. Such a parameter has the type Int.
     pub default: Option<i32>,
