@@ -5,3 +5,4 @@ pub mod Outlines
 pub mod Scenes
 pub mod Set
 pub mod Tree
+pub mod Values

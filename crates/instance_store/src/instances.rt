@@ -2,10 +2,9 @@
 
 ghost use Rattle.std.specs.Prelude.{◌≡◌, ◌↔◌, ◌<◌, List, ℕ, IfOk, OnErr, IsTrue, length, map, slice_get, slice_set};
 ghost use Rattle.std.specs.Option.{option_copied};
-ghost use Rattle.instance_store.specs.Values.{is_text};
+ghost use Rattle.core_tree.specs.Values.{is_text};
 ghost use Rattle.instance_store.specs.Instances.{instance_at, place_of, values_of, variable_of, scripts_with, instance_with, auto_state_of, initial_values, initial_values_of, start_state, started};
 
-use crate::values::copy_of;
 use core_tree::{BoundInstance, Outline, OutlineScript, OutlineVariable, Scene, Value, lineage_of};
 use papy_base::{Made, Name, Text};
 use std::alloc::Global;
@@ -83,7 +82,7 @@ impl Instance {
         let Some(place) = place_of(self.scripts.as_slice(), script) else {
             unreachable!();
         };
-        copy_of(alloc, &self.scripts[place].values[usize::from(variable)])
+        self.scripts[place].values[usize::from(variable)].try_clone(alloc)
     }
 }
 
@@ -216,7 +215,7 @@ fn start_instance(
     let state = start_state(alloc, scripts, &above)?;
     let mut variables = all_initial_values(alloc, scripts, &above)?;
     for entry in &instance.set {
-        write(&mut variables, entry.0, entry.1, copy_of(alloc, &entry.2)?);
+        write(&mut variables, entry.0, entry.1, entry.2.try_clone(alloc)?);
     }
     Ok(Instance::new(state, variables))
 }
@@ -267,7 +266,7 @@ fn values_of(alloc: Global, variables: &[OutlineVariable]) -> Made<Vec<Value>>
 {
     let mut values = Vec::with_capacity(alloc, variables.len())?;
     for variable in variables {
-        values.push(copy_of(alloc, &variable.value)?)?;
+        values.push(variable.value.try_clone(alloc)?)?;
     }
     Ok(values)
 }
