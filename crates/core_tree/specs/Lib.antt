@@ -1,6 +1,5 @@
 pub mod Device
 pub mod InRange
-pub mod Lineage
 pub mod Outlines
 pub mod Scenes
 pub mod Set
