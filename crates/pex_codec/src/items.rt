@@ -11,7 +11,7 @@ ghost use Rattle.pex_codec.specs.Reading.{Reader, items_at, list_at};
 ghost use Rattle.pex_codec.specs.Taking.{Takes};
 ghost use Rattle.pex_codec.specs.Writing.{counted_fits, Writes, FitEach, FitsAsList};
 
-use crate::cursor::{Cursor, Stop};
+use crate::cursor::{Cursor, Taken};
 use crate::faults::EncodeFault;
 use byteorder::{BigEndian, ByteOrder};
 use papy_base::Text;
@@ -39,7 +39,7 @@ pub(crate) trait Item: Drop {
     /// Its bytes.
     ghost spelling: { Plain → List ℕ };
 
-    fn take(alloc: Global, cursor: &mut Cursor<'_>, strings: u16) -> Result<Self, Stop>
+    fn take(alloc: Global, cursor: &mut Cursor<'_>, strings: u16) -> Taken<Self>
         ensures { Takes plain (at strings) result cursor.old cursor.new };
 
     /// Adds the item at the end, where it fits.
@@ -57,7 +57,7 @@ pub(crate) fn take_items<T: Item>(
     cursor: &mut Cursor<'_>,
     strings: u16,
     count: usize,
-) -> Result<Vec<T>, Stop>
+) -> Taken<Vec<T>>
     ensures taken { Takes (λ items. T.plain_each items.items) (items_at (T.at strings) count) result cursor.old cursor.new }
     ensures count { IfOk result (λ items. length items.items ≡ count) }
 {
@@ -76,7 +76,7 @@ pub(crate) fn take_list<T: Item>(
     alloc: Global,
     cursor: &mut Cursor<'_>,
     strings: u16,
-) -> Result<Vec<T>, Stop>
+) -> Taken<Vec<T>>
     ensures taken { Takes (λ items. T.plain_each items.items) (list_at (T.at strings)) result cursor.old cursor.new }
     ensures count { IfOk result (λ items. length items.items < 2 ^ 16) }
 {
@@ -141,7 +141,7 @@ impl Item for Text {
 
     ghost listed = { λ items. record { all = λ fit. fit; fit = λ all. all } };
 
-    fn take(alloc: Global, cursor: &mut Cursor<'_>, _strings: u16) -> Result<Self, Stop> {
+    fn take(alloc: Global, cursor: &mut Cursor<'_>, _strings: u16) -> Taken<Self> {
         let bytes = cursor.string()?;
         Ok(Text::try_from_bytes(alloc, bytes)?)
     }
@@ -174,7 +174,7 @@ impl Item for u16 {
 
     ghost listed = { counted_fits };
 
-    fn take(_alloc: Global, cursor: &mut Cursor<'_>, _strings: u16) -> Result<Self, Stop> {
+    fn take(_alloc: Global, cursor: &mut Cursor<'_>, _strings: u16) -> Taken<Self> {
         cursor.u16()
     }
 
@@ -203,7 +203,7 @@ impl Item for (u16, u8) {
 
     ghost listed = { counted_fits };
 
-    fn take(_alloc: Global, cursor: &mut Cursor<'_>, strings: u16) -> Result<Self, Stop> {
+    fn take(_alloc: Global, cursor: &mut Cursor<'_>, strings: u16) -> Taken<Self> {
         cursor.flag(strings)
     }
 
@@ -234,7 +234,7 @@ impl Item for (u16, u16) {
 
     ghost listed = { counted_fits };
 
-    fn take(_alloc: Global, cursor: &mut Cursor<'_>, strings: u16) -> Result<Self, Stop> {
+    fn take(_alloc: Global, cursor: &mut Cursor<'_>, strings: u16) -> Taken<Self> {
         cursor.pair(strings)
     }
 
