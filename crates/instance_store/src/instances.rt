@@ -156,32 +156,37 @@ impl Instances {
 
     /// Whether there is such an instance, and its script or one above it, of this number, declares
     /// such a variable.
-    pub fn has_variable(&self, instance: u16, script: usize, variable: u16) -> bool
+    pub fn has_variable(&self, instance: u16, script: u16, variable: u16) -> bool
         ensures { IsTrue result ↔ ((instance < length self.now) × (variable < length (values_of (instance_at self.now instance).scripts script))) }
     {
         let place = usize::from(instance);
-        place < self.instances.len() && self.instances[place].has(script, variable)
+        place < self.instances.len() && self.instances[place].has(usize::from(script), variable)
     }
 
     /// The value of a variable that the script declares. `OutOfMemory` comes only of a text.
-    pub fn get(&self, instance: u16, script: usize, variable: u16) -> Made<Value>
+    pub fn get(&self, instance: u16, script: u16, variable: u16) -> Made<Value>
         requires instance_in { instance < length self.now }
         requires variable_in { variable < length (values_of (instance_at self.now instance).scripts script) }
         ensures value { IfOk result (λ value. value ≡ variable_of (instance_at self.now instance) script variable) }
         ensures memory { OnErr result (IsTrue (is_text (variable_of (instance_at self.now instance) script variable))) }
     {
         let alloc = *self.instances.allocator();
-        self.instances[usize::from(instance)].get(alloc, script, variable)
+        self.instances[usize::from(instance)].get(alloc, usize::from(script), variable)
     }
 
     /// Writes a variable that the script declares, and no other.
-    pub fn set(&mut self, instance: u16, script: usize, variable: u16, value: Value)
+    pub fn set(&mut self, instance: u16, script: u16, variable: u16, value: Value)
         requires instance_in { instance < length self.old }
         requires variable_in { variable < length (values_of (instance_at self.old instance).scripts script) }
         ensures { self.new ≡ slice_set self.old instance (instance_with (instance_at self.old instance) script variable value) }
     {
         let place = usize::from(instance);
-        write(&mut self.instances[place].scripts, script, variable, value);
+        write(
+            &mut self.instances[place].scripts,
+            usize::from(script),
+            variable,
+            value,
+        );
     }
 
     /// The text of an instance's state.
@@ -215,7 +220,12 @@ fn start_instance(
     let state = start_state(alloc, scripts, &above)?;
     let mut variables = all_initial_values(alloc, scripts, &above)?;
     for entry in &instance.set {
-        write(&mut variables, entry.0, entry.1, entry.2.try_clone(alloc)?);
+        write(
+            &mut variables,
+            usize::from(entry.0),
+            entry.1,
+            entry.2.try_clone(alloc)?,
+        );
     }
     Ok(Instance::new(state, variables))
 }

@@ -185,11 +185,7 @@ impl<'s, 'a> Known<'s, 'a> {
         })
     }
 
-    fn bind_entries(
-        self,
-        script: u16,
-        set: &[(Text, SceneValue)],
-    ) -> Bound<Vec<(usize, u16, Value)>>
+    fn bind_entries(self, script: u16, set: &[(Text, SceneValue)]) -> Bound<Vec<(u16, u16, Value)>>
         ensures bound { IfOk result (λ bound. All (IsBoundEntry self.entry.scripts.now self.entry.instances.now.scripts.items script) bound.items) }
         ensures short { IfOk result (λ bound. All EntryKeeps set.now → All IsShortEntry bound.items) }
         ensures meant { IfOk result (λ bound. EntriesAre self.entry.scripts.now self.entry.instances.now script set.now bound.items) }
@@ -203,7 +199,7 @@ impl<'s, 'a> Known<'s, 'a> {
         Ok(bound)
     }
 
-    fn bind_entry(self, script: u16, name: &Text, value: &SceneValue) -> Bound<(usize, u16, Value)>
+    fn bind_entry(self, script: u16, name: &Text, value: &SceneValue) -> Bound<(u16, u16, Value)>
         ensures bound { IfOk result (IsBoundEntry self.entry.scripts.now self.entry.instances.now.scripts.items script) }
         ensures short { IfOk result (λ bound. ValueKeeps value.now → IsShortEntry bound) }
         ensures meant { IfOk result (EntryIs self.entry.scripts.now self.entry.instances.now script (name.now, value.now)) }
@@ -213,6 +209,7 @@ impl<'s, 'a> Known<'s, 'a> {
         let Some((owner, property)) = found else {
             return Err(SceneFault::of(SceneRule::NoProperty));
         };
+        let owner = u16::try_from(owner).map_err(|_| SceneFault::of(SceneRule::NoProperty))?;
         let value = self.value_for(property.kind, value)?;
         Ok((owner, property.variable, value))
     }
