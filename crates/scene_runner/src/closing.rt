@@ -7,8 +7,8 @@ ghost use Rattle.papy_io.specs.Sink.{Appended, AppendsSome};
 ghost use Rattle.scene_runner.specs.Report.{Closes};
 
 use crate::lines::{instance_line, property_line, stack_line, turns_line};
-use core_tree::{OutlineProperty, lineage_of};
-use papy_base::Made;
+use core_tree::OutlineProperty;
+use papy_base::{Made, lineage_of};
 use papy_io::{IoFault, Sink};
 use stack_machine::{Machine, TurnFault};
 use std::alloc::Global;
@@ -83,7 +83,7 @@ fn write_declared<S: Sink>(
     alloc: Global,
     machine: &Machine,
     instance: u16,
-    script: u16,
+    script: usize,
     sink: &mut S,
 ) -> Result<(), TurnFault>
     ensures count { CountsTurn result (S.faults sink.old) (S.faults sink.new) }
@@ -109,17 +109,17 @@ fn write_stacks<S: Sink>(alloc: Global, machine: &Machine, sink: &mut S) -> Resu
 }
 
 // The Auto properties that a script declares.
-fn properties_of(machine: &Machine, script: u16) -> &[OutlineProperty] {
-    match machine.outline().scripts.get(usize::from(script)) {
+fn properties_of(machine: &Machine, script: usize) -> &[OutlineProperty] {
+    match machine.outline().scripts.get(script) {
         Some(found) => found.properties.as_slice(),
         None => &[],
     }
 }
 
 // The script of an instance, and those above it in turn.
-fn scripts_of(alloc: Global, machine: &Machine, instance: u16) -> Made<Vec<u16>> {
+fn scripts_of(alloc: Global, machine: &Machine, instance: u16) -> Made<Vec<usize>> {
     match machine.scene().instances.get(usize::from(instance)) {
-        Some(bound) => lineage_of(alloc, &machine.outline().scripts, bound.script),
+        Some(bound) => lineage_of(alloc, &machine.outline().scripts, usize::from(bound.script)),
         None => Ok(Vec::new(alloc)),
     }
 }

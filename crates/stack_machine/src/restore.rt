@@ -16,11 +16,11 @@ use crate::status::RestoreFault;
 use crate::store::Store;
 use crate::threads::Threads;
 use crate::world::World;
-use core_tree::{CoreType, Outline, Scene, Value, lineage_of};
+use core_tree::{CoreType, Outline, Scene, Value};
 use instance_store::{Arrays, Instance, Instances, ScriptVariables};
 use latent_natives::{Device, load_device};
 use machine_state::{FrameState, MachineState};
-use papy_base::{Made, OutOfMemory, Text};
+use papy_base::{Made, OutOfMemory, Text, lineage_of};
 use pex_verify::Loaded;
 use std::alloc::Global;
 use std::mem;
@@ -205,10 +205,10 @@ fn revived_scripts(
     script: u16,
     values: &mut Vec<Value>,
 ) -> Made<Vec<ScriptVariables>> {
-    let numbers = lineage_of(alloc, &outline.scripts, script)?;
+    let numbers = lineage_of(alloc, &outline.scripts, usize::from(script))?;
     let mut scripts = Vec::with_capacity(alloc, numbers.len())?;
     for number in &numbers {
-        if let Some(found) = outline.scripts.get(usize::from(*number)) {
+        if let Some(found) = outline.scripts.get(*number) {
             let above = values.len().saturating_sub(found.variables.len());
             scripts.push(ScriptVariables::new(*number, values.split_off(above)?))?;
         }

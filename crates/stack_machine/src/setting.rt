@@ -2,15 +2,16 @@
 
 ghost use Rattle.std.specs.Prelude.{◌≡◌, slice_get};
 ghost use Rattle.std.specs.Option.{option_copied, option_map};
-ghost use Rattle.core_tree.specs.Lineage.{is_above, parent_of};
+ghost use Rattle.papy_base.specs.Lineage.{parent_of, stands_below};
+ghost use Rattle.core_tree.specs.Outlines.{parents_of};
 ghost use Rattle.machine_state.specs.Savable.{name_of};
 ghost use Rattle.stack_machine.specs.Settings.{function_of, method_at, property_at, slot_type, type_of};
 
 use crate::frame::{CallWay, FunctionPlace};
 use crate::plan::Plan;
-use core_tree::{CoreType, Scene, is_child, lineage_of, parent_of};
+use core_tree::{CoreType, Scene};
 use machine_state::{BodyPlace, Way};
-use papy_base::{Made, Name};
+use papy_base::{Made, Name, is_below};
 use pex_verify::{Loaded, LoadedFunction, LoadedProperty, MethodPlace, Operand, PropertyPlace};
 use std::alloc::Global;
 
@@ -80,9 +81,9 @@ impl Setting {
 
     /// The number of the script above a script.
     pub fn parent_of(&self, script: u16) -> Option<u16>
-        ensures { result ≡ parent_of (slice_get self.now.loaded.outline script) }
+        ensures { result ≡ parent_of (parents_of self.now.loaded.outline) script }
     {
-        parent_of(&self.loaded.outline().scripts, script)
+        self.loaded.outline().scripts.get(usize::from(script))?.parent
     }
 
     /// The number of an instance's script.
@@ -94,9 +95,10 @@ impl Setting {
 
     /// Whether the second script is the first one or stands above it.
     pub fn is_child(&self, child: u16, parent: u16) -> bool
-        ensures { result ≡ is_above self.now.loaded.outline child parent }
+        ensures { result ≡ stands_below (parents_of self.now.loaded.outline) child parent }
     {
-        is_child(&self.loaded.outline().scripts, child, parent)
+        let scripts = &self.loaded.outline().scripts;
+        is_below(scripts, usize::from(child), usize::from(parent))
     }
 
     /// The type of what is stored in an operand of a script's function, none where what is stored is dropped.
@@ -205,32 +207,6 @@ impl Setting {
         self.loaded.outline().scripts.get(usize::from(script))?;
         let found = self.loaded.find_method(script, None, name)?;
         Some(CallWay::Global(found))
-    }
-
-    /// The script and the variable of an instance's Auto property of this number, in the order of the report: those of
-    /// the root script come first.
-    pub fn property_place(
-        &self,
-        alloc: Global,
-        instance: u16,
-        property: u32,
-    ) -> Made<Option<(u16, u16)>> {
-        let Some(script) = self.script_of(instance) else {
-            return Ok(None);
-        };
-        let scripts = &self.loaded.outline().scripts;
-        let mut left = property as usize;
-        let above = lineage_of(alloc, scripts, script)?;
-        for number in above.iter().rev() {
-            let Some(found) = scripts.get(usize::from(*number)) else {
-                continue;
-            };
-            if let Some(property) = found.properties.get(left) {
-                return Ok(Some((*number, property.variable)));
-            }
-            left = left.saturating_sub(found.properties.len());
-        }
-        Ok(None)
     }
 }
 

@@ -11,9 +11,9 @@ use crate::restore::{ARRAY_LIMIT, ELEMENT_LIMIT};
 use crate::savable::{is_element_type, pairs_ascend, sleepers_ascend, stacks_ascend};
 use crate::setting::{Found, Setting, slot_type};
 use crate::threads::ALL_FRAMES;
-use core_tree::{BoundCall, CoreType, DeviceKind, Scene, Value, lineage_of};
+use core_tree::{BoundCall, CoreType, DeviceKind, Scene, Value};
 use machine_state::{BodyPlace, FrameState, MachineState, Way};
-use papy_base::{Descent, Made, TEXT_LIMIT};
+use papy_base::{Descent, Made, TEXT_LIMIT, upward};
 use pex_verify::{LoadedFunction, LoadedInstruction, action_of};
 use std::alloc::Global;
 
@@ -60,7 +60,7 @@ fn descent_of(alloc: Global, setting: &Setting) -> Made<Descent> {
 impl Judged<'_> {
     // What is sound beside the numbers of turns, stacks and instances.
     fn is_sound(&self) -> Made<bool> {
-        if !self.has_sound_values()?
+        if !self.has_sound_values()
             || !has_sound_stacks(self.state)
             || !has_sound_locks(self.alloc, self.state)?
         {
@@ -86,54 +86,48 @@ impl Judged<'_> {
 
     // Instances have as many values as their scripts have variables, of their types, arrays have 1 to 128 elements of theirs,
     // and devices are what loading them with their own cells and place makes.
-    fn has_sound_values(&self) -> Made<bool> {
+    fn has_sound_values(&self) -> bool {
         let state = self.state;
-        Ok(
-            self.has_sound_instances()?
-                && state.arrays.len() <= usize::from(ARRAY_LIMIT)
-                && state
-                    .arrays
-                    .iter()
-                    .all(|array| self.is_sound_array(array.0, &array.1))
-                && state
-                    .devices
-                    .iter()
-                    .all(|device| is_sound_device(device.0, &device.1, device.2)),
-        )
+        self.has_sound_instances()
+            && state.arrays.len() <= usize::from(ARRAY_LIMIT)
+            && state
+                .arrays
+                .iter()
+                .all(|array| self.is_sound_array(array.0, &array.1))
+            && state
+                .devices
+                .iter()
+                .all(|device| is_sound_device(device.0, &device.1, device.2))
     }
 
-    fn has_sound_instances(&self) -> Made<bool> {
+    fn has_sound_instances(&self) -> bool {
         let bound = &self.setting.scene.instances;
-        for (instance, bound) in self.state.instances.iter().zip(bound) {
-            if instance.0.as_bytes().len() > TEXT_LIMIT
-                || !self.fit_scripts(&instance.1, bound.script)?
-            {
-                return Ok(false);
-            }
-        }
-        Ok(true)
+        let mut instances = self.state.instances.iter().zip(bound);
+        instances.all(|(instance, bound)| {
+            instance.0.as_bytes().len() <= TEXT_LIMIT
+                && self.fit_scripts(&instance.1, bound.script)
+        })
     }
 
     // Whether values are those of a script and all above it. The script's own stand last.
-    fn fit_scripts(&self, values: &[Value], script: u16) -> Made<bool> {
+    fn fit_scripts(&self, values: &[Value], script: u16) -> bool {
         let scripts = &self.setting.loaded.outline().scripts;
-        let numbers = lineage_of(self.alloc, scripts, script)?;
         let mut left = values;
-        for number in &numbers {
-            let Some(outline) = scripts.get(usize::from(*number)) else {
+        for number in upward(scripts, usize::from(script)) {
+            let Some(outline) = scripts.get(number) else {
                 break;
             };
             if left.len() < outline.variables.len() {
-                return Ok(false);
+                return false;
             }
             let (above, own) = left.split_at(left.len() - outline.variables.len());
             let mut own = own.iter().zip(&outline.variables);
             if !own.all(|(value, variable)| self.fits(value, Some(variable.kind))) {
-                return Ok(false);
+                return false;
             }
             left = above;
         }
-        Ok(left.is_empty())
+        left.is_empty()
     }
 
     // The script that the type of an array's elements names is there.
