@@ -73,7 +73,7 @@ fn write_properties<S: Sink>(
 {
     let scripts = scripts_of(alloc, machine, instance)?;
     for script in scripts.iter().rev() {
-        write_declared(alloc, machine, instance, *script, sink)?;
+        write_declared(alloc, machine, instance, *script as u16, sink)?;
     }
     Ok(())
 }
@@ -83,7 +83,7 @@ fn write_declared<S: Sink>(
     alloc: Global,
     machine: &Machine,
     instance: u16,
-    script: usize,
+    script: u16,
     sink: &mut S,
 ) -> Result<(), TurnFault>
     ensures count { CountsTurn result (S.faults sink.old) (S.faults sink.new) }
@@ -109,8 +109,8 @@ fn write_stacks<S: Sink>(alloc: Global, machine: &Machine, sink: &mut S) -> Resu
 }
 
 // The Auto properties that a script declares.
-fn properties_of(machine: &Machine, script: usize) -> &[OutlineProperty] {
-    match machine.outline().scripts.get(script) {
+fn properties_of(machine: &Machine, script: u16) -> &[OutlineProperty] {
+    match machine.outline().scripts.get(usize::from(script)) {
         Some(found) => found.properties.as_slice(),
         None => &[],
     }

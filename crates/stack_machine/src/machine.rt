@@ -279,13 +279,29 @@ impl Machine {
         &self.setting.plan.no_state
     }
 
+    /// The value of an instance's Auto property of this number, where those of the root script come first, each
+    /// script's in order of declaration.
+    ///
+    /// # Errors
+    ///
+    /// `OutOfMemory` comes where there is no room.
+    pub fn property_at(&self, instance: u16, property: u32) -> Made<Value> {
+        match self
+            .setting
+            .property_place(self.world.alloc, instance, property)?
+        {
+            Some((script, variable)) => self.world.store.variable(instance, script, variable),
+            None => Ok(Value::NoneValue),
+        }
+    }
+
     /// The value of an instance's variable of this number, among the variables of this script. None where the
     /// instance has no such variable.
     ///
     /// # Errors
     ///
     /// `OutOfMemory` comes only of a text.
-    pub fn variable_at(&self, instance: u16, script: usize, variable: u16) -> Made<Value> {
+    pub fn variable_at(&self, instance: u16, script: u16, variable: u16) -> Made<Value> {
         self.world.store.variable(instance, script, variable)
     }
 

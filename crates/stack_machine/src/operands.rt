@@ -82,7 +82,7 @@ impl Executor<'_> {
                 None => Ok(Value::NoneValue),
             },
             Operand::Variable(number) => match self.instance {
-                Some(instance) => self.store.variable(instance, usize::from(self.script), *number),
+                Some(instance) => self.store.variable(instance, self.script, *number),
                 None => Ok(Value::NoneValue),
             },
             Operand::Instance => match self.instance {
@@ -170,8 +170,8 @@ impl Executor<'_> {
             }
             Operand::Variable(number) => {
                 if let Some(instance) = self.instance {
-                    let script = usize::from(self.script);
-                    self.store.set_variable(instance, script, *number, value);
+                    self.store
+                        .set_variable(instance, self.script, *number, value);
                 }
                 Ok(())
             }

@@ -95,7 +95,7 @@ fn enter<S: Sink>(
             Ok(Some(RunEnd::Returned(performed)))
         }
         Some(Found::Variable(property, variable)) => {
-            let reply = set_or_get(store, call, usize::from(property.script), variable)?;
+            let reply = set_or_get(store, call, property.script, variable)?;
             Ok(Some(returning(reply)))
         }
         None => Ok(Some(returning(Value::NoneValue))),
@@ -120,7 +120,7 @@ fn open(turn: &Turn<'_>, call: &mut Call, body: FunctionPlace) -> Made<Running> 
 }
 
 // An Auto property: its variable is written, or read where the call has no argument.
-fn set_or_get(store: &mut Store, call: &mut Call, script: usize, variable: u16) -> Made<Value> {
+fn set_or_get(store: &mut Store, call: &mut Call, script: u16, variable: u16) -> Made<Value> {
     let Some(instance) = call.instance else {
         return Ok(Value::NoneValue);
     };

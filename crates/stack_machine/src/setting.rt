@@ -11,7 +11,7 @@ use crate::frame::{CallWay, FunctionPlace};
 use crate::plan::Plan;
 use core_tree::{CoreType, Scene};
 use machine_state::{BodyPlace, Way};
-use papy_base::{Made, Name, is_below};
+use papy_base::{Made, Name, is_below, lineage_of};
 use pex_verify::{Loaded, LoadedFunction, LoadedProperty, MethodPlace, Operand, PropertyPlace};
 use std::alloc::Global;
 
@@ -83,7 +83,8 @@ impl Setting {
     pub fn parent_of(&self, script: u16) -> Option<u16>
         ensures { result ≡ parent_of (parents_of self.now.loaded.outline) script }
     {
-        self.loaded.outline().scripts.get(usize::from(script))?.parent
+        let scripts = &self.loaded.outline().scripts;
+        scripts.get(usize::from(script))?.parent
     }
 
     /// The number of an instance's script.
@@ -207,6 +208,32 @@ impl Setting {
         self.loaded.outline().scripts.get(usize::from(script))?;
         let found = self.loaded.find_method(script, None, name)?;
         Some(CallWay::Global(found))
+    }
+
+    /// The script and the variable of an instance's Auto property of this number, in the order of the report: those of
+    /// the root script come first.
+    pub fn property_place(
+        &self,
+        alloc: Global,
+        instance: u16,
+        property: u32,
+    ) -> Made<Option<(u16, u16)>> {
+        let Some(script) = self.script_of(instance) else {
+            return Ok(None);
+        };
+        let scripts = &self.loaded.outline().scripts;
+        let mut left = property as usize;
+        let above = lineage_of(alloc, scripts, usize::from(script))?;
+        for number in above.iter().rev() {
+            let Some(found) = scripts.get(*number) else {
+                continue;
+            };
+            if let Some(property) = found.properties.get(left) {
+                return Ok(Some((*number as u16, property.variable)));
+            }
+            left = left.saturating_sub(found.properties.len());
+        }
+        Ok(None)
     }
 }
 

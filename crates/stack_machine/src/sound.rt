@@ -104,8 +104,7 @@ impl Judged<'_> {
         let bound = &self.setting.scene.instances;
         let mut instances = self.state.instances.iter().zip(bound);
         instances.all(|(instance, bound)| {
-            instance.0.as_bytes().len() <= TEXT_LIMIT
-                && self.fit_scripts(&instance.1, bound.script)
+            instance.0.as_bytes().len() <= TEXT_LIMIT && self.fit_scripts(&instance.1, bound.script)
         })
     }
 

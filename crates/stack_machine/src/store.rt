@@ -87,7 +87,7 @@ impl Store {
     }
 
     /// The value of a variable, None where there isn't such a one.
-    pub fn variable(&self, instance: u16, script: usize, variable: u16) -> Made<Value>
+    pub fn variable(&self, instance: u16, script: u16, variable: u16) -> Made<Value>
         ensures { IfOk result (λ value. value ≡ variable_of (instance_at self.now.instances instance) script variable) }
     {
         if !self.instances.has_variable(instance, script, variable) {
@@ -97,7 +97,7 @@ impl Store {
     }
 
     /// Writes a variable, if there is such a one.
-    pub fn set_variable(&mut self, instance: u16, script: usize, variable: u16, value: Value)
+    pub fn set_variable(&mut self, instance: u16, script: u16, variable: u16, value: Value)
         ensures written { self.new.instances ≡ slice_set self.old.instances instance (instance_with (instance_at self.old.instances instance) script variable value) }
         ensures count { length self.new.instances ≡ length self.old.instances }
         ensures arrays { self.new.arrays ≡ self.old.arrays }
