@@ -10,7 +10,7 @@ use papy_base::{Name, Text};
 pub struct BoundInstance {
     pub name: Text,
     pub script: u16,
-    pub set: Vec<(u16, u16, Value)>,
+    pub set: Vec<(usize, u16, Value)>,
 }
 
 /// A call that starts a stack at a turn. Its function is looked up by name when it is entered.

@@ -4,6 +4,8 @@ use Rattle.std.proofs.lemmas.Bool.Decides.{leb_tells}
 use Rattle.std.proofs.Common.{inl, inr, ◌≡◌, ℕ, ◌+◌, ◌-◌, ◌<◌, ◌≤◌, List, [], ◌∷◌, ◌++◌, length, get_or, take, drop, refl, sym, ap, subst, ◌∙◌, append_assoc, length-append, length-drop, arith}
 use Rattle.std.proofs.lemmas.List.{append-nil, take-append-drop, take-append-le, drop-append-le, drop-drop, take-take, length-take-le}
 use Rattle.std.proofs.Math.Seq.{take-append-add, take-length}
+use Rattle.papy_base.specs.declared.faults.Fault.{Fault}
+use Rattle.papy_base.specs.declared.faults.Fault.TheVariants as fault
 use Rattle.pex_values.specs.Fit.{limit}
 use Rattle.pex_values.specs.declared.values.Pex.{Pex}
 use Rattle.pex_values.specs.Plain.{PlainPex, plain}
@@ -135,18 +137,18 @@ goes_to_item old new from to f b waits bytes stands =
 pub goes_to_refusal : (old : ScannedBytes) (from : Cursor) (offset : ℕ) (rule : PexRule) → Follows old → Begins old from → left_at old.scan from.at from.rest.now ≡ Refused offset rule → ends (pex_at 0 old.bytes.items) ≡ Refused offset rule
 goes_to_refusal old from offset rule f b refused = read_so_far old f ∙ rw (sym b.rest, sym b.at) refused
 
-pub goes_over : (old : ScannedBytes) (scan : Scan) (from to : Cursor) (result : Result Unit Stop) → ScansOn old.scan result scan from to → Follows old → Begins old from
+pub goes_over : (old : ScannedBytes) (scan : Scan) (from to : Cursor) (result : Result Unit (Fault Stop)) → ScansOn old.scan result scan from to → Follows old → Begins old from
     → GoesOver old result (record { bytes = old.bytes; «open» = to.at; scan = scan })
 goes_over old scan from to (Ok done) on f b = (refl, goes_to_end old (record { bytes = old.bytes; «open» = to.at; scan = scan }) from to f b on refl refl)
-goes_over old scan from to (Err stop.Short) on f b = (refl, goes_to_item old (record { bytes = old.bytes; «open» = to.at; scan = scan }) from to f b on refl refl)
-goes_over old scan from to (Err (stop.Refused offset rule)) on f b = goes_to_refusal old from offset rule f b on
-goes_over old scan from to (Err stop.OutOfMemory) on f b = tt
+goes_over old scan from to (Err (fault.Broken stop.Short)) on f b = (refl, goes_to_item old (record { bytes = old.bytes; «open» = to.at; scan = scan }) from to f b on refl refl)
+goes_over old scan from to (Err (fault.Broken (stop.Refused offset rule))) on f b = goes_to_refusal old from offset rule f b on
+goes_over old scan from to (Err fault.OutOfMemory) on f b = tt
 
 pub rest_of : (n : ℕ) (xs : List ℕ) → take (length xs - n) (drop n xs) ≡ drop n xs
 rest_of n xs = ap (λ (k : ℕ). take k (drop n xs)) (sym (length-drop n xs)) ∙ take-length (drop n xs)
 
-pub over_stop : (old new : ScannedBytes) (r : Result Unit Stop) (s t : Stop) → GoesOver old r new → r ≡ Err s → s ≡ t → GoesOver old (Err t) new
-over_stop old new r s t over is same = subst (λ (u : Stop). GoesOver old (Err u) new) same (subst (λ (q : Result Unit Stop). GoesOver old q new) is over)
+pub over_stop : (old new : ScannedBytes) (r : Result Unit (Fault Stop)) (t : Fault Stop) → GoesOver old r new → r ≡ Err t → GoesOver old (Err t) new
+over_stop old new r t over is = subst (λ (q : Result Unit (Fault Stop)). GoesOver old q new) is over
 
 -- ---- what a piece led to
 

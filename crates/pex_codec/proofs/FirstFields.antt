@@ -1,6 +1,8 @@
 -- From what was taken to what was opened.
 use Rattle.std.specs.Prelude.{Result, Ok, Err}
 use Rattle.std.proofs.Common.{◌≡◌, ℕ, ◌≤◌, List, ◌++◌, refl, sym, ap, subst, ◌∙◌}
+use Rattle.papy_base.specs.declared.faults.Fault.{Fault}
+use Rattle.papy_base.specs.declared.faults.Fault.TheVariants as fault
 use Rattle.pex_codec.specs.declared.cursor.Cursor.{Cursor}
 use Rattle.pex_codec.specs.declared.cursor.Stop.{Stop}
 use Rattle.pex_codec.specs.declared.cursor.Stop.TheVariants as stop
@@ -15,15 +17,15 @@ use Rattle.pex_codec.proofs.Moves.{Moves, moved}
 use Rattle.pex_codec.proofs.Stable.{Extends, IsStable}
 
 -- what isn't there keeps what begins with it from being there
-pub stops_behind : {A B : Type 0} (e : Stop) (r : Reading A) (next : A → Reader B) (whole : Reading B) → whole ≡ then_read r next → Stops r e → Stops whole e
-stops_behind stop.Short r next whole is stops = is ∙ ap (λ (x : Reading _). then_read x next) stops
-stops_behind (stop.Refused offset rule) r next whole is stops = is ∙ ap (λ (x : Reading _). then_read x next) stops
-stops_behind stop.OutOfMemory r next whole is stops = tt
+pub stops_behind : {A B : Type 0} (e : Fault Stop) (r : Reading A) (next : A → Reader B) (whole : Reading B) → whole ≡ then_read r next → Stops r e → Stops whole e
+stops_behind (fault.Broken stop.Short) r next whole is stops = is ∙ ap (λ (x : Reading _). then_read x next) stops
+stops_behind (fault.Broken (stop.Refused offset rule)) r next whole is stops = is ∙ ap (λ (x : Reading _). then_read x next) stops
+stops_behind fault.OutOfMemory r next whole is stops = tt
 
-pub opens_err : {A : Type 0} (e : Stop) (result : Result Opened Stop) (part : Part) (strings : ℕ) (old new : Cursor) (r : Reading A) (next : A → Reader ℕ)
+pub opens_err : {A : Type 0} (e : Fault Stop) (result : Result Opened (Fault Stop)) (part : Part) (strings : ℕ) (old new : Cursor) (r : Reading A) (next : A → Reader ℕ)
     → result ≡ Err e → part_at part strings old.at old.rest.now ≡ then_read r next → Stops r e → Opens part strings result old new
 opens_err e result part strings old new r next is law stops =
-    subst (λ (x : Result Opened Stop). Opens part strings x old new) (sym is) (stops_behind e r next (part_at part strings old.at old.rest.now) law stops)
+    subst (λ (x : Result Opened (Fault Stop)). Opens part strings x old new) (sym is) (stops_behind e r next (part_at part strings old.at old.rest.now) law stops)
 
 -- what was got is got where other bytes follow
 pub extended : {A : Type 0} (reader : Reader A) → IsStable reader → (at : ℕ) (bytes : List ℕ) (a : A) (at1 : ℕ) (rest1 x : List ℕ) → reader at bytes ≡ Got a at1 rest1 → reader at (bytes ++ x) ≡ Got a at1 (rest1 ++ x)
@@ -47,7 +49,7 @@ whole_opens strings (Got a at rest) = refl
 whole_opens strings Short = refl
 whole_opens strings (Refused o rule) = refl
 
-opens_known : {T A : Type 0} (plain : T → A) (part : Part) (strings : ℕ) (reader : Reader A) (next : A → Reader ℕ) (taken : Result T Stop) (tasks : T → List Task) (counted : T → ℕ) (result : Result Opened Stop) (old new : Cursor)
+opens_known : {T A : Type 0} (plain : T → A) (part : Part) (strings : ℕ) (reader : Reader A) (next : A → Reader ℕ) (taken : Result T (Fault Stop)) (tasks : T → List Task) (counted : T → ℕ) (result : Result Opened (Fault Stop)) (old new : Cursor)
     → IsStable reader → ((at : ℕ) (bytes : List ℕ) → part_at part strings at bytes ≡ then_read (reader at bytes) next) → Moves (least_of part) (reader old.at old.rest.now) old.at old.rest.now
     → ((x : T) (at : ℕ) (bytes : List ℕ) → next (plain x) at bytes ≡ tasks_at (tasks x) (counted x) at bytes)
     → Takes plain reader taken old new → OpensAs taken tasks counted result → Opens part strings result old new
@@ -58,7 +60,7 @@ opens_known plain part strings reader next (Err e) tasks counted (Err f) old new
 opens_known plain part strings reader next (Ok x) tasks counted (Err f) old new stable law moves reads takes is = absurd is
 opens_known plain part strings reader next (Err e) tasks counted (Ok opened) old new stable law moves reads takes is = absurd is
 
-pub opens_as : {T A : Type 0} (plain : T → A) (part : Part) (strings : ℕ) (reader : Reader A) (next : A → Reader ℕ) (taken : Result T Stop) (tasks : T → List Task) (counted : T → ℕ) (result : Result Opened Stop) (old new : Cursor)
+pub opens_as : {T A : Type 0} (plain : T → A) (part : Part) (strings : ℕ) (reader : Reader A) (next : A → Reader ℕ) (taken : Result T (Fault Stop)) (tasks : T → List Task) (counted : T → ℕ) (result : Result Opened (Fault Stop)) (old new : Cursor)
     → (given : Part) → given ≡ part → IsStable reader → ((at : ℕ) (bytes : List ℕ) → part_at part strings at bytes ≡ then_read (reader at bytes) next)
     → Moves (least_of part) (reader old.at old.rest.now) old.at old.rest.now
     → ((x : T) (at : ℕ) (bytes : List ℕ) → next (plain x) at bytes ≡ tasks_at (tasks x) (counted x) at bytes)

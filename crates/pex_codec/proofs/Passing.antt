@@ -1,5 +1,7 @@
 -- Rows of a part: how many are passed, and what is left.
 use Rattle.std.specs.Prelude.{zero, suc, ◌-◌, Bool, Result, Ok, Err, is_ok}
+use Rattle.papy_base.specs.declared.faults.Fault.{Fault}
+use Rattle.papy_base.specs.declared.faults.Fault.TheVariants as fault
 use Rattle.pex_values.specs.declared.values.Datum.{Datum}
 use Rattle.std.proofs.Common.{◌≡◌, ℕ, ◌+◌, ◌<◌, ◌≤◌, List, [], ◌∷◌, ◌++◌, length, drop, refl, sym, ap, subst, ◌∙◌, arith, length-drop}
 use Rattle.std.proofs.lemmas.List.{drop-drop}
@@ -37,20 +39,20 @@ Behind-more strings count old i new next a r behind below is taken = record {
       ∙ ap (λ (x : Reading ℕ). then_read x (λ strings1 at1 rest1. times_at part.Operand (count - (i + 1)) strings1 at1 rest1)) (is ∙ ap (λ (x : Reading _). with_strings strings x) taken);
 }
 
-as_stop : {A : Type 0} (strings : ℕ) (e : Stop) (r : Reading A) → Stops r e → Stops (with_strings strings r) e
-as_stop strings stop.Short r is = ap (λ (x : Reading _). with_strings strings x) is
-as_stop strings (stop.Refused offset rule) r is = ap (λ (x : Reading _). with_strings strings x) is
-as_stop strings stop.OutOfMemory r is = tt
+as_stop : {A : Type 0} (strings : ℕ) (e : Fault Stop) (r : Reading A) → Stops r e → Stops (with_strings strings r) e
+as_stop strings (fault.Broken stop.Short) r is = ap (λ (x : Reading _). with_strings strings x) is
+as_stop strings (fault.Broken (stop.Refused offset rule)) r is = ap (λ (x : Reading _). with_strings strings x) is
+as_stop strings fault.OutOfMemory r is = tt
 
-pub Behind-stops : (strings count : ℕ) (old : Cursor) (i : ℕ) (new : Cursor) (e : Stop)
+pub Behind-stops : (strings count : ℕ) (old : Cursor) (i : ℕ) (new : Cursor) (e : Fault Stop)
     → Behind strings count old i new → i < count → Stops (datum_at strings new.at new.rest.now) e → Stops (times_at part.Operand count strings old.at old.rest.now) e
 Behind-stops strings count old i new e behind below is =
     stops_behind e (with_strings strings (datum_at strings new.at new.rest.now)) (λ strings1 at1 rest1. times_at part.Operand (count - (i + 1)) strings1 at1 rest1)
     (times_at part.Operand count strings old.at old.rest.now) (behind.same ∙ next_operand strings count i new.at new.rest.now below) (as_stop strings e (datum_at strings new.at new.rest.now) is)
 
-pub operands_err : (e : Stop) (result : Result Unit Stop) (strings count : ℕ) (old new : Cursor) → result ≡ Err e → Stops (times_at part.Operand count strings old.at old.rest.now) e
+pub operands_err : (e : Fault Stop) (result : Result Unit (Fault Stop)) (strings count : ℕ) (old new : Cursor) → result ≡ Err e → Stops (times_at part.Operand count strings old.at old.rest.now) e
     → Takes (λ (_ : Unit). strings) (times_at part.Operand count strings) result old new
-operands_err e result strings count old new is stops = subst (λ (x : Result Unit Stop). Takes (λ (_ : Unit). strings) (times_at part.Operand count strings) x old new) (sym is) stops
+operands_err e result strings count old new is stops = subst (λ (x : Result Unit (Fault Stop)). Takes (λ (_ : Unit). strings) (times_at part.Operand count strings) x old new) (sym is) stops
 
 -- ---- one of a row
 
@@ -61,7 +63,7 @@ operand_passed strings old new a r is moves taken = record {
   moved = moved 1 r old.at old.rest.now a new.at new.rest.now moves taken;
 }
 
-pub operand_if : (taken : Result Datum Stop) (passed : Bool) (strings : ℕ) (old new : Cursor) → passed ≡ is_ok taken → Takes (λ datum. datum) (datum_at strings) taken old new → PassesIf passed part.Operand strings old new
+pub operand_if : (taken : Result Datum (Fault Stop)) (passed : Bool) (strings : ℕ) (old new : Cursor) → passed ≡ is_ok taken → Takes (λ datum. datum) (datum_at strings) taken old new → PassesIf passed part.Operand strings old new
 operand_if (Ok datum) passed strings old new is takes =
     subst (λ (b : Bool). PassesIf b part.Operand strings old new) (sym is) (operand_passed strings old new datum (datum_at strings old.at old.rest.now) refl (datum_moves strings old.at old.rest.now) takes)
 operand_if (Err e) passed strings old new is takes = subst (λ (b : Bool). PassesIf b part.Operand strings old new) (sym is) tt

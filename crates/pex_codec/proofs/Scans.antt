@@ -2,6 +2,8 @@
 use Rattle.std.specs.Prelude.{zero, suc, ◌-◌, Bool, true, false, Result, Ok, Err, IfOk, if◌then◌else◌, ◌==◌}
 use Rattle.std.proofs.Common.{◌≡◌, ℕ, ◌+◌, ◌*◌, ◌<◌, ◌≤◌, List, [], ◌∷◌, ◌++◌, length, drop, refl, sym, ap, subst, ◌∙◌, arith, append_assoc, length-drop}
 use Rattle.std.proofs.lemmas.List.{length-append, append-nil}
+use Rattle.papy_base.specs.declared.faults.Fault.{Fault}
+use Rattle.papy_base.specs.declared.faults.Fault.TheVariants as fault
 use Rattle.pex_values.specs.declared.values.SizeForm.{SizeForm}
 use Rattle.pex_values.specs.declared.values.SizeForm.TheVariants.{Counted, Bare}
 use Rattle.pex_codec.specs.declared.cursor.Cursor.{Cursor}
@@ -84,7 +86,7 @@ row_passed below part left strings from now to passed x =
     ∙ sym (top_first below part now strings to.at (to.rest.now ++ x))
 
 -- where the next of a part isn't there, nothing is
-pub part_stops : (below : List Task) (part : Part) (left strings at : ℕ) (bytes : List ℕ) (e : Stop) → 0 < left → Stops (part_at part strings at bytes) e
+pub part_stops : (below : List Task) (part : Part) (left strings at : ℕ) (bytes : List ℕ) (e : Fault Stop) → 0 < left → Stops (part_at part strings at bytes) e
     → Stops (tasks_at (below ++ (task part left ∷ [])) strings at bytes) e
 part_stops below part (suc left) strings at bytes e some stops =
     stops_behind e (times_at part (suc left) strings at bytes) (tasks_at below) _ (top_first below part (suc left) strings at bytes)
@@ -132,7 +134,7 @@ size_judged below size_at size left strings at bytes form at1 rest1 is =
     (size_times size_at size strings at bytes left (size_once (size_at + size == at) (size_at + 4 + size == at) size_at strings at bytes form at1 rest1 is))
     ∙ sym (top_first below (part.Size size_at size) 0 strings at bytes)
 
-pub size_stops : (below : List Task) (size_at size left strings at : ℕ) (bytes : List ℕ) (e : Stop) → 0 < left → Stops (size_form_at size_at size at bytes) e
+pub size_stops : (below : List Task) (size_at size left strings at : ℕ) (bytes : List ℕ) (e : Fault Stop) → 0 < left → Stops (size_form_at size_at size at bytes) e
     → Stops (tasks_at (below ++ (task (part.Size size_at size) left ∷ [])) strings at bytes) e
 size_stops below size_at size left strings at bytes e some stops =
     part_stops below (part.Size size_at size) left strings at bytes e some
@@ -192,22 +194,22 @@ size_step old size_at size cursor here form some is taken = record {
   less = let a = some_there old.current.left some in omega arith;
 }
 
-waits : (e : Stop) (scan : Scan) (cursor : Cursor) → Stops (left_at scan cursor.at cursor.rest.now) e → Steps {T = Unit} (Err e) scan cursor scan cursor
-waits stop.Short scan cursor stops = record { short = stops; scan = refl; cursor = refl }
-waits (stop.Refused offset rule) scan cursor stops = stops
-waits stop.OutOfMemory scan cursor stops = tt
+waits : (e : Fault Stop) (scan : Scan) (cursor : Cursor) → Stops (left_at scan cursor.at cursor.rest.now) e → Steps {T = Unit} (Err e) scan cursor scan cursor
+waits (fault.Broken stop.Short) scan cursor stops = record { short = stops; scan = refl; cursor = refl }
+waits (fault.Broken (stop.Refused offset rule)) scan cursor stops = stops
+waits fault.OutOfMemory scan cursor stops = tt
 
-pub steps_err : (e : Stop) (result : Result Unit Stop) (scan : Scan) (cursor : Cursor) → result ≡ Err e → Stops (left_at scan cursor.at cursor.rest.now) e → Steps result scan cursor scan cursor
-steps_err e result scan cursor is stops = subst (λ (x : Result Unit Stop). Steps x scan cursor scan cursor) (sym is) (waits e scan cursor stops)
+pub steps_err : (e : Fault Stop) (result : Result Unit (Fault Stop)) (scan : Scan) (cursor : Cursor) → result ≡ Err e → Stops (left_at scan cursor.at cursor.rest.now) e → Steps result scan cursor scan cursor
+steps_err e result scan cursor is stops = subst (λ (x : Result Unit (Fault Stop)). Steps x scan cursor scan cursor) (sym is) (waits e scan cursor stops)
 
-pub size_waits : (e : Stop) (result : Result Unit Stop) (scan : Scan) (size_at size : ℕ) (cursor : Cursor) → result ≡ Err e → 0 < scan.current.left → scan.current.part ≡ part.Size size_at size
+pub size_waits : (e : Fault Stop) (result : Result Unit (Fault Stop)) (scan : Scan) (size_at size : ℕ) (cursor : Cursor) → result ≡ Err e → 0 < scan.current.left → scan.current.part ≡ part.Size size_at size
     → Stops (size_form_at size_at size cursor.at cursor.rest.now) e → Steps result scan cursor scan cursor
 size_waits e result scan size_at size cursor is some same stops =
     steps_err e result scan cursor is
     (subst (λ (p : Part). Stops (tasks_at (scan.below.items ++ (task p scan.current.left ∷ [])) scan.strings cursor.at cursor.rest.now) e) (sym same)
     (size_stops scan.below.items size_at size scan.current.left scan.strings cursor.at cursor.rest.now e some stops))
 
-pub part_waits : (e : Stop) (result : Result Unit Stop) (scan : Scan) (cursor : Cursor) → result ≡ Err e → 0 < scan.current.left
+pub part_waits : (e : Fault Stop) (result : Result Unit (Fault Stop)) (scan : Scan) (cursor : Cursor) → result ≡ Err e → 0 < scan.current.left
     → Stops (part_at scan.current.part scan.strings cursor.at cursor.rest.now) e → Steps result scan cursor scan cursor
 part_waits e result scan cursor is some stops =
     steps_err e result scan cursor is (part_stops scan.below.items scan.current.part scan.current.left scan.strings cursor.at cursor.rest.now e some stops)
@@ -268,13 +270,13 @@ nothing_left new to none =
 pub came_to_end : (old : Scan) (from : Cursor) (new : Scan) (to : Cursor) → CameTo old from new to → work_of new ≡ 0 → Finishes old new from to
 came_to_end old from new to came none = record { done = here old from new to came ∙ nothing_left new to none; moved = came.moved }
 
-stopped : (e : Stop) (old : Scan) (from : Cursor) (new : Scan) (to : Cursor) (next : Scan) (end : Cursor) → CameTo old from new to → Steps {T = Unit} (Err e) new to next end → ScansOn old (Err e) next from end
-stopped stop.Short old from new to next end came stays =
+stopped : (e : Fault Stop) (old : Scan) (from : Cursor) (new : Scan) (to : Cursor) (next : Scan) (end : Cursor) → CameTo old from new to → Steps {T = Unit} (Err e) new to next end → ScansOn old (Err e) next from end
+stopped (fault.Broken stop.Short) old from new to next end came stays =
     subst (λ (c : Cursor). Waits old next from c) (sym stays.cursor) (subst (λ (s : Scan). Waits old s from to) (sym stays.scan)
     (record { follows = came.follows; short = stays.short; moved = came.moved }))
-stopped (stop.Refused offset rule) old from new to next end came refused = here old from new to came ∙ refused
-stopped stop.OutOfMemory old from new to next end came none = tt
+stopped (fault.Broken (stop.Refused offset rule)) old from new to next end came refused = here old from new to came ∙ refused
+stopped fault.OutOfMemory old from new to next end came none = tt
 
-pub came_to_stop : (e : Stop) (result : Result Unit Stop) (old : Scan) (from : Cursor) (new : Scan) (to : Cursor) (next : Scan) (end : Cursor)
+pub came_to_stop : (e : Fault Stop) (result : Result Unit (Fault Stop)) (old : Scan) (from : Cursor) (new : Scan) (to : Cursor) (next : Scan) (end : Cursor)
     → result ≡ Err e → CameTo old from new to → Steps {T = Unit} (Err e) new to next end → ScansOn old result next from end
-came_to_stop e result old from new to next end is came steps = subst (λ (r : Result Unit Stop). ScansOn old r next from end) (sym is) (stopped e old from new to next end came steps)
+came_to_stop e result old from new to next end is came steps = subst (λ (r : Result Unit (Fault Stop)). ScansOn old r next from end) (sym is) (stopped e old from new to next end came steps)

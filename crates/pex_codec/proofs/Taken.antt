@@ -2,6 +2,8 @@
 use Rattle.std.specs.Prelude.{suc, ◌-◌, Result, Err}
 use Rattle.std.proofs.Common.{◌≡◌, ℕ, ◌+◌, ◌<◌, List, [], ◌∷◌, ◌++◌, length, map, refl, sym, ap, subst, ◌∙◌, append_assoc, arith}
 use Rattle.std.proofs.lemmas.List.{map-append, length-append}
+use Rattle.papy_base.specs.declared.faults.Fault.{Fault}
+use Rattle.papy_base.specs.declared.faults.Fault.TheVariants as fault
 use Rattle.pex_codec.specs.declared.cursor.Cursor.{Cursor}
 use Rattle.pex_codec.specs.declared.cursor.Stop.{Stop}
 use Rattle.pex_codec.specs.declared.cursor.Stop.TheVariants as stop
@@ -45,18 +47,18 @@ TookFirst-more plain item count old i items grown new x next first below taken i
 }
 
 -- what is read where no further item stands
-stopped : {Y : Type 0} (why : Stop) (xs : List Y) (reading : Reading Y) (next : Y → Reader (List Y)) → Stops reading why → Stops (in_front xs (then_read reading next)) why
-stopped stop.Short xs reading next is = ap (λ r. in_front xs (then_read r next)) is
-stopped (stop.Refused offset rule) xs reading next is = ap (λ r. in_front xs (then_read r next)) is
-stopped stop.OutOfMemory xs reading next is = tt
+stopped : {Y : Type 0} (why : Fault Stop) (xs : List Y) (reading : Reading Y) (next : Y → Reader (List Y)) → Stops reading why → Stops (in_front xs (then_read reading next)) why
+stopped (fault.Broken stop.Short) xs reading next is = ap (λ r. in_front xs (then_read r next)) is
+stopped (fault.Broken (stop.Refused offset rule)) xs reading next is = ap (λ r. in_front xs (then_read r next)) is
+stopped fault.OutOfMemory xs reading next is = tt
 
-same_stop : {A : Type 0} (why : Stop) (one other : Reading A) → one ≡ other → Stops other why → Stops one why
-same_stop stop.Short one other same is = same ∙ is
-same_stop (stop.Refused offset rule) one other same is = same ∙ is
-same_stop stop.OutOfMemory one other same is = tt
+same_stop : {A : Type 0} (why : Fault Stop) (one other : Reading A) → one ≡ other → Stops other why → Stops one why
+same_stop (fault.Broken stop.Short) one other same is = same ∙ is
+same_stop (fault.Broken (stop.Refused offset rule)) one other same is = same ∙ is
+same_stop fault.OutOfMemory one other same is = tt
 
 -- the list isn't there where the next item isn't
-pub TookFirst-stops : {X Y : Type 0} (plain : X → Y) (item : Reader Y) (count : ℕ) (old : Cursor) (i : ℕ) (items : List X) (new : Cursor) (why : Stop)
+pub TookFirst-stops : {X Y : Type 0} (plain : X → Y) (item : Reader Y) (count : ℕ) (old : Cursor) (i : ℕ) (items : List X) (new : Cursor) (why : Fault Stop)
     → TookFirst plain item count old i items new → i < count → Stops (item new.at new.rest.now) why → Stops (items_at item count old.at old.rest.now) why
 TookFirst-stops {X} {Y} plain item count old i items new why first below is =
     let next : Y → Reader (List Y) = λ one at1 rest1. read_as (λ others. one ∷ others) (items_at item (count - (i + 1)) at1 rest1) in
@@ -65,8 +67,8 @@ TookFirst-stops {X} {Y} plain item count old i items new why first below is =
     (stopped why (map plain items) (item new.at new.rest.now) next is)
 
 -- why an item isn't there is why the list isn't there
-pub err_taken : {T U A B : Type 0} (why passed : Stop) (r : Result U Stop) (plain : T → A) (reader : Reader A) (plain' : U → B) (reader' : Reader B) (old new old' new' : Cursor)
+pub err_taken : {T U A B : Type 0} (why passed : Fault Stop) (r : Result U (Fault Stop)) (plain : T → A) (reader : Reader A) (plain' : U → B) (reader' : Reader B) (old new old' new' : Cursor)
     → r ≡ Err passed → passed ≡ why → (Stops (reader old.at old.rest.now) why → Stops (reader' old'.at old'.rest.now) why)
     → Takes plain reader (Err why) old new → Takes plain' reader' r old' new'
 err_taken {T} {U} why passed r plain reader plain' reader' old new old' new' is same stops taken =
-    subst (λ (z : Result U Stop). Takes plain' reader' z old' new') (sym (is ∙ ap Err same)) (stops taken)
+    subst (λ (z : Result U (Fault Stop)). Takes plain' reader' z old' new') (sym (is ∙ ap Err same)) (stops taken)

@@ -1,5 +1,7 @@
 -- What a decoder holds.
 use Rattle.std.specs.Prelude.{◌≡◌, ◌≢◌, ℕ, ◌≤◌, List, ◌++◌, length, take, drop, Result, Ok, Err}
+use Rattle.papy_base.specs.declared.faults.Fault.{Fault}
+use Rattle.papy_base.specs.declared.faults.Fault.TheVariants as fault
 use Rattle.pex_values.specs.Fit.{limit}
 use Rattle.pex_values.specs.Plain.{PlainPex}
 use Rattle.pex_codec.specs.declared.cursor.Stop.{Stop}
@@ -44,11 +46,11 @@ pub record HasEnded (t : ScannedBytes) : Type 0 where
   pub each : AreBytes t.bytes.items
 
 -- what going over the bytes led to
-abbrev pub GoesOver : ScannedBytes → Result Unit Stop → ScannedBytes → Type 0
+abbrev pub GoesOver : ScannedBytes → Result Unit (Fault Stop) → ScannedBytes → Type 0
 GoesOver old (Ok _) new = (new.bytes ≡ old.bytes) × HasEnded new
-GoesOver old (Err stop.Short) new = (new.bytes ≡ old.bytes) × IsOpen new
-GoesOver old (Err (stop.Refused offset rule)) new = ends (pex_at 0 old.bytes.items) ≡ Refused offset rule
-GoesOver old (Err stop.OutOfMemory) new = Unit {0}
+GoesOver old (Err (fault.Broken stop.Short)) new = (new.bytes ≡ old.bytes) × IsOpen new
+GoesOver old (Err (fault.Broken (stop.Refused offset rule))) new = ends (pex_at 0 old.bytes.items) ≡ Refused offset rule
+GoesOver old (Err fault.OutOfMemory) new = Unit {0}
 
 -- the value ended within the piece, behind so many bytes
 pub record TakesEnd (old : List ℕ) (piece : List ℕ) (n : ℕ) (new : List ℕ) : Type 0 where

@@ -1,5 +1,6 @@
 -- What the first fields of a part open: the tasks that are to come behind them.
 use Rattle.std.specs.Prelude.{◌≡◌, ℕ, ◌+◌, ◌*◌, ◌-◌, ◌<◌, ◌≤◌, zero, suc, Bool, true, false, List, [], ◌∷◌, ◌++◌, length, drop, Option, Some, None, Result, Ok, Err}
+use Rattle.papy_base.specs.declared.faults.Fault.{Fault}
 use Rattle.pex_values.specs.Bits.{has_read, has_write}
 use Rattle.pex_values.specs.Opcodes.{operands_of}
 use Rattle.pex_codec.specs.declared.cursor.Cursor.{Cursor}
@@ -75,7 +76,7 @@ pub record HasOpened (part : Part) (strings : ℕ) (opened : Opened) (old new : 
   pub same : (x : List ℕ) → part_at part strings old.at (old.rest.now ++ x) ≡ tasks_at (tasks_of opened) opened.strings new.at (new.rest.now ++ x)
   pub moved : Moved (least_of part) old.at old.rest.now new.at new.rest.now
 
-abbrev pub Opens : Part → ℕ → Result Opened Stop → Cursor → Cursor → Type 0
+abbrev pub Opens : Part → ℕ → Result Opened (Fault Stop) → Cursor → Cursor → Type 0
 Opens part strings (Ok opened) old new = HasOpened part strings opened old new
 Opens part strings (Err stop) old new = Stops (part_at part strings old.at old.rest.now) stop
 
@@ -95,7 +96,7 @@ PassesIf true part strings old new = PassesOne part strings old new
 PassesIf false part strings old new = Unit {0}
 
 -- what was opened where something was taken: these tasks, and so many strings from there on
-abbrev pub OpensAs : {T : Type 0} → Result T Stop → (T → List Task) → (T → ℕ) → Result Opened Stop → Type 0
+abbrev pub OpensAs : {T : Type 0} → Result T (Fault Stop) → (T → List Task) → (T → ℕ) → Result Opened (Fault Stop) → Type 0
 OpensAs (Ok taken) tasks strings (Ok opened) = IsOpened opened (tasks taken) (strings taken)
 OpensAs (Err stop) tasks strings (Err passed) = passed ≡ stop
 OpensAs _ tasks strings _ = ⊥

@@ -1,5 +1,7 @@
 -- What a scan still reads, and what a step of it does.
 use Rattle.std.specs.Prelude.{◌≡◌, ℕ, ◌+◌, ◌*◌, ◌<◌, ◌≤◌, zero, suc, Bool, true, false, List, [], ◌∷◌, ◌++◌, length, Result, Ok, Err}
+use Rattle.papy_base.specs.declared.faults.Fault.{Fault}
+use Rattle.papy_base.specs.declared.faults.Fault.TheVariants as fault
 use Rattle.pex_codec.specs.declared.cursor.Cursor.{Cursor}
 use Rattle.pex_codec.specs.declared.cursor.Stop.{Stop}
 use Rattle.pex_codec.specs.declared.cursor.Stop.TheVariants as stop
@@ -35,11 +37,11 @@ pub record Stays (old : Scan) (from : Cursor) (new : Scan) (to : Cursor) : Type 
   pub scan : new ≡ old
   pub cursor : to ≡ from
 
-abbrev pub Steps : {T : Type 0} → Result T Stop → Scan → Cursor → Scan → Cursor → Type 0
+abbrev pub Steps : {T : Type 0} → Result T (Fault Stop) → Scan → Cursor → Scan → Cursor → Type 0
 Steps (Ok _) old from new to = IsStep old from new to
-Steps (Err stop.Short) old from new to = Stays old from new to
-Steps (Err (stop.Refused offset rule)) old from new to = left_at old from.at from.rest.now ≡ Refused offset rule
-Steps (Err stop.OutOfMemory) old from new to = Unit {0}
+Steps (Err (fault.Broken stop.Short)) old from new to = Stays old from new to
+Steps (Err (fault.Broken (stop.Refused offset rule))) old from new to = left_at old from.at from.rest.now ≡ Refused offset rule
+Steps (Err fault.OutOfMemory) old from new to = Unit {0}
 
 -- a step, or nothing
 abbrev pub StepsIf : Bool → Scan → Cursor → Scan → Cursor → Type 0

@@ -1,5 +1,7 @@
 -- What going on with a scan does.
 use Rattle.std.specs.Prelude.{◌≡◌, ℕ, List, [], ◌∷◌, ◌++◌, Result, Ok, Err}
+use Rattle.papy_base.specs.declared.faults.Fault.{Fault}
+use Rattle.papy_base.specs.declared.faults.Fault.TheVariants as fault
 use Rattle.pex_codec.specs.declared.cursor.Cursor.{Cursor}
 use Rattle.pex_codec.specs.declared.cursor.Stop.{Stop}
 use Rattle.pex_codec.specs.declared.cursor.Stop.TheVariants as stop
@@ -28,8 +30,8 @@ pub record Waits (old new : Scan) (from to : Cursor) : Type 0 where
   pub short : left_at new to.at to.rest.now ≡ Short
   pub moved : Moved 0 from.at from.rest.now to.at to.rest.now
 
-abbrev pub ScansOn : Scan → Result Unit Stop → Scan → Cursor → Cursor → Type 0
+abbrev pub ScansOn : Scan → Result Unit (Fault Stop) → Scan → Cursor → Cursor → Type 0
 ScansOn old (Ok _) new from to = Finishes old new from to
-ScansOn old (Err stop.Short) new from to = Waits old new from to
-ScansOn old (Err (stop.Refused offset rule)) new from to = left_at old from.at from.rest.now ≡ Refused offset rule
-ScansOn old (Err stop.OutOfMemory) new from to = Unit {0}
+ScansOn old (Err (fault.Broken stop.Short)) new from to = Waits old new from to
+ScansOn old (Err (fault.Broken (stop.Refused offset rule))) new from to = left_at old from.at from.rest.now ≡ Refused offset rule
+ScansOn old (Err fault.OutOfMemory) new from to = Unit {0}

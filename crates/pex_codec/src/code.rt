@@ -13,10 +13,10 @@ ghost use Rattle.pex_codec.specs.Reading as reading;
 ghost use Rattle.pex_codec.specs.Taking.{Takes};
 ghost use Rattle.pex_codec.specs.Writing.{counted_fits, Writes, FitEach};
 
-use crate::cursor::{Cursor, Stop};
+use crate::cursor::{Cursor, Taken};
 use crate::faults::EncodeFault;
-use crate::items::{Item, put_byte, put_list, put_u16, put_u32, take_items, take_list};
-use pex_values::{Datum, Instruction, PexFunction, operand_count};
+use crate::items::{Item, put_list, take_items, take_list};
+use pex_values::{Datum, Instruction, PexFunction, operand_count, put_byte, put_u16, put_u32};
 use std::alloc::{AllocError, Global};
 
 /// A kind, and a number of two bytes.
@@ -92,7 +92,7 @@ impl Item for Datum {
     ghost listed = { counted_fits };
 
     #[inline(always)]
-    fn take(_alloc: Global, cursor: &mut Cursor<'_>, strings: u16) -> Result<Self, Stop> {
+    fn take(_alloc: Global, cursor: &mut Cursor<'_>, strings: u16) -> Taken<Self> {
         cursor.datum(strings)
     }
 
@@ -122,7 +122,7 @@ impl Item for Instruction {
 
     #[inline(always)]
     #[tactic(auto, unfolding(crate::specs::Reading::instruction_at))]
-    fn take(alloc: Global, cursor: &mut Cursor<'_>, strings: u16) -> Result<Self, Stop> {
+    fn take(alloc: Global, cursor: &mut Cursor<'_>, strings: u16) -> Taken<Self> {
         let operation = cursor.opcode()?;
         let fixed = take_items(alloc, cursor, strings, operation.fixed as usize)?;
         let more = if operation.more {
@@ -179,7 +179,7 @@ impl Item for PexFunction {
     ghost listed = { λ items. record { all = λ fit. fit; fit = λ all. all } };
 
     #[tactic(auto, unfolding(crate::specs::Reading::function_at))]
-    fn take(alloc: Global, cursor: &mut Cursor<'_>, strings: u16) -> Result<Self, Stop> {
+    fn take(alloc: Global, cursor: &mut Cursor<'_>, strings: u16) -> Taken<Self> {
         let head = cursor.function_head(strings)?;
         Ok(PexFunction {
             result: head.result,
@@ -208,7 +208,7 @@ pub(crate) fn take_optional_function(
     cursor: &mut Cursor<'_>,
     strings: u16,
     asked: bool,
-) -> Result<Option<PexFunction>, Stop>
+) -> Taken<Option<PexFunction>>
     ensures { Takes (λ function. option_map plain_function function) (reading.optional_at asked (reading.function_at strings)) result cursor.old cursor.new }
 {
     if asked {
@@ -252,7 +252,7 @@ impl Item for (u16, PexFunction) {
     ghost listed = { λ items. record { all = λ fit. fit; fit = λ all. all } };
 
     #[tactic(auto, unfolding(crate::specs::Reading::named_at))]
-    fn take(alloc: Global, cursor: &mut Cursor<'_>, strings: u16) -> Result<Self, Stop> {
+    fn take(alloc: Global, cursor: &mut Cursor<'_>, strings: u16) -> Taken<Self> {
         let name = cursor.reference(strings)?;
         let function = PexFunction::take(alloc, cursor, strings)?;
         Ok((name, function))

@@ -2,14 +2,14 @@
 
 ghost use Rattle.std.specs.Prelude.{◌≡◌, ◌==◌, ◌+◌, ◌≤◌, ◌||◌, Some, Ok, Err, length, if◌then◌else◌, IfOk};
 ghost use Rattle.pex_values.specs.Opcodes.{operands_of};
-ghost use Rattle.pex_codec.specs.declared.cursor.Stop.TheVariants.{OutOfMemory as NoMemory, Refused};
+ghost use Rattle.papy_base.specs.declared.faults.Fault.TheVariants.{Broken};
+ghost use Rattle.pex_codec.specs.declared.cursor.Stop.TheVariants.{Refused};
 ghost use Rattle.pex_codec.specs.declared.faults.PexRule.TheVariants.{BadMagic, BadVersion, BadGame};
 
 use crate::faults::PexRule;
 use byteorder::{BigEndian, ByteOrder};
-use papy_base::{OutOfMemory, Text};
+use papy_base::{Fault, Text};
 use pex_values::{Datum, PexVariable, SizeForm, has_variable, operand_count};
-use std::alloc::{AllocError, AllocFailed};
 
 /// The number that a file begins with.
 const MAGIC: u32 = 0xFA57_C0DE;
@@ -20,50 +20,27 @@ const INTEGER: u8 = 3;
 /// The last kind of a value.
 const LAST_KIND: u8 = 5;
 
-/// Why a part wasn't taken.
+/// What stops the taking of a part.
 #[derive(Clone, Copy)]
 pub(crate) enum Stop {
     /// The bytes end before the part does.
     Short,
     /// A field breaks a rule.
     Refused { offset: u32, rule: PexRule },
-    /// No memory was found.
-    OutOfMemory,
 }
 
-impl From<OutOfMemory> for Stop {
-    ghost from_gives = { λ _ stop. stop ≡ NoMemory };
-
-    fn from(_error: OutOfMemory) -> Stop {
-        Stop::OutOfMemory
-    }
-}
-
-impl From<AllocError> for Stop {
-    ghost from_gives = { λ _ stop. stop ≡ NoMemory };
-
-    fn from(_error: AllocError) -> Stop {
-        Stop::OutOfMemory
-    }
-}
-
-impl<T: Drop> From<AllocFailed<T>> for Stop {
-    ghost from_gives = { λ _ stop. stop ≡ NoMemory };
-
-    fn from(_error: AllocFailed<T>) -> Stop {
-        Stop::OutOfMemory
-    }
-}
+/// The part that was taken, or why it wasn't.
+pub(crate) type Taken<T> = Result<T, Fault<Stop>>;
 
 /// The part, or why it is refused.
 #[inline(always)]
-fn judged<T: Copy>(part: T, good: bool, offset: u32, rule: PexRule) -> Result<T, Stop>
-    ensures { result ≡ (if good then Ok part else Err (Refused offset rule)) }
+fn judged<T: Copy>(part: T, good: bool, offset: u32, rule: PexRule) -> Taken<T>
+    ensures { result ≡ (if good then Ok part else Err (Broken (Refused offset rule))) }
 {
     if good {
         return Ok(part);
     }
-    Err(Stop::Refused { offset, rule })
+    Err(Fault::Broken(Stop::Refused { offset, rule }))
 }
 
 /// What the header says besides its strings.
@@ -150,12 +127,12 @@ impl<'a> Cursor<'a> {
     /// So many bytes.
     #[inline(always)]
     #[tactic(auto, unfolding(crate::specs::Reading::bytes_at))]
-    pub(crate) fn take(&mut self, count: usize) -> Result<&'a [u8], Stop>
+    pub(crate) fn take(&mut self, count: usize) -> Taken<&'a [u8]>
         ensures taken { Takes (λ b. b.now) (reading.bytes_at count) result self.old self.new }
         ensures count { IfOk result (λ b. length b.now ≡ count) }
     {
         if self.rest.len() < count {
-            return Err(Stop::Short);
+            return Err(Fault::Broken(Stop::Short));
         }
         let (taken, rest) = self.rest.split_at(count);
         let at = self.at + count as u32;
@@ -164,11 +141,11 @@ impl<'a> Cursor<'a> {
     }
 
     #[inline(always)]
-    pub(crate) fn byte(&mut self) -> Result<u8, Stop>
+    pub(crate) fn byte(&mut self) -> Taken<u8>
         ensures { Takes (λ n. n) reading.byte_at result self.old self.new }
     {
         let Some((byte, rest)) = self.rest.split_first() else {
-            return Err(Stop::Short);
+            return Err(Fault::Broken(Stop::Short));
         };
         let at = self.at + 1;
         *self = Cursor { at, rest };
@@ -177,7 +154,7 @@ impl<'a> Cursor<'a> {
 
     #[inline(always)]
     #[tactic(auto, unfolding(crate::specs::Reading::number_at))]
-    pub(crate) fn u16(&mut self) -> Result<u16, Stop>
+    pub(crate) fn u16(&mut self) -> Taken<u16>
         ensures { Takes (λ n. n) (reading.number_at 2) result self.old self.new }
     {
         Ok(BigEndian::read_u16(self.take(2)?))
@@ -185,14 +162,14 @@ impl<'a> Cursor<'a> {
 
     #[inline(always)]
     #[tactic(auto, unfolding(crate::specs::Reading::number_at))]
-    pub(crate) fn u32(&mut self) -> Result<u32, Stop>
+    pub(crate) fn u32(&mut self) -> Taken<u32>
         ensures { Takes (λ n. n) (reading.number_at 4) result self.old self.new }
     {
         Ok(BigEndian::read_u32(self.take(4)?))
     }
 
     #[tactic(auto, unfolding(crate::specs::Reading::number_at))]
-    pub(crate) fn u64(&mut self) -> Result<u64, Stop>
+    pub(crate) fn u64(&mut self) -> Taken<u64>
         ensures { Takes (λ n. n) (reading.number_at 8) result self.old self.new }
     {
         Ok(BigEndian::read_u64(self.take(8)?))
@@ -201,7 +178,7 @@ impl<'a> Cursor<'a> {
     /// A place in a table of so many strings.
     #[inline(always)]
     #[tactic(auto, unfolding(crate::specs::Reading::reference_at))]
-    pub(crate) fn reference(&mut self, strings: u16) -> Result<u16, Stop>
+    pub(crate) fn reference(&mut self, strings: u16) -> Taken<u16>
         ensures { Takes (λ n. n) (reading.reference_at strings) result self.old self.new }
     {
         let offset = self.at;
@@ -211,7 +188,7 @@ impl<'a> Cursor<'a> {
 
     /// The number of bytes, and the bytes.
     #[tactic(auto, unfolding(crate::specs::Reading::string_at))]
-    pub(crate) fn string(&mut self) -> Result<&'a [u8], Stop>
+    pub(crate) fn string(&mut self) -> Taken<&'a [u8]>
         ensures { Takes (λ b. b.now) reading.string_at result self.old self.new }
     {
         let length = self.u16()?;
@@ -221,7 +198,7 @@ impl<'a> Cursor<'a> {
     /// The kind of a value.
     #[inline(always)]
     #[tactic(auto, unfolding(crate::specs::Reading::kind_at))]
-    pub(crate) fn kind(&mut self) -> Result<u8, Stop>
+    pub(crate) fn kind(&mut self) -> Taken<u8>
         ensures { Takes (λ n. n) reading.kind_at result self.old self.new }
     {
         let offset = self.at;
@@ -232,7 +209,7 @@ impl<'a> Cursor<'a> {
     /// An operand or an initial value.
     #[inline(always)]
     #[tactic(auto, unfolding(crate::specs::Reading::datum_at))]
-    pub(crate) fn datum(&mut self, strings: u16) -> Result<Datum, Stop>
+    pub(crate) fn datum(&mut self, strings: u16) -> Taken<Datum>
         ensures { Takes (λ datum. datum) (reading.datum_at strings) result self.old self.new }
     {
         match self.kind()? {
@@ -247,7 +224,7 @@ impl<'a> Cursor<'a> {
 
     /// Two references, as of a name and a type.
     #[tactic(auto, unfolding(crate::specs::Reading::pair_at))]
-    pub(crate) fn pair(&mut self, strings: u16) -> Result<(u16, u16), Stop>
+    pub(crate) fn pair(&mut self, strings: u16) -> Taken<(u16, u16)>
         ensures { Takes (λ pair. pair) (reading.pair_at strings) result self.old self.new }
     {
         Ok((self.reference(strings)?, self.reference(strings)?))
@@ -256,14 +233,15 @@ impl<'a> Cursor<'a> {
     /// An opcode, and what operands it has.
     #[inline(always)]
     #[tactic(auto, unfolding(crate::specs::Reading::opcode_at))]
-    pub(crate) fn opcode(&mut self) -> Result<Operation, Stop>
+    pub(crate) fn opcode(&mut self) -> Taken<Operation>
         ensures taken { Takes (λ operation. operation.opcode) reading.opcode_at result self.old self.new }
         ensures operands { IfOk result (λ operation. operands_of operation.opcode ≡ Some (operation.fixed, operation.more)) }
     {
         let offset = self.at;
         let opcode = self.byte()?;
         let rule = PexRule::BadOpcode;
-        let (fixed, more) = operand_count(opcode).ok_or(Stop::Refused { offset, rule })?;
+        let stop = Fault::Broken(Stop::Refused { offset, rule });
+        let (fixed, more) = operand_count(opcode).ok_or(stop)?;
         Ok(Operation {
             opcode,
             fixed,
@@ -274,7 +252,7 @@ impl<'a> Cursor<'a> {
     /// How many operands more there are.
     #[inline(always)]
     #[tactic(auto, unfolding(crate::specs::Reading::count_at))]
-    pub(crate) fn count(&mut self) -> Result<u32, Stop>
+    pub(crate) fn count(&mut self) -> Taken<u32>
         ensures { Takes (λ n. n) reading.count_at result self.old self.new }
     {
         let offset = self.at;
@@ -286,7 +264,7 @@ impl<'a> Cursor<'a> {
 
     /// A variable of a script.
     #[tactic(auto, unfolding(crate::specs::Reading::variable_at))]
-    pub(crate) fn variable(&mut self, strings: u16) -> Result<PexVariable, Stop>
+    pub(crate) fn variable(&mut self, strings: u16) -> Taken<PexVariable>
         ensures { Takes (λ variable. variable) (reading.variable_at strings) result self.old self.new }
     {
         Ok(PexVariable {
@@ -299,7 +277,7 @@ impl<'a> Cursor<'a> {
 
     /// A reference to a flag's name, and the number of its bit.
     #[tactic(auto, unfolding(crate::specs::Reading::flag_at))]
-    pub(crate) fn flag(&mut self, strings: u16) -> Result<(u16, u8), Stop>
+    pub(crate) fn flag(&mut self, strings: u16) -> Taken<(u16, u8)>
         ensures { Takes (λ flag. flag) (reading.flag_at strings) result self.old self.new }
     {
         Ok((self.reference(strings)?, self.byte()?))
@@ -307,7 +285,7 @@ impl<'a> Cursor<'a> {
 
     /// 1 where debug information follows, else 0.
     #[tactic(auto, unfolding(crate::specs::Reading::debug_flag_at))]
-    pub(crate) fn debug_flag(&mut self) -> Result<u8, Stop>
+    pub(crate) fn debug_flag(&mut self) -> Taken<u8>
         ensures { Takes (λ n. n) reading.debug_flag_at result self.old self.new }
     {
         let offset = self.at;
@@ -316,7 +294,7 @@ impl<'a> Cursor<'a> {
     }
 
     /// Which form the size of an object has whose data ends here. Its field stands at the offset `size_at`.
-    pub(crate) fn size_form(&mut self, size_at: u32, size: u32) -> Result<SizeForm, Stop>
+    pub(crate) fn size_form(&mut self, size_at: u32, size: u32) -> Taken<SizeForm>
         ensures { Takes (λ form. form) (reading.size_form_at size_at size) result self.old self.new }
     {
         let end = u64::from(size_at) + u64::from(size);
@@ -328,7 +306,7 @@ impl<'a> Cursor<'a> {
     }
 
     #[tactic(auto, unfolding(crate::specs::Reading::heading_at))]
-    pub(crate) fn heading(&mut self) -> Result<Heading, Stop>
+    pub(crate) fn heading(&mut self) -> Taken<Heading>
         ensures { Takes (λ head. head) reading.heading_at result self.old self.new }
     {
         let start = self.at;
@@ -348,7 +326,7 @@ impl<'a> Cursor<'a> {
     }
 
     #[tactic(auto, unfolding(crate::specs::Reading::function_head_at))]
-    pub(crate) fn function_head(&mut self, strings: u16) -> Result<FunctionHead, Stop>
+    pub(crate) fn function_head(&mut self, strings: u16) -> Taken<FunctionHead>
         ensures { Takes (λ head. head) (reading.function_head_at strings) result self.old self.new }
     {
         Ok(FunctionHead {
@@ -361,7 +339,7 @@ impl<'a> Cursor<'a> {
     }
 
     #[tactic(auto, unfolding(crate::specs::Reading::property_head_at))]
-    pub(crate) fn property_head(&mut self, strings: u16) -> Result<PropertyHead, Stop>
+    pub(crate) fn property_head(&mut self, strings: u16) -> Taken<PropertyHead>
         ensures { Takes (λ head. head) (reading.property_head_at strings) result self.old self.new }
     {
         let mut head = PropertyHead {
@@ -379,7 +357,7 @@ impl<'a> Cursor<'a> {
     }
 
     #[tactic(auto, unfolding(crate::specs::Reading::object_head_at))]
-    pub(crate) fn object_head(&mut self, strings: u16) -> Result<ObjectHead, Stop>
+    pub(crate) fn object_head(&mut self, strings: u16) -> Taken<ObjectHead>
         ensures { Takes (λ head. head) (reading.object_head_at strings) result self.old self.new }
     {
         Ok(ObjectHead {
@@ -395,7 +373,7 @@ impl<'a> Cursor<'a> {
     }
 
     #[tactic(auto, unfolding(crate::specs::Reading::lines_head_at))]
-    pub(crate) fn lines_head(&mut self, strings: u16) -> Result<LinesHead, Stop>
+    pub(crate) fn lines_head(&mut self, strings: u16) -> Taken<LinesHead>
         ensures { Takes (λ head. head) (reading.lines_head_at strings) result self.old self.new }
     {
         Ok(LinesHead {

@@ -4,11 +4,11 @@ ghost use Rattle.std.specs.Prelude.{◌≡◌, IfOk, []};
 ghost use Rattle.pex_codec.specs.DecoderState.{Follows, GoesOver, IsOpen, TakesPiece};
 ghost use Rattle.pex_codec.specs.Decoding.{IsNew, FeedGives, EndGives, FinishGives, GotAll, DecoderOf, Decodes, Judges};
 
-use crate::cursor::{Cursor, Stop};
+use crate::cursor::{Cursor, Stop, Taken};
 use crate::faults::{PexFault, PexRule};
 use crate::file::pex;
 use crate::scan::Scan;
-use papy_base::OutOfMemory;
+use papy_base::{Fault, OutOfMemory};
 use pex_values::{FILE_LIMIT, Pex};
 use std::alloc::Global;
 use std::marker::Model;
@@ -55,7 +55,7 @@ impl ScannedBytes {
     }
 
     /// Goes over the bytes from the open item on.
-    fn go_over(&mut self) -> Result<(), Stop>
+    fn go_over(&mut self) -> Taken<()>
         requires { Follows self.old }
         ensures { GoesOver self.old result self.new }
     {
@@ -84,10 +84,12 @@ impl ScannedBytes {
                     taken: end - before,
                 })
             }
-            Err(Stop::Short) if count < piece.len() => Err(PexRule::TooLarge.broken_at(FILE_LIMIT)),
-            Err(Stop::Short) => Ok(Fed::More),
-            Err(Stop::Refused { offset, rule }) => Err(rule.broken_at(offset)),
-            Err(Stop::OutOfMemory) => Err(PexFault::OutOfMemory),
+            Err(Fault::Broken(Stop::Short)) if count < piece.len() => {
+                Err(PexRule::TooLarge.broken_at(FILE_LIMIT))
+            }
+            Err(Fault::Broken(Stop::Short)) => Ok(Fed::More),
+            Err(Fault::Broken(Stop::Refused { offset, rule })) => Err(rule.broken_at(offset)),
+            Err(Fault::OutOfMemory) => Err(PexFault::OutOfMemory),
         }
     }
 }

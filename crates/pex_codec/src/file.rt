@@ -10,11 +10,11 @@ ghost use Rattle.pex_codec.specs.Spells.{Spells};
 ghost use Rattle.pex_codec.specs.Taking.{Gives, Takes, plain_texts};
 ghost use Rattle.pex_codec.specs.Writing.{Writes, FitEach, FitsLines, FitsHeader, FitsParts};
 
-use crate::cursor::{Cursor, Stop, Texts};
+use crate::cursor::{Cursor, Taken, Texts};
 use crate::faults::EncodeFault;
-use crate::items::{Item, put_byte, put_list, put_u16, put_u64, take_items, take_list};
+use crate::items::{Item, put_list, take_items, take_list};
 use papy_base::Text;
-use pex_values::{FILE_LIMIT, Pex, PexDebug, PexLines};
+use pex_values::{FILE_LIMIT, Pex, PexDebug, PexLines, put_byte, put_u16, put_u64};
 use std::alloc::{AllocError, Global};
 
 impl Item for PexLines {
@@ -37,7 +37,7 @@ impl Item for PexLines {
     ghost listed = { λ items. record { all = λ fit. fit; fit = λ all. all } };
 
     #[tactic(auto, unfolding(crate::specs::Reading::lines_at))]
-    fn take(alloc: Global, cursor: &mut Cursor<'_>, strings: u16) -> Result<Self, Stop> {
+    fn take(alloc: Global, cursor: &mut Cursor<'_>, strings: u16) -> Taken<Self> {
         let head = cursor.lines_head(strings)?;
         let lines = take_items(alloc, cursor, strings, head.lines as usize)?;
         Ok(PexLines {
@@ -61,7 +61,7 @@ impl Item for PexLines {
 }
 
 #[tactic(auto, unfolding(crate::specs::Reading::texts_at))]
-fn take_texts(alloc: Global, cursor: &mut Cursor<'_>) -> Result<Texts, Stop>
+fn take_texts(alloc: Global, cursor: &mut Cursor<'_>) -> Taken<Texts>
     ensures taken { Takes plain_texts reading.texts_at result cursor.old cursor.new }
     ensures count { IfOk result (λ texts. length texts.strings.items < 2 ^ 16) }
 {
@@ -74,11 +74,7 @@ fn take_texts(alloc: Global, cursor: &mut Cursor<'_>) -> Result<Texts, Stop>
 }
 
 #[tactic(auto, unfolding(crate::specs::Reading::debug_at))]
-fn take_debug(
-    alloc: Global,
-    cursor: &mut Cursor<'_>,
-    strings: u16,
-) -> Result<Option<PexDebug>, Stop>
+fn take_debug(alloc: Global, cursor: &mut Cursor<'_>, strings: u16) -> Taken<Option<PexDebug>>
     ensures { Takes (λ debug. option_map plain_debug debug) (reading.debug_at strings) result cursor.old cursor.new }
 {
     let flag = cursor.debug_flag()?;
@@ -91,7 +87,7 @@ fn take_debug(
 }
 
 #[tactic(auto, unfolding(crate::specs::Reading::pex_at))]
-fn take_pex(alloc: Global, cursor: &mut Cursor<'_>) -> Result<Pex, Stop>
+fn take_pex(alloc: Global, cursor: &mut Cursor<'_>) -> Taken<Pex>
     ensures { Takes plain reading.pex_at result cursor.old cursor.new }
 {
     let heading = cursor.heading()?;
@@ -114,7 +110,7 @@ fn take_pex(alloc: Global, cursor: &mut Cursor<'_>) -> Result<Pex, Stop>
 }
 
 /// The value that the bytes begin with.
-pub(crate) fn pex(alloc: Global, bytes: &[u8]) -> Result<Pex, Stop>
+pub(crate) fn pex(alloc: Global, bytes: &[u8]) -> Taken<Pex>
     requires { length bytes.now ≤ 16777216 }
     ensures { Gives plain (reading.pex_at 0 bytes.now) result }
 {

@@ -1,6 +1,6 @@
 //! How the parts of a file are taken from its bytes and written to them, and the lists of them.
 
-ghost use Rattle.std.specs.Prelude.{◌≡◌, ◌+◌, ◌<◌, ◌≤◌, ◌^◌, ◌++◌, ℕ, List, length, map, take, drop, refl, vec_len, vec_capacity, IfOk, OnOk, ⊤};
+ghost use Rattle.std.specs.Prelude.{◌≡◌, ◌+◌, ◌<◌, ◌≤◌, ◌^◌, ◌++◌, ℕ, List, length, map, take, drop, refl, vec_len, vec_capacity, IfOk, ⊤};
 ghost use Rattle.std.specs.List.{flat_map};
 ghost use Rattle.std.proofs.lemmas.List.{map-id};
 ghost use Rattle.std.proofs.Common.{sym};
@@ -11,11 +11,12 @@ ghost use Rattle.pex_codec.specs.Reading.{Reader, items_at, list_at};
 ghost use Rattle.pex_codec.specs.Taking.{Takes};
 ghost use Rattle.pex_codec.specs.Writing.{counted_fits, Writes, FitEach, FitsAsList};
 
-use crate::cursor::{Cursor, Stop};
+use crate::cursor::{Cursor, Taken};
 use crate::faults::EncodeFault;
 use byteorder::{BigEndian, ByteOrder};
 use papy_base::Text;
-use std::alloc::{AllocError, Global};
+use pex_values::{put_byte, put_u16};
+use std::alloc::Global;
 
 /// A part of a file, of which there may be lists.
 pub(crate) trait Item: Drop {
@@ -38,7 +39,7 @@ pub(crate) trait Item: Drop {
     /// Its bytes.
     ghost spelling: { Plain → List ℕ };
 
-    fn take(alloc: Global, cursor: &mut Cursor<'_>, strings: u16) -> Result<Self, Stop>
+    fn take(alloc: Global, cursor: &mut Cursor<'_>, strings: u16) -> Taken<Self>
         ensures { Takes plain (at strings) result cursor.old cursor.new };
 
     /// Adds the item at the end, where it fits.
@@ -56,7 +57,7 @@ pub(crate) fn take_items<T: Item>(
     cursor: &mut Cursor<'_>,
     strings: u16,
     count: usize,
-) -> Result<Vec<T>, Stop>
+) -> Taken<Vec<T>>
     ensures taken { Takes (λ items. T.plain_each items.items) (items_at (T.at strings) count) result cursor.old cursor.new }
     ensures count { IfOk result (λ items. length items.items ≡ count) }
 {
@@ -75,30 +76,12 @@ pub(crate) fn take_list<T: Item>(
     alloc: Global,
     cursor: &mut Cursor<'_>,
     strings: u16,
-) -> Result<Vec<T>, Stop>
+) -> Taken<Vec<T>>
     ensures taken { Takes (λ items. T.plain_each items.items) (list_at (T.at strings)) result cursor.old cursor.new }
     ensures count { IfOk result (λ items. length items.items < 2 ^ 16) }
 {
     let count = cursor.u16()?;
     take_items(alloc, cursor, strings, count as usize)
-}
-
-pub(crate) fn put_byte(out: &mut Vec<u8>, n: u8) -> Result<(), AllocError>
-    ensures { OnOk result (out.new.items ≡ out.old.items ++ spell.one_byte n) }
-{
-    Ok(out.push(n)?)
-}
-
-pub(crate) fn put_u16(out: &mut Vec<u8>, n: u16) -> Result<(), AllocError>
-    ensures { OnOk result (out.new.items ≡ out.old.items ++ spell.two_bytes n) }
-{
-    out.extend_from_slice(&n.to_be_bytes())
-}
-
-pub(crate) fn put_u32(out: &mut Vec<u8>, n: u32) -> Result<(), AllocError>
-    ensures { OnOk result (out.new.items ≡ out.old.items ++ spell.four_bytes n) }
-{
-    out.extend_from_slice(&n.to_be_bytes())
 }
 
 /// Writes a number over the four bytes at a place.
@@ -107,12 +90,6 @@ pub(crate) fn set_u32(out: &mut Vec<u8>, at: usize, n: u32)
     ensures { out.new.items ≡ take at out.old.items ++ spell.four_bytes n ++ drop 4 (drop at out.old.items) }
 {
     BigEndian::write_u32(&mut out[at..], n);
-}
-
-pub(crate) fn put_u64(out: &mut Vec<u8>, n: u64) -> Result<(), AllocError>
-    ensures { OnOk result (out.new.items ≡ out.old.items ++ spell.eight_bytes n) }
-{
-    out.extend_from_slice(&n.to_be_bytes())
 }
 
 fn put_count(out: &mut Vec<u8>, count: usize) -> Result<(), EncodeFault>
@@ -164,7 +141,7 @@ impl Item for Text {
 
     ghost listed = { λ items. record { all = λ fit. fit; fit = λ all. all } };
 
-    fn take(alloc: Global, cursor: &mut Cursor<'_>, _strings: u16) -> Result<Self, Stop> {
+    fn take(alloc: Global, cursor: &mut Cursor<'_>, _strings: u16) -> Taken<Self> {
         let bytes = cursor.string()?;
         Ok(Text::try_from_bytes(alloc, bytes)?)
     }
@@ -197,7 +174,7 @@ impl Item for u16 {
 
     ghost listed = { counted_fits };
 
-    fn take(_alloc: Global, cursor: &mut Cursor<'_>, _strings: u16) -> Result<Self, Stop> {
+    fn take(_alloc: Global, cursor: &mut Cursor<'_>, _strings: u16) -> Taken<Self> {
         cursor.u16()
     }
 
@@ -226,7 +203,7 @@ impl Item for (u16, u8) {
 
     ghost listed = { counted_fits };
 
-    fn take(_alloc: Global, cursor: &mut Cursor<'_>, strings: u16) -> Result<Self, Stop> {
+    fn take(_alloc: Global, cursor: &mut Cursor<'_>, strings: u16) -> Taken<Self> {
         cursor.flag(strings)
     }
 
@@ -257,7 +234,7 @@ impl Item for (u16, u16) {
 
     ghost listed = { counted_fits };
 
-    fn take(_alloc: Global, cursor: &mut Cursor<'_>, strings: u16) -> Result<Self, Stop> {
+    fn take(_alloc: Global, cursor: &mut Cursor<'_>, strings: u16) -> Taken<Self> {
         cursor.pair(strings)
     }
 

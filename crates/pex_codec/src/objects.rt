@@ -11,11 +11,12 @@ ghost use Rattle.pex_codec.specs.Reading as reading;
 ghost use Rattle.pex_codec.specs.Writing.{counted_fits, Writes, FitEach, HasSize};
 
 use crate::code::{put_datum, put_optional_function, take_optional_function};
-use crate::cursor::{Cursor, Stop};
+use crate::cursor::{Cursor, Taken};
 use crate::faults::EncodeFault;
-use crate::items::{Item, put_byte, put_list, put_u16, put_u32, set_u32, take_items, take_list};
+use crate::items::{Item, put_list, set_u32, take_items, take_list};
 use pex_values::{
     FILE_LIMIT, PexObject, PexProperty, PexState, PexVariable, SizeForm, has_read, has_write,
+    put_byte, put_u16, put_u32,
 };
 use std::alloc::{AllocError, Global};
 
@@ -38,7 +39,7 @@ impl Item for PexVariable {
 
     ghost listed = { counted_fits };
 
-    fn take(_alloc: Global, cursor: &mut Cursor<'_>, strings: u16) -> Result<Self, Stop> {
+    fn take(_alloc: Global, cursor: &mut Cursor<'_>, strings: u16) -> Taken<Self> {
         cursor.variable(strings)
     }
 
@@ -72,7 +73,7 @@ impl Item for PexState {
     ghost listed = { λ items. record { all = λ fit. fit; fit = λ all. all } };
 
     #[tactic(auto, unfolding(crate::specs::Reading::state_at))]
-    fn take(alloc: Global, cursor: &mut Cursor<'_>, strings: u16) -> Result<Self, Stop> {
+    fn take(alloc: Global, cursor: &mut Cursor<'_>, strings: u16) -> Taken<Self> {
         let name = cursor.reference(strings)?;
         let functions = take_list(alloc, cursor, strings)?;
         Ok(PexState { name, functions })
@@ -128,7 +129,7 @@ impl Item for PexProperty {
     ghost listed = { λ items. record { all = λ fit. fit; fit = λ all. all } };
 
     #[tactic(auto, unfolding(crate::specs::Reading::property_at))]
-    fn take(alloc: Global, cursor: &mut Cursor<'_>, strings: u16) -> Result<Self, Stop> {
+    fn take(alloc: Global, cursor: &mut Cursor<'_>, strings: u16) -> Taken<Self> {
         let head = cursor.property_head(strings)?;
         Ok(PexProperty {
             name: head.name,
@@ -205,7 +206,7 @@ impl Item for PexObject {
     ghost listed = { λ items. record { all = λ fit. fit; fit = λ all. all } };
 
     #[tactic(auto, unfolding(crate::specs::Reading::object_at))]
-    fn take(alloc: Global, cursor: &mut Cursor<'_>, strings: u16) -> Result<Self, Stop> {
+    fn take(alloc: Global, cursor: &mut Cursor<'_>, strings: u16) -> Taken<Self> {
         let head = cursor.object_head(strings)?;
         let variables = take_items(alloc, cursor, strings, head.variables as usize)?;
         let properties = take_list(alloc, cursor, strings)?;

@@ -8,7 +8,7 @@ ghost use Rattle.pex_codec.specs.Scans.{stack_of, ScansOn};
 ghost use Rattle.pex_codec.specs.Taking.{Takes};
 ghost use Rattle.pex_codec.specs.declared.scan.Part.TheVariants as part;
 
-use crate::cursor::{Cursor, FunctionHead, LinesHead, ObjectHead, PropertyHead, Stop};
+use crate::cursor::{Cursor, FunctionHead, LinesHead, ObjectHead, PropertyHead, Taken};
 use papy_base::OutOfMemory;
 use pex_values::{has_read, has_write};
 use std::alloc::{AllocError, Global};
@@ -101,7 +101,7 @@ impl Opened {
 // ---- the first fields of each part, and what they open
 
 /// Takes the first fields of a part, which tell what is to come behind them.
-pub(crate) fn open(part: Part, strings: u16, cursor: &mut Cursor<'_>) -> Result<Opened, Stop>
+pub(crate) fn open(part: Part, strings: u16, cursor: &mut Cursor<'_>) -> Taken<Opened>
     ensures { Opens part strings result cursor.old cursor.new }
 {
     match part {
@@ -132,7 +132,7 @@ pub(crate) fn open(part: Part, strings: u16, cursor: &mut Cursor<'_>) -> Result<
 }
 
 /// A task is to come behind what was taken.
-fn then<T: Drop>(strings: u16, task: Task, taken: Result<T, Stop>) -> Result<Opened, Stop>
+fn then<T: Drop>(strings: u16, task: Task, taken: Taken<T>) -> Taken<Opened>
     ensures { OpensAs taken (λ _. task ∷ []) (λ _. strings) result }
 {
     taken?;
@@ -140,27 +140,27 @@ fn then<T: Drop>(strings: u16, task: Task, taken: Result<T, Stop>) -> Result<Ope
 }
 
 /// So many items are to come.
-fn list(strings: u16, item: Part, count: Result<u16, Stop>) -> Result<Opened, Stop>
+fn list(strings: u16, item: Part, count: Taken<u16>) -> Taken<Opened>
     ensures { OpensAs count (λ n. task item n ∷ []) (λ _. strings) result }
 {
     Ok(Opened::one(strings, item, u32::from(count?)))
 }
 
 /// As `list`.
-fn row(strings: u16, item: Part, count: Result<u32, Stop>) -> Result<Opened, Stop>
+fn row(strings: u16, item: Part, count: Taken<u32>) -> Taken<Opened>
     ensures { OpensAs count (λ n. task item n ∷ []) (λ _. strings) result }
 {
     Ok(Opened::one(strings, item, count?))
 }
 
-fn lines(strings: u16, head: Result<LinesHead, Stop>) -> Result<Opened, Stop>
+fn lines(strings: u16, head: Taken<LinesHead>) -> Taken<Opened>
     ensures { OpensAs head (λ h. task part.Line h.lines ∷ []) (λ _. strings) result }
 {
     Ok(Opened::one(strings, Part::Line, u32::from(head?.lines)))
 }
 
 /// The number of strings in the table is how many there are from here on.
-fn string_table(count: Result<u16, Stop>) -> Result<Opened, Stop>
+fn string_table(count: Taken<u16>) -> Taken<Opened>
     ensures { OpensAs count (λ n. task part.Text n ∷ []) (λ n. n) result }
 {
     let count = count?;
@@ -169,7 +169,7 @@ fn string_table(count: Result<u16, Stop>) -> Result<Opened, Stop>
 
 /// Of how many functions line numbers follow.
 #[tactic(auto, unfolding(crate::specs::Opening::debug_count_at))]
-fn debug_count(cursor: &mut Cursor<'_>) -> Result<u16, Stop>
+fn debug_count(cursor: &mut Cursor<'_>) -> Taken<u16>
     ensures { Takes (λ n. n) debug_count_at result cursor.old cursor.new }
 {
     if cursor.debug_flag()? == 0 {
@@ -181,7 +181,7 @@ fn debug_count(cursor: &mut Cursor<'_>) -> Result<u16, Stop>
 
 /// The name of a state, and of how many functions it is.
 #[tactic(auto, unfolding(crate::specs::Opening::state_count_at))]
-fn state_count(strings: u16, cursor: &mut Cursor<'_>) -> Result<u16, Stop>
+fn state_count(strings: u16, cursor: &mut Cursor<'_>) -> Taken<u16>
     ensures { Takes (λ n. n) (state_count_at strings) result cursor.old cursor.new }
 {
     cursor.reference(strings)?;
@@ -189,7 +189,7 @@ fn state_count(strings: u16, cursor: &mut Cursor<'_>) -> Result<u16, Stop>
 }
 
 /// The variables, properties and states are to come, and whether the size is theirs.
-fn object(strings: u16, head: Result<ObjectHead, Stop>) -> Result<Opened, Stop>
+fn object(strings: u16, head: Taken<ObjectHead>) -> Taken<Opened>
     ensures { OpensAs head object_tasks (λ _. strings) result }
 {
     let head = head?;
@@ -204,7 +204,7 @@ fn object(strings: u16, head: Result<ObjectHead, Stop>) -> Result<Opened, Stop>
 }
 
 /// The functions that the bits ask for are to come.
-fn property(strings: u16, head: Result<PropertyHead, Stop>) -> Result<Opened, Stop>
+fn property(strings: u16, head: Taken<PropertyHead>) -> Taken<Opened>
     ensures { OpensAs head property_tasks (λ _. strings) result }
 {
     let bits = head?.bits;
@@ -222,7 +222,7 @@ fn function_where(asked: bool) -> Task
 }
 
 /// The parameters, locals and code are to come.
-fn function(strings: u16, head: Result<FunctionHead, Stop>) -> Result<Opened, Stop>
+fn function(strings: u16, head: Taken<FunctionHead>) -> Taken<Opened>
     ensures { OpensAs head function_tasks (λ _. strings) result }
 {
     let parameters = Task::times(Part::Pair, u32::from(head?.parameters));
@@ -236,7 +236,7 @@ fn function(strings: u16, head: Result<FunctionHead, Stop>) -> Result<Opened, St
 impl<'a> Cursor<'a> {
     /// So many operands.
     #[inline(always)]
-    fn operands(&mut self, strings: u16, count: u8) -> Result<(), Stop>
+    fn operands(&mut self, strings: u16, count: u8) -> Taken<()>
         ensures { Takes (λ _. strings) (times_at part.Operand count strings) result self.old self.new }
     {
         'operands: for _ in 0..count {
@@ -248,7 +248,7 @@ impl<'a> Cursor<'a> {
     /// An opcode and the operands that it always has, and how many more follow.
     #[inline(always)]
     #[tactic(auto, unfolding(crate::specs::Opening::fixed_at))]
-    pub(crate) fn fixed(&mut self, strings: u16) -> Result<u32, Stop>
+    pub(crate) fn fixed(&mut self, strings: u16) -> Taken<u32>
         ensures { Takes (λ n. n) (fixed_at strings) result self.old self.new }
     {
         let operation = self.opcode()?;
@@ -342,7 +342,7 @@ impl Scan {
     }
 
     /// Goes on as far as the bytes are there. Where they end within an item, it stands before that.
-    pub(crate) fn go_on(&mut self, cursor: &mut Cursor<'_>) -> Result<(), Stop>
+    pub(crate) fn go_on(&mut self, cursor: &mut Cursor<'_>) -> Taken<()>
         ensures { ScansOn self.old result self.new cursor.old cursor.new }
     {
         'steps: while !self.is_done() {
@@ -359,7 +359,7 @@ impl Scan {
     }
 
     /// Does a part of what is to come. Where the bytes end within it, nothing is changed.
-    fn step(&mut self, cursor: &mut Cursor<'_>) -> Result<(), Stop>
+    fn step(&mut self, cursor: &mut Cursor<'_>) -> Taken<()>
         requires { 0 < work_of self.old }
         ensures { Steps result self.old cursor.old self.new cursor.new }
     {
@@ -388,7 +388,7 @@ impl Scan {
     }
 
     /// Judges the size of an object whose data ends here.
-    fn judge(&mut self, size_at: u32, size: u32, cursor: &Cursor<'_>) -> Result<(), Stop>
+    fn judge(&mut self, size_at: u32, size: u32, cursor: &Cursor<'_>) -> Taken<()>
         requires some { 0 < self.old.current.left }
         requires part { self.old.current.part ≡ part.Size size_at size }
         ensures { Steps result self.old cursor.now self.new cursor.now }
@@ -416,7 +416,7 @@ impl Scan {
     }
 
     /// Takes the first fields of the next part.
-    fn open(&mut self, cursor: &mut Cursor<'_>) -> Result<(), Stop>
+    fn open(&mut self, cursor: &mut Cursor<'_>) -> Taken<()>
         requires some { 0 < self.old.current.left }
         requires bytes { least_of self.old.current.part ≡ 1 }
         ensures { Steps result self.old cursor.old self.new cursor.new }
