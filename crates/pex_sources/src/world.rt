@@ -1,7 +1,7 @@
 // The scripts of a set, the prelude's before those of the files, and what is found among them by name.
 use crate::fault::{Found, NOT_FOUND, check};
 use crate::page::Page;
-use papy_base::{OutOfMemory, Text};
+use papy_base::{OutOfMemory, Text, upward};
 use pex_set::{FileNames, NameNumbers, Prelude, text_at};
 use pex_values::{Pex, PexFunction, PexObject, PexProperty, PexVariable};
 use std::alloc::Global;
@@ -72,6 +72,8 @@ type Key = (usize, usize);
 pub(crate) struct World<'a> {
     pub alloc: Global,
     scripts: Vec<Script<'a>>,
+    // Of each script the place of its parent, where there is one.
+    parents: Vec<Option<usize>>,
     // What stands in the names that are made up, so that nothing in the set has one of them.
     infix: String,
     table: NameNumbers,
@@ -95,6 +97,7 @@ impl<'a> World<'a> {
         Ok(World {
             alloc,
             scripts: Vec::new(alloc),
+            parents: Vec::new(alloc),
             infix: String::new(alloc),
             table,
             by_name: HashMap::new(alloc),
@@ -116,7 +119,7 @@ impl<'a> World<'a> {
             check(file.objects.len() == 1)?;
             self.add_file(file)?;
         }
-        Ok(())
+        Ok(self.add_parents()?)
     }
 
     fn take_words(&mut self) -> Result<(), OutOfMemory> {
@@ -184,6 +187,15 @@ impl<'a> World<'a> {
         Ok(())
     }
 
+    // Adds the places of the parents, once every script has its name.
+    fn add_parents(&mut self) -> Result<(), OutOfMemory> {
+        for script in &self.scripts {
+            let parent = self.by_name.get(&script.number(script.object.parent));
+            self.parents.push(parent.copied())?;
+        }
+        Ok(())
+    }
+
     /// The script of this number, or `NotFound`.
     pub(crate) fn script(&self, number: usize) -> Found<&Script<'a>> {
         self.scripts.get(number).ok_or(NOT_FOUND)
@@ -235,14 +247,10 @@ impl<'a> World<'a> {
         kind: usize,
         name: usize,
     ) -> Option<(&Script<'a>, T)> {
-        let mut script = self.script_of(kind)?;
-        for _ in 0..self.scripts.len() {
-            if let Some(member) = members.get(&(script.place, name)) {
-                return Some((script, *member));
-            }
-            script = self.script_of(script.number(script.object.parent))?;
-        }
-        None
+        let first = *self.by_name.get(&kind)?;
+        let mut way = upward(&self.parents, first);
+        let (place, member) = way.find_map(|place| Some((place, *members.get(&(place, name))?)))?;
+        Some((self.scripts.get(place)?, member))
     }
 
     /// The nearest function of a name, from the script of this type upward, with its script. What each script without parent has
