@@ -1,6 +1,7 @@
 -- What the look-ups of a set of scripts find, said of the list of its files.
 use Rattle.std.specs.Prelude.{ℕ, ◌≡◌, ◌<◌, ◌≤◌, List, [], ◌∷◌, take, codes, length, map, Option, Some, None, option_and_then, slice_get, slice_index_or}
 use Rattle.papy_base.specs.Case.{folded}
+use Rattle.papy_base.specs.Lineage.{StandsAbove, parent_of}
 use Rattle.script_parser.specs.declared.script.Script.{Script}
 use Rattle.script_parser.specs.declared.script.Function.{Function}
 use Rattle.script_parser.specs.declared.script.Property.{Property}
@@ -22,23 +23,9 @@ parent_in files file = option_and_then (script_named files) file.script.parent
 abbrev pub parents_of : List SourceFile → List (Option ℕ)
 parents_of files = map (parent_in files) files
 
-abbrev pub parent_at : List (Option ℕ) → ℕ → Option ℕ
-parent_at parents n = slice_index_or parents n None
-
--- the script a is the script n itself or stands above it
-pub data StandsAbove (parents : List (Option ℕ)) : ℕ → ℕ → Type 0 where
-  itself : (n : ℕ) → StandsAbove parents n n
-  further : (n p a : ℕ) → parent_at parents n ≡ Some p → StandsAbove parents p a → StandsAbove parents n a
-
 -- no script stands above itself
 abbrev pub HasNoCircle : List (Option ℕ) → Type 0
-HasNoCircle parents = (n p : ℕ) → parent_at parents n ≡ Some p → ¬ StandsAbove parents p n
-
--- from the script n upward, the first script that has something of its own, with the place where it has it
-pub data Nearest (parents : List (Option ℕ)) (own : ℕ → Option ℕ) : ℕ → Option (ℕ × ℕ) → Type 0 where
-  here : (n place : ℕ) → own n ≡ Some place → Nearest parents own n (Some (n, place))
-  further : (n p : ℕ) (found : Option (ℕ × ℕ)) → own n ≡ None → parent_at parents n ≡ Some p → Nearest parents own p found → Nearest parents own n found
-  nowhere : (n : ℕ) → own n ≡ None → parent_at parents n ≡ None → Nearest parents own n None
+HasNoCircle parents = (n p : ℕ) → parent_of parents n ≡ Some p → ¬ StandsAbove parents p n
 
 abbrev pub function_name : Function → List ℕ
 function_name function = function.heading.name
@@ -81,7 +68,7 @@ pub record StartsWithPrelude (files : List SourceFile) : Type 0 where
 
 -- of the first six scripts only Quest and ObjectReference have a parent, which is Form
 abbrev pub HasPreludeParents : List (Option ℕ) → Type 0
-HasPreludeParents parents = (n p : ℕ) → n < 6 → parent_at parents n ≡ Some p → (3 < n) × (p ≡ 3)
+HasPreludeParents parents = (n p : ℕ) → n < 6 → parent_of parents n ≡ Some p → (3 < n) × (p ≡ 3)
 
 -- the places of a script's functions and properties have 16 bits
 abbrev pub HasFewMembers : Script → Type 0

@@ -8,7 +8,6 @@ ghost use Rattle.papy_base.specs.Table.{IsPlaceTable};
 ghost use Rattle.script_parser.specs.Lines.{heading_lines};
 ghost use Rattle.script_linker.specs.Link.{AreFilesOf, AreResolved, IsFaultOf, IsFaultOn, declared_lines, function_count};
 
-use crate::declarations::places;
 use crate::fault::LinkFault;
 use crate::parents::parent_numbers;
 use crate::prelude::{add_generated, prelude_files};
@@ -75,7 +74,7 @@ fn link_set(
     ensures resolved { IfOk result AreResolved }
     ensures broken { IfErr result (IsFaultOn (declared_lines declared.now) files.items) }
 {
-    let names = places(alloc, files.as_slice())?;
+    let names = NameTable::of_places(alloc, files.as_slice())?;
     let parents = parent_numbers(alloc, files.as_slice(), &names)?;
     let circles = on_circles(alloc, parents.as_slice())?;
     judge_scripts(alloc, files.as_slice(), &names, &parents, &circles)?;
@@ -102,7 +101,7 @@ fn judge_scripts(
     ensures rooted { OnOk result ((n : ℕ) → 6 ≤ n → n < length files.now → is_marked circles.now n ≡ false) }
     ensures broken { IfErr result (IsFaultOn (λ file. heading_lines) files.now) }
 {
-    let file_names = places(alloc, &files[PRELUDE_COUNT..])?;
+    let file_names = NameTable::of_places(alloc, &files[PRELUDE_COUNT..])?;
     for number in PRELUDE_COUNT..files.len() {
         if let Some(found) = script_fault(files, names, &file_names, parents, circles, number) {
             return Err(fault(number, found));

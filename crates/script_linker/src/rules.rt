@@ -4,9 +4,10 @@ ghost use Rattle.std.specs.Prelude.{◌≡◌, ℕ, ◌+◌, ◌-◌, ◌<◌, �
 ghost use Rattle.papy_base.specs.Case.{folded, SameIgnoringCase};
 ghost use Rattle.script_linker.specs.Found.{Before, FindsAmong, IsFirst};
 ghost use Rattle.script_linker.specs.Link.{IsResolved};
-ghost use Rattle.script_linker.specs.Lookup.{HasFewMembers, HasSmallScript, Nearest, own_function, parents_of, script_name};
+ghost use Rattle.script_linker.specs.Lookup.{HasFewMembers, HasSmallScript, own_function, parents_of, script_name};
 ghost use Rattle.script_linker.specs.Rules.{IsBelow, IsNoParent};
 ghost use Rattle.papy_base.specs.Circles.{is_marked};
+ghost use Rattle.papy_base.specs.Lineage.{Nearest};
 ghost use Rattle.papy_base.specs.Table.{IsPlaceTable, number_in};
 ghost use Rattle.script_linker.specs.declared.set.SourceFile.{SourceFile};
 ghost use Rattle.script_parser.specs.Lines.{accessors, function_line, heading_lines, import_line, own_lines, property_line, property_lines, state_lines, variable_line};
@@ -208,7 +209,7 @@ fn judge_functions(
     scripts: &Scripts,
     number: usize,
     functions: &[Function],
-    place: Holder<'_>,
+    holder: Holder<'_>,
     first: &mut Earliest,
 ) -> Result<(), OutOfMemory>
     requires { number < length scripts.now }
@@ -221,9 +222,9 @@ fn judge_functions(
         first.note(is_taken, function.line, LinkRule::DuplicateMember);
         let is_late = has_late_parameter(function.heading.parameters.as_slice());
         first.note(is_late, function.line, LinkRule::DefaultOrder);
-        let is_alone = matches!(place, Holder::State) && stands_alone(scripts, number, function);
+        let is_alone = matches!(holder, Holder::State) && stands_alone(scripts, number, function);
         first.note(is_alone, function.line, LinkRule::StateFunctionAlone);
-        let differs = differs(scripts, number, function, place);
+        let differs = differs(scripts, number, function, holder);
         first.note(differs, function.line, LinkRule::SignatureDiffers);
     }
     Ok(())
@@ -245,8 +246,7 @@ fn judge_names<T: Declared>(lines: &NameTable, items: &[T], first: &mut Earliest
     ensures { FindsAmong (map T.line_of items.now) first.old first.new }
 {
     for item in items {
-        let (_, line) = item.declaration();
-        first.note(repeats(lines, item), line, LinkRule::DuplicateMember);
+        first.note(repeats(lines, item), item.line(), LinkRule::DuplicateMember);
     }
 }
 
@@ -306,16 +306,15 @@ fn judge_form(
     let PropertyForm::Full(functions) = &property.form else {
         return Ok(());
     };
-    let place = Holder::Property(&property.kind);
-    judge_functions(alloc, scripts, number, functions.as_slice(), place, first)
+    let holder = Holder::Property(&property.kind);
+    judge_functions(alloc, scripts, number, functions.as_slice(), holder, first)
 }
 
 // N6: whether a thing on an earlier line has the name. `lines` has the least line of each name.
 fn repeats<T: Declared>(lines: &NameTable, item: &T) -> bool
     ensures { IsTrue result ↔ IsBelow (T.line_of item.now) (number_in lines.now (folded (T.name_of item.now))) }
 {
-    let (name, line) = item.declaration();
-    is_below(lines.find(name), usize::from(line))
+    is_below(lines.find(item.name()), usize::from(item.line()))
 }
 
 // N6: whether a function has the name of one that every script has.
@@ -336,14 +335,14 @@ fn stands_alone(scripts: &Scripts, number: usize, function: &Function) -> bool
     found.is_none()
 }
 
-// N9: whether this function isn't what its place asks for: in a state that it is neither Global nor Native, in a
+// N9: whether this function isn't what its holder asks for: in a state that it is neither Global nor Native, in a
 // property that it is a `Get` or `Set`, in the empty state of a script without parent that an event of a state
 // change is as every such script has it, and else that it is as the one that it replaces.
-fn differs(scripts: &Scripts, number: usize, function: &Function, place: Holder<'_>) -> bool
+fn differs(scripts: &Scripts, number: usize, function: &Function, holder: Holder<'_>) -> bool
     requires { number < length scripts.now }
 {
     let heading = &function.heading;
-    match place {
+    match holder {
         Holder::EmptyState => match scripts.parent(number) {
             Some(parent) => differs_from_nearest(scripts, parent, function),
             None => is_state_event(function) && !is_plain_event(heading),

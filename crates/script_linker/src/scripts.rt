@@ -1,15 +1,14 @@
 // Scripts with their parents and the tables of their members, whether or not they break a rule.
 ghost use Rattle.std.specs.Prelude.{◌≡◌, ℕ, ◌<◌, ◌↔◌, List, Option, length, IfOk, IfSome, IsTrue, slice_index_or};
 ghost use Rattle.papy_base.specs.Case.{folded};
-ghost use Rattle.papy_base.specs.Lineage.{AreAmong, AreRooted};
+ghost use Rattle.papy_base.specs.Lineage.{AreAmong, AreRooted, Nearest, StandsAbove, parent_of};
 ghost use Rattle.papy_base.specs.Table.{number_in};
 ghost use Rattle.papy_base.specs.declared.name_table.NameTable.{NameTable};
 ghost use Rattle.script_linker.specs.Index.{HasFunctionTables, HasPropertyTables};
-ghost use Rattle.script_linker.specs.Lookup.{parents_of, parent_at, Nearest, StandsAbove, HasNoCircle, own_function, own_property, IsFunctionOf, IsPropertyOf};
+ghost use Rattle.script_linker.specs.Lookup.{parents_of, HasNoCircle, own_function, own_property, IsFunctionOf, IsPropertyOf};
 
-use crate::declarations::places;
 use crate::set::SourceFile;
-use papy_base::{Made, Name, NameTable};
+use papy_base::{Made, Name, NameTable, is_below, parent_of, upward};
 use std::alloc::Global;
 use std::marker::Model;
 
@@ -74,10 +73,10 @@ impl Scripts {
 
     pub(crate) fn parent(&self, number: usize) -> Option<usize>
         requires { number < length self.now }
-        ensures parent { result ≡ parent_at (parents_of self.now) number }
+        ensures parent { result ≡ parent_of (parents_of self.now) number }
         ensures within { IfSome result (λ p. p < length self.now) }
     {
-        self.parents[number]
+        parent_of(&self.parents, number)
     }
 
     /// The script and the place of the nearest function of this name in the empty states, from the
@@ -105,16 +104,7 @@ impl Scripts {
         ensures above { IsTrue result ↔ StandsAbove (parents_of self.now) script parent }
         ensures no_circle { HasNoCircle (parents_of self.now) }
     {
-        let mut here = script;
-        'upward: loop {
-            if here == parent {
-                return true;
-            }
-            match self.parents[here] {
-                Some(above) => here = above,
-                None => return false,
-            }
-        }
+        is_below(&self.parents, script, parent)
     }
 
     // The script and the place that its table has, from the script upward, for this name. Each script
@@ -126,16 +116,12 @@ impl Scripts {
         requires tables { (n : ℕ) (table : NameTable) → n < length self.now → number_in (slice_index_or tables.now n table) (folded name.now) ≡ own n }
         ensures { Nearest (parents_of self.now) own script result }
     {
-        let mut here = script;
-        'upward: loop {
+        for here in upward(&self.parents, script) {
             if let Some(place) = tables[here].find(name) {
                 return Some((here, place));
             }
-            match self.parents[here] {
-                Some(parent) => here = parent,
-                None => return None,
-            }
         }
+        None
     }
 }
 
@@ -149,8 +135,8 @@ fn tables(alloc: Global, files: &[SourceFile]) -> Made<(Vec<NameTable>, Vec<Name
     let mut functions = Vec::with_capacity(alloc, files.len())?;
     let mut properties = Vec::with_capacity(alloc, files.len())?;
     for file in files {
-        functions.push(places(alloc, file.script.functions.as_slice())?)?;
-        properties.push(places(alloc, file.script.properties.as_slice())?)?;
+        functions.push(NameTable::of_places(alloc, file.script.functions.as_slice())?)?;
+        properties.push(NameTable::of_places(alloc, file.script.properties.as_slice())?)?;
     }
     Ok((functions, properties))
 }

@@ -1,5 +1,6 @@
 ghost use Rattle.std.specs.Prelude.{◌≡◌, ◌<◌, ◌↔◌, List, length, IsTrue, slice_index_or, option_map};
-ghost use Rattle.script_linker.specs.Lookup.{parents_of, Nearest, StandsAbove, HasNoCircle, own_function, own_property};
+ghost use Rattle.papy_base.specs.Lineage.{Nearest, StandsAbove};
+ghost use Rattle.script_linker.specs.Lookup.{parents_of, HasNoCircle, own_function, own_property};
 
 use crate::scripts::Scripts;
 use papy_base::{Name, Text};

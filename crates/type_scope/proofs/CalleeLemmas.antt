@@ -5,22 +5,16 @@ use Rattle.std.specs.List.{position}
 use Rattle.std.specs.Str.{bytes_eq}
 use Rattle.std.specs.Cmp.Lexicographic.{bytes_decides}
 use Rattle.std.proofs.lemmas.List.Quantifiers.{position-Some}
-use Rattle.std.proofs.lemmas.Option.{get_or_from_slice_get, slice_get-map, slice_get_cases, some_pair_parts}
+use Rattle.std.proofs.lemmas.Option.{get_or_from_slice_get, slice_get-map, slice_get_cases}
 use Rattle.core_tree.specs.InRange.{Signature, function_at}
 use Rattle.papy_base.specs.Case.{SameIgnoringCase, folded}
-use Rattle.script_linker.specs.Lookup.{Nearest, here, further, nowhere, function_name, own_function, parents_of}
+use Rattle.papy_base.specs.Lineage.{Nearest}
+use Rattle.script_linker.specs.Lookup.{function_name, own_function, parents_of}
 use Rattle.papy_base.specs.Table.{place_of}
+use Rattle.script_linker.proofs.LookupLemmas.{Nearest-own}
 use Rattle.script_linker.specs.declared.set.SourceFile.{SourceFile}
 use Rattle.script_parser.specs.declared.script.Function.{Function}
 use Rattle.type_scope.specs.Types.{file_signatures, signature_of, signatures}
-
--- the script that the search ends at has it itself
-own-nearest : {parents : List (Option ℕ)} {own : ℕ → Option ℕ} {n : ℕ} {found : Option (ℕ × ℕ)} (k place : ℕ) → Nearest parents own n found → found ≡ Some (k, place) → own k ≡ Some place
-own-nearest {own = own} k place (here n p is) same =
-    let parts = some_pair_parts n k p place same in
-    ap own (sym parts.0) ∙ is ∙ ap Some parts.1
-own-nearest k place (further n p found lacks up on) same = own-nearest k place on same
-own-nearest k place (nowhere n lacks up) same = cc
 
 module _ (files : List SourceFile) (name : List ℕ) (k place : ℕ) (function : Function) (file : SourceFile) (is : slice_get files k ≡ Some file) (at : slice_get file.script.functions.items place ≡ Some function) where
   pub function-there : function_at (signatures files) (record { script = k; place = place }) ≡ Some (signature_of function.heading)
@@ -47,6 +41,6 @@ callee-found files name start k place function nearest inside read =
     (λ some.
     let file : SourceFile = some.0 in
     let at : slice_get file.script.functions.items place ≡ Some function = subst (λ (f : SourceFile). slice_get f.script.functions.items place ≡ Some function) some.3 (read file) in
-    (function-there files name k place function file some.2 at, function-named files name k place function file some.2 at (own-nearest k place nearest refl)))
+    (function-there files name k place function file some.2 at, function-named files name k place function file some.2 at (Nearest-own nearest)))
     (λ none. absurd (omega (arith, none.0, inside)))
     (slice_get_cases files k).1

@@ -21,6 +21,6 @@ loop-file-preserved c =
     record {
       function_count = rw c.in_ok-push.ensures.items (simp length-append (omega (arith, before.function_count)));
       property_count = rw c.in_ok-push-2.ensures.items (simp length-append (omega (arith, before.property_count)));
-      functions = rw c.in_ok-push.ensures.items (each-push HasFunctions files c.loop-file.functions.items index c.file-item.result c.in_ok-places.field-0 before.function_count c.loop-file-test.true c.file-item.is (rw c.as_slice.ensures.value at c.in_ok-places.ensures) before.functions);
-      properties = rw c.in_ok-push-2.ensures.items (each-push HasProperties files c.loop-file.properties.items index c.file-item.result c.in_ok-places-2.field-0 before.property_count c.loop-file-test.true c.file-item.is (rw c.as_slice-in-loop-file.ensures.value at c.in_ok-places-2.ensures) before.properties);
+      functions = rw c.in_ok-push.ensures.items (each-push HasFunctions files c.loop-file.functions.items index c.file-item.result c.in_ok-of_places.field-0 before.function_count c.loop-file-test.true c.file-item.is (rw c.as_slice.ensures.value at c.in_ok-of_places.ensures) before.functions);
+      properties = rw c.in_ok-push-2.ensures.items (each-push HasProperties files c.loop-file.properties.items index c.file-item.result c.in_ok-of_places-2.field-0 before.property_count c.loop-file-test.true c.file-item.is (rw c.as_slice-in-loop-file.ensures.value at c.in_ok-of_places-2.ensures) before.properties);
     }

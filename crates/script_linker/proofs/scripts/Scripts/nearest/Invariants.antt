@@ -1,11 +1,6 @@
-use Rattle.std.proofs.Common.{◌<◌, ℕ, Option, length}
-use Rattle.script_linker.specs.Lookup.{Nearest, parents_of}
-use Rattle.script_linker.proofs.LookupLemmas.{height}
+use Rattle.script_linker.specs.Lookup.{parents_of}
+use Rattle.script_linker.proofs.LookupLemmas.{Searches}
 use Rattle.script_linker.proofs.scripts.Scripts.nearest.Given as goal
 
-abbrev pub invariant-upward : goal.invariant-upward
-invariant-upward g l =
-    (l.here < length l.self) × ((found : Option (ℕ × ℕ)) → Nearest (parents_of l.self) g.own l.here found → Nearest (parents_of l.self) g.own l.script found)
-
-abbrev pub decreases-upward : goal.decreases-upward
-decreases-upward g l = height l.self-inside.parents.items l.here
+abbrev pub invariant-loop-here : goal.invariant-loop-here
+invariant-loop-here g l = Searches (parents_of l.fn.self) g.own l.fn.script l.here-iterator
