@@ -1,4 +1,3 @@
-pub mod Lineages
 pub mod Ranges
 pub mod StatementViews
 pub mod Views

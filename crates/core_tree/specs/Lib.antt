@@ -1,7 +1,7 @@
 pub mod Device
 pub mod InRange
-pub mod Lineage
 pub mod Outlines
 pub mod Scenes
 pub mod Set
 pub mod Tree
+pub mod Values

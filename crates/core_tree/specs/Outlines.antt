@@ -64,3 +64,7 @@ empty_state_functions (empty ∷ named) = empty.functions.items
 abbrev pub script_outline : CoreScript → ScriptShape
 script_outline s =
     record { name = s.name; parent = s.parent; auto_state = s.auto_state; variables = map variable_outline s.variables.items; properties = flat_map auto_property s.properties.items; functions = map function_outline (empty_state_functions s.states.items) }
+
+-- the parents of scripts, by number
+abbrev pub parents_of : List OutlineScript → List (Option ℕ)
+parents_of scripts = map (λ script. script.parent) scripts

@@ -4,7 +4,6 @@
 
 mod core_type;
 mod expression;
-mod lineage;
 mod operator;
 mod outline;
 mod outlining;
@@ -16,7 +15,6 @@ mod value;
 
 pub use core_type::CoreType;
 pub use expression::{Core, FunctionPlace};
-pub use lineage::{is_child, lineage_of, parent_of};
 pub use operator::{Arith, Order};
 pub use outline::{Outline, OutlineFunction, OutlineProperty, OutlineScript, OutlineVariable};
 pub use outlining::outline_of;

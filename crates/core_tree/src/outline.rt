@@ -2,7 +2,7 @@
 
 use crate::core_type::CoreType;
 use crate::value::Value;
-use papy_base::Name;
+use papy_base::{HasParent, Name, Named};
 
 /// The scripts of a set. Each list of a script is in the order of the file.
 #[derive(Drop)]
@@ -25,6 +25,22 @@ pub struct OutlineScript {
     pub functions: Vec<OutlineFunction>,
 }
 
+impl Named for OutlineScript {
+    ghost name_of = { λ script. script.name };
+
+    fn name(&self) -> &Name {
+        &self.name
+    }
+}
+
+impl HasParent for OutlineScript {
+    ghost parent_number = { λ script. script.parent };
+
+    fn parent(&self) -> Option<usize> {
+        Some(usize::from(self.parent?))
+    }
+}
+
 /// A variable, with its value at the start.
 #[derive(Drop)]
 pub struct OutlineVariable {
@@ -41,6 +57,14 @@ pub struct OutlineProperty {
     pub variable: u16,
 }
 
+impl Named for OutlineProperty {
+    ghost name_of = { λ property. property.name };
+
+    fn name(&self) -> &Name {
+        &self.name
+    }
+}
+
 /// A function of the empty state.
 #[derive(Drop)]
 pub struct OutlineFunction {
@@ -49,4 +73,12 @@ pub struct OutlineFunction {
     pub result: Option<CoreType>,
     pub is_global: bool,
     pub is_native: bool,
+}
+
+impl Named for OutlineFunction {
+    ghost name_of = { λ function. function.name };
+
+    fn name(&self) -> &Name {
+        &self.name
+    }
 }

@@ -1,4 +1,5 @@
-ghost use Rattle.std.specs.Prelude.{◌≡◌, IfOk};
+ghost use Rattle.std.specs.Prelude.{◌≡◌, IfOk, IsTrue, OnErr};
+ghost use Rattle.core_tree.specs.Values.{is_text};
 
 use papy_base::{OutOfMemory, Text};
 use std::alloc::Global;
@@ -20,7 +21,8 @@ pub enum Value {
 impl Value {
     /// An equal value. `OutOfMemory` comes only of a text.
     pub fn try_clone(&self, alloc: Global) -> Result<Value, OutOfMemory>
-        ensures { IfOk result (λ value. value ≡ self.now) }
+        ensures copy { IfOk result (λ value. value ≡ self.now) }
+        ensures memory { OnErr result (IsTrue (is_text self.now)) }
     {
         Ok(match self {
             Value::NoneValue => Value::NoneValue,

@@ -10,7 +10,8 @@ use Rattle.core_tree.specs.declared.core_type.CoreType.{CoreType}
 use Rattle.core_tree.specs.declared.core_type.CoreType.TheVariants as kinds
 use Rattle.core_tree.specs.declared.value.Value.{Value}
 use Rattle.core_tree.specs.declared.value.Value.TheVariants.{NoneValue}
-use Rattle.instance_store.specs.Values.{is_text, equals, default_value}
+use Rattle.core_tree.specs.Values.{is_text}
+use Rattle.instance_store.specs.Values.{equals, default_value}
 
 -- an array: the type of its elements, and the elements
 pub record ArrayState : Type 0 where

@@ -1,6 +1,7 @@
 -- The instances of a world, by number: the text of each one's state, and the values of its variables.
 use Rattle.std.specs.Prelude.{ℕ, ◌==◌, List, [], ◌∷◌, Option, Some, None, map, position, slice_get, slice_index_or, slice_set}
-use Rattle.core_tree.specs.Lineage.{lineage}
+use Rattle.papy_base.specs.Lineage.{lineage}
+use Rattle.core_tree.specs.Outlines.{parents_of}
 use Rattle.core_tree.specs.declared.value.Value.{Value}
 use Rattle.core_tree.specs.declared.value.Value.TheVariants.{NoneValue}
 use Rattle.core_tree.specs.declared.outline.OutlineScript.{OutlineScript}
@@ -87,7 +88,7 @@ scripts_after scripts (entry ∷ entries) = scripts_after (scripts_with scripts 
 -- an instance of a scene at the start
 abbrev pub started : List OutlineScript → BoundInstance → InstanceState
 started scripts instance =
-    let above = lineage scripts instance.script in record {
+    let above = lineage (parents_of scripts) (Some instance.script) in record {
       state = start_state scripts above;
       scripts = scripts_after (map (initial_values scripts) above) instance.set.items;
     }

@@ -7,14 +7,6 @@ use Rattle.core_tree.specs.declared.core_type.CoreType.TheVariants as kinds
 use Rattle.core_tree.specs.declared.value.Value.{Value}
 use Rattle.core_tree.specs.declared.value.Value.TheVariants as values
 
-abbrev pub is_text : Value → Bool
-is_text values.NoneValue = false
-is_text (values.Int number) = false
-is_text (values.Bool truth) = false
-is_text (values.Text text) = true
-is_text (values.Instance instance) = false
-is_text (values.Array array) = false
-
 abbrev pub is_none_value : Value → Bool
 is_none_value values.NoneValue = true
 is_none_value (values.Int number) = false

@@ -6,7 +6,7 @@ ghost use Rattle.instance_store.specs.declared.arrays.StoreFault.TheVariants.{Ou
 ghost use Rattle.instance_store.specs.Values.{is_array_type, default_value};
 ghost use Rattle.instance_store.specs.Arrays.{array_at, length_of, read, write_answer, arrays_with, found, item_of, write_answer_of, array_with, found_place, place_number, IsRefusal, IsCreated};
 
-use crate::values::{copy_of, default_value, found_place, place_in, place_number};
+use crate::values::{default_value, found_place, place_in, place_number};
 use core_tree::{CoreType, Value};
 use papy_base::{Made, OutOfMemory, StackFault};
 use std::alloc::Global;
@@ -65,7 +65,7 @@ impl ValueArray {
     {
         let fault = StoreFault::Fault(StackFault::IndexRange);
         let place = place_in(self.items.len(), at).ok_or(fault)?;
-        Ok(copy_of(alloc, &self.items[place])?)
+        Ok(self.items[place].try_clone(alloc)?)
     }
 
     /// Writes the element at an index.

@@ -2,19 +2,18 @@
 
 ghost use Rattle.std.specs.Prelude.{◌≡◌, ◌↔◌, ◌<◌, List, ℕ, IfOk, OnErr, IsTrue, length, map, slice_get, slice_set};
 ghost use Rattle.std.specs.Option.{option_copied};
-ghost use Rattle.instance_store.specs.Values.{is_text};
+ghost use Rattle.core_tree.specs.Values.{is_text};
 ghost use Rattle.instance_store.specs.Instances.{instance_at, place_of, values_of, variable_of, scripts_with, instance_with, auto_state_of, initial_values, initial_values_of, start_state, started};
 
-use crate::values::copy_of;
-use core_tree::{BoundInstance, Outline, OutlineScript, OutlineVariable, Scene, Value, lineage_of};
-use papy_base::{Made, Name, Text};
+use core_tree::{BoundInstance, Outline, OutlineScript, OutlineVariable, Scene, Value};
+use papy_base::{Made, Name, Text, lineage_of};
 use std::alloc::Global;
 use std::marker::Model;
 
 /// The values of a script's variables, in the order of its file.
 #[derive(Drop)]
 pub struct ScriptVariables {
-    script: u16,
+    script: usize,
     values: Vec<Value>,
 }
 
@@ -28,7 +27,7 @@ impl Model for ScriptVariables {
 
 impl ScriptVariables {
     /// The variables of the script of this number, with these values.
-    pub fn new(script: u16, values: Vec<Value>) -> ScriptVariables
+    pub fn new(script: usize, values: Vec<Value>) -> ScriptVariables
         ensures { result ≡ record { script = script; values = values.items } }
     {
         ScriptVariables { script, values }
@@ -67,7 +66,7 @@ impl Instance {
     }
 
     /// Whether the script declares such a variable.
-    pub fn has(&self, script: u16, variable: u16) -> bool
+    pub fn has(&self, script: usize, variable: u16) -> bool
         ensures { IsTrue result ↔ (variable < length (values_of self.now.scripts script)) }
     {
         let place = place_of(self.scripts.as_slice(), script);
@@ -75,7 +74,7 @@ impl Instance {
     }
 
     /// A copy of a variable's value.
-    pub fn get(&self, alloc: Global, script: u16, variable: u16) -> Made<Value>
+    pub fn get(&self, alloc: Global, script: usize, variable: u16) -> Made<Value>
         requires { variable < length (values_of self.now.scripts script) }
         ensures value { IfOk result (λ value. value ≡ variable_of self.now script variable) }
         ensures memory { OnErr result (IsTrue (is_text (variable_of self.now script variable))) }
@@ -83,12 +82,12 @@ impl Instance {
         let Some(place) = place_of(self.scripts.as_slice(), script) else {
             unreachable!();
         };
-        copy_of(alloc, &self.scripts[place].values[usize::from(variable)])
+        self.scripts[place].values[usize::from(variable)].try_clone(alloc)
     }
 }
 
 /// Writes a variable, if there is such a one.
-pub(crate) fn write(scripts: &mut Vec<ScriptVariables>, script: u16, variable: u16, value: Value)
+pub(crate) fn write(scripts: &mut Vec<ScriptVariables>, script: usize, variable: u16, value: Value)
     ensures { scripts.new.items ≡ scripts_with scripts.old.items script variable value }
 {
     if let Some(place) = place_of(scripts.as_slice(), script) {
@@ -99,7 +98,7 @@ pub(crate) fn write(scripts: &mut Vec<ScriptVariables>, script: u16, variable: u
     }
 }
 
-fn place_of(scripts: &[ScriptVariables], script: u16) -> Option<usize>
+fn place_of(scripts: &[ScriptVariables], script: usize) -> Option<usize>
     ensures { result ≡ place_of scripts.now script }
 {
     scripts.iter().position(|part| part.script == script)
@@ -161,7 +160,7 @@ impl Instances {
         ensures { IsTrue result ↔ ((instance < length self.now) × (variable < length (values_of (instance_at self.now instance).scripts script))) }
     {
         let place = usize::from(instance);
-        place < self.instances.len() && self.instances[place].has(script, variable)
+        place < self.instances.len() && self.instances[place].has(usize::from(script), variable)
     }
 
     /// The value of a variable that the script declares. `OutOfMemory` comes only of a text.
@@ -172,7 +171,7 @@ impl Instances {
         ensures memory { OnErr result (IsTrue (is_text (variable_of (instance_at self.now instance) script variable))) }
     {
         let alloc = *self.instances.allocator();
-        self.instances[usize::from(instance)].get(alloc, script, variable)
+        self.instances[usize::from(instance)].get(alloc, usize::from(script), variable)
     }
 
     /// Writes a variable that the script declares, and no other.
@@ -182,7 +181,12 @@ impl Instances {
         ensures { self.new ≡ slice_set self.old instance (instance_with (instance_at self.old instance) script variable value) }
     {
         let place = usize::from(instance);
-        write(&mut self.instances[place].scripts, script, variable, value);
+        write(
+            &mut self.instances[place].scripts,
+            usize::from(script),
+            variable,
+            value,
+        );
     }
 
     /// The text of an instance's state.
@@ -212,16 +216,21 @@ fn start_instance(
 ) -> Made<Instance>
     ensures { IfOk result (λ found. found ≡ started scripts.now instance.now) }
 {
-    let above = lineage_of(alloc, scripts, instance.script)?;
+    let above = lineage_of(alloc, scripts, usize::from(instance.script))?;
     let state = start_state(alloc, scripts, &above)?;
     let mut variables = all_initial_values(alloc, scripts, &above)?;
     for entry in &instance.set {
-        write(&mut variables, entry.0, entry.1, copy_of(alloc, &entry.2)?);
+        write(
+            &mut variables,
+            usize::from(entry.0),
+            entry.1,
+            entry.2.try_clone(alloc)?,
+        );
     }
     Ok(Instance::new(state, variables))
 }
 
-fn start_state(alloc: Global, scripts: &[OutlineScript], above: &[u16]) -> Made<Text>
+fn start_state(alloc: Global, scripts: &[OutlineScript], above: &[usize]) -> Made<Text>
     ensures { IfOk result (λ state. state ≡ start_state scripts.now above.now) }
 {
     for script in above {
@@ -232,16 +241,16 @@ fn start_state(alloc: Global, scripts: &[OutlineScript], above: &[u16]) -> Made<
     Text::try_from_bytes(alloc, &[])
 }
 
-fn auto_state_of(scripts: &[OutlineScript], script: u16) -> Option<&Name>
+fn auto_state_of(scripts: &[OutlineScript], script: usize) -> Option<&Name>
     ensures { option_copied result ≡ auto_state_of (slice_get scripts.now script) }
 {
-    scripts.get(usize::from(script))?.auto_state.as_ref()
+    scripts.get(script)?.auto_state.as_ref()
 }
 
 fn all_initial_values(
     alloc: Global,
     scripts: &[OutlineScript],
-    above: &[u16],
+    above: &[usize],
 ) -> Made<Vec<ScriptVariables>>
     ensures { IfOk result (λ found. found.items ≡ map (initial_values scripts.now) above.now) }
 {
@@ -253,10 +262,14 @@ fn all_initial_values(
     Ok(found)
 }
 
-fn script_initial_values(alloc: Global, scripts: &[OutlineScript], script: u16) -> Made<Vec<Value>>
+fn script_initial_values(
+    alloc: Global,
+    scripts: &[OutlineScript],
+    script: usize,
+) -> Made<Vec<Value>>
     ensures { IfOk result (λ values. values.items ≡ initial_values_of (slice_get scripts.now script)) }
 {
-    match scripts.get(usize::from(script)) {
+    match scripts.get(script) {
         None => Ok(Vec::new(alloc)),
         Some(outline) => values_of(alloc, &outline.variables),
     }
@@ -267,7 +280,7 @@ fn values_of(alloc: Global, variables: &[OutlineVariable]) -> Made<Vec<Value>>
 {
     let mut values = Vec::with_capacity(alloc, variables.len())?;
     for variable in variables {
-        values.push(copy_of(alloc, &variable.value)?)?;
+        values.push(variable.value.try_clone(alloc)?)?;
     }
     Ok(values)
 }

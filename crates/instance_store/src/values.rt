@@ -1,28 +1,13 @@
-//! Copies, comparison and defaults of values, and places in lists of them.
+//! Comparison and defaults of values, and places in lists of them.
 
-ghost use Rattle.std.specs.Prelude.{◌≡◌, ◌≤◌, ◌<◌, IfOk, IfSome, OnErr, IsTrue, length, position};
+ghost use Rattle.std.specs.Prelude.{◌≡◌, ◌≤◌, ◌<◌, IfOk, IfSome, length, position};
 ghost use Rattle.std.specs.Option.{ForSome};
-ghost use Rattle.instance_store.specs.Values.{is_text, equals, default_value};
+ghost use Rattle.instance_store.specs.Values.{equals, default_value};
 ghost use Rattle.instance_store.specs.Arrays.{place_in, first_equal, last_equal, first_place, end_behind, found_place, place_number};
 
 use core_tree::{CoreType, Value};
 use papy_base::{Made, Text};
 use std::alloc::Global;
-
-/// An equal value. Only the copy of a text takes memory.
-pub fn copy_of(alloc: Global, value: &Value) -> Made<Value>
-    ensures copy { IfOk result (λ copy. copy ≡ value.now) }
-    ensures memory { OnErr result (IsTrue (is_text value.now)) }
-{
-    Ok(match value {
-        Value::NoneValue => Value::NoneValue,
-        Value::Int(number) => Value::Int(*number),
-        Value::Bool(truth) => Value::Bool(*truth),
-        Value::Text(text) => Value::Text(text.try_clone(alloc)?),
-        Value::Instance(instance) => Value::Instance(*instance),
-        Value::Array(array) => Value::Array(*array),
-    })
-}
 
 /// Whether two values are equal, as `==` of a script says: texts with the case of A to Z ignored, instances and arrays where
 /// they are the same one.

@@ -2,9 +2,9 @@
 ghost use Rattle.std.specs.Prelude.{◌≡◌, ◌+◌, ◌<◌, ◌≤◌, length, IsTrue, IsSome, IfOk, IfSome, OnSome, OnOk};
 ghost use Rattle.line_parser.specs.Blocks.{first_keyword};
 
-use crate::fault::FormFault;
+use crate::fault::{FormFault, NoForm};
 use crate::simple::TypeWords;
-use papy_base::Name;
+use papy_base::{Fault, Name};
 use script_lexer::{Keyword, Sign, Spanned, Token};
 use std::alloc::Global;
 
@@ -54,7 +54,7 @@ impl<'a> Cursor<'a> {
         ensures shorter { OnOk result (length self.new.rest.now < length self.old.rest.now) }
     {
         let Some((first, others)) = self.rest.split_first() else {
-            return Err(FormFault::NoForm);
+            return Err(Fault::Broken(NoForm));
         };
         self.rest = others;
         Ok(&first.token)
@@ -101,7 +101,7 @@ impl<'a> Cursor<'a> {
         if self.take_sign(wanted) {
             Ok(())
         } else {
-            Err(FormFault::NoForm)
+            Err(Fault::Broken(NoForm))
         }
     }
 
@@ -112,7 +112,7 @@ impl<'a> Cursor<'a> {
         if self.take_keyword(wanted) {
             Ok(())
         } else {
-            Err(FormFault::NoForm)
+            Err(Fault::Broken(NoForm))
         }
     }
 
@@ -122,7 +122,7 @@ impl<'a> Cursor<'a> {
     {
         match self.take()? {
             Token::Word(name) => Ok(name.try_clone(self.alloc)?),
-            _ => Err(FormFault::NoForm),
+            _ => Err(Fault::Broken(NoForm)),
         }
     }
 
@@ -132,7 +132,7 @@ impl<'a> Cursor<'a> {
     {
         match self.take()? {
             Token::Int(number) => Ok(*number),
-            _ => Err(FormFault::NoForm),
+            _ => Err(Fault::Broken(NoForm)),
         }
     }
 

@@ -2,10 +2,10 @@
 ghost use Rattle.std.specs.Prelude.{◌≡◌, ◌+◌, ◌<◌, ◌≤◌, length, OnOk, IfOk};
 
 use crate::cursor::{Cursor, is_sign_at};
-use crate::fault::FormFault;
+use crate::fault::{FormFault, NoForm};
 use crate::simple::{leaf, type_name};
 use crate::tree::{Argument, Expr};
-use papy_base::{Name, OutOfMemory};
+use papy_base::{Fault, Name, OutOfMemory};
 use script_lexer::{Keyword, Sign};
 use std::alloc::Global;
 
@@ -174,7 +174,7 @@ fn one_deeper(depth: u8) -> Result<u8, FormFault>
 {
     match depth.checked_sub(1) {
         Some(inner) => Ok(inner),
-        None => Err(FormFault::NoForm),
+        None => Err(Fault::Broken(NoForm)),
     }
 }
 

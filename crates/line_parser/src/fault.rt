@@ -1,8 +1,7 @@
 // Why a line, or a script of lines, is refused.
 ghost use Rattle.std.specs.Prelude.{◌≡◌};
 
-use papy_base::OutOfMemory;
-use std::alloc::AllocFailed;
+use papy_base::{Fault, OutOfMemory};
 use thiserror::Error;
 
 /// The rules of lines and blocks, S1 to S3.
@@ -27,32 +26,12 @@ pub enum LineFault {
     OutOfMemory,
 }
 
-// Why the tokens of a line give no form.
-#[derive(Clone, Copy, PartialEq, Eq)]
-pub(crate) enum FormFault {
-    NoForm,
-    OutOfMemory,
-}
+/// The tokens of a line have no form.
+#[derive(Clone, Copy)]
+pub(crate) struct NoForm;
 
-impl From<OutOfMemory> for FormFault {
-    ghost use Rattle.line_parser.specs.declared.fault.FormFault.TheVariants.{OutOfMemory};
-
-    ghost from_gives = { λ _ e. e ≡ OutOfMemory };
-
-    fn from(_e: OutOfMemory) -> FormFault {
-        FormFault::OutOfMemory
-    }
-}
-
-impl<T: Drop> From<AllocFailed<T>> for FormFault {
-    ghost use Rattle.line_parser.specs.declared.fault.FormFault.TheVariants.{OutOfMemory};
-
-    ghost from_gives = { λ _ e. e ≡ OutOfMemory };
-
-    fn from(_e: AllocFailed<T>) -> FormFault {
-        FormFault::OutOfMemory
-    }
-}
+/// Why the tokens of a line give no form.
+pub(crate) type FormFault = Fault<NoForm>;
 
 impl From<OutOfMemory> for LineFault {
     ghost use Rattle.line_parser.specs.declared.fault.LineFault.TheVariants.{OutOfMemory};
@@ -71,10 +50,10 @@ impl From<FormFault> for LineFault {
 
     fn from(fault: FormFault) -> LineFault {
         match fault {
-            FormFault::NoForm => LineFault::Broken {
+            Fault::Broken(NoForm) => LineFault::Broken {
                 rule: LineRule::BadLine,
             },
-            FormFault::OutOfMemory => LineFault::OutOfMemory,
+            Fault::OutOfMemory => LineFault::OutOfMemory,
         }
     }
 }

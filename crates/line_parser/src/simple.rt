@@ -2,9 +2,9 @@
 ghost use Rattle.std.specs.Prelude.{◌<◌, ◌≤◌, length, OnOk};
 
 use crate::cursor::{Cursor, is_array_mark_at};
-use crate::fault::FormFault;
+use crate::fault::{FormFault, NoForm};
 use crate::tree::{Constant, Expr, Parameter, TypeName};
-use papy_base::{Name, OutOfMemory, neg};
+use papy_base::{Fault, Name, OutOfMemory, neg};
 use script_lexer::{Keyword, Sign, Spanned, Token};
 use std::alloc::Global;
 
@@ -92,7 +92,7 @@ fn constant_of(alloc: Global, token: &Token) -> Result<Constant, FormFault> {
         Token::Key(Keyword::True) => Ok(Constant::Bool(true)),
         Token::Key(Keyword::False) => Ok(Constant::Bool(false)),
         Token::Key(Keyword::None) => Ok(Constant::NoneValue),
-        _ => Err(FormFault::NoForm),
+        _ => Err(Fault::Broken(NoForm)),
     }
 }
 
@@ -153,7 +153,7 @@ pub(crate) fn flags(cursor: &mut Cursor<'_>) -> Result<u32, FormFault> {
         };
         let bit = flag_bit(name)?;
         if bits & bit != 0 {
-            return Err(FormFault::NoForm);
+            return Err(Fault::Broken(NoForm));
         }
         bits |= bit;
         cursor.rest = others;
@@ -167,7 +167,7 @@ fn flag_bit(name: &Name) -> Result<u32, FormFault> {
     } else if name.as_bytes().eq_ignore_ascii_case(b"conditional") {
         Ok(CONDITIONAL)
     } else {
-        Err(FormFault::NoForm)
+        Err(Fault::Broken(NoForm))
     }
 }
 

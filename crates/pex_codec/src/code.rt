@@ -15,8 +15,8 @@ ghost use Rattle.pex_codec.specs.Writing.{counted_fits, Writes, FitEach};
 
 use crate::cursor::{Cursor, Taken};
 use crate::faults::EncodeFault;
-use crate::items::{Item, put_byte, put_list, put_u16, put_u32, take_items, take_list};
-use pex_values::{Datum, Instruction, PexFunction, operand_count};
+use crate::items::{Item, put_list, take_items, take_list};
+use pex_values::{Datum, Instruction, PexFunction, operand_count, put_byte, put_u16, put_u32};
 use std::alloc::{AllocError, Global};
 
 /// A kind, and a number of two bytes.

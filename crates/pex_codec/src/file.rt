@@ -12,9 +12,9 @@ ghost use Rattle.pex_codec.specs.Writing.{Writes, FitEach, FitsLines, FitsHeader
 
 use crate::cursor::{Cursor, Taken, Texts};
 use crate::faults::EncodeFault;
-use crate::items::{Item, put_byte, put_list, put_u16, put_u64, take_items, take_list};
+use crate::items::{Item, put_list, take_items, take_list};
 use papy_base::Text;
-use pex_values::{FILE_LIMIT, Pex, PexDebug, PexLines};
+use pex_values::{FILE_LIMIT, Pex, PexDebug, PexLines, put_byte, put_u16, put_u64};
 use std::alloc::{AllocError, Global};
 
 impl Item for PexLines {

@@ -1,6 +1,6 @@
 //! How the parts of a file are taken from its bytes and written to them, and the lists of them.
 
-ghost use Rattle.std.specs.Prelude.{◌≡◌, ◌+◌, ◌<◌, ◌≤◌, ◌^◌, ◌++◌, ℕ, List, length, map, take, drop, refl, vec_len, vec_capacity, IfOk, OnOk, ⊤};
+ghost use Rattle.std.specs.Prelude.{◌≡◌, ◌+◌, ◌<◌, ◌≤◌, ◌^◌, ◌++◌, ℕ, List, length, map, take, drop, refl, vec_len, vec_capacity, IfOk, ⊤};
 ghost use Rattle.std.specs.List.{flat_map};
 ghost use Rattle.std.proofs.lemmas.List.{map-id};
 ghost use Rattle.std.proofs.Common.{sym};
@@ -15,7 +15,8 @@ use crate::cursor::{Cursor, Taken};
 use crate::faults::EncodeFault;
 use byteorder::{BigEndian, ByteOrder};
 use papy_base::Text;
-use std::alloc::{AllocError, Global};
+use pex_values::{put_byte, put_u16};
+use std::alloc::Global;
 
 /// A part of a file, of which there may be lists.
 pub(crate) trait Item: Drop {
@@ -83,36 +84,12 @@ pub(crate) fn take_list<T: Item>(
     take_items(alloc, cursor, strings, count as usize)
 }
 
-pub(crate) fn put_byte(out: &mut Vec<u8>, n: u8) -> Result<(), AllocError>
-    ensures { OnOk result (out.new.items ≡ out.old.items ++ spell.one_byte n) }
-{
-    Ok(out.push(n)?)
-}
-
-pub(crate) fn put_u16(out: &mut Vec<u8>, n: u16) -> Result<(), AllocError>
-    ensures { OnOk result (out.new.items ≡ out.old.items ++ spell.two_bytes n) }
-{
-    out.extend_from_slice(&n.to_be_bytes())
-}
-
-pub(crate) fn put_u32(out: &mut Vec<u8>, n: u32) -> Result<(), AllocError>
-    ensures { OnOk result (out.new.items ≡ out.old.items ++ spell.four_bytes n) }
-{
-    out.extend_from_slice(&n.to_be_bytes())
-}
-
 /// Writes a number over the four bytes at a place.
 pub(crate) fn set_u32(out: &mut Vec<u8>, at: usize, n: u32)
     requires { at + 4 ≤ vec_len out.old }
     ensures { out.new.items ≡ take at out.old.items ++ spell.four_bytes n ++ drop 4 (drop at out.old.items) }
 {
     BigEndian::write_u32(&mut out[at..], n);
-}
-
-pub(crate) fn put_u64(out: &mut Vec<u8>, n: u64) -> Result<(), AllocError>
-    ensures { OnOk result (out.new.items ≡ out.old.items ++ spell.eight_bytes n) }
-{
-    out.extend_from_slice(&n.to_be_bytes())
 }
 
 fn put_count(out: &mut Vec<u8>, count: usize) -> Result<(), EncodeFault>

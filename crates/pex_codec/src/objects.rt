@@ -13,9 +13,10 @@ ghost use Rattle.pex_codec.specs.Writing.{counted_fits, Writes, FitEach, HasSize
 use crate::code::{put_datum, put_optional_function, take_optional_function};
 use crate::cursor::{Cursor, Taken};
 use crate::faults::EncodeFault;
-use crate::items::{Item, put_byte, put_list, put_u16, put_u32, set_u32, take_items, take_list};
+use crate::items::{Item, put_list, set_u32, take_items, take_list};
 use pex_values::{
     FILE_LIMIT, PexObject, PexProperty, PexState, PexVariable, SizeForm, has_read, has_write,
+    put_byte, put_u16, put_u32,
 };
 use std::alloc::{AllocError, Global};
 

@@ -6,6 +6,7 @@
 mod bits;
 mod codes;
 mod debug;
+mod fields;
 mod opcodes;
 mod values;
 
@@ -17,6 +18,7 @@ pub use codes::{
     RETURN, STRCAT,
 };
 pub use debug::{PexDebug, PexLines};
+pub use fields::{put_byte, put_u16, put_u32, put_u64};
 pub use opcodes::{OPCODES, Opcode, operand_count};
 pub use values::{
     Datum, Instruction, Pex, PexFunction, PexObject, PexProperty, PexState, PexVariable, SizeForm,

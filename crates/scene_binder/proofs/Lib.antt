@@ -1,5 +1,5 @@
 pub mod BoundLemmas
-pub mod LineageLemmas
 pub mod ListLemmas
 pub mod NameLemmas
 pub mod NativeLemmas
+pub mod WayLemmas

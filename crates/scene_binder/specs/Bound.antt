@@ -1,6 +1,8 @@
 -- What a scene that is bound to an outline keeps.
 use Rattle.std.specs.Prelude.{ℕ, ◌≡◌, ◌≤◌, List, [], ◌∷◌, map, length, false, Some, slice_get}
 use Rattle.std.specs.List.{All}
+use Rattle.papy_base.specs.Lineage.{StandsAbove}
+use Rattle.core_tree.specs.Outlines.{parents_of}
 use Rattle.core_tree.specs.declared.core_type.CoreType.{CoreType}
 use Rattle.core_tree.specs.declared.core_type.CoreType.TheVariants as kinds
 use Rattle.core_tree.specs.declared.outline.OutlineFunction.{OutlineFunction}
@@ -13,14 +15,14 @@ use Rattle.core_tree.specs.declared.scene.Scene.{Scene}
 use Rattle.core_tree.specs.declared.value.Value.{Value}
 use Rattle.core_tree.specs.declared.value.Value.TheVariants as values
 use Rattle.scene_binder.specs.Instances.{IsInstantiable}
-use Rattle.scene_binder.specs.Members.{StandsAbove, HasFunctionNamed, HasProperty}
+use Rattle.scene_binder.specs.Members.{HasFunctionNamed, HasProperty}
 use Rattle.scene_binder.specs.Natives.{native_places, IsAllowed}
 
 -- the instance of this number is of the script, where these are the scripts of instances
 pub record IsInstanceOf (scripts : List OutlineScript) (instances : List ℕ) (number script : ℕ) : Type 0 where
   pub own : ℕ
   pub there : slice_get instances number ≡ Some own
-  pub above : StandsAbove scripts own script
+  pub above : StandsAbove (parents_of scripts) own script
 
 -- the types of which None is a value
 abbrev pub MayBeNone : CoreType → Type 0
@@ -51,7 +53,7 @@ AreOfTypes scripts instances _ _ = ⊥
 -- a value after the script and the number of the variable that it is for: those of an Auto property of an
 -- instance's script or of one above it, with a value of its type
 pub record IsBoundEntry (scripts : List OutlineScript) (instances : List ℕ) (script : ℕ) (entry : ℕ × ℕ × Value) : Type 0 where
-  pub above : StandsAbove scripts script entry.0
+  pub above : StandsAbove (parents_of scripts) script entry.0
   pub property : OutlineProperty
   pub there : HasProperty scripts entry.0 property
   pub variable : property.variable ≡ entry.1

@@ -1,9 +1,10 @@
 -- The scripts of an outline: what stands above one, and what they have.
-use Rattle.std.specs.Prelude.{ℕ, ◌≡◌, List, [], Option, Some, None, slice_get}
+use Rattle.std.specs.Prelude.{ℕ, List, [], Option, Some, None, slice_get}
 use Rattle.std.specs.List.{Contains}
 use Rattle.papy_base.specs.Case.{SameIgnoringCase, folded}
+use Rattle.papy_base.specs.Lineage.{Nearest, StandsAbove}
 use Rattle.papy_base.specs.Table.{place_of}
-use Rattle.core_tree.specs.Lineage.{parent_of}
+use Rattle.core_tree.specs.Outlines.{parents_of}
 use Rattle.core_tree.specs.declared.outline.OutlineFunction.{OutlineFunction}
 use Rattle.core_tree.specs.declared.outline.OutlineProperty.{OutlineProperty}
 use Rattle.core_tree.specs.declared.outline.OutlineScript.{OutlineScript}
@@ -12,11 +13,6 @@ use Rattle.scene_binder.specs.Names.{first_of, function_name, property_name, scr
 -- the number of the script of this name, the first where there are more
 abbrev pub script_named : List OutlineScript → List ℕ → Option ℕ
 script_named scripts name = place_of script_name scripts (folded name)
-
--- the script a is the script n itself or stands above it
-pub data StandsAbove (scripts : List OutlineScript) : ℕ → ℕ → Type 0 where
-  itself : (n : ℕ) → StandsAbove scripts n n
-  further : (n p a : ℕ) → parent_of (slice_get scripts n) ≡ Some p → StandsAbove scripts p a → StandsAbove scripts n a
 
 abbrev pub name_in : Option OutlineScript → List ℕ
 name_in None = []
@@ -46,25 +42,20 @@ own_property scripts bytes n = first_of property_name (properties_in (slice_get 
 abbrev pub own_function : List OutlineScript → List ℕ → ℕ → Option OutlineFunction
 own_function scripts bytes n = first_of function_name (functions_in (slice_get scripts n)) bytes
 
--- from the script n upward, the first script that has something of its own, and what it has
-pub data Nearest {X : Type 0} (scripts : List OutlineScript) (own : ℕ → Option X) : ℕ → ℕ → X → Type 0 where
-  of_its_own : (n : ℕ) (x : X) → own n ≡ Some x → Nearest scripts own n n x
-  of_one_above : (n p owner : ℕ) (x : X) → own n ≡ None → parent_of (slice_get scripts n) ≡ Some p → Nearest scripts own p owner x → Nearest scripts own n owner x
-
 -- of the Auto properties of this name that the script n and those above it have, the nearest, after the number of its script
 abbrev pub IsNearestProperty : List OutlineScript → List ℕ → ℕ → ℕ → OutlineProperty → Type 0
 IsNearestProperty scripts name n owner property =
-    Nearest {X = OutlineProperty} scripts (own_property scripts (folded name)) n owner property
+    Nearest {X = OutlineProperty} (parents_of scripts) (own_property scripts (folded name)) n (Some (owner, property))
 
 -- the same of functions of the empty states
 abbrev pub IsNearestFunction : List OutlineScript → List ℕ → ℕ → ℕ → OutlineFunction → Type 0
 IsNearestFunction scripts name n owner function =
-    Nearest {X = OutlineFunction} scripts (own_function scripts (folded name)) n owner function
+    Nearest {X = OutlineFunction} (parents_of scripts) (own_function scripts (folded name)) n (Some (owner, function))
 
 -- the script n or one above it has this function in its empty state, under this name, and none nearer has the name
 pub record HasFunctionNamed (scripts : List OutlineScript) (n : ℕ) (name : List ℕ) (function : OutlineFunction) : Type 0 where
   pub owner : ℕ
-  pub above : StandsAbove scripts n owner
+  pub above : StandsAbove (parents_of scripts) n owner
   pub there : HasFunction scripts owner function
   pub named : SameIgnoringCase function.name name
   pub nearest : IsNearestFunction scripts name n owner function

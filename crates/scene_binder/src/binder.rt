@@ -209,6 +209,7 @@ impl<'s, 'a> Known<'s, 'a> {
         let Some((owner, property)) = found else {
             return Err(SceneFault::of(SceneRule::NoProperty));
         };
+        let owner = u16::try_from(owner).map_err(|_| SceneFault::of(SceneRule::NoProperty))?;
         let value = self.value_for(property.kind, value)?;
         Ok((owner, property.variable, value))
     }

@@ -2,13 +2,15 @@
 ghost use Rattle.std.specs.Prelude.{IfOk, IfSome, IsTrue, Some, option_copied, ◌≡◌};
 ghost use Rattle.std.specs.List.{Contains};
 ghost use Rattle.papy_base.specs.Case.{SameIgnoringCase, folded};
+ghost use Rattle.papy_base.specs.Lineage.{StandsAbove};
 ghost use Rattle.papy_base.specs.Table.{IsPlaceTable};
+ghost use Rattle.core_tree.specs.Outlines.{parents_of};
 ghost use Rattle.scene_binder.specs.Instances.{IsInstantiable};
-ghost use Rattle.scene_binder.specs.Members.{HasFunction, HasFunctionNamed, HasProperty, IsNearestProperty, StandsAbove, own_function, own_property, script_named};
+ghost use Rattle.scene_binder.specs.Members.{HasFunction, HasFunctionNamed, HasProperty, IsNearestProperty, own_function, own_property, script_named};
 ghost use Rattle.scene_binder.specs.Names.{first_of, function_name, property_name};
 
-use core_tree::{Outline, OutlineFunction, OutlineProperty, OutlineScript, is_child, lineage_of};
-use papy_base::{LIBRARY_COUNT, Name, NameTable, OutOfMemory};
+use core_tree::{Outline, OutlineFunction, OutlineProperty, OutlineScript};
+use papy_base::{LIBRARY_COUNT, Name, NameTable, OutOfMemory, is_below, upward};
 use scene_reader::{SceneFault, SceneRule};
 use std::alloc::Global;
 use std::marker::Model;
@@ -30,8 +32,8 @@ impl<'a> ScriptMembers<'a> {
     {
         Ok(ScriptMembers {
             script,
-            properties: property_table(alloc, &script.properties)?,
-            functions: function_table(alloc, &script.functions)?,
+            properties: NameTable::of_places(alloc, &script.properties)?,
+            functions: NameTable::of_places(alloc, &script.functions)?,
         })
     }
 
@@ -53,26 +55,6 @@ impl<'a> ScriptMembers<'a> {
         let place = self.functions.find(name)?;
         self.script.functions.as_slice().get(place)
     }
-}
-
-fn property_table(alloc: Global, properties: &[OutlineProperty]) -> Result<NameTable, OutOfMemory>
-    ensures { IfOk result (IsPlaceTable property_name properties.now) }
-{
-    let mut table = NameTable::new(alloc);
-    for (place, property) in properties.iter().enumerate() {
-        table.note(alloc, &property.name, place)?;
-    }
-    Ok(table)
-}
-
-fn function_table(alloc: Global, functions: &[OutlineFunction]) -> Result<NameTable, OutOfMemory>
-    ensures { IfOk result (IsPlaceTable function_name functions.now) }
-{
-    let mut table = NameTable::new(alloc);
-    for (place, function) in functions.iter().enumerate() {
-        table.note(alloc, &function.name, place)?;
-    }
-    Ok(table)
 }
 
 /// The scripts of an outline. A name that two scripts bear means the first. Contracts see the list of them.
@@ -103,16 +85,14 @@ impl<'a> OutlineScripts<'a> {
         ensures { IfOk result (λ scripts. scripts ≡ outline.now.scripts.items) }
     {
         let scripts = outline.scripts.as_slice();
-        let mut numbers = NameTable::new(alloc);
         let mut members = Vec::with_capacity(alloc, scripts.len())?;
-        for (number, script) in scripts.iter().enumerate() {
-            numbers.note(alloc, &script.name, number)?;
+        for script in scripts {
             members.push(ScriptMembers::new(alloc, script)?)?;
         }
         Ok(OutlineScripts {
             scripts,
             members,
-            numbers,
+            numbers: NameTable::of_places(alloc, scripts)?,
         })
     }
 
@@ -136,25 +116,24 @@ impl<'a> OutlineScripts<'a> {
         alloc: Global,
         first: u16,
         name: &[u8],
-    ) -> Result<Option<(u16, &'a OutlineProperty)>, OutOfMemory>
-        ensures there { IfOk result (λ found. IfSome found (λ f. StandsAbove self.now first f.0 × HasProperty self.now f.0 f.1.now)) }
+    ) -> Result<Option<(usize, &'a OutlineProperty)>, OutOfMemory>
+        ensures there { IfOk result (λ found. IfSome found (λ f. StandsAbove (parents_of self.now) first f.0 × HasProperty self.now f.0 f.1.now)) }
         ensures nearest { IfOk result (λ found. IfSome found (λ f. IsNearestProperty self.now name.now first f.0 f.1.now)) }
     {
         let name = Name::from_bytes(alloc, name)?;
-        let above = lineage_of(alloc, self.scripts, first)?;
-        for script in &above {
-            if let Some(property) = self.own_property(*script, &name) {
-                return Ok(Some((*script, property)));
+        for script in upward(self.scripts, usize::from(first)) {
+            if let Some(property) = self.own_property(script, &name) {
+                return Ok(Some((script, property)));
             }
         }
         Ok(None)
     }
 
-    fn own_property(&self, script: u16, name: &Name) -> Option<&'a OutlineProperty>
+    fn own_property(&self, script: usize, name: &Name) -> Option<&'a OutlineProperty>
         ensures there { IfSome result (λ property. HasProperty self.now script property.now) }
         ensures first { option_copied result ≡ own_property self.now (folded name.now) script }
     {
-        self.members.get(usize::from(script))?.find_property(name)
+        self.members.get(script)?.find_property(name)
     }
 
     /// The nearest function of this name in the empty states from a script upward.
@@ -167,27 +146,26 @@ impl<'a> OutlineScripts<'a> {
         ensures { IfOk result (λ found. IfSome found (λ f. HasFunctionNamed self.now first name.now f.now)) }
     {
         let name = Name::from_bytes(alloc, name)?;
-        let above = lineage_of(alloc, self.scripts, first)?;
-        for script in &above {
-            if let Some(function) = self.own_function(*script, &name) {
+        for script in upward(self.scripts, usize::from(first)) {
+            if let Some(function) = self.own_function(script, &name) {
                 return Ok(Some(function));
             }
         }
         Ok(None)
     }
 
-    fn own_function(&self, script: u16, name: &Name) -> Option<&'a OutlineFunction>
+    fn own_function(&self, script: usize, name: &Name) -> Option<&'a OutlineFunction>
         ensures there { IfSome result (λ function. HasFunction self.now script function.now) }
         ensures named { IfSome result (λ function. SameIgnoringCase (function_name function.now) name.now) }
         ensures first { option_copied result ≡ own_function self.now (folded name.now) script }
     {
-        self.members.get(usize::from(script))?.find_function(name)
+        self.members.get(script)?.find_function(name)
     }
 
     /// Whether the second script is the first one or stands above it.
     pub(crate) fn is_child(&self, child: u16, parent: u16) -> bool
-        ensures { IsTrue result → StandsAbove self.now child parent }
+        ensures { IsTrue result → StandsAbove (parents_of self.now) child parent }
     {
-        is_child(self.scripts, child, parent)
+        is_below(self.scripts, usize::from(child), usize::from(parent))
     }
 }

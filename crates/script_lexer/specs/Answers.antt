@@ -3,8 +3,8 @@ use Rattle.std.specs.Prelude.{◌≡◌, ℕ, ◌<◌, ◌≤◌, List, [], ◌�
 use Rattle.script_lexer.specs.declared.opening.Opening.{Opening}
 use Rattle.script_lexer.specs.declared.piece.Piece.{Piece}
 use Rattle.script_lexer.specs.declared.fault.LexRule.{LexRule}
-use Rattle.script_lexer.specs.declared.piece.PieceFault.{PieceFault}
-use Rattle.script_lexer.specs.declared.piece.PieceFault.TheVariants as fault
+use Rattle.papy_base.specs.declared.faults.Fault.{Fault}
+use Rattle.papy_base.specs.declared.faults.Fault.TheVariants as fault
 use Rattle.script_lexer.specs.declared.sign.Sign.{Sign}
 use Rattle.script_lexer.specs.Words.{sign_of_bytes}
 use Rattle.script_lexer.specs.Bytes.{opening_of}
@@ -29,11 +29,11 @@ pub record IsLowest (rest : List ℕ) (r : LexRule) : Type 0 where
   pub broken : Breaks r rest
   pub lowest : (q : LexRule) → Breaks q rest → rule_number r ≤ rule_number q
 
-abbrev pub Refuses : List ℕ → PieceFault → Type 0
+abbrev pub Refuses : List ℕ → Fault LexRule → Type 0
 Refuses rest (fault.Broken r) = IsLowest rest r
 Refuses rest fault.OutOfMemory = ⊤
 
-abbrev pub Answers : List ℕ → Result (Piece × ℕ) PieceFault → Type 0
+abbrev pub Answers : List ℕ → Result (Piece × ℕ) (Fault LexRule) → Type 0
 Answers rest (Ok found) = Stands rest found.0 found.1
 Answers rest (Err f) = Refuses rest f
 

@@ -2,8 +2,8 @@
 use Rattle.std.specs.Prelude.{◌≡◌, ℕ, ◌+◌, ◌-◌, ◌<◌, ◌≤◌, List, ◌++◌, length, take, drop, ◌⊎◌, Result, Ok, Err, ⊤}
 use Rattle.std.specs.Borrow.{Bor}
 use Rattle.script_lexer.specs.declared.piece.Piece.{Piece}
-use Rattle.script_lexer.specs.declared.piece.PieceFault.{PieceFault}
-use Rattle.script_lexer.specs.declared.piece.PieceFault.TheVariants as piece_fault
+use Rattle.papy_base.specs.declared.faults.Fault.{Fault}
+use Rattle.papy_base.specs.declared.faults.Fault.TheVariants as piece_fault
 use Rattle.script_lexer.specs.declared.line.Lines.{Lines}
 use Rattle.script_lexer.specs.declared.line.Progress.{Progress}
 use Rattle.script_lexer.specs.declared.fault.LexRule.{LexRule}
@@ -19,7 +19,7 @@ use Rattle.script_lexer.specs.Answers.{IsLowest}
 use Rattle.script_lexer.specs.Progress.{Takes}
 
 -- the fault at a physical line
-abbrev pub at_line : PieceFault → ℕ → LexFault
+abbrev pub at_line : Fault LexRule → ℕ → LexFault
 at_line (piece_fault.Broken r) line = fault.Broken line r
 at_line piece_fault.OutOfMemory line = fault.OutOfMemory
 

@@ -12,7 +12,7 @@ use crate::fault::{LexFault, LexRule};
 use crate::in_line::{number, sign, word};
 use crate::line::{Lines, Progress};
 use crate::opening::{ByteClass, Opening};
-use crate::piece::{Found, Piece, PieceFault};
+use crate::piece::{Found, Piece, PieceFault, at_line};
 use crate::quoted::text;
 use crate::trivia::{comment, documentation, join};
 use papy_base::NamePool;
@@ -109,11 +109,11 @@ fn step<'a>(
     let opening = Opening::of(rest[0]);
     let (piece, len) = match next_piece(alloc, names, opening, rest) {
         Ok(found) => found,
-        Err(fault) => return Err(fault.at_line(line)),
+        Err(fault) => return Err(at_line(fault, line)),
     };
     let (bytes, after) = rest.split_at(len);
     let Some(ends) = line_ends_within(opening, line, bytes) else {
-        return Err(PieceFault::Broken(LexRule::TooLarge).at_line(65536));
+        return Err(at_line(PieceFault::Broken(LexRule::TooLarge), 65536));
     };
     progress.take(alloc, piece, bytes, ends)?;
     Ok(after)
@@ -185,7 +185,7 @@ pub fn lex(alloc: Global, bytes: &[u8]) -> Result<Lines, LexFault>
     ensures broken { IfErr result (FileFault bytes.now) }
 {
     if bytes.len() > FILE_LIMIT {
-        return Err(PieceFault::Broken(LexRule::TooLarge).at_line(0));
+        return Err(at_line(PieceFault::Broken(LexRule::TooLarge), 0));
     }
     let start = mark_len(bytes);
     let (_, text) = bytes.split_at(start);

@@ -7,7 +7,7 @@ use Rattle.line_parser.specs.Blocks.{begins_block}
 use Rattle.line_parser.specs.declared.fault.LineRule.{LineRule}
 use Rattle.line_parser.specs.declared.fault.LineRule.TheVariants.{BadLine, TooDeep, BadBlock}
 use Rattle.script_lexer.specs.declared.line.Line.{Line}
-use Rattle.script_parser.specs.Faults.{BreaksRule, DeepAt, blocks_in}
+use Rattle.script_parser.specs.Faults.{BreaksRule, blocks_in}
 use Rattle.script_parser.specs.Reader.{BlockAt, BreaksAt, Found, GoesOn, blocks_before}
 use Rattle.script_parser.specs.declared.reader.LineAt.{LineAt}
 use Rattle.script_parser.specs.declared.reader.Reader.{Reader}

@@ -5,8 +5,9 @@ use Rattle.line_parser.specs.declared.fault.LineRule.{LineRule}
 use Rattle.line_parser.specs.declared.fault.LineRule.TheVariants.{BadLine, TooDeep, BadBlock}
 use Rattle.script_lexer.specs.declared.line.Line.{Line}
 use Rattle.script_parser.specs.Faults.{DeepAt, blocks_in}
-use Rattle.script_parser.specs.declared.fault.BlockFault.{BlockFault}
-use Rattle.script_parser.specs.declared.fault.BlockFault.TheVariants.{Broken, OutOfMemory}
+use Rattle.papy_base.specs.declared.faults.Fault.{Fault}
+use Rattle.papy_base.specs.declared.faults.Fault.TheVariants.{Broken, OutOfMemory}
+use Rattle.script_parser.specs.declared.fault.BrokenLine.{BrokenLine}
 use Rattle.script_parser.specs.declared.reader.LineAt.{LineAt}
 use Rattle.script_parser.specs.declared.reader.Reader.{Reader}
 
@@ -46,6 +47,6 @@ BreaksAt lines at TooDeep = (number : ℕ) × DeepAt lines at number
 BreaksAt lines at BadLine = Unit {0}
 BreaksAt lines at BadBlock = Unit {0}
 
-abbrev pub IsBlockFault : List Line → BlockFault → Type 0
-IsBlockFault lines (Broken at rule) = BreaksAt lines at rule
+abbrev pub IsBlockFault : List Line → Fault BrokenLine → Type 0
+IsBlockFault lines (Broken line) = BreaksAt lines line.at line.rule
 IsBlockFault lines OutOfMemory = Unit {0}

@@ -3,7 +3,7 @@ ghost use Rattle.std.specs.Prelude.{◌≡◌, ◌+◌, ◌<◌, ◌≤◌, List
 ghost use Rattle.script_lexer.specs.declared.line.Line.{Line};
 ghost use Rattle.script_parser.specs.Reader.{BlockAt, GoesOn, IsBlockFault, blocks_before, left};
 
-use crate::fault::BlockFault;
+use crate::fault::{BlockFault, BrokenLine, bad_block};
 use crate::reader::Reader;
 use crate::script::{Statement, StatementForm};
 use line_parser::{Expr, LineForm, LineRule, LineTree};
@@ -63,10 +63,10 @@ fn inner_depth(at: usize, depth: u8) -> Result<u8, BlockFault>
 {
     match depth.checked_sub(1) {
         Some(inner) => Ok(inner),
-        None => Err(BlockFault::Broken {
+        None => Err(BlockFault::Broken(BrokenLine {
             at,
             rule: LineRule::TooDeep,
-        }),
+        })),
     }
 }
 
@@ -114,7 +114,7 @@ fn if_parts(
             LineForm::Key(Keyword::EndIf) => return Ok(Vec::new(reader.alloc)),
             other => {
                 drop(other);
-                return Err(BlockFault::bad_block(at));
+                return Err(bad_block(at));
             }
         }
     }
@@ -163,7 +163,7 @@ pub(crate) fn closed_block(
         Ok((body, end_line))
     } else {
         drop(body);
-        Err(BlockFault::bad_block(end_at))
+        Err(bad_block(end_at))
     }
 }
 

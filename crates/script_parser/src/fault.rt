@@ -1,9 +1,12 @@
 // Why lines give no script.
-ghost use Rattle.std.specs.Prelude.{◌≡◌, ℕ, List};
+ghost use Rattle.std.specs.Prelude.{◌≡◌, List};
+ghost use Rattle.line_parser.specs.declared.fault.LineFault.TheVariants.{Broken};
+ghost use Rattle.line_parser.specs.declared.fault.LineRule.TheVariants.{TooDeep};
+ghost use Rattle.script_lexer.specs.declared.line.Line.{Line};
+ghost use Rattle.script_parser.specs.Reader.{BreaksAt, IsBlockFault};
 
 use line_parser::{LineFault, LineRule};
-use papy_base::OutOfMemory;
-use std::alloc::AllocFailed;
+use papy_base::Fault;
 use thiserror::Error;
 
 /// Why [`parse_script`](crate::parse_script) gives no script.
@@ -18,56 +21,32 @@ pub enum ParseFault {
     OutOfMemory,
 }
 
-/// As `ParseFault`, with the bad line's place among the logical lines: their number at the end.
+/// A bad line, by its place among the logical lines, which is their number at the end, and the rule that it breaks.
 #[derive(Clone, Copy)]
-pub(crate) enum BlockFault {
-    Broken { at: usize, rule: LineRule },
-    OutOfMemory,
+pub(crate) struct BrokenLine {
+    pub(crate) at: usize,
+    pub(crate) rule: LineRule,
 }
 
-impl BlockFault {
-    ghost use Rattle.line_parser.specs.declared.fault.LineFault.TheVariants.{Broken as BrokenLine};
-    ghost use Rattle.line_parser.specs.declared.fault.LineRule.TheVariants.{TooDeep};
-    ghost use Rattle.script_lexer.specs.declared.line.Line.{Line};
-    ghost use Rattle.script_parser.specs.Reader.{BreaksAt, IsBlockFault};
+/// Why lines give no block.
+pub(crate) type BlockFault = Fault<BrokenLine>;
 
-    /// What is wrong with the line at this place.
-    pub(crate) fn of_line(at: usize, fault: LineFault) -> BlockFault
-        ensures { (lines : List Line) → (fault ≡ BrokenLine TooDeep → BreaksAt lines at TooDeep) → IsBlockFault lines result }
-    {
-        match fault {
-            LineFault::Broken { rule } => BlockFault::Broken { at, rule },
-            LineFault::OutOfMemory => BlockFault::OutOfMemory,
-        }
-    }
-
-    /// The line at this place isn't admitted, or is missing.
-    pub(crate) fn bad_block(at: usize) -> BlockFault
-        ensures { (lines : List Line) → IsBlockFault lines result }
-    {
-        BlockFault::Broken {
-            at,
-            rule: LineRule::BadBlock,
-        }
+/// What is wrong with the line at this place.
+pub(crate) fn of_line(at: usize, fault: LineFault) -> BlockFault
+    ensures { (lines : List Line) → (fault ≡ Broken TooDeep → BreaksAt lines at TooDeep) → IsBlockFault lines result }
+{
+    match fault {
+        LineFault::Broken { rule } => Fault::Broken(BrokenLine { at, rule }),
+        LineFault::OutOfMemory => Fault::OutOfMemory,
     }
 }
 
-impl From<OutOfMemory> for BlockFault {
-    ghost use Rattle.script_parser.specs.declared.fault.BlockFault.TheVariants.{OutOfMemory as NoMemory};
-
-    ghost from_gives = { λ _ fault. fault ≡ NoMemory };
-
-    fn from(_error: OutOfMemory) -> BlockFault {
-        BlockFault::OutOfMemory
-    }
-}
-
-impl<T: Drop> From<AllocFailed<T>> for BlockFault {
-    ghost use Rattle.script_parser.specs.declared.fault.BlockFault.TheVariants.{OutOfMemory as NoMemory};
-
-    ghost from_gives = { λ _ fault. fault ≡ NoMemory };
-
-    fn from(_error: AllocFailed<T>) -> BlockFault {
-        BlockFault::OutOfMemory
-    }
+/// The line at this place isn't admitted, or is missing.
+pub(crate) fn bad_block(at: usize) -> BlockFault
+    ensures { (lines : List Line) → IsBlockFault lines result }
+{
+    Fault::Broken(BrokenLine {
+        at,
+        rule: LineRule::BadBlock,
+    })
 }

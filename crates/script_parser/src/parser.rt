@@ -8,7 +8,7 @@ ghost use Rattle.script_parser.specs.Stands.{AccessorsStand, FunctionsStand, Pro
 ghost use Rattle.script_parser.specs.Words.{words_of, CountsDifferent};
 
 use crate::block::{OPEN_LIMIT, closed_block};
-use crate::fault::{BlockFault, ParseFault};
+use crate::fault::{BlockFault, BrokenLine, ParseFault, bad_block};
 use crate::reader::{LineAt, Reader};
 use crate::script::{Body, Function, Property, PropertyForm, Script, State, Variable};
 use crate::words::count_words;
@@ -36,7 +36,7 @@ pub fn parse_script(alloc: Global, lines: &Lines) -> Result<Script, ParseFault>
 {
     match script(alloc, lines.lines.as_slice()) {
         Ok(script) => Ok(script),
-        Err(BlockFault::Broken { at, rule }) => Err(ParseFault::Broken {
+        Err(BlockFault::Broken(BrokenLine { at, rule })) => Err(ParseFault::Broken {
             line: line_at(lines, at),
             rule,
         }),
@@ -79,7 +79,7 @@ fn heading(reader: &mut Reader<'_>) -> Result<Script, BlockFault>
 {
     let alloc = reader.alloc;
     let Some(first) = reader.next() else {
-        return Err(BlockFault::bad_block(0));
+        return Err(bad_block(0));
     };
     let LineTree { form, doc } = reader.tree(&first)?;
     let doc = reader.own_doc(doc)?;
@@ -103,7 +103,7 @@ fn heading(reader: &mut Reader<'_>) -> Result<Script, BlockFault>
         }),
         other => {
             drop(other);
-            Err(BlockFault::bad_block(first.at))
+            Err(bad_block(first.at))
         }
     }
 }
@@ -186,7 +186,7 @@ fn property(
         }
         other => {
             drop(other);
-            Err(BlockFault::bad_block(first.at))
+            Err(bad_block(first.at))
         }
     }
 }
@@ -214,7 +214,7 @@ fn initial_value(at: usize, value: Option<Expr>) -> Result<Option<Constant>, Blo
     match value {
         Some(tree) => match constant_of(tree) {
             Some(constant) => Ok(Some(constant)),
-            None => Err(BlockFault::bad_block(at)),
+            None => Err(bad_block(at)),
         },
         None => Ok(None),
     }
@@ -306,7 +306,7 @@ fn functions_until(reader: &mut Reader<'_>, end: Keyword) -> Result<Vec<Function
             }
             other => {
                 drop(other);
-                return Err(BlockFault::bad_block(first.at));
+                return Err(bad_block(first.at));
             }
         }
     }

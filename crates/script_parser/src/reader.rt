@@ -2,7 +2,7 @@
 ghost use Rattle.std.specs.Prelude.{◌≡◌, ◌<◌, ◌≤◌, IfErr, IfOk, IfSome, IsTrue, OnOk, OnSome};
 ghost use Rattle.line_parser.specs.Blocks.{begins_block, opens_block};
 
-use crate::fault::BlockFault;
+use crate::fault::{BlockFault, bad_block, of_line};
 use line_parser::{LineTree, TypeWords, doc_at_end, parse_line};
 use papy_base::{OutOfMemory, Text};
 use script_lexer::{Line, Spanned, Token};
@@ -47,7 +47,7 @@ impl<'a> Reader<'a> {
     {
         match parse_line(self.alloc, &self.types, found.line) {
             Ok(tree) => Ok(tree),
-            Err(fault) => Err(BlockFault::of_line(found.at, fault)),
+            Err(fault) => Err(of_line(found.at, fault)),
         }
     }
 
@@ -88,7 +88,7 @@ impl<'a> Reader<'a> {
     {
         match self.next_form() {
             Some(found) => Ok(found),
-            None => Err(BlockFault::bad_block(self.at)),
+            None => Err(bad_block(self.at)),
         }
     }
 

@@ -1,7 +1,8 @@
 // A script as its lines give it.
+ghost use Rattle.std.specs.Prelude.{ℕ, List};
 
 use line_parser::{Constant, Expr, Heading, TypeName};
-use papy_base::{Name, Text};
+use papy_base::{Name, Named, Text};
 use script_lexer::Sign;
 
 /// A variable of a script.
@@ -12,6 +13,14 @@ pub struct Variable {
     pub value: Option<Constant>,
     pub flags: u32,
     pub line: u16,
+}
+
+impl Named for Variable {
+    ghost name_of = { λ variable. variable.name };
+
+    fn name(&self) -> &Name {
+        &self.name
+    }
 }
 
 /// What a function does.
@@ -32,6 +41,14 @@ pub struct Function {
     pub line: u16,
     /// The line of `EndFunction` or `EndEvent`, or a native function's own line.
     pub end_line: u16,
+}
+
+impl Named for Function {
+    ghost name_of = { λ function. function.heading.name };
+
+    fn name(&self) -> &Name {
+        &self.heading.name
+    }
 }
 
 /// A statement, and the line on which it begins.
@@ -91,6 +108,14 @@ pub struct Property {
     pub line: u16,
 }
 
+impl Named for Property {
+    ghost name_of = { λ property. property.name };
+
+    fn name(&self) -> &Name {
+        &self.name
+    }
+}
+
 /// A state with its functions.
 #[derive(Drop)]
 pub struct State {
@@ -98,6 +123,14 @@ pub struct State {
     pub is_auto: bool,
     pub functions: Vec<Function>,
     pub line: u16,
+}
+
+impl Named for State {
+    ghost name_of = { λ state. state.name };
+
+    fn name(&self) -> &Name {
+        &self.name
+    }
 }
 
 /// A script. Each list is in the order of the file.

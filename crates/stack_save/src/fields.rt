@@ -12,34 +12,11 @@ ghost use Rattle.stack_save.specs.Spelling as spell;
 use crate::fault::{HeldRule, Taken, refused};
 use byteorder::{BigEndian, ByteOrder};
 use papy_base::{Name, Text};
+use pex_values::{put_u16, put_u32};
 use std::alloc::{AllocError, Global};
 
 /// The number that says none.
 pub(crate) const NONE: u16 = 0xFFFF;
-
-pub(crate) fn put_byte(out: &mut Vec<u8>, n: u8) -> Result<(), AllocError>
-    ensures { OnOk result (out.new.items ≡ out.old.items ++ pex.one_byte n) }
-{
-    Ok(out.push(n)?)
-}
-
-pub(crate) fn put_u16(out: &mut Vec<u8>, n: u16) -> Result<(), AllocError>
-    ensures { OnOk result (out.new.items ≡ out.old.items ++ pex.two_bytes n) }
-{
-    out.extend_from_slice(&n.to_be_bytes())
-}
-
-pub(crate) fn put_u32(out: &mut Vec<u8>, n: u32) -> Result<(), AllocError>
-    ensures { OnOk result (out.new.items ≡ out.old.items ++ pex.four_bytes n) }
-{
-    out.extend_from_slice(&n.to_be_bytes())
-}
-
-pub(crate) fn put_u64(out: &mut Vec<u8>, n: u64) -> Result<(), AllocError>
-    ensures { OnOk result (out.new.items ≡ out.old.items ++ pex.eight_bytes n) }
-{
-    out.extend_from_slice(&n.to_be_bytes())
-}
 
 pub(crate) fn put_i32(out: &mut Vec<u8>, n: i32) -> Result<(), AllocError>
     ensures { OnOk result (out.new.items ≡ out.old.items ++ spell.integer n) }

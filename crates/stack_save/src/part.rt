@@ -11,7 +11,8 @@ ghost use Rattle.stack_save.specs.Reading as reading;
 ghost use Rattle.stack_save.specs.Spelling as spell;
 
 use crate::fault::Taken;
-use crate::fields::{Cursor, put_i32, put_u16, put_u32};
+use crate::fields::{Cursor, put_i32};
+use pex_values::{put_u16, put_u32};
 use std::alloc::AllocError;
 
 /// A list gets room for at most so many items before they are there.

@@ -11,10 +11,11 @@ ghost use Rattle.stack_save.specs.Parts.{HasPut, AreLocksInRange, AreThingsInRan
 ghost use Rattle.stack_save.specs.Spelling as spell;
 
 use crate::fault::SaveFault;
-use crate::fields::{put_long_string, put_number_or_none, put_u16, put_u32};
+use crate::fields::{put_long_string, put_number_or_none};
 use crate::part::put_list;
 use crate::{HEADING, HELD_LIMIT};
 use machine_state::MachineState;
+use pex_values::{put_u16, put_u32};
 use std::alloc::{AllocError, Global};
 
 #[tactic(auto, using(crate::proofs::Lists::each_trivial), unfolding(crate::specs::Spelling::locks))]

@@ -13,13 +13,14 @@ ghost use Rattle.stack_save.specs.Reading as reading;
 ghost use Rattle.stack_save.specs.Spelling as spell;
 
 use crate::fault::Taken;
-use crate::fields::{Cursor, put_byte, put_i32, put_number_or_none, put_string, put_u16, put_u64};
+use crate::fields::{Cursor, put_i32, put_number_or_none, put_string};
 use crate::part::{
     Part, put_items, put_list, put_long_list, take_items, take_list, take_long_list,
 };
 use core_tree::{CoreType, DeviceKind, Value};
 use machine_state::{BodyPlace, FrameState, Way};
 use papy_base::{Name, Text};
+use pex_values::{put_byte, put_u16, put_u64};
 use std::alloc::AllocError;
 
 // ---- values

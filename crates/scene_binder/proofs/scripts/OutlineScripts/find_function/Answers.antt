@@ -1,24 +1,36 @@
-use Rattle.std.proofs.Common.{◌≡◌, Some, get_or, sym, ap, ◌∙◌, arith}
+use Rattle.std.proofs.Common.{◌≡◌, None, Some, rules, sym, ap, subst, ◌∙◌, arith}
 use Rattle.papy_base.specs.Case.{folded}
-use Rattle.core_tree.specs.Lineage.{lineage}
+use Rattle.core_tree.specs.Outlines.{parents_of}
 use Rattle.core_tree.specs.declared.outline.OutlineFunction.{OutlineFunction}
 use Rattle.scene_binder.specs.Members.{IsNearestFunction, own_function}
-use Rattle.scene_binder.proofs.LineageLemmas.{Nearest-above, lineage-nearest}
+use Rattle.scene_binder.proofs.WayLemmas.{HasPassed, HasPassed-more, HasPassed-nearest, Nearest-above}
 use Rattle.scene_binder.proofs.scripts.OutlineScripts.find_function.Goals as goal
 
-pub returns-in-Some : goal.returns-in-Some
-returns-in-Some c =
+pub loop-script-init : goal.loop-script-init
+loop-script-init c = record { way = search rules; none = λ k d lt. absurd (omega arith) }
+
+pub loop-script-preserved : goal.loop-script-preserved
+loop-script-preserved c =
     let scripts = c.args.self.now in
-    let above = c.deref-script-items.result.now in
-    let at = c.loop-script.script-index in
-    let function = c.in-Some.function.now in
-    let is : above ≡ lineage scripts c.args.first = c.deref-script-items.ensures.value ∙ c.in_ok-above.ensures ∙ ap (λ all. lineage all c.args.first) c.self.view_is in
-    let some : own_function scripts (folded c.args.name.now) (get_or above at 0) ≡ Some function = ap (λ name. own_function scripts (folded name) (get_or above at 0)) (sym c.in_ok-name.ensures) ∙ sym c.in-Some.ensures.first in
-    let nearest : IsNearestFunction scripts c.args.name.now c.args.first (get_or above at 0) function = lineage-nearest {X = OutlineFunction} scripts (own_function scripts (folded c.args.name.now)) function above c.args.first at is (record { within = omega arith; none = c.loop-script.invariant; some = some }) in
+    let own = own_function scripts (folded c.args.name.now) in
+    let passed = c.loop-script.yielded in
+    let here = subst (λ left. HasPassed {X = OutlineFunction} (parents_of scripts) own c.args.first passed left) c.in-Some.ensures.steps c.loop-script.invariant in
+    let none : own c.in-Some.script ≡ None = ap (λ name. own_function scripts (folded name) c.in-Some.script) (sym c.in_ok-name.ensures) ∙ sym c.in_default.ensures.first in
+    HasPassed-more {X = OutlineFunction} (parents_of scripts) own c.args.first passed c.in-Some.script c.next.new.self here none
+
+pub returns-in-Some-own_function : goal.returns-in-Some-own_function
+returns-in-Some-own_function c =
+    let scripts = c.args.self.now in
+    let function = c.in-Some-own_function.function.now in
+    let own = own_function scripts (folded c.args.name.now) in
+    let passed = c.loop-script.yielded in
+    let here = subst (λ left. HasPassed {X = OutlineFunction} (parents_of scripts) own c.args.first passed left) c.in-Some.ensures.steps c.loop-script.invariant in
+    let some : own c.in-Some.script ≡ Some function = ap (λ name. own_function scripts (folded name) c.in-Some.script) (sym c.in_ok-name.ensures) ∙ sym c.in-Some-own_function.ensures.first in
+    let nearest : IsNearestFunction scripts c.args.name.now c.args.first c.in-Some.script function = HasPassed-nearest {X = OutlineFunction} (parents_of scripts) own c.args.first passed c.in-Some.script c.next.new.self function here some in
     record {
-      owner = get_or above at 0;
-      above = Nearest-above {X = OutlineFunction} scripts (own_function scripts (folded c.args.name.now)) nearest;
-      there = c.in-Some.ensures.there;
-      named = c.in-Some.ensures.named ∙ ap folded c.in_ok-name.ensures;
+      owner = c.in-Some.script;
+      above = Nearest-above {X = OutlineFunction} (parents_of scripts) own nearest;
+      there = c.in-Some-own_function.ensures.there;
+      named = c.in-Some-own_function.ensures.named ∙ ap folded c.in_ok-name.ensures;
       nearest = nearest;
     }

@@ -1,21 +1,35 @@
-use Rattle.std.proofs.Common.{◌≡◌, Some, get_or, sym, ap, ◌∙◌, arith}
+use Rattle.std.proofs.Common.{◌≡◌, None, Some, rules, sym, ap, subst, ◌∙◌, arith}
 use Rattle.papy_base.specs.Case.{folded}
-use Rattle.core_tree.specs.Lineage.{lineage}
+use Rattle.core_tree.specs.Outlines.{parents_of}
 use Rattle.core_tree.specs.declared.outline.OutlineProperty.{OutlineProperty}
-use Rattle.scene_binder.specs.Members.{IsNearestProperty, own_property}
-use Rattle.scene_binder.proofs.LineageLemmas.{Nearest-above, lineage-nearest}
+use Rattle.scene_binder.specs.Members.{own_property}
+use Rattle.scene_binder.proofs.WayLemmas.{HasPassed, HasPassed-more, HasPassed-nearest, Nearest-above}
 use Rattle.scene_binder.proofs.scripts.OutlineScripts.find_property.Goals as goal
 
-pub returns-in-Some : goal.returns-in-Some
-returns-in-Some c =
+pub loop-script-init : goal.loop-script-init
+loop-script-init c = record { way = search rules; none = λ k d lt. absurd (omega arith) }
+
+pub loop-script-preserved : goal.loop-script-preserved
+loop-script-preserved c =
     let scripts = c.args.self.now in
-    let above = c.deref-script-items.result.now in
-    let at = c.loop-script.script-index in
-    let property = c.in-Some.property.now in
-    let is : above ≡ lineage scripts c.args.first = c.deref-script-items.ensures.value ∙ c.in_ok-above.ensures ∙ ap (λ all. lineage all c.args.first) c.self.view_is in
-    let some : own_property scripts (folded c.args.name.now) (get_or above at 0) ≡ Some property = ap (λ name. own_property scripts (folded name) (get_or above at 0)) (sym c.in_ok-name.ensures) ∙ sym c.in-Some.ensures.first in
-    let nearest : IsNearestProperty scripts c.args.name.now c.args.first (get_or above at 0) property = lineage-nearest {X = OutlineProperty} scripts (own_property scripts (folded c.args.name.now)) property above c.args.first at is (record { within = omega arith; none = c.loop-script.invariant; some = some }) in
-    record {
-      there = (Nearest-above {X = OutlineProperty} scripts (own_property scripts (folded c.args.name.now)) nearest, c.in-Some.ensures.there);
-      nearest = nearest;
-    }
+    let own = own_property scripts (folded c.args.name.now) in
+    let passed = c.loop-script.yielded in
+    let here = subst (λ left. HasPassed {X = OutlineProperty} (parents_of scripts) own c.args.first passed left) c.in-Some.ensures.steps c.loop-script.invariant in
+    let none : own c.in-Some.script ≡ None = ap (λ name. own_property scripts (folded name) c.in-Some.script) (sym c.in_ok-name.ensures) ∙ sym c.in_default.ensures.first in
+    HasPassed-more {X = OutlineProperty} (parents_of scripts) own c.args.first passed c.in-Some.script c.next.new.self here none
+
+pub returns-in-Some-own_property-clause-nearest : goal.returns-in-Some-own_property-clause-nearest
+returns-in-Some-own_property-clause-nearest c =
+    let scripts = c.args.self.now in
+    let property = c.in-Some-own_property.property.now in
+    let own = own_property scripts (folded c.args.name.now) in
+    let passed = c.loop-script.yielded in
+    let here = subst (λ left. HasPassed {X = OutlineProperty} (parents_of scripts) own c.args.first passed left) c.in-Some.ensures.steps c.loop-script.invariant in
+    let some : own c.in-Some.script ≡ Some property = ap (λ name. own_property scripts (folded name) c.in-Some.script) (sym c.in_ok-name.ensures) ∙ sym c.in-Some-own_property.ensures.first in
+    HasPassed-nearest {X = OutlineProperty} (parents_of scripts) own c.args.first passed c.in-Some.script c.next.new.self property here some
+
+pub returns-in-Some-own_property-clause-there : goal.returns-in-Some-own_property-clause-there
+returns-in-Some-own_property-clause-there c =
+    let scripts = c.args.self.now in
+    let own = own_property scripts (folded c.args.name.now) in
+    (Nearest-above {X = OutlineProperty} (parents_of scripts) own (returns-in-Some-own_property-clause-nearest c), c.in-Some-own_property.ensures.there)

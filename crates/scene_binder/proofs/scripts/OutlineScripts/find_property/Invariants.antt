@@ -1,9 +1,11 @@
-use Rattle.std.proofs.Common.{ℕ, ◌≡◌, ◌<◌, None, get_or}
 use Rattle.papy_base.specs.Case.{folded}
+use Rattle.core_tree.specs.Outlines.{parents_of}
+use Rattle.core_tree.specs.declared.outline.OutlineProperty.{OutlineProperty}
 use Rattle.scene_binder.specs.Members.{own_property}
+use Rattle.scene_binder.proofs.WayLemmas.{HasPassed}
 use Rattle.scene_binder.proofs.scripts.OutlineScripts.find_property.Given as goal
 
 -- no script so far has one of its own
 abbrev pub invariant-loop-script : goal.invariant-loop-script
 invariant-loop-script l =
-    (k : ℕ) → k < l.script-index → own_property l.self (folded l.name) (get_or l.script-items k 0) ≡ None
+    HasPassed {X = OutlineProperty} (parents_of l.self) (own_property l.self (folded l.name)) l.first l.yielded l.script-iterator

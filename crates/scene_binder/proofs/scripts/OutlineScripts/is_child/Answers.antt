@@ -1,10 +1,11 @@
-use Rattle.std.proofs.Common.{◌≡◌, length, true}
-use Rattle.core_tree.specs.Lineage.{is_above}
-use Rattle.scene_binder.proofs.LineageLemmas.{StandsAbove-from}
+use Rattle.std.proofs.Common.{◌≡◌, true}
+use Rattle.papy_base.specs.Lineage.{stands_below}
+use Rattle.papy_base.proofs.StandingLemmas.{StandsAbove-stands_below}
+use Rattle.core_tree.specs.Outlines.{parents_of}
 use Rattle.scene_binder.proofs.scripts.OutlineScripts.is_child.Goals as goal
 
 pub returns : goal.returns
 returns c = λ yes.
-    let scripts = c.args.self.now in
-    let above : is_above scripts c.args.child c.args.parent ≡ true = cc in
-    StandsAbove-from scripts c.args.parent (length scripts) c.args.child above
+    let parents = parents_of c.args.self.now in
+    let below : stands_below parents c.args.child c.args.parent ≡ true = cc in
+    StandsAbove-stands_below parents c.args.child c.args.parent below
