@@ -9,7 +9,7 @@ ghost use Rattle.pex_listing.specs.Lines.{first_line, string_line, table_lines, 
 ghost use Rattle.pex_listing.specs.Opened.{BeginsWith, Opens, TakesLines};
 ghost use Rattle.pex_listing.specs.Reading.{ReadsAll, HoldsLines, ReadsDebug, debug_rest};
 
-use crate::faults::{BAD_LINE, ListingFault, Read};
+use crate::faults::{BAD_LINE, ListingFault, Read, at_line};
 use crate::listing::{FirstWord, Item, Listing, Room, check_place, read_all};
 use crate::strings::Strings;
 use papy_base::Text;
@@ -183,5 +183,5 @@ pub fn assemble(alloc: Global, bytes: &[u8]) -> Result<Pex, ListingFault>
     ensures begun { IfOk result (λ v. BeginsWith (head_lines (plain v)) bytes.now) }
 {
     let mut listing = Listing::new(alloc, bytes);
-    read_pex(&mut listing).map_err(|fault| fault.at_line(listing.number))
+    read_pex(&mut listing).map_err(|fault| at_line(listing.number, fault))
 }

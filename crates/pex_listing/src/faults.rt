@@ -1,9 +1,8 @@
 ghost use Rattle.std.specs.Prelude.{◌≡◌};
-ghost use Rattle.pex_listing.specs.declared.faults.LineFault.TheVariants as line;
 ghost use Rattle.pex_listing.specs.declared.faults.ShowFault.TheVariants as show;
 
-use papy_base::OutOfMemory;
-use std::alloc::{AllocError, AllocFailed};
+use papy_base::{Fault, OutOfMemory};
+use std::alloc::AllocError;
 use thiserror::Error;
 
 /// Why a listing wasn't written whole.
@@ -63,40 +62,16 @@ pub enum ListingFault {
 pub(crate) type Read<T> = Result<T, LineFault>;
 
 /// Why a line can't stand where it does.
-#[derive(Clone, Copy)]
-pub(crate) enum LineFault {
-    /// The rule that it breaks.
-    Broken(ListingRule),
-    /// No memory was found.
-    OutOfMemory,
-}
+pub(crate) type LineFault = Fault<ListingRule>;
 
-pub(crate) const BAD_LINE: LineFault = LineFault::Broken(ListingRule::BadLine);
+pub(crate) const BAD_LINE: LineFault = Fault::Broken(ListingRule::BadLine);
 
-pub(crate) const BAD_NAME: LineFault = LineFault::Broken(ListingRule::BadName);
+pub(crate) const BAD_NAME: LineFault = Fault::Broken(ListingRule::BadName);
 
-impl LineFault {
-    /// The fault of the whole listing, where this is the line.
-    pub(crate) fn at_line(self, line: u32) -> ListingFault {
-        match self {
-            LineFault::Broken(rule) => ListingFault::Broken { line, rule },
-            LineFault::OutOfMemory => ListingFault::OutOfMemory,
-        }
-    }
-}
-
-impl From<OutOfMemory> for LineFault {
-    ghost from_gives = { λ _ fault. fault ≡ line.OutOfMemory };
-
-    fn from(_error: OutOfMemory) -> LineFault {
-        LineFault::OutOfMemory
-    }
-}
-
-impl<T: Drop> From<AllocFailed<T>> for LineFault {
-    ghost from_gives = { λ _ fault. fault ≡ line.OutOfMemory };
-
-    fn from(_error: AllocFailed<T>) -> LineFault {
-        LineFault::OutOfMemory
+/// The fault of the whole listing, where this is the line.
+pub(crate) fn at_line(line: u32, fault: LineFault) -> ListingFault {
+    match fault {
+        Fault::Broken(rule) => ListingFault::Broken { line, rule },
+        Fault::OutOfMemory => ListingFault::OutOfMemory,
     }
 }

@@ -10,9 +10,9 @@ ghost use Rattle.pex_listing.specs.Numbers.{are_digits, decimal_number, has_lead
 ghost use Rattle.pex_listing.specs.Opened.{Opens, TakesField, SameWord, fields_left, word_of};
 ghost use Rattle.pex_listing.specs.Reading.{Reads, ReadsAll};
 
-use crate::faults::{BAD_LINE, LineFault, ListingRule, Read};
+use crate::faults::{BAD_LINE, ListingRule, Read};
 use crate::strings::{Strings, is_word};
-use papy_base::Text;
+use papy_base::{Fault, Text};
 use pex_values::{FILE_LIMIT, OPCODES, SizeForm};
 use std::alloc::Global;
 
@@ -156,7 +156,7 @@ impl<'a> Listing<'a> {
     {
         match self.first_word {
             FirstWord::Word(found) if found == word => Ok(()),
-            FirstWord::End => Err(LineFault::Broken(ListingRule::End)),
+            FirstWord::End => Err(Fault::Broken(ListingRule::End)),
             _ => Err(BAD_LINE),
         }
     }
@@ -165,7 +165,7 @@ impl<'a> Listing<'a> {
     pub(crate) fn end(&self) -> Read<()> {
         match self.first_word {
             FirstWord::End if self.rest.is_empty() => Ok(()),
-            FirstWord::End => Err(LineFault::Broken(ListingRule::End)),
+            FirstWord::End => Err(Fault::Broken(ListingRule::End)),
             _ => Err(BAD_LINE),
         }
     }
@@ -186,7 +186,7 @@ impl<'a> Listing<'a> {
         ensures opened { IfOk result (λ _. Opens self.old.rest.now self.new) }
     {
         if !self.is_canonical {
-            return Err(LineFault::Broken(ListingRule::NotCanonical));
+            return Err(Fault::Broken(ListingRule::NotCanonical));
         }
         self.open_next();
         Ok(())

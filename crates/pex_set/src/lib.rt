@@ -8,6 +8,6 @@ mod objects;
 mod prelude;
 
 pub use inherited::{Inherited, MemberNames, MemberPlace, OwnMembers};
-pub use names::{EMPTY_NAME, FileNames, NameNumbers, folded, one_number_of_a_name, text_at};
+pub use names::{EMPTY_NAME, FileNames, NameNumbers, one_number_of_a_name, text_at};
 pub use objects::{Head, Objects};
 pub use prelude::Prelude;

@@ -78,8 +78,8 @@ impl NameNumbers {
     }
 }
 
-/// The bytes of a name with A to Z read as a to z.
-pub fn folded(alloc: Global, name: &[u8]) -> Made<Vec<u8>>
+// The bytes of a name with A to Z read as a to z.
+fn folded(alloc: Global, name: &[u8]) -> Made<Vec<u8>>
     ensures { IfOk result (λ bytes. bytes.items ≡ str_to_ascii_lowercase name.now) }
 {
     let mut bytes = name.to_vec(alloc)?;
