@@ -9,7 +9,7 @@ ghost use Rattle.pex_verify.specs.Rules.{IsNewProperty};
 ghost use Rattle.pex_verify.specs.Signatures.{number_at};
 ghost use Rattle.pex_verify.specs.Properties.{Reads, Writes, IsAccessor, AreAccessors, IsOfKind, IsProperty};
 
-use crate::fault::{Judged, Refusal, VerifyRule, check};
+use crate::fault::{Judged, VerifyRule, check, refused};
 use crate::function::{has_too_many_slots, known_type, load_function};
 use crate::loaded::{LoadedFunction, LoadedProperty};
 use crate::scope::{Home, SlotList};
@@ -53,11 +53,11 @@ fn judged_type(home: &Home<'_>, place: usize, property: &PexProperty) -> Judged<
 {
     let declared = home.set.value_type(home.source.names.number(property.kind));
     if declared != ValueType::Float && repeats_property(home, place, property) {
-        return Err(Refusal::of(VerifyRule::DuplicateName));
+        return Err(refused(VerifyRule::DuplicateName));
     }
     match known_type(declared)? {
         Some(found) => Ok(found),
-        None => Err(Refusal::of(VerifyRule::OperandType)),
+        None => Err(refused(VerifyRule::OperandType)),
     }
 }
 
@@ -85,7 +85,7 @@ fn judged_variable(home: &Home<'_>, property: &PexProperty) -> Judged<Option<u16
         return Ok(None);
     };
     let place = variable_place(home, property, reference);
-    Ok(Some(place.ok_or(Refusal::of(VerifyRule::BadPropertyBits))?))
+    Ok(Some(place.ok_or(refused(VerifyRule::BadPropertyBits))?))
 }
 
 fn variable_place(home: &Home<'_>, property: &PexProperty, reference: u16) -> Option<u16>

@@ -1,8 +1,7 @@
 ghost use Rattle.std.specs.Prelude.{◌≡◌, IsTrue, OnOk};
-ghost use Rattle.pex_verify.specs.declared.fault.VerifyFault.TheVariants.{OutOfMemory as NoMemoryToVerify};
-ghost use Rattle.pex_verify.specs.declared.fault.Refusal.TheVariants.{OutOfMemory as NoMemory};
+ghost use Rattle.pex_verify.specs.declared.fault.VerifyFault.TheVariants.{OutOfMemory as NoMemory};
 
-use papy_base::{Made, OutOfMemory, Text};
+use papy_base::{Fault, Made, OutOfMemory, Text};
 use std::alloc::{AllocError, AllocFailed, Global};
 use thiserror::Error;
 
@@ -60,7 +59,7 @@ pub enum VerifyFault {
 }
 
 impl From<OutOfMemory> for VerifyFault {
-    ghost from_gives = { λ _ fault. fault ≡ NoMemoryToVerify };
+    ghost from_gives = { λ _ fault. fault ≡ NoMemory };
 
     fn from(_error: OutOfMemory) -> VerifyFault {
         VerifyFault::OutOfMemory
@@ -68,7 +67,7 @@ impl From<OutOfMemory> for VerifyFault {
 }
 
 impl From<AllocError> for VerifyFault {
-    ghost from_gives = { λ _ fault. fault ≡ NoMemoryToVerify };
+    ghost from_gives = { λ _ fault. fault ≡ NoMemory };
 
     fn from(_error: AllocError) -> VerifyFault {
         VerifyFault::OutOfMemory
@@ -76,32 +75,33 @@ impl From<AllocError> for VerifyFault {
 }
 
 impl<T: Drop> From<AllocFailed<T>> for VerifyFault {
-    ghost from_gives = { λ _ fault. fault ≡ NoMemoryToVerify };
+    ghost from_gives = { λ _ fault. fault ≡ NoMemory };
 
     fn from(_error: AllocFailed<T>) -> VerifyFault {
         VerifyFault::OutOfMemory
     }
 }
 
-/// Why a part of an object is refused, before its place is named.
-#[derive(Clone, Copy, PartialEq, Eq)]
-pub(crate) enum Refusal {
-    Broken { at: Option<u16>, rule: VerifyRule },
-    OutOfMemory,
+/// The rule that a part of an object breaks, and the number of the instruction, where it is one.
+#[derive(Clone, Copy)]
+pub(crate) struct Breach {
+    at: Option<u16>,
+    rule: VerifyRule,
 }
 
-impl Refusal {
-    pub(crate) fn of(rule: VerifyRule) -> Refusal {
-        Refusal::Broken { at: None, rule }
-    }
+/// Why a part of an object is refused, before its place is named.
+pub(crate) type Refusal = Fault<Breach>;
 
-    /// The same at the instruction of this number.
-    pub(crate) fn at(self, place: usize) -> Refusal {
-        let at = Some(place.min(usize::from(u16::MAX)) as u16);
-        match self {
-            Refusal::Broken { rule, .. } => Refusal::Broken { at, rule },
-            Refusal::OutOfMemory => Refusal::OutOfMemory,
-        }
+pub(crate) fn refused(rule: VerifyRule) -> Refusal {
+    Fault::Broken(Breach { at: None, rule })
+}
+
+/// The same at the instruction of this number.
+pub(crate) fn at_instruction(place: usize, refusal: Refusal) -> Refusal {
+    let at = Some(place.min(usize::from(u16::MAX)) as u16);
+    match refusal {
+        Fault::Broken(Breach { rule, .. }) => Fault::Broken(Breach { at, rule }),
+        Fault::OutOfMemory => Fault::OutOfMemory,
     }
 }
 
@@ -115,35 +115,7 @@ pub(crate) type Valid<T> = Result<T, VerifyFault>;
 pub(crate) fn check(holds: bool, rule: VerifyRule) -> Judged<()>
     ensures { OnOk result (IsTrue holds) }
 {
-    if holds {
-        Ok(())
-    } else {
-        Err(Refusal::of(rule))
-    }
-}
-
-impl From<OutOfMemory> for Refusal {
-    ghost from_gives = { λ _ refusal. refusal ≡ NoMemory };
-
-    fn from(_error: OutOfMemory) -> Refusal {
-        Refusal::OutOfMemory
-    }
-}
-
-impl From<AllocError> for Refusal {
-    ghost from_gives = { λ _ refusal. refusal ≡ NoMemory };
-
-    fn from(_error: AllocError) -> Refusal {
-        Refusal::OutOfMemory
-    }
-}
-
-impl<T: Drop> From<AllocFailed<T>> for Refusal {
-    ghost from_gives = { λ _ refusal. refusal ≡ NoMemory };
-
-    fn from(_error: AllocFailed<T>) -> Refusal {
-        Refusal::OutOfMemory
-    }
+    if holds { Ok(()) } else { Err(refused(rule)) }
 }
 
 /// An object, as faults name it.
@@ -156,7 +128,7 @@ pub(crate) struct Site<'a> {
 impl<'a> Site<'a> {
     /// The fault of a rule that the object itself breaks.
     pub(crate) fn fault(&self, alloc: Global, rule: VerifyRule) -> VerifyFault {
-        let fault = self.broken(alloc, None, Refusal::of(rule));
+        let fault = self.broken(alloc, None, refused(rule));
         fault.unwrap_or(VerifyFault::OutOfMemory)
     }
 
@@ -167,7 +139,7 @@ impl<'a> Site<'a> {
     }
 
     fn broken(&self, alloc: Global, member: Option<&[u8]>, refusal: Refusal) -> Made<VerifyFault> {
-        let Refusal::Broken { at, rule } = refusal else {
+        let Fault::Broken(Breach { at, rule }) = refusal else {
             return Ok(VerifyFault::OutOfMemory);
         };
         let member = match member {

@@ -9,7 +9,7 @@ ghost use Rattle.pex_verify.specs.Places.{bounds_of};
 ghost use Rattle.pex_verify.specs.Types.{IsTypeAmong, IsValueTypeAmong};
 ghost use Rattle.pex_verify.specs.Soundness.{IsSoundFunction, AreSoundInstructions};
 
-use crate::fault::{Judged, Refusal, VerifyRule};
+use crate::fault::{Judged, VerifyRule, at_instruction, refused};
 use crate::instruction::load_instruction;
 use crate::loaded::{LoadedFunction, LoadedInstruction};
 use crate::scope::{FunctionScope, Home, SlotList};
@@ -77,8 +77,8 @@ pub(crate) fn known_type(declared: ValueType) -> Judged<Option<CoreType>>
 {
     match declared {
         ValueType::Nothing => Ok(None),
-        ValueType::Float => Err(Refusal::of(VerifyRule::FloatValue)),
-        ValueType::Unknown => Err(Refusal::of(VerifyRule::OperandType)),
+        ValueType::Float => Err(refused(VerifyRule::FloatValue)),
+        ValueType::Unknown => Err(refused(VerifyRule::OperandType)),
         ValueType::Of(found) => Ok(Some(found)),
     }
 }
@@ -98,7 +98,7 @@ fn load_parameters(
     for pair in pairs {
         let declared = home.set.value_type(source.names.number(pair.1));
         let Some(kind) = judged_slot(source, slots, *pair, declared)? else {
-            return Err(Refusal::of(VerifyRule::OperandType));
+            return Err(refused(VerifyRule::OperandType));
         };
         parameters.push((source.title(home.alloc, pair.0)?, kind))?;
     }
@@ -139,7 +139,7 @@ fn judged_slot(
 {
     let name = source.names.number(pair.0);
     if declared != ValueType::Float && slots.place(name).is_some() {
-        return Err(Refusal::of(VerifyRule::DuplicateName));
+        return Err(refused(VerifyRule::DuplicateName));
     }
     let found = known_type(declared)?;
     slots.add(name, declared)?;
@@ -155,7 +155,7 @@ fn load_code(scope: &FunctionScope<'_>, code: &[Instruction]) -> Judged<Vec<Load
     for (place, instruction) in code.iter().enumerate() {
         match load_instruction(scope, place, code.len(), instruction) {
             Ok(found) => loaded.push_reserved(found),
-            Err(refusal) => return Err(refusal.at(place)),
+            Err(refusal) => return Err(at_instruction(place, refusal)),
         }
     }
     Ok(loaded)

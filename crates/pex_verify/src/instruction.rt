@@ -10,7 +10,7 @@ ghost use Rattle.pex_verify.specs.Places.{bounds_of, IsFoundAmong};
 ghost use Rattle.pex_verify.specs.declared.action.Use.TheVariants.{Read};
 
 use crate::action::{Action, Use, action_of, uses_of};
-use crate::fault::{Judged, Refusal, VerifyRule, check};
+use crate::fault::{Judged, VerifyRule, check, refused};
 use crate::loaded::{LoadedInstruction, MethodPlace, Operand};
 use crate::members::method_place;
 use crate::operand_rules::{Lookup, look_up, name_at, operands_fit};
@@ -48,7 +48,7 @@ fn resolve(scope: &FunctionScope<'_>, purpose: Use, datum: Datum) -> Judged<Oper
             Ok(Operand::Quoted(Text::try_from_bytes(scope.home.alloc, text)?))
         }
         Datum::Int(number) => Ok(Operand::Int(number)),
-        Datum::Float(_) => Err(Refusal::of(VerifyRule::FloatValue)),
+        Datum::Float(_) => Err(refused(VerifyRule::FloatValue)),
         Datum::Bool(byte) => Ok(Operand::Bool(byte != 0)),
     }
 }
@@ -60,7 +60,7 @@ fn resolve_word(scope: &FunctionScope<'_>, purpose: Use, reference: u16) -> Judg
     match purpose {
         Use::Read | Use::Write => {
             let meaning = scope.meaning(scope.source.names.number(reference));
-            meaning.ok_or(Refusal::of(VerifyRule::UnknownVariable))
+            meaning.ok_or(refused(VerifyRule::UnknownVariable))
         }
         Use::Name | Use::Number => {
             Ok(Operand::Word(scope.source.title(scope.home.alloc, reference)?))
@@ -98,7 +98,7 @@ pub(crate) fn load_instruction(
     let more = resolve_all(scope, &[], instruction.more.as_slice())?;
     let found = look_up(scope, action, data, fixed.as_slice());
     if let Some(rule) = broken_rule(scope, action, fixed.as_slice(), more.as_slice(), found) {
-        return Err(Refusal::of(rule));
+        return Err(refused(rule));
     }
     let jump = jump_of(action, fixed.as_slice(), place, count)?;
     let has_long = has_long_text(fixed.as_slice()) || has_long_text(more.as_slice());
@@ -118,7 +118,7 @@ fn judged_action(instruction: &Instruction) -> Judged<Action>
     ensures { IfOk result (λ action. action_by instruction.now.opcode ≡ Some action) }
 {
     let Some(action) = action_of(instruction.opcode) else {
-        return Err(Refusal::of(VerifyRule::OperandType));
+        return Err(refused(VerifyRule::OperandType));
     };
     check(action != Action::Float, VerifyRule::FloatOpcode)?;
     check(
@@ -169,11 +169,11 @@ fn jump_by(place: usize, offset: Option<&Operand>, count: usize) -> Judged<Optio
     ensures { IfOk result (LeadsBy place count (option_copied offset.entry)) }
 {
     let Some(Operand::Int(offset)) = offset else {
-        return Err(Refusal::of(VerifyRule::OperandType));
+        return Err(refused(VerifyRule::OperandType));
     };
     match landing(place, *offset, count) {
         Some(landing) => Ok(Some(landing)),
-        None => Err(Refusal::of(VerifyRule::JumpRange)),
+        None => Err(refused(VerifyRule::JumpRange)),
     }
 }
 

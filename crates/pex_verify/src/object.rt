@@ -16,7 +16,7 @@ ghost use Rattle.pex_verify.specs.States.{is_empty_state, own_written, written_m
 ghost use Rattle.pex_verify.specs.Variables.{variable_type, type_of_variable};
 
 use crate::accessors::load_property;
-use crate::fault::{Judged, Refusal, Valid, VerifyRule, check};
+use crate::fault::{Judged, Valid, VerifyRule, check, refused};
 use crate::function::{has_too_many_slots, known_type, load_function};
 use crate::loaded::{LoadedFunction, LoadedProperty, LoadedScript};
 use crate::outlining::outline_script;
@@ -161,7 +161,7 @@ fn load_variable(
     check(!is_float, VerifyRule::FloatValue)?;
     check(variables.place(name).is_none(), VerifyRule::DuplicateName)?;
     let Some(kind) = known_type(declared)? else {
-        return Err(Refusal::of(VerifyRule::OperandType));
+        return Err(refused(VerifyRule::OperandType));
     };
     let value = start_value(loader.alloc, source, kind, variable.value)?;
     let title = source.title(loader.alloc, variable.name)?;
@@ -185,7 +185,7 @@ fn start_value(alloc: Global, source: &SetFile<'_>, kind: CoreType, datum: Datum
             check(text.len() <= TEXT_LIMIT, VerifyRule::TextTooLong)?;
             Ok(Value::Text(Text::try_from_bytes(alloc, text)?))
         }
-        _ => Err(Refusal::of(VerifyRule::OperandType)),
+        _ => Err(refused(VerifyRule::OperandType)),
     }
 }
 
@@ -225,7 +225,7 @@ fn load_states(home: &Home<'_>, slots: &mut SlotList) -> Valid<Vec<State>>
     let mut states = Vec::with_capacity(home.alloc, home.object.states.len())?;
     for state in &home.object.states {
         if !note(&mut seen, home.source.names.number(state.name))? {
-            let refusal = Refusal::of(VerifyRule::DuplicateName);
+            let refusal = refused(VerifyRule::DuplicateName);
             return Err(home.fault_in(home.source.text(state.name), refusal));
         }
         states.push(load_state(home, slots, state)?)?;
