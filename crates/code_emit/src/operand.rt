@@ -5,7 +5,7 @@ ghost use Rattle.pex_values.specs.Opcodes.{operands_of};
 ghost use Rattle.code_emit.specs.Operands.{datum_of, lasting, needs, IsWithin};
 
 use core_tree::{Arith, CoreType, Order};
-use papy_base::OutOfMemory;
+use papy_base::Made;
 use pex_values::{CMP_GE, CMP_GT, CMP_LE, CMP_LT, Datum, IADD, IDIV, IMOD, IMUL, ISUB, STRCAT};
 use std::alloc::Global;
 
@@ -80,7 +80,7 @@ impl Operand {
 }
 
 /// The operands as the file has them, and room for one more.
-pub(crate) fn data(alloc: Global, operands: &[Operand]) -> Result<Vec<Datum>, OutOfMemory>
+pub(crate) fn data(alloc: Global, operands: &[Operand]) -> Made<Vec<Datum>>
     ensures values { IfOk result (λ found. found.items ≡ map datum_of operands.now) }
     ensures within { IfOk result (λ found. AllByRecursion IsWithin found.items) }
 {

@@ -4,7 +4,7 @@ ghost use Rattle.std.specs.Fmt.{decimal};
 ghost use Rattle.command_files.specs.Refusal.{at_text, held_rule_text, journal_rule_text, lex_rule_text, lift_rule_text, line_rule_text, listing_rule_text, link_rule_text, member_text, pex_rule_text, place_text, refusal_line, rule_status, rule_text, scene_rule_text, type_rule_text, verify_rule_text};
 
 use line_parser::LineRule;
-use papy_base::{OutOfMemory, Text};
+use papy_base::{Made, Text};
 use pex_codec::PexRule;
 use pex_lift::LiftRule;
 use pex_listing::ListingRule;
@@ -269,7 +269,7 @@ fn lift_rule_text(rule: LiftRule) -> &'static [u8]
     }
 }
 
-fn append_member(line: &mut Vec<u8>, member: &Option<Text>) -> Result<(), OutOfMemory>
+fn append_member(line: &mut Vec<u8>, member: &Option<Text>) -> Made<()>
     ensures { IfOk result (λ _. line.new.items ≡ line.old.items ++ member_text member.now) }
 {
     if let Some(name) = member {
@@ -279,7 +279,7 @@ fn append_member(line: &mut Vec<u8>, member: &Option<Text>) -> Result<(), OutOfM
     Ok(())
 }
 
-fn append_instruction(alloc: Global, line: &mut Vec<u8>, at: Option<u16>) -> Result<(), OutOfMemory>
+fn append_instruction(alloc: Global, line: &mut Vec<u8>, at: Option<u16>) -> Made<()>
     ensures { IfOk result (λ _. line.new.items ≡ line.old.items ++ at_text at) }
 {
     if let Some(number) = at {
@@ -289,12 +289,7 @@ fn append_instruction(alloc: Global, line: &mut Vec<u8>, at: Option<u16>) -> Res
     Ok(())
 }
 
-fn append_number(
-    alloc: Global,
-    line: &mut Vec<u8>,
-    sign: &[u8],
-    number: u32,
-) -> Result<(), OutOfMemory>
+fn append_number(alloc: Global, line: &mut Vec<u8>, sign: &[u8], number: u32) -> Made<()>
     ensures { IfOk result (λ _. line.new.items ≡ line.old.items ++ (sign.now ++ (decimal number ++ codes ": "))) }
 {
     let text = format!(in alloc; "{number}: ")?;
@@ -303,7 +298,7 @@ fn append_number(
     Ok(())
 }
 
-fn append_place(alloc: Global, line: &mut Vec<u8>, place: &Place) -> Result<(), OutOfMemory>
+fn append_place(alloc: Global, line: &mut Vec<u8>, place: &Place) -> Made<()>
     ensures { IfOk result (λ _. line.new.items ≡ line.old.items ++ place_text place.now) }
 {
     match place {
@@ -331,12 +326,7 @@ fn append_place(alloc: Global, line: &mut Vec<u8>, place: &Place) -> Result<(), 
 /// # Errors
 ///
 /// `OutOfMemory` comes where there is no room for it.
-pub fn refusal_line(
-    alloc: Global,
-    file: &[u8],
-    place: &Place,
-    rule: Rule,
-) -> Result<Vec<u8>, OutOfMemory>
+pub fn refusal_line(alloc: Global, file: &[u8], place: &Place, rule: Rule) -> Made<Vec<u8>>
     ensures { IfOk result (λ line. line.items ≡ refusal_line file.now place.now rule) }
 {
     let mut line = file.to_vec(alloc)?;

@@ -4,21 +4,21 @@ ghost use Rattle.core_tree.specs.Outlines.{function_shape, function_outline, var
 
 use crate::outline::{Outline, OutlineFunction, OutlineProperty, OutlineScript, OutlineVariable};
 use crate::script::{CoreAccess, CoreFunction, CoreProperty, CoreScript, CoreSet, CoreVariable};
-use papy_base::{Name, OutOfMemory};
+use papy_base::{Made, Name};
 use std::alloc::Global;
 
 /// The outline of a set of scripts: of each script its name, its parent, its auto state, its
 /// variables, its Auto properties and the functions of its empty state, in the order of the set.
 ///
 /// `OutOfMemory` comes where no memory is found.
-pub fn outline_of(alloc: Global, set: &CoreSet) -> Result<Outline, OutOfMemory>
+pub fn outline_of(alloc: Global, set: &CoreSet) -> Made<Outline>
     ensures { IfOk result (λ outline. map script_shape outline.scripts.items ≡ map script_outline set.now.scripts.items) }
 {
     let scripts = outline_scripts(alloc, set.scripts.as_slice())?;
     Ok(Outline { scripts })
 }
 
-fn outline_scripts(alloc: Global, scripts: &[CoreScript]) -> Result<Vec<OutlineScript>, OutOfMemory>
+fn outline_scripts(alloc: Global, scripts: &[CoreScript]) -> Made<Vec<OutlineScript>>
     ensures { IfOk result (λ found. map script_shape found.items ≡ map script_outline scripts.now) }
 {
     let mut found = Vec::with_capacity(alloc, scripts.len())?;
@@ -28,7 +28,7 @@ fn outline_scripts(alloc: Global, scripts: &[CoreScript]) -> Result<Vec<OutlineS
     Ok(found)
 }
 
-fn outline_script(alloc: Global, script: &CoreScript) -> Result<OutlineScript, OutOfMemory>
+fn outline_script(alloc: Global, script: &CoreScript) -> Made<OutlineScript>
     ensures { IfOk result (λ found. script_shape found ≡ script_outline script.now) }
 {
     let functions = match script.states.first() {
@@ -45,7 +45,7 @@ fn outline_script(alloc: Global, script: &CoreScript) -> Result<OutlineScript, O
     })
 }
 
-fn clone_name(alloc: Global, name: &Option<Name>) -> Result<Option<Name>, OutOfMemory>
+fn clone_name(alloc: Global, name: &Option<Name>) -> Made<Option<Name>>
     ensures { IfOk result (λ found. found ≡ name.now) }
 {
     match name {
@@ -54,10 +54,7 @@ fn clone_name(alloc: Global, name: &Option<Name>) -> Result<Option<Name>, OutOfM
     }
 }
 
-fn outline_variables(
-    alloc: Global,
-    variables: &[CoreVariable],
-) -> Result<Vec<OutlineVariable>, OutOfMemory>
+fn outline_variables(alloc: Global, variables: &[CoreVariable]) -> Made<Vec<OutlineVariable>>
     ensures { IfOk result (λ found. found.items ≡ map variable_outline variables.now) }
 {
     let mut found = Vec::with_capacity(alloc, variables.len())?;
@@ -71,10 +68,7 @@ fn outline_variables(
     Ok(found)
 }
 
-fn outline_properties(
-    alloc: Global,
-    properties: &[CoreProperty],
-) -> Result<Vec<OutlineProperty>, OutOfMemory>
+fn outline_properties(alloc: Global, properties: &[CoreProperty]) -> Made<Vec<OutlineProperty>>
     ensures { IfOk result (λ found. found.items ≡ flat_map auto_property properties.now) }
 {
     let mut found = Vec::new(alloc);
@@ -90,10 +84,7 @@ fn outline_properties(
     Ok(found)
 }
 
-fn outline_functions(
-    alloc: Global,
-    functions: &[CoreFunction],
-) -> Result<Vec<OutlineFunction>, OutOfMemory>
+fn outline_functions(alloc: Global, functions: &[CoreFunction]) -> Made<Vec<OutlineFunction>>
     ensures { IfOk result (λ found. map function_shape found.items ≡ map function_outline functions.now) }
 {
     let mut found = Vec::with_capacity(alloc, functions.len())?;
@@ -103,7 +94,7 @@ fn outline_functions(
     Ok(found)
 }
 
-fn outline_function(alloc: Global, function: &CoreFunction) -> Result<OutlineFunction, OutOfMemory>
+fn outline_function(alloc: Global, function: &CoreFunction) -> Made<OutlineFunction>
     ensures { IfOk result (λ found. function_shape found ≡ function_outline function.now) }
 {
     Ok(OutlineFunction {

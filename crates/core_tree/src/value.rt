@@ -1,7 +1,7 @@
 ghost use Rattle.std.specs.Prelude.{◌≡◌, IfOk, IsTrue, OnErr};
 ghost use Rattle.core_tree.specs.Values.{is_text};
 
-use papy_base::{OutOfMemory, Text};
+use papy_base::{Made, Text};
 use std::alloc::Global;
 
 /// A value of a running script.
@@ -20,7 +20,7 @@ pub enum Value {
 
 impl Value {
     /// An equal value. `OutOfMemory` comes only of a text.
-    pub fn try_clone(&self, alloc: Global) -> Result<Value, OutOfMemory>
+    pub fn try_clone(&self, alloc: Global) -> Made<Value>
         ensures copy { IfOk result (λ value. value ≡ self.now) }
         ensures memory { OnErr result (IsTrue (is_text self.now)) }
     {

@@ -7,10 +7,10 @@ ghost use Rattle.expression_rules.specs.Ranges.{CoreInRange, FormInRange, TypedI
 use crate::names::{Access, Resolved};
 use crate::operators::operand_type;
 use crate::rule::{Notes, TypeRule};
-use crate::scope::{Context, Result, Typed};
+use crate::scope::{Context, Typed};
 use core_tree::{Arith, Core, CoreStatement, CoreType, Value};
 use line_parser::Expr;
-use papy_base::Name;
+use papy_base::{Made, Name};
 use script_lexer::Sign;
 use script_linker::PropertyRef;
 use type_scope::Kind;
@@ -62,7 +62,7 @@ impl Context<'_> {
         target: &Expr,
         sign: Sign,
         right: &Expr,
-    ) -> Result<CoreStatement>
+    ) -> Made<CoreStatement>
         ensures { ContextInRange self.now → IfOk result (FormInRange (bounds_of self.now)) }
     {
         let change = change_of(sign);
@@ -80,7 +80,7 @@ impl Context<'_> {
     }
 
     // What is assigned to.
-    fn target(&self, notes: &mut Notes, target: &Expr, access: Access) -> Result<Target>
+    fn target(&self, notes: &mut Notes, target: &Expr, access: Access) -> Made<Target>
         ensures { ContextInRange self.now → IfOk result (TargetInRange (bounds_of self.now)) }
     {
         match target {
@@ -108,7 +108,7 @@ impl Context<'_> {
         }
     }
 
-    fn word_target(&self, notes: &mut Notes, name: &Name, access: Access) -> Result<Target>
+    fn word_target(&self, notes: &mut Notes, name: &Name, access: Access) -> Made<Target>
         ensures { ContextInRange self.now → IfOk result (TargetInRange (bounds_of self.now)) }
     {
         match self.resolve(name) {
@@ -136,7 +136,7 @@ impl Context<'_> {
         at: PropertyRef,
         name: &Name,
         access: Access,
-    ) -> Result<Target>
+    ) -> Made<Target>
         ensures { CoreInRange (bounds_of self.now) of.value → IfOk result (TargetInRange (bounds_of self.now)) }
     {
         let kind = self.kind_for(notes, at, access);
@@ -147,7 +147,7 @@ impl Context<'_> {
         Ok(Target::Property(of, name, kind))
     }
 
-    fn element_target(&self, notes: &mut Notes, of: &Expr, at: &Expr) -> Result<Target>
+    fn element_target(&self, notes: &mut Notes, of: &Expr, at: &Expr) -> Made<Target>
         ensures { ContextInRange self.now → IfOk result (TargetInRange (bounds_of self.now)) }
     {
         let array = self.value(notes, of)?;
@@ -160,7 +160,7 @@ impl Context<'_> {
     }
 
     // `=`
-    fn store(&self, notes: &mut Notes, target: Target, value: Typed) -> Result<CoreStatement>
+    fn store(&self, notes: &mut Notes, target: Target, value: Typed) -> Made<CoreStatement>
         ensures { TargetInRange (bounds_of self.now) target → TypedInRange (bounds_of self.now) value → IfOk result (FormInRange (bounds_of self.now)) }
     {
         let core = self.convert(notes, value, target.kind())?;
@@ -176,7 +176,7 @@ impl Context<'_> {
         target: Target,
         sign: Sign,
         value: Typed,
-    ) -> Result<CoreStatement>
+    ) -> Made<CoreStatement>
         ensures { TargetInRange (bounds_of self.now) target → TypedInRange (bounds_of self.now) value → IfOk result (FormInRange (bounds_of self.now)) }
     {
         if let Some(old) = target.variable() {

@@ -7,10 +7,10 @@ ghost use Rattle.expression_rules.specs.Ranges.{CoreInRange, TypedInRange, Given
 use crate::conversions::{default_fits, kind_of, value_of};
 use crate::names::element_kind;
 use crate::rule::{Notes, TypeRule};
-use crate::scope::{Context, Result, Typed};
+use crate::scope::{Context, Typed};
 use core_tree::{Core, CoreType, FunctionPlace};
 use line_parser::{Constant, Heading, Parameter, TypeName};
-use papy_base::{Name, OutOfMemory};
+use papy_base::{Made, Name, OutOfMemory};
 use std::alloc::Global;
 use type_scope::{Callee, Kind};
 
@@ -95,7 +95,7 @@ struct Arguments {
 }
 
 impl Arguments {
-    fn new(alloc: Global, parameters: usize) -> Result<Arguments>
+    fn new(alloc: Global, parameters: usize) -> Made<Arguments>
         ensures { (b : Bounds) → IfOk result (ArgumentsInRange b parameters) }
     {
         Ok(Arguments {
@@ -117,7 +117,7 @@ impl Arguments {
         }
     }
 
-    fn add(&mut self, place: usize, core: Core) -> Result<()>
+    fn add(&mut self, place: usize, core: Core) -> Made<()>
         requires within { place < vec_len self.old.filled }
         requires free { slice_get self.old.filled.items place ≡ Some false }
         ensures { (b : Bounds) (count : ℕ) → ArgumentsInRange b count self.old → CoreInRange b core → OnOk result (ArgumentsInRange b count self.new) }
@@ -158,7 +158,7 @@ enum CallForm<'t> {
 
 impl<'s> Context<'s> {
     /// `name(arguments)`: a function of the script or of a parent, else a Global one of an import.
-    pub fn plain_call(&self, notes: &mut Notes, call: Call<'_>) -> Result<Typed>
+    pub fn plain_call(&self, notes: &mut Notes, call: Call<'_>) -> Made<Typed>
         ensures { GivenInRange (bounds_of self.now) call.entry.given.items → IfOk result (TypedInRange (bounds_of self.now)) }
     {
         let Some(callee) = self.plain_callee(call.name) else {
@@ -182,7 +182,7 @@ impl<'s> Context<'s> {
     }
 
     /// `Parent.name(arguments)`
-    pub fn parent_call(&self, notes: &mut Notes, call: Call<'_>) -> Result<Typed>
+    pub fn parent_call(&self, notes: &mut Notes, call: Call<'_>) -> Made<Typed>
         ensures { GivenInRange (bounds_of self.now) call.entry.given.items → IfOk result (TypedInRange (bounds_of self.now)) }
     {
         self.needs_instance(notes);
@@ -197,7 +197,7 @@ impl<'s> Context<'s> {
 
     /// `word.name(arguments)` where the word names no value: a Global function of the script of that name, or
     /// of a parent of it.
-    pub fn script_call(&self, notes: &mut Notes, word: &Name, call: Call<'_>) -> Result<Typed>
+    pub fn script_call(&self, notes: &mut Notes, word: &Name, call: Call<'_>) -> Made<Typed>
         ensures { GivenInRange (bounds_of self.now) call.entry.given.items → IfOk result (TypedInRange (bounds_of self.now)) }
     {
         let Some(script) = self.catalog.find_script(word) else {
@@ -216,7 +216,7 @@ impl<'s> Context<'s> {
         notes: &mut Notes,
         callee: Callee<'_>,
         given: Vec<Given<'_>>,
-    ) -> Result<Typed>
+    ) -> Made<Typed>
         ensures { PlaceTakes (bounds_of self.now).functions callee.entry.at (heading_count callee.entry.heading.now) → GivenInRange (bounds_of self.now) given.entry.items → IfOk result (TypedInRange (bounds_of self.now)) }
     {
         notes.write_out(callee.heading.name.as_bytes())?;
@@ -227,7 +227,7 @@ impl<'s> Context<'s> {
     }
 
     /// `of.name(arguments)`: a search in an array, or a function of the value's script or of a parent.
-    pub fn member_call(&self, notes: &mut Notes, of: Typed, call: Call<'_>) -> Result<Typed>
+    pub fn member_call(&self, notes: &mut Notes, of: Typed, call: Call<'_>) -> Made<Typed>
         ensures { TypedInRange (bounds_of self.now) of → GivenInRange (bounds_of self.now) call.entry.given.items → IfOk result (TypedInRange (bounds_of self.now)) }
     {
         if of.kind == Kind::Unknown {
@@ -264,7 +264,7 @@ impl<'s> Context<'s> {
         form: CallForm<'_>,
         heading: &Heading,
         given: Vec<Given<'_>>,
-    ) -> Result<Typed>
+    ) -> Made<Typed>
         ensures { CallFormInRange (bounds_of self.now) (heading_count heading.now) form.entry → GivenInRange (bounds_of self.now) given.entry.items → IfOk result (TypedInRange (bounds_of self.now)) }
     {
         let parameters = Parameters::Declared(heading.parameters.as_slice());
@@ -281,7 +281,7 @@ impl<'s> Context<'s> {
         form: CallForm<'_>,
         found: Arguments,
         result_type: Option<CoreType>,
-    ) -> Result<Core>
+    ) -> Made<Core>
         ensures { (b : Bounds) (count : ℕ) → CallFormInRange b count form.entry → CompleteInRange b count found → ResultInRange b.functions result_type → IfOk result (CoreInRange b) }
     {
         let alloc = self.catalog.alloc;
@@ -335,7 +335,7 @@ impl<'s> Context<'s> {
         array: Box<Core>,
         element: CoreType,
         call: Call<'_>,
-    ) -> Result<Typed>
+    ) -> Made<Typed>
         ensures { CoreInRange (bounds_of self.now) array.value → TypeInRange (bounds_of self.now).functions element → GivenInRange (bounds_of self.now) call.entry.given.items → IfOk result (TypedInRange (bounds_of self.now)) }
     {
         let name = call.name.as_bytes();
@@ -355,7 +355,7 @@ impl<'s> Context<'s> {
         }
     }
 
-    fn search(&self, backward: bool, array: Box<Core>, value: Core, start: Core) -> Result<Typed>
+    fn search(&self, backward: bool, array: Box<Core>, value: Core, start: Core) -> Made<Typed>
         ensures { CoreInRange (bounds_of self.now) array.value → CoreInRange (bounds_of self.now) value → CoreInRange (bounds_of self.now) start → IfOk result (TypedInRange (bounds_of self.now)) }
     {
         let value = Box::new(self.catalog.alloc, value)?;
@@ -374,7 +374,7 @@ impl<'s> Context<'s> {
         notes: &mut Notes,
         given: Vec<Given<'_>>,
         parameters: Parameters<'_>,
-    ) -> Result<Option<Arguments>>
+    ) -> Made<Option<Arguments>>
         ensures { GivenInRange (bounds_of self.now) given.entry.items → ParametersInRange (bounds_of self.now) parameters.entry → IfOk result (λ found. IfSome found (CompleteInRange (bounds_of self.now) (parameter_count parameters.entry))) }
     {
         let mut given = given;
@@ -403,7 +403,7 @@ impl<'s> Context<'s> {
         parameters: Parameters<'_>,
         place: Option<usize>,
         value: Typed,
-    ) -> Result<()>
+    ) -> Made<()>
         ensures { ParametersInRange (bounds_of self.now) parameters.entry → ArgumentsInRange (bounds_of self.now) (parameter_count parameters.entry) found.old → TypedInRange (bounds_of self.now) value → OnOk result (ArgumentsInRange (bounds_of self.now) (parameter_count parameters.entry) found.new) }
     {
         let Some(place) = found.free(place) else {
@@ -420,7 +420,7 @@ impl<'s> Context<'s> {
         notes: &mut Notes,
         found: &mut Arguments,
         parameters: Parameters<'_>,
-    ) -> Result<()>
+    ) -> Made<()>
         ensures { ParametersInRange (bounds_of self.now) parameters.entry → ArgumentsInRange (bounds_of self.now) (parameter_count parameters.entry) found.old → OnOk result (ArgumentsInRange (bounds_of self.now) (parameter_count parameters.entry) found.new) }
     {
         for place in 0..parameters.count() {
@@ -440,7 +440,7 @@ impl<'s> Context<'s> {
         found: &mut Arguments,
         parameters: Parameters<'_>,
         place: usize,
-    ) -> Result<bool>
+    ) -> Made<bool>
         requires within { place < vec_len found.old.filled }
         requires free { slice_get found.old.filled.items place ≡ Some false }
         ensures { ParametersInRange (bounds_of self.now) parameters.entry → ArgumentsInRange (bounds_of self.now) (parameter_count parameters.entry) found.old → OnOk result (ArgumentsInRange (bounds_of self.now) (parameter_count parameters.entry) found.new) }
@@ -467,7 +467,7 @@ impl<'s> Context<'s> {
         notes: &mut Notes,
         default: &Constant,
         kind: Option<CoreType>,
-    ) -> Result<Box<Core>>
+    ) -> Made<Box<Core>>
         ensures { ResultInRange (bounds_of self.now).functions kind → IfOk result (λ core. CoreInRange (bounds_of self.now) core.value) }
     {
         let literal = value_of(self.catalog.alloc, default)?;

@@ -7,15 +7,15 @@ ghost use Rattle.expression_rules.specs.Conversions.{prints};
 ghost use Rattle.expression_rules.specs.Ranges.{CoreInRange, TypedInRange, bounds_of};
 
 use crate::rule::{Notes, TypeRule};
-use crate::scope::{Context, Result, Typed};
+use crate::scope::{Context, Typed};
 use core_tree::{Core, CoreType, Value};
 use line_parser::{Constant, TypeName};
-use papy_base::Text;
+use papy_base::{Made, Text};
 use std::alloc::Global;
 use type_scope::{Catalog, Kind};
 
 /// The value at the start of a variable of this type: 0, False, the empty text or None.
-pub fn default_of(alloc: Global, kind: CoreType) -> Result<Value>
+pub fn default_of(alloc: Global, kind: CoreType) -> Made<Value>
     ensures { IfOk result (λ value. value ≡ default_value kind) }
 {
     Ok(match kind {
@@ -27,7 +27,7 @@ pub fn default_of(alloc: Global, kind: CoreType) -> Result<Value>
 }
 
 /// A constant's value.
-pub fn value_of(alloc: Global, constant: &Constant) -> Result<Value>
+pub fn value_of(alloc: Global, constant: &Constant) -> Made<Value>
     ensures value { IfOk result (λ value. value ≡ constant_value constant.now) }
     ensures in_range { IfOk result LiteralInRange }
 {
@@ -63,7 +63,7 @@ pub fn default_fits(catalog: &Catalog<'_>, constant: &Constant, kind: Option<Cor
 
 impl Context<'_> {
     /// The tree of a value as this type: the value's own where it has the type, else with a `Cast`.
-    pub fn convert(&self, notes: &mut Notes, of: Typed, to: Option<CoreType>) -> Result<Box<Core>>
+    pub fn convert(&self, notes: &mut Notes, of: Typed, to: Option<CoreType>) -> Made<Box<Core>>
         ensures { (b : Bounds) → ResultInRange b.functions to → TypedInRange b of → IfOk result (λ core. CoreInRange b core.value) }
     {
         let Some(to) = to else {
@@ -80,7 +80,7 @@ impl Context<'_> {
     }
 
     /// `as`
-    pub fn cast(&self, notes: &mut Notes, of: Typed, to: &TypeName) -> Result<Typed>
+    pub fn cast(&self, notes: &mut Notes, of: Typed, to: &TypeName) -> Made<Typed>
         ensures { TypedInRange (bounds_of self.now) of → IfOk result (TypedInRange (bounds_of self.now)) }
     {
         let Some(to) = self.kind_named(notes, to) else {

@@ -5,10 +5,10 @@ ghost use Rattle.expression_rules.specs.Ranges.{TypedInRange, GivenInRange, Cont
 
 use crate::calls::{Call, Given};
 use crate::rule::{Notes, TypeRule};
-use crate::scope::{Context, Result, Typed};
+use crate::scope::{Context, Typed};
 use core_tree::{CoreType, Value};
 use line_parser::{Argument, Expr};
-use papy_base::{Name, OutOfMemory};
+use papy_base::{Made, Name, OutOfMemory};
 use std::alloc::Global;
 use type_scope::Kind;
 
@@ -18,14 +18,14 @@ const DEPTH_LIMIT: u16 = 512;
 
 impl Context<'_> {
     /// An expression. Its kind is `Nothing` where it calls a function without result.
-    pub fn any(&self, notes: &mut Notes, tree: &Expr) -> Result<Typed>
+    pub fn any(&self, notes: &mut Notes, tree: &Expr) -> Made<Typed>
         ensures { ContextInRange self.now → IfOk result (TypedInRange (bounds_of self.now)) }
     {
         self.expression(notes, tree, DEPTH_LIMIT)
     }
 
     /// An expression whose value is needed. `NoValue` is broken where it has none.
-    pub fn value(&self, notes: &mut Notes, tree: &Expr) -> Result<Typed>
+    pub fn value(&self, notes: &mut Notes, tree: &Expr) -> Made<Typed>
         ensures { ContextInRange self.now → IfOk result (TypedInRange (bounds_of self.now)) }
     {
         let value = self.any(notes, tree)?;
@@ -48,7 +48,7 @@ impl Context<'_> {
 
     // An expression. `OutOfMemory` is also the answer where it is deeper than any line's.
     #[cycle(expression)]
-    fn expression(&self, notes: &mut Notes, tree: &Expr, depth: u16) -> Result<Typed>
+    fn expression(&self, notes: &mut Notes, tree: &Expr, depth: u16) -> Made<Typed>
         ensures { ContextInRange self.now → IfOk result (TypedInRange (bounds_of self.now)) }
     {
         let Some(inner) = depth.checked_sub(1) else {
@@ -74,7 +74,7 @@ impl Context<'_> {
         tree: &Expr,
         step: &mut Option<&Expr>,
         depth: u16,
-    ) -> Result<Typed>
+    ) -> Made<Typed>
         ensures { ContextInRange self.now → IfOk result (TypedInRange (bounds_of self.now)) }
     {
         match tree {
@@ -109,7 +109,7 @@ impl Context<'_> {
         word: &Name,
         step: &mut Option<&Expr>,
         depth: u16,
-    ) -> Result<Typed>
+    ) -> Made<Typed>
         ensures { ContextInRange self.now → IfOk result (TypedInRange (bounds_of self.now)) }
     {
         if let Some(resolved) = self.resolve(word) {
@@ -133,7 +133,7 @@ impl Context<'_> {
 
     // What is done to the value of the part that an expression begins with.
     #[cycle(expression)]
-    fn step(&self, notes: &mut Notes, of: Typed, tree: &Expr, depth: u16) -> Result<Typed>
+    fn step(&self, notes: &mut Notes, of: Typed, tree: &Expr, depth: u16) -> Made<Typed>
         ensures { ContextInRange self.now → TypedInRange (bounds_of self.now) of → IfOk result (TypedInRange (bounds_of self.now)) }
     {
         let of = self.used(notes, of);
@@ -172,7 +172,7 @@ impl Context<'_> {
         notes: &mut Notes,
         arguments: &'t [Argument],
         depth: u16,
-    ) -> Result<Vec<Given<'t>>>
+    ) -> Made<Vec<Given<'t>>>
         ensures { ContextInRange self.now → IfOk result (λ found. GivenInRange (bounds_of self.now) found.items) }
     {
         let mut found = Vec::with_capacity(self.catalog.alloc, arguments.len())?;
@@ -192,7 +192,7 @@ impl Context<'_> {
 // needs no memory, and the others, the longest one first.
 //
 // A line such as `1 + 1 + 1 ..` has thousands of them, so they are gone through in a loop.
-fn spine<'t>(alloc: Global, tree: &'t Expr) -> Result<(&'t Expr, Option<&'t Expr>, Vec<&'t Expr>)> {
+fn spine<'t>(alloc: Global, tree: &'t Expr) -> Made<(&'t Expr, Option<&'t Expr>, Vec<&'t Expr>)> {
     let mut further = Vec::new(alloc);
     let mut step = None;
     let mut first = tree;

@@ -6,9 +6,9 @@ ghost use Rattle.type_scope.specs.Types.{signatures};
 ghost use Rattle.expression_rules.specs.Ranges.{CoreInRange, TypedInRange, ResolvedInRange, ContextInRange, bounds_of};
 
 use crate::rule::{Notes, TypeRule};
-use crate::scope::{Context, Result, Typed};
+use crate::scope::{Context, Typed};
 use core_tree::{Core, CoreType};
-use papy_base::Name;
+use papy_base::{Made, Name};
 use script_linker::PropertyRef;
 use script_parser::{Function, Property, PropertyForm};
 use type_scope::{Kind, array_of, element_of};
@@ -53,7 +53,7 @@ impl Context<'_> {
     }
 
     /// The value of a word that names this.
-    pub fn read_word(&self, notes: &mut Notes, resolved: Resolved, name: &Name) -> Result<Typed>
+    pub fn read_word(&self, notes: &mut Notes, resolved: Resolved, name: &Name) -> Made<Typed>
         ensures { ResolvedInRange (bounds_of self.now) resolved → IfOk result (TypedInRange (bounds_of self.now)) }
     {
         match resolved {
@@ -72,7 +72,7 @@ impl Context<'_> {
     }
 
     /// `Self`
-    pub fn instance(&self, notes: &mut Notes) -> Result<Typed>
+    pub fn instance(&self, notes: &mut Notes) -> Made<Typed>
         ensures { ContextInRange self.now → IfOk result (TypedInRange (bounds_of self.now)) }
     {
         self.needs_instance(notes);
@@ -80,7 +80,7 @@ impl Context<'_> {
     }
 
     /// A member of a word that names no value. It may name a script, which has no members.
-    pub fn member_of_word(&self, notes: &mut Notes, word: &Name) -> Result<Typed>
+    pub fn member_of_word(&self, notes: &mut Notes, word: &Name) -> Made<Typed>
         ensures { IfOk result (TypedInRange (bounds_of self.now)) }
     {
         match self.catalog.find_script(word) {
@@ -90,7 +90,7 @@ impl Context<'_> {
     }
 
     /// `of.name`, read.
-    pub fn member(&self, notes: &mut Notes, of: Typed, name: &Name) -> Result<Typed>
+    pub fn member(&self, notes: &mut Notes, of: Typed, name: &Name) -> Made<Typed>
         ensures { TypedInRange (bounds_of self.now) of → IfOk result (TypedInRange (bounds_of self.now)) }
     {
         match self.property_of(notes, of.kind, name) {
@@ -119,7 +119,7 @@ impl Context<'_> {
         of: Box<Core>,
         at: PropertyRef,
         name: &Name,
-    ) -> Result<Typed>
+    ) -> Made<Typed>
         ensures { CoreInRange (bounds_of self.now) of.value → IfOk result (TypedInRange (bounds_of self.now)) }
     {
         let Some(kind) = self.kind_for(notes, at, Access::Read) else {
@@ -161,7 +161,7 @@ impl Context<'_> {
     }
 
     /// `of.Length`
-    pub fn length(&self, notes: &mut Notes, of: Typed) -> Result<Typed>
+    pub fn length(&self, notes: &mut Notes, of: Typed) -> Made<Typed>
         ensures { TypedInRange (bounds_of self.now) of → IfOk result (TypedInRange (bounds_of self.now)) }
     {
         if of.kind != Kind::Unknown && element_kind(of.kind).is_none() {
@@ -171,7 +171,7 @@ impl Context<'_> {
     }
 
     /// `of[at]`, read.
-    pub fn element(&self, notes: &mut Notes, of: Typed, at: Typed) -> Result<Typed>
+    pub fn element(&self, notes: &mut Notes, of: Typed, at: Typed) -> Made<Typed>
         ensures { TypedInRange (bounds_of self.now) of → TypedInRange (bounds_of self.now) at → IfOk result (TypedInRange (bounds_of self.now)) }
     {
         let at = self.convert(notes, at, Some(CoreType::Int))?;
@@ -193,7 +193,7 @@ impl Context<'_> {
     }
 
     /// `New word[count]`
-    pub fn new_array(&self, notes: &mut Notes, word: &Name, count: i32) -> Result<Typed>
+    pub fn new_array(&self, notes: &mut Notes, word: &Name, count: i32) -> Made<Typed>
         ensures { IfOk result (TypedInRange (bounds_of self.now)) }
     {
         let size = array_size(count);

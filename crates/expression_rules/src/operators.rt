@@ -5,8 +5,9 @@ ghost use Rattle.expression_rules.specs.Ranges.{TypedInRange, bounds_of};
 
 use crate::conversions::{common_type, prints};
 use crate::rule::{Notes, TypeRule};
-use crate::scope::{Context, Result, Typed};
+use crate::scope::{Context, Typed};
 use core_tree::{Arith, Core, CoreType, Order};
+use papy_base::Made;
 use script_lexer::Sign;
 use type_scope::Kind;
 
@@ -14,7 +15,7 @@ const INT: Kind = Kind::Of(CoreType::Int);
 
 impl Context<'_> {
     /// `-of` or `!of`
-    pub fn unary(&self, notes: &mut Notes, sign: Sign, of: Typed) -> Result<Typed>
+    pub fn unary(&self, notes: &mut Notes, sign: Sign, of: Typed) -> Made<Typed>
         ensures { TypedInRange (bounds_of self.now) of → IfOk result (TypedInRange (bounds_of self.now)) }
     {
         if of.kind == Kind::Unknown {
@@ -31,7 +32,7 @@ impl Context<'_> {
     }
 
     /// A sign between two values.
-    pub fn binary(&self, notes: &mut Notes, sign: Sign, left: Typed, right: Typed) -> Result<Typed>
+    pub fn binary(&self, notes: &mut Notes, sign: Sign, left: Typed, right: Typed) -> Made<Typed>
         ensures { TypedInRange (bounds_of self.now) left → TypedInRange (bounds_of self.now) right → IfOk result (TypedInRange (bounds_of self.now)) }
     {
         if left.kind == Kind::Unknown || right.kind == Kind::Unknown {
@@ -53,7 +54,7 @@ impl Context<'_> {
     }
 
     // `&&` and `||`
-    fn logical(&self, notes: &mut Notes, sign: Sign, left: Typed, right: Typed) -> Result<Typed>
+    fn logical(&self, notes: &mut Notes, sign: Sign, left: Typed, right: Typed) -> Made<Typed>
         ensures { TypedInRange (bounds_of self.now) left → TypedInRange (bounds_of self.now) right → IfOk result (TypedInRange (bounds_of self.now)) }
     {
         let left = self.convert(notes, left, Some(CoreType::Bool))?;
@@ -65,7 +66,7 @@ impl Context<'_> {
         }
     }
 
-    fn equal(&self, notes: &mut Notes, left: Typed, right: Typed) -> Result<Typed>
+    fn equal(&self, notes: &mut Notes, left: Typed, right: Typed) -> Made<Typed>
         ensures { TypedInRange (bounds_of self.now) left → TypedInRange (bounds_of self.now) right → IfOk result (TypedInRange (bounds_of self.now)) }
     {
         let to = common_type(self.catalog, left.kind, right.kind);
@@ -77,7 +78,7 @@ impl Context<'_> {
         self.known(Core::Equal(left, right), CoreType::Bool)
     }
 
-    fn compare(&self, notes: &mut Notes, order: Order, left: Typed, right: Typed) -> Result<Typed>
+    fn compare(&self, notes: &mut Notes, order: Order, left: Typed, right: Typed) -> Made<Typed>
         ensures { TypedInRange (bounds_of self.now) left → TypedInRange (bounds_of self.now) right → IfOk result (TypedInRange (bounds_of self.now)) }
     {
         if left.kind != INT || right.kind != INT {
@@ -87,7 +88,7 @@ impl Context<'_> {
     }
 
     // Arithmetic on whole numbers, or two texts joined.
-    fn arithmetic(&self, notes: &mut Notes, sign: Sign, left: Typed, right: Typed) -> Result<Typed>
+    fn arithmetic(&self, notes: &mut Notes, sign: Sign, left: Typed, right: Typed) -> Made<Typed>
         ensures { TypedInRange (bounds_of self.now) left → TypedInRange (bounds_of self.now) right → IfOk result (TypedInRange (bounds_of self.now)) }
     {
         match self.operation(notes, sign, left.kind, right.kind) {
@@ -99,7 +100,7 @@ impl Context<'_> {
         }
     }
 
-    fn join(&self, notes: &mut Notes, left: Typed, right: Typed) -> Result<Typed>
+    fn join(&self, notes: &mut Notes, left: Typed, right: Typed) -> Made<Typed>
         ensures { TypedInRange (bounds_of self.now) left → TypedInRange (bounds_of self.now) right → IfOk result (TypedInRange (bounds_of self.now)) }
     {
         let left = self.convert(notes, left, Some(CoreType::Text))?;

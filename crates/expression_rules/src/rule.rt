@@ -2,7 +2,7 @@
 ghost use Rattle.std.specs.Prelude.{◌≡◌, ◌↔◌, ◌<◌, None, IsTrue, IsSome, IfSome};
 ghost use Rattle.expression_rules.specs.Rules.{Before, IsFirst, rule_number};
 
-use papy_base::OutOfMemory;
+use papy_base::Made;
 use std::alloc::Global;
 use std::collections::HashSet;
 
@@ -117,7 +117,7 @@ impl Notes {
     }
 
     /// Notes that a call writes this text out.
-    pub(crate) fn write_out(&mut self, text: &[u8]) -> Result<(), OutOfMemory>
+    pub(crate) fn write_out(&mut self, text: &[u8]) -> Made<()>
         ensures { self.new.first ≡ self.old.first }
     {
         if self.texts.contains(text) {

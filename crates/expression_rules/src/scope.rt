@@ -10,12 +10,9 @@ ghost use Rattle.expression_rules.specs.Scopes.{Keeps, ScopeInRange, scope_bound
 use crate::rule::{Notes, TypeRule};
 use core_tree::{Core, CoreStatement, CoreType, Value};
 use line_parser::{Expr, TypeName};
-use papy_base::{Name, OutOfMemory};
+use papy_base::{Made, Name};
 use script_lexer::Sign;
 use type_scope::{Catalog, Kind, Layout, Locals};
-
-/// What is found, unless there is no memory for it.
-pub(crate) type Result<T> = std::result::Result<T, OutOfMemory>;
 
 /// An expression's tree, and what is known of its type.
 ///
@@ -43,7 +40,7 @@ pub(crate) struct Context<'s> {
 impl Context<'_> {
     /// A tree of whose type this is known.
     #[inline(always)]
-    pub fn typed(&self, core: Core, kind: Kind) -> Result<Typed>
+    pub fn typed(&self, core: Core, kind: Kind) -> Made<Typed>
         ensures { CoreInRange (bounds_of self.now) core → KindInRange (bounds_of self.now).functions kind → IfOk result (TypedInRange (bounds_of self.now)) }
     {
         let core = Box::new(self.catalog.alloc, core)?;
@@ -52,7 +49,7 @@ impl Context<'_> {
 
     /// A tree of this type.
     #[inline(always)]
-    pub fn known(&self, core: Core, kind: CoreType) -> Result<Typed>
+    pub fn known(&self, core: Core, kind: CoreType) -> Made<Typed>
         ensures { CoreInRange (bounds_of self.now) core → TypeInRange (bounds_of self.now).functions kind → IfOk result (TypedInRange (bounds_of self.now)) }
     {
         self.typed(core, Kind::Of(kind))
@@ -60,28 +57,28 @@ impl Context<'_> {
 
     /// A literal.
     #[inline(always)]
-    pub fn literal(&self, value: Value, kind: Kind) -> Result<Typed>
+    pub fn literal(&self, value: Value, kind: Kind) -> Made<Typed>
         ensures { LiteralInRange value → KindInRange (bounds_of self.now).functions kind → IfOk result (TypedInRange (bounds_of self.now)) }
     {
         self.typed(Core::Lit(value), kind)
     }
 
     /// What stands for a value of which only the type is known, since a rule is broken.
-    pub fn without_tree(&self, kind: Kind) -> Result<Typed>
+    pub fn without_tree(&self, kind: Kind) -> Made<Typed>
         ensures { KindInRange (bounds_of self.now).functions kind → IfOk result (TypedInRange (bounds_of self.now)) }
     {
         self.literal(Value::NoneValue, kind)
     }
 
     /// What stands where something is unknown since a rule is broken.
-    pub fn unknown(&self) -> Result<Typed>
+    pub fn unknown(&self) -> Made<Typed>
         ensures { IfOk result (TypedInRange (bounds_of self.now)) }
     {
         self.without_tree(Kind::Unknown)
     }
 
     /// The same where this rule is broken.
-    pub fn broken(&self, notes: &mut Notes, rule: TypeRule) -> Result<Typed>
+    pub fn broken(&self, notes: &mut Notes, rule: TypeRule) -> Made<Typed>
         ensures noted { IsSome notes.new.first }
         ensures least { IfSome notes.new.first (IsFirst notes.old.first self.now.line rule) }
         ensures in_range { IfOk result (TypedInRange (bounds_of self.now)) }
@@ -91,7 +88,7 @@ impl Context<'_> {
     }
 
     /// The frame's own instance.
-    pub fn own_instance(&self) -> Result<Box<Core>>
+    pub fn own_instance(&self) -> Made<Box<Core>>
         ensures { IfOk result (λ own. CoreInRange (bounds_of self.now) own.value) }
     {
         Ok(Box::new(self.catalog.alloc, Core::SelfValue)?)
@@ -213,7 +210,7 @@ impl<'a> Scope<'a> {
 
     /// Adds a parameter or a local, and gives its number. `DuplicateLocal` is broken where one of the name
     /// is seen. All that come after the 65,535th have its number.
-    pub fn new_local(&mut self, name: &Name, kind: Option<CoreType>) -> Result<u16>
+    pub fn new_local(&mut self, name: &Name, kind: Option<CoreType>) -> Made<u16>
         ensures number { IfOk result (λ number. number ≡ min (vec_len self.old.locals.kinds) 65535) }
         ensures added { OnOk result (self.new.locals.kinds.items ≡ self.old.locals.kinds.items ++ kind ∷ []) }
         ensures catalog { self.new.catalog ≡ self.old.catalog }
@@ -232,7 +229,7 @@ impl<'a> Scope<'a> {
     /// The tree of an expression, which may have no value.
     ///
     /// `OutOfMemory` is also the answer where the tree is deeper than any line's, here and below.
-    pub fn any(&mut self, tree: &Expr) -> Result<Core>
+    pub fn any(&mut self, tree: &Expr) -> Made<Core>
         ensures in_range { ScopeInRange self.old → IfOk result (CoreInRange (scope_bounds self.old)) }
         ensures kept { Keeps self.old self.new }
     {
@@ -242,7 +239,7 @@ impl<'a> Scope<'a> {
 
     /// The tree of a value that is needed as this type. `NoValue` is broken where it has none, and
     /// `NoConversion` where it doesn't convert to the type by itself.
-    pub fn value_as(&mut self, tree: &Expr, to: Option<CoreType>) -> Result<Core>
+    pub fn value_as(&mut self, tree: &Expr, to: Option<CoreType>) -> Made<Core>
         ensures in_range { ScopeInRange self.old → ResultInRange (scope_bounds self.old).functions to → IfOk result (CoreInRange (scope_bounds self.old)) }
         ensures kept { Keeps self.old self.new }
     {
@@ -253,7 +250,7 @@ impl<'a> Scope<'a> {
     }
 
     /// The tree of a value that is needed as a Bool.
-    pub fn truth(&mut self, tree: &Expr) -> Result<Core>
+    pub fn truth(&mut self, tree: &Expr) -> Made<Core>
         ensures in_range { ScopeInRange self.old → IfOk result (CoreInRange (scope_bounds self.old)) }
         ensures kept { Keeps self.old self.new }
     {
@@ -261,7 +258,7 @@ impl<'a> Scope<'a> {
     }
 
     /// An assignment, also one such as `+=`.
-    pub fn assign(&mut self, target: &Expr, sign: Sign, value: &Expr) -> Result<CoreStatement>
+    pub fn assign(&mut self, target: &Expr, sign: Sign, value: &Expr) -> Made<CoreStatement>
         ensures in_range { ScopeInRange self.old → IfOk result (FormInRange (scope_bounds self.old)) }
         ensures kept { Keeps self.old self.new }
     {

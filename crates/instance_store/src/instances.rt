@@ -180,13 +180,8 @@ impl Instances {
         requires variable_in { variable < length (values_of (instance_at self.old instance).scripts script) }
         ensures { self.new ≡ slice_set self.old instance (instance_with (instance_at self.old instance) script variable value) }
     {
-        let place = usize::from(instance);
-        write(
-            &mut self.instances[place].scripts,
-            usize::from(script),
-            variable,
-            value,
-        );
+        let scripts = &mut self.instances[usize::from(instance)].scripts;
+        write(scripts, usize::from(script), variable, value);
     }
 
     /// The text of an instance's state.
@@ -220,12 +215,8 @@ fn start_instance(
     let state = start_state(alloc, scripts, &above)?;
     let mut variables = all_initial_values(alloc, scripts, &above)?;
     for entry in &instance.set {
-        write(
-            &mut variables,
-            usize::from(entry.0),
-            entry.1,
-            entry.2.try_clone(alloc)?,
-        );
+        let value = entry.2.try_clone(alloc)?;
+        write(&mut variables, usize::from(entry.0), entry.1, value);
     }
     Ok(Instance::new(state, variables))
 }

@@ -4,7 +4,7 @@ ghost use Rattle.std.specs.Prelude.{◌≡◌, ◌<◌, ◌≤◌, ◌++◌, ◌
 ghost use Rattle.pex_values.specs.Plain.{plain_instruction};
 ghost use Rattle.jump_patch.specs.Jumps.{jump, landed, offset, with_offset, without};
 
-use papy_base::OutOfMemory;
+use papy_base::Made;
 use pex_values::{Datum, Instruction, JMP, JMPF, JMPT};
 use std::alloc::{AllocError, Global};
 use std::marker::Model;
@@ -94,7 +94,7 @@ impl CodeBuffer {
     ///
     /// `OutOfMemory` comes where there is no room. Then the buffer is as it was.
     #[inline(always)]
-    pub fn emit(&mut self, instruction: Instruction, line: u16) -> Result<(), OutOfMemory>
+    pub fn emit(&mut self, instruction: Instruction, line: u16) -> Made<()>
         requires { length self.old.code < 65535 }
         ensures ok { OnOk result (self.new ≡ record self.old { code = self.old.code ++ plain_instruction instruction ∷ []; lines = self.old.lines ++ line ∷ [] }) }
         ensures err { OnErr result (self.new ≡ self.old) }
@@ -117,7 +117,7 @@ impl CodeBuffer {
     /// # Errors
     ///
     /// `OutOfMemory` comes where there is no room. Then the buffer is as it was.
-    pub fn jump_to(&mut self, kind: JumpKind, mark: Mark, line: u16) -> Result<(), OutOfMemory>
+    pub fn jump_to(&mut self, kind: JumpKind, mark: Mark, line: u16) -> Made<()>
         requires room { length self.old.code < 65535 }
         requires reached { mark ≤ length self.old.code }
         ensures ok { OnOk result (self.new ≡ record self.old { code = self.old.code ++ jump kind (offset (length self.old.code) mark) ∷ []; lines = self.old.lines ++ line ∷ [] }) }
@@ -134,7 +134,7 @@ impl CodeBuffer {
     /// # Errors
     ///
     /// `OutOfMemory` comes where there is no room. Then the buffer is as it was.
-    pub fn jump_ahead(&mut self, kind: JumpKind, line: u16) -> Result<Ahead, OutOfMemory>
+    pub fn jump_ahead(&mut self, kind: JumpKind, line: u16) -> Made<Ahead>
         requires { length self.old.code < 65535 }
         ensures place { IfOk result (λ a. a ≡ length self.old.code) }
         ensures ok { OnOk result (self.new ≡ record self.old { code = self.old.code ++ jump kind (pos 0) ∷ []; lines = self.old.lines ++ line ∷ []; ahead = self.old.ahead ++ length self.old.code ∷ [] }) }
@@ -177,7 +177,7 @@ impl CodeBuffer {
     /// # Errors
     ///
     /// `OutOfMemory` comes where there is no room for the code. Then the buffer is as it was.
-    pub fn take(&mut self) -> Result<Code, OutOfMemory>
+    pub fn take(&mut self) -> Made<Code>
         requires { self.old.ahead ≡ [] }
         ensures code { IfOk result (λ taken. map plain_instruction taken.code.items ≡ self.old.code) }
         ensures lines { IfOk result (λ taken. taken.lines.items ≡ self.old.lines) }

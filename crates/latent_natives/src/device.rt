@@ -5,7 +5,7 @@ ghost use Rattle.core_tree.specs.Device.{DeviceState, device_at, load, device_st
 ghost use Rattle.latent_natives.specs.Devices.{SameKinds};
 
 use core_tree::DeviceKind;
-use papy_base::OutOfMemory;
+use papy_base::Made;
 
 /// A device that native functions call: a kind, a list of cells and a place among them.
 pub trait Device: Drop {
@@ -17,7 +17,7 @@ pub trait Device: Drop {
     /// # Errors
     ///
     /// `OutOfMemory` comes where the cells find no room. Then nothing has changed.
-    fn load(&mut self, cells: &[i32], at: u64) -> Result<(), OutOfMemory>
+    fn load(&mut self, cells: &[i32], at: u64) -> Made<()>
         ensures ok { OnOk result
             (device_state self.new ≡ load (device_state self.old).kind cells.now at) }
         ensures err { OnErr result (device_state self.new ≡ device_state self.old) }
@@ -42,7 +42,7 @@ pub trait Device: Drop {
         ensures { result ≡ (device_state self.now).place };
 }
 
-fn load_one(device: &mut Box<dyn Device>, cells: &[i32], at: u64) -> Result<(), OutOfMemory>
+fn load_one(device: &mut Box<dyn Device>, cells: &[i32], at: u64) -> Made<()>
     ensures ok { OnOk result
         (device_state device.new ≡ load (device_state device.old).kind cells.now at) }
     ensures err { OnErr result (device_state device.new ≡ device_state device.old) }
@@ -69,7 +69,7 @@ pub fn load_device(
     place: usize,
     cells: &[i32],
     at: u64,
-) -> Result<(), OutOfMemory>
+) -> Made<()>
     requires { place < vec_len devices.old }
     ensures ok { let before = map (λ d. device_state d) devices.old.items in
         OnOk result (map (λ d. device_state d) devices.new.items

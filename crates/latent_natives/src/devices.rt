@@ -7,7 +7,7 @@ ghost use Rattle.core_tree.specs.Device.{DeviceState, load, argument, number_in_
 
 use crate::device::Device;
 use core_tree::DeviceKind;
-use papy_base::OutOfMemory;
+use papy_base::Made;
 use std::alloc::Global;
 use std::marker::Model;
 
@@ -26,7 +26,7 @@ impl Model for Tape {
 
 impl Tape {
     /// A tape with no cells. It takes no memory, and so is never refused.
-    pub fn new(alloc: Global) -> Result<Tape, OutOfMemory>
+    pub fn new(alloc: Global) -> Made<Tape>
         ensures { IsOkAnd result (λ t. t ≡ load kinds.Tape [] 0) }
     {
         Ok(Tape {
@@ -39,7 +39,7 @@ impl Tape {
 impl Device for Tape {
     ghost device_state = { λ t. record t { kind = kinds.Tape } };
 
-    fn load(&mut self, cells: &[i32], at: u64) -> Result<(), OutOfMemory> {
+    fn load(&mut self, cells: &[i32], at: u64) -> Made<()> {
         self.cells = Vec::from_slice(*self.cells.allocator(), cells)?;
         self.place = cells.len().min(at as usize);
         Ok(())
@@ -80,7 +80,7 @@ impl Model for Sum {
 
 impl Sum {
     /// A sum of nothing. It takes no memory, and so is never refused.
-    pub fn new(_alloc: Global) -> Result<Sum, OutOfMemory>
+    pub fn new(_alloc: Global) -> Made<Sum>
         ensures { IsOkAnd result (λ s. s ≡ load kinds.Sum [] 0) }
     {
         Ok(Sum { cell: [0] })
@@ -90,7 +90,7 @@ impl Sum {
 impl Device for Sum {
     ghost device_state = { λ s. record s { kind = kinds.Sum; place = 0 } };
 
-    fn load(&mut self, cells: &[i32], _at: u64) -> Result<(), OutOfMemory> {
+    fn load(&mut self, cells: &[i32], _at: u64) -> Made<()> {
         self.cell = [sum_from(0, cells)];
         Ok(())
     }
@@ -128,7 +128,7 @@ impl Model for Latch {
 
 impl Latch {
     /// A latch that holds 0. It takes no memory, and so is never refused.
-    pub fn new(_alloc: Global) -> Result<Latch, OutOfMemory>
+    pub fn new(_alloc: Global) -> Made<Latch>
         ensures { IsOkAnd result (λ l. l ≡ load kinds.Latch [] 0) }
     {
         Ok(Latch { cell: [0] })
@@ -138,7 +138,7 @@ impl Latch {
 impl Device for Latch {
     ghost device_state = { λ l. record l { kind = kinds.Latch; place = 0 } };
 
-    fn load(&mut self, cells: &[i32], _at: u64) -> Result<(), OutOfMemory> {
+    fn load(&mut self, cells: &[i32], _at: u64) -> Made<()> {
         self.cell = [cells.last().copied().unwrap_or(0)];
         Ok(())
     }
@@ -191,7 +191,7 @@ impl Model for Dice {
 
 impl Dice {
     /// Dice with no cells. They take no memory, and so are never refused.
-    pub fn new(alloc: Global) -> Result<Dice, OutOfMemory>
+    pub fn new(alloc: Global) -> Made<Dice>
         ensures { IsOkAnd result (λ d. d ≡ load kinds.Dice [] 0) }
     {
         Ok(Dice {
@@ -204,7 +204,7 @@ impl Dice {
 impl Device for Dice {
     ghost device_state = { λ d. record d { kind = kinds.Dice } };
 
-    fn load(&mut self, numbers: &[i32], at: u64) -> Result<(), OutOfMemory> {
+    fn load(&mut self, numbers: &[i32], at: u64) -> Made<()> {
         self.cells = Vec::from_slice(*self.cells.allocator(), numbers)?;
         self.place = numbers.len().min(at as usize);
         Ok(())

@@ -4,7 +4,7 @@ ghost use Rattle.std.specs.Prelude.{◌≡◌, ◌+◌, ◌<◌, ◌≤◌, ◌+
 ghost use Rattle.latent_natives.specs.Sleepers.{is_due, without_first_due};
 ghost use Rattle.latent_natives.specs.SleepTree.{sleeps, NotBefore};
 
-use papy_base::OutOfMemory;
+use papy_base::Made;
 use std::alloc::Global;
 use std::marker::Model;
 
@@ -52,7 +52,7 @@ impl Sleepers {
     /// # Errors
     ///
     /// `OutOfMemory` comes where there is no room. No other call takes memory.
-    pub fn with_room(alloc: Global, stacks: u16) -> Result<Sleepers, OutOfMemory>
+    pub fn with_room(alloc: Global, stacks: u16) -> Made<Sleepers>
         ensures { IfOk result (λ s. s ≡ replicate stacks None) }
     {
         match stacks {
@@ -75,7 +75,7 @@ impl Sleepers {
     }
 
     // The stacks of one tree, and behind them those of another.
-    fn of_sides(alloc: Global, left: Sleepers, right: Sleepers) -> Result<Sleepers, OutOfMemory>
+    fn of_sides(alloc: Global, left: Sleepers, right: Sleepers) -> Made<Sleepers>
         requires filled { (1 ≤ length left) × (1 ≤ length right) }
         requires few { length left + length right < 65536 }
         ensures { IfOk result (λ t. t ≡ left ++ right) }

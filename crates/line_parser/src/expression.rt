@@ -5,7 +5,7 @@ use crate::cursor::{Cursor, is_sign_at};
 use crate::fault::{FormFault, NoForm};
 use crate::simple::{leaf, type_name};
 use crate::tree::{Argument, Expr};
-use papy_base::{Fault, Name, OutOfMemory};
+use papy_base::{Fault, Made, Name};
 use script_lexer::{Keyword, Sign};
 use std::alloc::Global;
 
@@ -178,6 +178,6 @@ fn one_deeper(depth: u8) -> Result<u8, FormFault>
     }
 }
 
-fn boxed(alloc: Global, of: Expr) -> Result<Box<Expr>, OutOfMemory> {
+fn boxed(alloc: Global, of: Expr) -> Made<Box<Expr>> {
     Ok(Box::new(alloc, of)?)
 }

@@ -13,7 +13,7 @@ use crate::simple::{
     TypeWords, begins_declaration, flags, initial_constant, parameters, type_name,
 };
 use crate::tree::{Access, Heading, LineForm, LineTree, TypeName};
-use papy_base::{OutOfMemory, Text};
+use papy_base::{Made, Text};
 use script_lexer::{Keyword, Line, Sign, Spanned, Token};
 use std::alloc::Global;
 
@@ -71,7 +71,7 @@ fn without_doc(tokens: &[Spanned]) -> &[Spanned]
 }
 
 /// The documentation text that is last of a line's tokens, where one is.
-pub fn doc_at_end(alloc: Global, tokens: &[Spanned]) -> Result<Option<Text>, OutOfMemory> {
+pub fn doc_at_end(alloc: Global, tokens: &[Spanned]) -> Made<Option<Text>> {
     let Some(last) = tokens.last() else {
         return Ok(None);
     };

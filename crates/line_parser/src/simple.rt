@@ -4,7 +4,7 @@ ghost use Rattle.std.specs.Prelude.{◌<◌, ◌≤◌, length, OnOk};
 use crate::cursor::{Cursor, is_array_mark_at};
 use crate::fault::{FormFault, NoForm};
 use crate::tree::{Constant, Expr, Parameter, TypeName};
-use papy_base::{Fault, Name, OutOfMemory, neg};
+use papy_base::{Fault, Made, Name, neg};
 use script_lexer::{Keyword, Sign, Spanned, Token};
 use std::alloc::Global;
 
@@ -18,7 +18,7 @@ pub struct TypeWords {
 
 impl TypeWords {
     /// The names as they are declared.
-    pub fn new(alloc: Global) -> Result<TypeWords, OutOfMemory> {
+    pub fn new(alloc: Global) -> Made<TypeWords> {
         Ok(TypeWords {
             int: Name::from_bytes(alloc, b"Int")?,
             bool: Name::from_bytes(alloc, b"Bool")?,

@@ -7,7 +7,7 @@ ghost use Rattle.lock_queue.specs.LockTable.{IsIdle, seat_of, held_by, waits_for
 use crate::queues::{Order, Queues};
 use crate::ready::ReadySet;
 use crate::seat::Seat;
-use papy_base::OutOfMemory;
+use papy_base::Made;
 use std::alloc::Global;
 use std::marker::Model;
 
@@ -40,7 +40,7 @@ impl Locks {
     /// # Errors
     ///
     /// `OutOfMemory` comes where there is no room. No other call takes memory.
-    pub fn with_room(alloc: Global, instances: u16, stacks: u16) -> Result<Locks, OutOfMemory>
+    pub fn with_room(alloc: Global, instances: u16, stacks: u16) -> Made<Locks>
         ensures { IfOk result (λ l. l ≡ record { seats = replicate stacks Seat.Resting; waiters = []; instances = instances }) }
     {
         Ok(Locks {

@@ -2,7 +2,7 @@ ghost use Rattle.std.specs.Prelude.{◌≡◌, pos, IfOk};
 ghost use Rattle.std.specs.Fmt.{signed_decimal};
 ghost use Rattle.papy_base.specs.Decimal.{IsInt, int_value};
 
-use crate::faults::OutOfMemory;
+use crate::faults::Made;
 use crate::text::Text;
 use std::alloc::Global;
 
@@ -22,7 +22,7 @@ pub fn read_int(text: &[u8]) -> i32
 }
 
 /// The decimal text of the number, with a `-` in front where it is below 0.
-pub fn write_int(alloc: Global, n: i32) -> Result<Text, OutOfMemory>
+pub fn write_int(alloc: Global, n: i32) -> Made<Text>
     ensures { IfOk result (λ text. text ≡ signed_decimal n) }
 {
     let digits = format!(in alloc; "{n}")?;

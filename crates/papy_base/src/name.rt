@@ -1,7 +1,7 @@
 ghost use Rattle.std.specs.Prelude.{◌≡◌, ◌↔◌, ℕ, List, IfOk, IsTrue};
 ghost use Rattle.papy_base.specs.Case.{SameIgnoringCase, folded};
 
-use crate::faults::OutOfMemory;
+use crate::faults::Made;
 use std::alloc::Global;
 use std::marker::Model;
 use std::rc::Rc;
@@ -32,7 +32,7 @@ impl Model for Name {
 
 impl Name {
     /// A name of these bytes.
-    pub fn from_bytes(alloc: Global, bytes: &[u8]) -> Result<Name, OutOfMemory>
+    pub fn from_bytes(alloc: Global, bytes: &[u8]) -> Made<Name>
         ensures { IfOk result (λ name. name ≡ bytes.now) }
     {
         let written = bytes.to_vec(alloc)?;
@@ -64,7 +64,7 @@ impl Name {
     }
 
     /// An equal name, which shares the bytes of this one.
-    pub fn try_clone(&self, _alloc: Global) -> Result<Name, OutOfMemory>
+    pub fn try_clone(&self, _alloc: Global) -> Made<Name>
         ensures { IfOk result (λ name. name ≡ self.now) }
     {
         let spelling = self.spelling.clone()?;

@@ -1,6 +1,6 @@
 ghost use Rattle.std.specs.Prelude.{◌≡◌, IfOk};
 
-use crate::faults::OutOfMemory;
+use crate::faults::Made;
 use crate::name::{Name, same_bytes};
 use std::alloc::Global;
 
@@ -19,7 +19,7 @@ pub struct NamePool {
 
 impl NamePool {
     /// A pool of no names.
-    pub fn new(alloc: Global) -> Result<NamePool, OutOfMemory> {
+    pub fn new(alloc: Global) -> Made<NamePool> {
         let mut names = Vec::with_capacity(alloc, PLACES)?;
         for _ in 0..PLACES {
             names.push(None)?;
@@ -28,7 +28,7 @@ impl NamePool {
     }
 
     /// A name of these bytes.
-    pub fn name(&mut self, bytes: &[u8]) -> Result<Name, OutOfMemory>
+    pub fn name(&mut self, bytes: &[u8]) -> Made<Name>
         ensures { IfOk result (λ name. name ≡ bytes.now) }
     {
         match self.names.get_mut(place_of(bytes)) {

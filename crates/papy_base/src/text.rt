@@ -1,7 +1,7 @@
 ghost use Rattle.std.specs.Prelude.{◌≡◌, ◌+◌, ◌<◌, ◌↔◌, ℕ, List, ◌++◌, length, IfOk, IsErrOf, IsTrue};
 ghost use Rattle.papy_base.specs.Case.{SameIgnoringCase};
 
-use crate::faults::{JoinFault, OutOfMemory};
+use crate::faults::{JoinFault, Made};
 use std::alloc::Global;
 use std::marker::Model;
 
@@ -22,7 +22,7 @@ impl Model for Text {
 
 impl Text {
     /// A text of these bytes.
-    pub fn try_from_bytes(alloc: Global, bytes: &[u8]) -> Result<Text, OutOfMemory>
+    pub fn try_from_bytes(alloc: Global, bytes: &[u8]) -> Made<Text>
         ensures { IfOk result (λ text. text ≡ bytes.now) }
     {
         let bytes = bytes.to_vec(alloc)?;
@@ -37,7 +37,7 @@ impl Text {
     }
 
     /// An equal text.
-    pub fn try_clone(&self, alloc: Global) -> Result<Text, OutOfMemory>
+    pub fn try_clone(&self, alloc: Global) -> Made<Text>
         ensures { IfOk result (λ text. text ≡ self.now) }
     {
         Text::try_from_bytes(alloc, self.as_bytes())

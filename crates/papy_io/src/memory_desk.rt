@@ -14,7 +14,7 @@ use crate::desk::Desk;
 use crate::fault::{Failed, IoFault};
 use crate::memory_files::MemoryFiles;
 use crate::numbers::{counted, counted_by, is_listed};
-use papy_base::OutOfMemory;
+use papy_base::Made;
 use std::alloc::Global;
 use std::marker::Model;
 use std::mem;
@@ -148,7 +148,7 @@ impl MemoryDesk {
     }
 
     /// Makes a name hold these bytes. It is no call of the trait and has no number.
-    pub fn put(&mut self, name: &[u8], bytes: &[u8]) -> Result<(), OutOfMemory>
+    pub fn put(&mut self, name: &[u8], bytes: &[u8]) -> Made<()>
         requires { self.old.busy ≡ Idle }
         ensures ok { OnOk result (self.new ≡ record self.old { files = map.insert self.old.files name.now bytes.now }) }
         ensures err { OnErr result (self.new ≡ self.old) }

@@ -2,7 +2,7 @@
 #![tactic(auto)]
 
 use latent_natives::{Device, Dice, Latch, Sum, Tape};
-use papy_base::OutOfMemory;
+use papy_base::{Made, OutOfMemory};
 use papy_io::{FolderDesk, Sink, StreamSink};
 use papyrus_cmd::papyrus;
 use std::env;
@@ -35,7 +35,7 @@ fn refuse(rt: &HostRuntime) -> u8 {
 }
 
 /// Runs the command of these words with a tape, a sum, a latch and dice.
-fn run(rt: HostRuntime, words: &[String]) -> Result<u8, OutOfMemory> {
+fn run(rt: HostRuntime, words: &[String]) -> Made<u8> {
     let alloc = rt.alloc();
     let mut devices: Vec<Box<dyn Device>> = Vec::with_capacity(alloc, 4)?;
     devices.push(Box::new(alloc, Tape::new(alloc)?)?)?;

@@ -13,7 +13,7 @@ ghost use Rattle.command_files.specs.Ending.{CountsReads, CountsWrites, IsWordBe
 ghost use Rattle.command_files.specs.FileFault.{CountsFile, MissesFile};
 
 use command_files::{Ending, FileFault, Place, Rule, read_text};
-use papy_base::OutOfMemory;
+use papy_base::{Made, OutOfMemory};
 use papy_io::{Desk, write_file};
 use pex_codec::{EncodeFault, encode};
 use pex_listing::{ListingFault, ListingRule, assemble};
@@ -24,7 +24,7 @@ use std::alloc::Global;
 const LISTING_LIMIT: u32 = 1 << 27;
 
 /// The bytes that spell a value which fits a file.
-fn spelling_of(alloc: Global, value: &Pex) -> Result<Vec<u8>, OutOfMemory>
+fn spelling_of(alloc: Global, value: &Pex) -> Made<Vec<u8>>
     requires shaped { IsWellShaped (plain value.now) }
     requires fits { Fits (plain value.now) }
     ensures { IfOk result (λ bytes. Spells (plain value.now) bytes.items) }

@@ -10,12 +10,12 @@ ghost use Rattle.command_files.specs.Ending.{CountsReads, CountsWrites, IsWordBe
 ghost use Rattle.papyrus_cmd.specs.WritesText.{WritesText};
 
 use command_files::{Ending, count_pex};
-use papy_base::OutOfMemory;
+use papy_base::Made;
 use papy_io::{Desk, IoFault, Sink};
 use std::alloc::Global;
 
 /// The line of a file that was accepted, with a number.
-pub fn accepted_line(alloc: Global, size: usize) -> Result<String, OutOfMemory>
+pub fn accepted_line(alloc: Global, size: usize) -> Made<String>
     ensures { IfOk result (λ line. string_bytes line ≡ accepted_line size) }
 {
     Ok(format!(in alloc; "ok {size}\n")?)

@@ -8,7 +8,7 @@ ghost use Rattle.command_files.specs.Refusal.{refusal_line, rule_status};
 ghost use Rattle.papyrus_cmd.specs.TopCall.{Noted, Told, ToldOfFile, Tried, noted_status};
 
 use command_files::{Ending, Place, Rule, refusal_line};
-use papy_base::OutOfMemory;
+use papy_base::{Made, OutOfMemory};
 use papy_io::{IoFault, Sink};
 use std::alloc::Global;
 
@@ -41,7 +41,7 @@ fn try_note<E: Sink>(notes: &mut E, line: &[u8])
     let _ = notes.write(line);
 }
 
-fn cannot_read(alloc: Global, file: &[u8]) -> Result<Vec<u8>, OutOfMemory>
+fn cannot_read(alloc: Global, file: &[u8]) -> Made<Vec<u8>>
     ensures { IfOk result (λ line. line.items ≡ cannot_read file.now) }
 {
     let mut line = Vec::with_capacity(alloc, CANNOT_READ.len())?;
@@ -52,7 +52,7 @@ fn cannot_read(alloc: Global, file: &[u8]) -> Result<Vec<u8>, OutOfMemory>
 }
 
 /// Writes a line that names a file and gives the status, or tells that there was no memory for it.
-fn note_of_file<E: Sink>(line: Result<Vec<u8>, OutOfMemory>, wanted: u8, notes: &mut E) -> u8
+fn note_of_file<E: Sink>(line: Made<Vec<u8>>, wanted: u8, notes: &mut E) -> u8
     ensures built { IfOk line (λ bytes. ToldOfFile bytes.items wanted result (E.written notes.old) (E.written notes.new) (E.faults notes.old) (E.faults notes.new)) }
     ensures not_built { OnErr line ((result ≡ 1) × Tried out_of_memory (E.written notes.old) (E.written notes.new)) }
 {

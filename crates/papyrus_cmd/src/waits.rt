@@ -12,7 +12,7 @@ ghost use Rattle.papyrus_cmd.specs.WritesText.{WritesText};
 
 use crate::check::accepted_line;
 use command_files::{Ending, FileFault, Place, Rule, read_text};
-use papy_base::{OutOfMemory, Text};
+use papy_base::{Made, OutOfMemory, Text};
 use papy_io::{Desk, IoFault, Sink};
 use run_replay::{JournalFault, JournalRule, check_journal};
 use std::alloc::Global;
@@ -63,11 +63,7 @@ fn read_waits<D: Desk>(
 }
 
 /// Appends the line of an instance.
-fn append_count(
-    alloc: Global,
-    text: &mut Vec<u8>,
-    instance: &(Text, u64),
-) -> Result<(), OutOfMemory>
+fn append_count(alloc: Global, text: &mut Vec<u8>, instance: &(Text, u64)) -> Made<()>
     ensures { IfOk result (λ _. text.new.items ≡ text.old.items ++ counted_line instance.now) }
 {
     let count = format!(in alloc; " {}\n", instance.1)?;
@@ -76,7 +72,7 @@ fn append_count(
     Ok(())
 }
 
-fn counted_text(alloc: Global, found: &run_replay::Waits) -> Result<Vec<u8>, OutOfMemory>
+fn counted_text(alloc: Global, found: &run_replay::Waits) -> Made<Vec<u8>>
     ensures { IfOk result (λ text. text.items ≡ counted_text found.now) }
 {
     let first = accepted_line(alloc, found.turns as usize)?;

@@ -7,7 +7,7 @@ ghost use Rattle.papy_io.specs.WriteFile.{WritesFile};
 ghost use Rattle.command_files.specs.Compiled.{bytes_of};
 ghost use Rattle.papyrus_cmd.specs.Written.{WritesEach, renamed};
 
-use papy_base::{OutOfMemory, Text};
+use papy_base::{Made, Text};
 use papy_io::{Desk, IoFault, write_file};
 use std::alloc::Global;
 
@@ -21,7 +21,7 @@ const PEX_ENDING: &[u8] = b".pex";
 const SOURCE_ENDING: &[u8] = b".lift.psc";
 
 /// The name that has another ending in the place of a word's.
-fn renamed(alloc: Global, word: &[u8], ending: &[u8]) -> Result<Vec<u8>, OutOfMemory>
+fn renamed(alloc: Global, word: &[u8], ending: &[u8]) -> Made<Vec<u8>>
     ensures { IfOk result (λ name. name.items ≡ renamed ending.now word.now) }
 {
     let stem = word.len().saturating_sub(ENDING_LENGTH);

@@ -8,7 +8,7 @@ use crate::cursor::{Cursor, Stop, Taken};
 use crate::faults::{PexFault, PexRule};
 use crate::file::pex;
 use crate::scan::Scan;
-use papy_base::{Fault, OutOfMemory};
+use papy_base::{Fault, Made, OutOfMemory};
 use pex_values::{FILE_LIMIT, Pex};
 use std::alloc::Global;
 use std::marker::Model;
@@ -42,7 +42,7 @@ pub(crate) struct ScannedBytes {
 }
 
 impl ScannedBytes {
-    pub(crate) fn new(alloc: Global) -> Result<ScannedBytes, OutOfMemory>
+    pub(crate) fn new(alloc: Global) -> Made<ScannedBytes>
         ensures open { IfOk result IsOpen }
         ensures none { IfOk result (λ t. t.bytes.items ≡ []) }
     {
@@ -117,7 +117,7 @@ impl Model for Decoder {
 
 impl Decoder {
     /// Has taken no byte.
-    pub fn new(alloc: Global) -> Result<Decoder, OutOfMemory>
+    pub fn new(alloc: Global) -> Made<Decoder>
         ensures { IfOk result IsNew }
     {
         let taken = ScannedBytes::new(alloc)?;

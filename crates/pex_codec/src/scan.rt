@@ -9,7 +9,7 @@ ghost use Rattle.pex_codec.specs.Taking.{Takes};
 ghost use Rattle.pex_codec.specs.declared.scan.Part.TheVariants as part;
 
 use crate::cursor::{Cursor, FunctionHead, LinesHead, ObjectHead, PropertyHead, Taken};
-use papy_base::OutOfMemory;
+use papy_base::Made;
 use pex_values::{has_read, has_write};
 use std::alloc::{AllocError, Global};
 
@@ -323,7 +323,7 @@ fn put_opened(tasks: &mut Vec<Task>, rest: Task, opened: &Opened) -> Result<(), 
 
 impl Scan {
     /// A whole file is to come.
-    pub(crate) fn new(alloc: Global) -> Result<Scan, OutOfMemory>
+    pub(crate) fn new(alloc: Global) -> Made<Scan>
         ensures tasks { IfOk result (λ s. stack_of s ≡ whole_file) }
         ensures strings { IfOk result (λ s. s.strings ≡ 0) }
     {

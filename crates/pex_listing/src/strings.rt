@@ -5,7 +5,7 @@ ghost use Rattle.pex_values.specs.Shape.{IsReference};
 
 use crate::faults::{BAD_NAME, Read};
 use indexmap::IndexMap;
-use papy_base::{OutOfMemory, Text};
+use papy_base::{Made, Text};
 use std::alloc::Global;
 use std::str;
 
@@ -32,7 +32,7 @@ pub(crate) fn is_word(bytes: &[u8]) -> bool {
 }
 
 impl Strings {
-    pub(crate) fn new(alloc: Global, strings: &[Text]) -> Result<Strings, OutOfMemory>
+    pub(crate) fn new(alloc: Global, strings: &[Text]) -> Made<Strings>
         ensures { IfOk result (λ table. vec_len table.spelled ≡ length strings.now) }
     {
         let mut first = IndexMap::new(alloc);
@@ -66,7 +66,7 @@ impl Strings {
 pub(crate) fn reference_words<'a>(
     alloc: Global,
     strings: &'a [Text],
-) -> Result<Vec<Option<&'a str>>, OutOfMemory> {
+) -> Made<Vec<Option<&'a str>>> {
     let spelled = Strings::new(alloc, strings)?.spelled;
     let mut words = Vec::with_capacity(alloc, strings.len())?;
     for (text, is_spelled) in strings.iter().zip(&spelled) {

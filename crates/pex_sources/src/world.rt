@@ -1,7 +1,7 @@
 // The scripts of a set, the prelude's before those of the files, and what is found among them by name.
 use crate::fault::{Found, NOT_FOUND, check};
 use crate::page::Page;
-use papy_base::{OutOfMemory, Text, upward};
+use papy_base::{Made, Text, upward};
 use pex_set::{FileNames, NameNumbers, Prelude, text_at};
 use pex_values::{Pex, PexFunction, PexObject, PexProperty, PexVariable};
 use std::alloc::Global;
@@ -92,7 +92,7 @@ pub(crate) struct World<'a> {
 
 impl<'a> World<'a> {
     /// A world without scripts.
-    pub(crate) fn new(alloc: Global, prelude: &'a Prelude) -> Result<World<'a>, OutOfMemory> {
+    pub(crate) fn new(alloc: Global, prelude: &'a Prelude) -> Made<World<'a>> {
         let table = NameNumbers::new(alloc)?;
         Ok(World {
             alloc,
@@ -122,7 +122,7 @@ impl<'a> World<'a> {
         Ok(self.add_parents()?)
     }
 
-    fn take_words(&mut self) -> Result<(), OutOfMemory> {
+    fn take_words(&mut self) -> Made<()> {
         for word in WORDS.iter() {
             let number = self.table.number(self.alloc, word.as_bytes())?;
             self.taken.insert(number)?;
@@ -130,7 +130,7 @@ impl<'a> World<'a> {
         Ok(())
     }
 
-    fn add_file(&mut self, file: &'a Pex) -> Result<(), OutOfMemory> {
+    fn add_file(&mut self, file: &'a Pex) -> Made<()> {
         for object in &file.objects {
             let script = Script {
                 place: self.scripts.len(),
@@ -145,7 +145,7 @@ impl<'a> World<'a> {
     }
 
     // Adds the members of the next script, and its name.
-    fn add_members(&mut self, script: &Script<'a>) -> Result<(), OutOfMemory> {
+    fn add_members(&mut self, script: &Script<'a>) -> Made<()> {
         self.by_name.insert(script.name(), script.place)?;
         self.names.insert((script.place, script.name()), ())?;
         self.taken.insert(script.name())?;
@@ -155,7 +155,7 @@ impl<'a> World<'a> {
     }
 
     // Adds the functions of the empty state, which stands first where there is one.
-    fn add_functions(&mut self, script: &Script<'a>) -> Result<(), OutOfMemory> {
+    fn add_functions(&mut self, script: &Script<'a>) -> Made<()> {
         if let Some(state) = script.object.states.first() {
             for (name, function) in &state.functions {
                 let key = (script.place, script.number(*name));
@@ -165,7 +165,7 @@ impl<'a> World<'a> {
         Ok(())
     }
 
-    fn add_properties(&mut self, script: &Script<'a>) -> Result<(), OutOfMemory> {
+    fn add_properties(&mut self, script: &Script<'a>) -> Made<()> {
         for property in &script.object.properties {
             let name = script.number(property.name);
             self.taken.insert(name)?;
@@ -178,7 +178,7 @@ impl<'a> World<'a> {
         Ok(())
     }
 
-    fn add_variables(&mut self, script: &Script<'a>) -> Result<(), OutOfMemory> {
+    fn add_variables(&mut self, script: &Script<'a>) -> Made<()> {
         for (place, variable) in script.object.variables.iter().enumerate() {
             let name = script.number(variable.name);
             self.taken.insert(name)?;
@@ -188,7 +188,7 @@ impl<'a> World<'a> {
     }
 
     // Adds the places of the parents, once every script has its name.
-    fn add_parents(&mut self) -> Result<(), OutOfMemory> {
+    fn add_parents(&mut self) -> Made<()> {
         for script in &self.scripts {
             let parent = self.by_name.get(&script.number(script.object.parent));
             self.parents.push(parent.copied())?;
@@ -320,7 +320,7 @@ static STEMS: [&str; 5] = ["number", "flag", "text", "object", "list"];
 
 /// What stands between the stem and the place in a made up name, so that no string of the files is such a name: nothing, or where
 // one is, a number between two `_`. Of the strings that end with digits it is told what stands before these.
-fn free_infix(alloc: Global, files: &[Pex]) -> Result<String, OutOfMemory> {
+fn free_infix(alloc: Global, files: &[Pex]) -> Made<String> {
     let mut heads = NameNumbers::new(alloc)?;
     for string in files.iter().flat_map(|file| file.strings.iter()) {
         let string = string.as_bytes();
@@ -333,7 +333,7 @@ fn free_infix(alloc: Global, files: &[Pex]) -> Result<String, OutOfMemory> {
     least_free(alloc, &heads)
 }
 
-fn least_free(alloc: Global, heads: &NameNumbers) -> Result<String, OutOfMemory> {
+fn least_free(alloc: Global, heads: &NameNumbers) -> Made<String> {
     let mut infix = String::new(alloc);
     for number in 0..heads.count() {
         if is_free(alloc, heads, &infix)? {
@@ -345,7 +345,7 @@ fn least_free(alloc: Global, heads: &NameNumbers) -> Result<String, OutOfMemory>
 }
 
 // Whether no stem with this infix is among the heads.
-fn is_free(alloc: Global, heads: &NameNumbers, infix: &str) -> Result<bool, OutOfMemory> {
+fn is_free(alloc: Global, heads: &NameNumbers, infix: &str) -> Made<bool> {
     for stem in STEMS.iter() {
         let head = format!(in alloc; "{stem}{infix}")?;
         if heads.find(alloc, head.as_bytes())?.is_some() {

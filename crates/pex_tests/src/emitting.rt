@@ -3,7 +3,7 @@ use core_tree::{
     Arith, Core, CoreFunction, CoreLine, CoreScript, CoreSet, CoreState, CoreStatement, CoreType,
     Value,
 };
-use papy_base::{Name, OutOfMemory, Text};
+use papy_base::{Made, Name, Text};
 use pex_values::Pex;
 use std::alloc::Global;
 use std::test::Fail;
@@ -12,12 +12,12 @@ fn int(number: i32) -> Core {
     Core::Lit(Value::Int(number))
 }
 
-fn sum(alloc: Global, left: Core, right: Core) -> Result<Core, OutOfMemory> {
+fn sum(alloc: Global, left: Core, right: Core) -> Made<Core> {
     let left = Box::new(alloc, left)?;
     Ok(Core::Arith(Arith::Add, left, Box::new(alloc, right)?))
 }
 
-fn function(alloc: Global, body: Vec<CoreLine>) -> Result<CoreFunction, OutOfMemory> {
+fn function(alloc: Global, body: Vec<CoreLine>) -> Made<CoreFunction> {
     Ok(CoreFunction {
         name: Name::from_bytes(alloc, b"F")?,
         parameters: vec![in alloc; CoreType::Int]?,
@@ -32,7 +32,7 @@ fn function(alloc: Global, body: Vec<CoreLine>) -> Result<CoreFunction, OutOfMem
     })
 }
 
-fn script(alloc: Global, of: CoreFunction) -> Result<CoreScript, OutOfMemory> {
+fn script(alloc: Global, of: CoreFunction) -> Made<CoreScript> {
     let mut states = Vec::new(alloc);
     states.push(CoreState {
         name: Name::from_bytes(alloc, b"")?,
@@ -81,7 +81,7 @@ fn length(files: &[Pex]) -> Option<usize> {
     Some(function.code.len())
 }
 
-fn nested(alloc: Global, levels: usize, left: bool) -> Result<Core, OutOfMemory> {
+fn nested(alloc: Global, levels: usize, left: bool) -> Made<Core> {
     let mut of = int(0);
     for _ in 0..levels {
         of = if left {

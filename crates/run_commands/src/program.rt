@@ -14,7 +14,7 @@ use command_files::{
     Ending, FileFault, KeptScene, PexFile, Place, Rule, load_kept_scene, read_pex,
 };
 use core_tree::SceneTree;
-use papy_base::OutOfMemory;
+use papy_base::{Made, OutOfMemory};
 use papy_io::Desk;
 use pex_values::Pex;
 use pex_verify::{Loaded, VerifyFault, verify};
@@ -70,7 +70,7 @@ fn read_value<D: Desk>(
     }
 }
 
-fn keep_file(files: &mut ReadFiles, file: PexFile) -> Result<(), OutOfMemory>
+fn keep_file(files: &mut ReadFiles, file: PexFile) -> Made<()>
     ensures values { IfOk result (λ _. files.new.values.items ≡ files.old.values.items ++ file.value ∷ []) }
     ensures kept { IfOk result (λ _. files.new.kept.items ≡ files.old.kept.items ++ file.bytes ∷ []) }
 {

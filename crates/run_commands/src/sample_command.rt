@@ -20,7 +20,7 @@ use crate::sample_scene::sample_scene;
 use crate::sample_scripts::sample_scripts;
 use command_files::{CompileFault, Ending, accept_texts, compile_set};
 use latent_natives::Device;
-use papy_base::OutOfMemory;
+use papy_base::{Made, OutOfMemory};
 use papy_io::{IoFault, MemorySink, Sink};
 use pex_codec::{PexFault, decode};
 use pex_values::Pex;
@@ -151,7 +151,7 @@ fn report_of(
     }
 }
 
-fn scripts_line(alloc: Global, workers: u8) -> Result<String, OutOfMemory>
+fn scripts_line(alloc: Global, workers: u8) -> Made<String>
     ensures { IfOk result (λ line. string_bytes line ≡ scripts_line workers) }
 {
     let scripts = u32::from(workers) + 1;

@@ -6,7 +6,7 @@ ghost use Rattle.scene_reader.specs.Default.{call_plan, instance_plan};
 ghost use Rattle.run_commands.specs.Sample.{IsSampleScene, hub_plan, start_plan, worker_name, worker_plan, worker_script};
 
 use core_tree::{SceneCall, SceneInstance, SceneTree, SceneValue, TurnOrder};
-use papy_base::{OutOfMemory, Text};
+use papy_base::{Made, Text};
 use std::alloc::Global;
 
 /// The most turns of a scene.
@@ -15,7 +15,7 @@ const TURNS: u32 = 1_000_000;
 /// The hub's instance.
 const HUB: &[u8] = b"hub";
 
-fn hub(alloc: Global) -> Result<SceneInstance, OutOfMemory>
+fn hub(alloc: Global) -> Made<SceneInstance>
     ensures { IfOk result (λ instance. instance_plan instance ≡ hub_plan) }
 {
     Ok(SceneInstance {
@@ -26,7 +26,7 @@ fn hub(alloc: Global) -> Result<SceneInstance, OutOfMemory>
 }
 
 /// The name of the instance of this worker.
-fn worker_name(alloc: Global, number: u8) -> Result<Text, OutOfMemory>
+fn worker_name(alloc: Global, number: u8) -> Made<Text>
     ensures { IfOk result (λ name. name ≡ worker_name number) }
 {
     let name = format!(in alloc; "w{number}")?;
@@ -34,14 +34,14 @@ fn worker_name(alloc: Global, number: u8) -> Result<Text, OutOfMemory>
 }
 
 /// The name of the script of this worker.
-fn worker_script(alloc: Global, number: u8) -> Result<Text, OutOfMemory>
+fn worker_script(alloc: Global, number: u8) -> Made<Text>
     ensures { IfOk result (λ name. name ≡ worker_script number) }
 {
     let name = format!(in alloc; "W{number}")?;
     Text::try_from_bytes(alloc, name.as_bytes())
 }
 
-fn worker(alloc: Global, number: u8) -> Result<SceneInstance, OutOfMemory>
+fn worker(alloc: Global, number: u8) -> Made<SceneInstance>
     ensures { IfOk result (λ instance. instance_plan instance ≡ worker_plan number) }
 {
     let mut set = Vec::new(alloc);
@@ -57,7 +57,7 @@ fn worker(alloc: Global, number: u8) -> Result<SceneInstance, OutOfMemory>
     })
 }
 
-fn start(alloc: Global, number: u8) -> Result<SceneCall, OutOfMemory>
+fn start(alloc: Global, number: u8) -> Made<SceneCall>
     ensures { IfOk result (λ call. call_plan call ≡ start_plan number) }
 {
     Ok(SceneCall {
@@ -68,7 +68,7 @@ fn start(alloc: Global, number: u8) -> Result<SceneCall, OutOfMemory>
     })
 }
 
-fn instances(alloc: Global, workers: u8) -> Result<Vec<SceneInstance>, OutOfMemory>
+fn instances(alloc: Global, workers: u8) -> Made<Vec<SceneInstance>>
     ensures { IfOk result (λ found. map instance_plan found.items ≡ hub_plan ∷ map worker_plan (range_with_len 0 workers)) }
 {
     let mut instances = Vec::new(alloc);
@@ -79,7 +79,7 @@ fn instances(alloc: Global, workers: u8) -> Result<Vec<SceneInstance>, OutOfMemo
     Ok(instances)
 }
 
-fn calls(alloc: Global, workers: u8) -> Result<Vec<SceneCall>, OutOfMemory>
+fn calls(alloc: Global, workers: u8) -> Made<Vec<SceneCall>>
     ensures { IfOk result (λ found. map call_plan found.items ≡ map start_plan (range_with_len 0 workers)) }
 {
     let mut calls = Vec::new(alloc);
@@ -91,7 +91,7 @@ fn calls(alloc: Global, workers: u8) -> Result<Vec<SceneCall>, OutOfMemory>
 
 /// The scene of a hub and so many workers, whose property `Target` is the hub, with one call of `OnInit` on each
 /// worker at turn 0, round order, 1,000,000 turns and quantum 1.
-pub fn sample_scene(alloc: Global, workers: u8) -> Result<SceneTree, OutOfMemory>
+pub fn sample_scene(alloc: Global, workers: u8) -> Made<SceneTree>
     ensures { IfOk result (IsSampleScene workers) }
 {
     Ok(SceneTree {

@@ -5,7 +5,7 @@ ghost use Rattle.command_files.specs.SourceTexts.{text_of};
 ghost use Rattle.run_commands.specs.Sample.{hub_text, sample_texts, worker_text};
 
 use command_files::NamedText;
-use papy_base::{OutOfMemory, Text};
+use papy_base::{Made, Text};
 use std::alloc::Global;
 
 const HUB: &[u8] = b"ScriptName Hub
@@ -15,7 +15,7 @@ Function Add(Int n)
 EndFunction
 ";
 
-fn hub(alloc: Global) -> Result<NamedText, OutOfMemory>
+fn hub(alloc: Global) -> Made<NamedText>
     ensures { IfOk result (λ script. text_of script ≡ hub_text) }
 {
     Ok(NamedText {
@@ -24,7 +24,7 @@ fn hub(alloc: Global) -> Result<NamedText, OutOfMemory>
     })
 }
 
-fn worker_text(alloc: Global, number: u8) -> Result<String, OutOfMemory>
+fn worker_text(alloc: Global, number: u8) -> Made<String>
     ensures { IfOk result (λ text. string_bytes text ≡ worker_text number) }
 {
     Ok(format!(in alloc;
@@ -41,7 +41,7 @@ EndEvent
     )?)
 }
 
-fn worker(alloc: Global, number: u8) -> Result<NamedText, OutOfMemory>
+fn worker(alloc: Global, number: u8) -> Made<NamedText>
     ensures { IfOk result (λ script. text_of script ≡ worker_text number) }
 {
     let name = format!(in alloc; "W{number}.psc")?;
@@ -53,7 +53,7 @@ fn worker(alloc: Global, number: u8) -> Result<NamedText, OutOfMemory>
 }
 
 /// The hub's script, and those of so many workers, whose numbers run from 0 on.
-pub fn sample_scripts(alloc: Global, workers: u8) -> Result<Vec<NamedText>, OutOfMemory>
+pub fn sample_scripts(alloc: Global, workers: u8) -> Made<Vec<NamedText>>
     ensures { IfOk result (λ scripts. map text_of scripts.items ≡ sample_texts workers) }
 {
     let mut scripts = Vec::new(alloc);

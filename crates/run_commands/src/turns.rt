@@ -11,7 +11,7 @@ ghost use Rattle.run_commands.specs.Journal.{IsJournalOf, NotesTurns};
 
 use core_tree::BoundInstance;
 use latent_natives::Device;
-use papy_base::{OutOfMemory, Text};
+use papy_base::{Made, Text};
 use papy_io::Sink;
 use run_replay::{ending, heading, turn_text};
 use scene_runner::write_closing;
@@ -44,7 +44,7 @@ pub fn do_turns<S: Sink>(
 }
 
 // The names of a scene's instances.
-fn names_of(alloc: Global, instances: &[BoundInstance]) -> Result<Vec<Text>, OutOfMemory>
+fn names_of(alloc: Global, instances: &[BoundInstance]) -> Made<Vec<Text>>
     ensures { IfOk result (λ names. names.items ≡ map instance_name instances.now) }
 {
     let mut names = Vec::new(alloc);

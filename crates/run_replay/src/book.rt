@@ -8,7 +8,7 @@ ghost use Rattle.run_replay.specs.Book.{Standing, start, place_of, is_due, is_be
 use crate::lock_move::LockMove;
 use crate::reader::Line;
 use crate::waits::{Waits, add_to};
-use papy_base::{OutOfMemory, Text};
+use papy_base::{Made, Text};
 use std::alloc::Global;
 use std::marker::Model;
 
@@ -382,7 +382,7 @@ impl Book {
         put(stack, place, &mut self.places);
     }
 
-    fn join(&mut self, stack: u16, instance: u16) -> Result<(), OutOfMemory>
+    fn join(&mut self, stack: u16, instance: u16) -> Made<()>
         ensures { OnOk result (self.new ≡ joined self.old stack instance) }
     {
         let place = StackPlace::Waits(instance);
@@ -413,7 +413,7 @@ impl Book {
     }
 
     // What a move that is allowed leaves.
-    fn apply_move(&mut self, step: LockMove) -> Result<(), OutOfMemory>
+    fn apply_move(&mut self, step: LockMove) -> Made<()>
         requires room { (i : ℕ) → slice_index self.old.waited i < 2 ^ 63 }
         ensures { OnOk result (self.new ≡ moved self.old step) }
     {
@@ -434,7 +434,7 @@ impl Book {
     }
 
     /// Goes past a line that is allowed.
-    pub(crate) fn apply(&mut self, alloc: Global, line: Line) -> Result<(), OutOfMemory>
+    pub(crate) fn apply(&mut self, alloc: Global, line: Line) -> Made<()>
         requires fits { LineFits (seen line) }
         requires stands { may_stand self.old (seen line) ≡ true }
         requires room { (i : ℕ) → slice_index self.old.waited i < 2 ^ 63 }

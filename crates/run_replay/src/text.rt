@@ -6,11 +6,11 @@ ghost use Rattle.std.specs.String.{string_bytes};
 ghost use Rattle.run_replay.specs.Lines.{Heading, Instance, Turn, End, Moved, ended_line, journal_text};
 
 use crate::lock_move::LockMove;
-use papy_base::{OutOfMemory, Text};
+use papy_base::{Made, Text};
 use std::alloc::Global;
 
 // The line of a move, with its end.
-fn move_line(alloc: Global, moved: LockMove) -> Result<String, OutOfMemory>
+fn move_line(alloc: Global, moved: LockMove) -> Made<String>
     ensures { IfOk result (λ line. string_bytes line ≡ ended_line (Moved moved)) }
 {
     let line = match moved {
@@ -28,7 +28,7 @@ fn move_line(alloc: Global, moved: LockMove) -> Result<String, OutOfMemory>
 }
 
 /// The first lines of a journal, which name the instances in order.
-pub fn heading(alloc: Global, names: &Vec<Text>) -> Result<Vec<u8>, OutOfMemory>
+pub fn heading(alloc: Global, names: &Vec<Text>) -> Made<Vec<u8>>
     ensures { IfOk result (λ text. text.items ≡ journal_text (Heading ∷ map Instance names.now.items)) }
 {
     let mut text = b"journal 1\n".to_vec(alloc)?;
@@ -41,7 +41,7 @@ pub fn heading(alloc: Global, names: &Vec<Text>) -> Result<Vec<u8>, OutOfMemory>
 }
 
 /// The lines of a turn: its number, and then its moves in order.
-pub fn turn_text(alloc: Global, turn: u32, moves: &Vec<LockMove>) -> Result<Vec<u8>, OutOfMemory>
+pub fn turn_text(alloc: Global, turn: u32, moves: &Vec<LockMove>) -> Made<Vec<u8>>
     ensures { IfOk result (λ text. text.items ≡ journal_text (Turn turn ∷ map Moved moves.now.items)) }
 {
     let line = format!(in alloc; "turn {turn}\n")?;
@@ -54,7 +54,7 @@ pub fn turn_text(alloc: Global, turn: u32, moves: &Vec<LockMove>) -> Result<Vec<
 }
 
 /// The last line of a journal, with the number of turns.
-pub fn ending(alloc: Global, turns: u32) -> Result<Vec<u8>, OutOfMemory>
+pub fn ending(alloc: Global, turns: u32) -> Made<Vec<u8>>
     ensures { IfOk result (λ text. text.items ≡ journal_text (End turns ∷ [])) }
 {
     let line = format!(in alloc; "end {turns}\n")?;

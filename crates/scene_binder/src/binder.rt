@@ -17,7 +17,7 @@ use core_tree::{
     BoundCall, BoundInstance, BoundNative, CoreType, Outline, OutlineFunction, Scene, SceneCall,
     SceneInstance, SceneTree, SceneValue, Value,
 };
-use papy_base::{Name, NameTable, OutOfMemory, Text};
+use papy_base::{Made, Name, NameTable, Text};
 use scene_reader::{SceneFault, SceneRule};
 use std::alloc::Global;
 
@@ -113,7 +113,7 @@ impl Instances {
     }
 
     /// The number of the instance of this name.
-    fn find(&self, alloc: Global, name: &Text) -> Result<Option<u16>, OutOfMemory>
+    fn find(&self, alloc: Global, name: &Text) -> Made<Option<u16>>
         ensures { IfOk result (λ found. IfSome found (λ n. number_in self.now.names (folded name.now) ≡ Some n)) }
     {
         let number = self.names.find(&Name::from_bytes(alloc, name.as_bytes())?);

@@ -13,7 +13,7 @@ ghost use Rattle.scene_binder.specs.Meant.{IsNativeMeant, binding_in, default_en
 ghost use Rattle.scene_binder.specs.NativeList.{Adds, AreBoundBy, AreMeant, AreNatives, IsFunctionOf, IsUnbound};
 
 use core_tree::{Binding, BoundNative, CoreType, Outline, OutlineFunction, OutlineScript};
-use papy_base::{Name, NameTable, OutOfMemory, Text};
+use papy_base::{Made, Name, NameTable, Text};
 use scene_reader::{SceneFault, SceneRule};
 use std::alloc::Global;
 
@@ -36,11 +36,7 @@ pub(crate) struct Natives<'a> {
 
 impl<'a> Natives<'a> {
     /// The native functions of this outline, without bindings.
-    pub(crate) fn new(
-        alloc: Global,
-        outline: &'a Outline,
-        devices: u16,
-    ) -> Result<Self, OutOfMemory>
+    pub(crate) fn new(alloc: Global, outline: &'a Outline, devices: u16) -> Made<Self>
         ensures natives { IfOk result (AreNatives outline.now.scripts.items) }
         ensures unbound { IfOk result (λ natives. All IsUnbound natives.natives.items) }
         ensures devices { IfOk result (λ natives. natives.devices ≡ devices) }
@@ -58,7 +54,7 @@ impl<'a> Natives<'a> {
     }
 
     // Numbers of scripts and places of functions have 16 bits.
-    fn add_script(&mut self, number: usize, script: &'a OutlineScript) -> Result<(), OutOfMemory>
+    fn add_script(&mut self, number: usize, script: &'a OutlineScript) -> Made<()>
         ensures { OnOk result (Adds self.old self.new (native_places_in number script.now) (λ scripts. slice_get scripts number ≡ Some script.now)) }
     {
         match u16::try_from(number) {
@@ -67,7 +63,7 @@ impl<'a> Natives<'a> {
         }
     }
 
-    fn add_functions(&mut self, number: u16, script: &'a OutlineScript) -> Result<(), OutOfMemory>
+    fn add_functions(&mut self, number: u16, script: &'a OutlineScript) -> Made<()>
         ensures { OnOk result (Adds self.old self.new (native_places_from number 0 script.now.functions.items) (λ scripts. slice_get scripts number ≡ Some script.now)) }
     {
         let functions = script.functions.as_slice();
@@ -84,7 +80,7 @@ impl<'a> Natives<'a> {
         number: u16,
         place: usize,
         function: &'a OutlineFunction,
-    ) -> Result<(), OutOfMemory>
+    ) -> Made<()>
         ensures { OnOk result (Adds self.old self.new (native_place_here number place function.now) (λ scripts. IsFunctionOf scripts number script.now place function.now)) }
     {
         let Ok(at) = u16::try_from(place) else {
@@ -144,7 +140,7 @@ impl<'a> Natives<'a> {
     }
 
     // The number of the native of this name.
-    fn find(&self, name: &[u8]) -> Result<Option<usize>, OutOfMemory>
+    fn find(&self, name: &[u8]) -> Made<Option<usize>>
         ensures there { IfOk result (λ found. IfSome found (λ number. number < length self.now.natives.items)) }
         ensures named { IfOk result (λ found. IfSome found (λ number. number_in self.now.names (folded name.now) ≡ Some number)) }
     {
@@ -208,7 +204,7 @@ impl<'a> Natives<'a> {
 }
 
 // `Script.Function`, as scenes name a native.
-fn full_name(alloc: Global, script: &Name, function: &Name) -> Result<Name, OutOfMemory>
+fn full_name(alloc: Global, script: &Name, function: &Name) -> Made<Name>
     ensures { IfOk result (λ name. name ≡ named_in script.now function.now) }
 {
     let mut name = script.as_bytes().to_vec(alloc)?;

@@ -10,7 +10,7 @@ ghost use Rattle.scene_binder.specs.Members.{HasFunction, HasFunctionNamed, HasP
 ghost use Rattle.scene_binder.specs.Names.{first_of, function_name, property_name};
 
 use core_tree::{Outline, OutlineFunction, OutlineProperty, OutlineScript};
-use papy_base::{LIBRARY_COUNT, Name, NameTable, OutOfMemory, is_below, upward};
+use papy_base::{LIBRARY_COUNT, Made, Name, NameTable, is_below, upward};
 use scene_reader::{SceneFault, SceneRule};
 use std::alloc::Global;
 use std::marker::Model;
@@ -27,7 +27,7 @@ struct ScriptMembers<'a> {
 
 impl<'a> ScriptMembers<'a> {
     /// The members of this script.
-    fn new(alloc: Global, script: &'a OutlineScript) -> Result<ScriptMembers<'a>, OutOfMemory>
+    fn new(alloc: Global, script: &'a OutlineScript) -> Made<ScriptMembers<'a>>
         ensures { IfOk result (λ members. members.script.now ≡ script.now) }
     {
         Ok(ScriptMembers {
@@ -81,7 +81,7 @@ impl<'a> Model for OutlineScripts<'a> {
 
 impl<'a> OutlineScripts<'a> {
     /// The scripts of this outline.
-    pub(crate) fn new(alloc: Global, outline: &'a Outline) -> Result<Self, OutOfMemory>
+    pub(crate) fn new(alloc: Global, outline: &'a Outline) -> Made<Self>
         ensures { IfOk result (λ scripts. scripts ≡ outline.now.scripts.items) }
     {
         let scripts = outline.scripts.as_slice();
@@ -116,7 +116,7 @@ impl<'a> OutlineScripts<'a> {
         alloc: Global,
         first: u16,
         name: &[u8],
-    ) -> Result<Option<(usize, &'a OutlineProperty)>, OutOfMemory>
+    ) -> Made<Option<(usize, &'a OutlineProperty)>>
         ensures there { IfOk result (λ found. IfSome found (λ f. StandsAbove (parents_of self.now) first f.0 × HasProperty self.now f.0 f.1.now)) }
         ensures nearest { IfOk result (λ found. IfSome found (λ f. IsNearestProperty self.now name.now first f.0 f.1.now)) }
     {
@@ -142,7 +142,7 @@ impl<'a> OutlineScripts<'a> {
         alloc: Global,
         first: u16,
         name: &[u8],
-    ) -> Result<Option<&'a OutlineFunction>, OutOfMemory>
+    ) -> Made<Option<&'a OutlineFunction>>
         ensures { IfOk result (λ found. IfSome found (λ f. HasFunctionNamed self.now first name.now f.now)) }
     {
         let name = Name::from_bytes(alloc, name)?;

@@ -9,7 +9,7 @@ use crate::parts::{
     TURN_LIMIT, Version, check_keys, needed,
 };
 use core_tree::{SceneCall, SceneInstance, SceneTree, TurnOrder};
-use papy_base::{Name, OutOfMemory, Text};
+use papy_base::{Made, Name, OutOfMemory, Text};
 use serde_json::Value;
 use std::alloc::Global;
 
@@ -127,7 +127,7 @@ const INSTANCE: &[u8] = b"it";
 /// # Errors
 ///
 /// `OutOfMemory` comes where there is no room.
-pub fn default_scene(alloc: Global, script: &Name) -> Result<SceneTree, OutOfMemory>
+pub fn default_scene(alloc: Global, script: &Name) -> Made<SceneTree>
     ensures { IfOk result (IsDefaultScene script.now) }
 {
     let instance = SceneInstance {

@@ -7,23 +7,19 @@ ghost use Rattle.stack_machine.specs.Written.{IsLines};
 ghost use Rattle.scene_runner.specs.Report.{turns_line};
 
 use core_tree::Value;
-use papy_base::{Name, OutOfMemory};
+use papy_base::{Made, Name};
 use stack_machine::{Machine, Status, append_escaped};
 use std::alloc::Global;
 
 /// The number of turns: `turns n`.
-pub fn turns_line(alloc: Global, turns: u32) -> Result<String, OutOfMemory>
+pub fn turns_line(alloc: Global, turns: u32) -> Made<String>
     ensures { IfOk result (λ line. string_bytes line ≡ turns_line turns) }
 {
     Ok(format!(in alloc; "turns {turns}\n")?)
 }
 
 /// An instance with its script and its state: `name : Script @state`.
-pub fn instance_line(
-    alloc: Global,
-    machine: &Machine,
-    instance: u16,
-) -> Result<Vec<u8>, OutOfMemory>
+pub fn instance_line(alloc: Global, machine: &Machine, instance: u16) -> Made<Vec<u8>>
     requires { instance < vec_len machine.now.scene.instances }
     ensures { IfOk result (λ line. IsLines line.items) }
 {
@@ -38,12 +34,7 @@ pub fn instance_line(
 }
 
 /// An Auto property with its value: `  Property = value`.
-pub fn property_line(
-    alloc: Global,
-    machine: &Machine,
-    name: &Name,
-    value: &Value,
-) -> Result<Vec<u8>, OutOfMemory>
+pub fn property_line(alloc: Global, machine: &Machine, name: &Name, value: &Value) -> Made<Vec<u8>>
     ensures { IfOk result (λ line. IsLines line.items) }
 {
     let mut line = Vec::new(alloc);
@@ -56,7 +47,7 @@ pub fn property_line(
 }
 
 /// What a stack is doing: `stack k` and `done`, `ready`, `waits NAME` or `asleep T`.
-pub fn stack_line(alloc: Global, machine: &Machine, stack: u16) -> Result<Vec<u8>, OutOfMemory>
+pub fn stack_line(alloc: Global, machine: &Machine, stack: u16) -> Made<Vec<u8>>
     requires { stack < machine.now.started }
     ensures { IfOk result (λ line. IsLines line.items) }
 {
@@ -68,7 +59,7 @@ pub fn stack_line(alloc: Global, machine: &Machine, stack: u16) -> Result<Vec<u8
     Ok(line)
 }
 
-fn append_status(line: &mut Vec<u8>, machine: &Machine, status: Status) -> Result<(), OutOfMemory> {
+fn append_status(line: &mut Vec<u8>, machine: &Machine, status: Status) -> Made<()> {
     match status {
         Status::Done => line.extend_from_slice(b"done")?,
         Status::Ready => line.extend_from_slice(b"ready")?,
@@ -85,11 +76,7 @@ fn append_status(line: &mut Vec<u8>, machine: &Machine, status: Status) -> Resul
 }
 
 // The name of an instance.
-fn append_instance(
-    line: &mut Vec<u8>,
-    machine: &Machine,
-    instance: u16,
-) -> Result<(), OutOfMemory> {
+fn append_instance(line: &mut Vec<u8>, machine: &Machine, instance: u16) -> Made<()> {
     if let Some(bound) = machine.scene().instances.get(usize::from(instance)) {
         line.extend_from_slice(bound.name.as_bytes())?;
     }
@@ -97,7 +84,7 @@ fn append_instance(
 }
 
 // The name of an instance's script.
-fn append_script(line: &mut Vec<u8>, machine: &Machine, instance: u16) -> Result<(), OutOfMemory> {
+fn append_script(line: &mut Vec<u8>, machine: &Machine, instance: u16) -> Made<()> {
     let Some(bound) = machine.scene().instances.get(usize::from(instance)) else {
         return Ok(());
     };

@@ -3,7 +3,7 @@ ghost use Rattle.std.specs.Prelude.{◌<◌, ◌≡◌, IfOk, None, vec_len};
 
 use core_tree::{Scene, Value};
 use latent_natives::{Device, Dice, Latch, Sum, Tape};
-use papy_base::OutOfMemory;
+use papy_base::{Made, OutOfMemory};
 use papy_io::MemorySink;
 use pex_listing::assemble;
 use pex_verify::{Loaded, verify};
@@ -38,13 +38,13 @@ fn four_devices(alloc: Global) -> Result<Vec<Box<dyn Device>>, Fail> {
     Ok(devices)
 }
 
-fn loaded_of(alloc: Global, listing: &[u8]) -> Result<Loaded, OutOfMemory> {
+fn loaded_of(alloc: Global, listing: &[u8]) -> Made<Loaded> {
     let file = assemble(alloc, listing).map_err(|_| OutOfMemory)?;
     let files = vec![in alloc; file]?;
     verify(alloc, files).map_err(|_| OutOfMemory)
 }
 
-fn bound_to(alloc: Global, loaded: &Loaded, scene: &[u8]) -> Result<Scene, OutOfMemory>
+fn bound_to(alloc: Global, loaded: &Loaded, scene: &[u8]) -> Made<Scene>
     ensures instances { IfOk result (λ scene. vec_len scene.instances < 65536) }
     ensures calls { IfOk result (λ scene. vec_len scene.calls < 65536) }
 {
@@ -57,7 +57,7 @@ fn bound_to(alloc: Global, loaded: &Loaded, scene: &[u8]) -> Result<Scene, OutOf
     }
 }
 
-fn machine_of(alloc: Global, devices: &mut Vec<Box<dyn Device>>) -> Result<Machine, OutOfMemory>
+fn machine_of(alloc: Global, devices: &mut Vec<Box<dyn Device>>) -> Made<Machine>
     ensures { IfOk result (λ machine. machine.fault ≡ None) }
 {
     let loaded = loaded_of(alloc, COUNTER)?;

@@ -4,7 +4,7 @@ ghost use Rattle.script_lexer.specs.Lines.{logical_lines, nonempty};
 
 use crate::piece::Piece;
 use crate::token::Spanned;
-use papy_base::OutOfMemory;
+use papy_base::Made;
 use std::alloc::Global;
 
 /// A logical line that has tokens.
@@ -61,7 +61,7 @@ impl Progress {
     }
 
     // Ends the current logical line, which counts where it has tokens. They move to a list of their length.
-    fn end_line(&mut self, alloc: Global) -> Result<(), OutOfMemory>
+    fn end_line(&mut self, alloc: Global) -> Made<()>
         requires { 0 < length self.old.tokens.items → self.old.begun ≤ 65535 }
         ensures ended { OnOk result (logical_lines self.new.lines.items ≡ logical_lines self.old.lines.items ++ nonempty self.old.begun self.old.tokens.items []) }
         ensures empty { OnOk result (self.new.tokens.items ≡ []) }
@@ -82,13 +82,7 @@ impl Progress {
     }
 
     /// One piece more, with its bytes and the number of their line ends.
-    pub fn take(
-        &mut self,
-        alloc: Global,
-        piece: Piece,
-        bytes: &[u8],
-        ends: u32,
-    ) -> Result<(), OutOfMemory>
+    pub fn take(&mut self, alloc: Global, piece: Piece, bytes: &[u8], ends: u32) -> Made<()>
         requires ready { IsReady self.old }
         requires room { self.old.at + length bytes.now < 2 ^ 31 }
         requires counted { ends ≡ line_ends bytes.now }
@@ -115,7 +109,7 @@ impl Progress {
     }
 
     /// The logical lines, with the last one.
-    pub fn finish(mut self, alloc: Global) -> Result<Vec<Line>, OutOfMemory>
+    pub fn finish(mut self, alloc: Global) -> Made<Vec<Line>>
         requires { IsReady self }
         ensures { IfOk result (λ lines. closed lines.items self) }
     {

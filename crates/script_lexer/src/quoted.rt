@@ -8,7 +8,7 @@ ghost use Rattle.script_lexer.specs.Answers.{Opens, Answers, BeginsItem, Stops, 
 use crate::fault::LexRule;
 use crate::piece::{Found, Piece, PieceFault};
 use crate::token::Token;
-use papy_base::{OutOfMemory, Text};
+use papy_base::{Made, Text};
 use std::alloc::Global;
 
 /// The most bytes that a text means.
@@ -70,7 +70,7 @@ fn next_item(rest: &[u8]) -> Option<TextItem>
 }
 
 // The items of a text, up to where it stops: what they mean, whether they are good, and how many bytes they take.
-fn read_items(alloc: Global, bytes: &[u8]) -> Result<(Vec<u8>, bool, usize), OutOfMemory>
+fn read_items(alloc: Global, bytes: &[u8]) -> Made<(Vec<u8>, bool, usize)>
     ensures { IfOk result (λ r. ReadsItems bytes.now r.0.items r.1 r.2) }
 {
     let mut meant = Vec::new(alloc);

@@ -14,7 +14,7 @@ use crate::prelude::{add_generated, prelude_files};
 use crate::rules::{Found, member_fault, script_fault};
 use crate::scripts::Scripts;
 use crate::set::{ScriptSet, SourceFile};
-use papy_base::{NameTable, OutOfMemory, PRELUDE_COUNT, on_circles};
+use papy_base::{Made, NameTable, PRELUDE_COUNT, on_circles};
 use std::alloc::Global;
 
 /// The set of these files, of which there are fewer than 65,530.
@@ -36,7 +36,7 @@ pub fn link(alloc: Global, mut files: Vec<SourceFile>) -> Result<ScriptSet, Link
     link_set(alloc, set, declared.as_slice())
 }
 
-fn function_counts(alloc: Global, files: &[SourceFile]) -> Result<Vec<usize>, OutOfMemory>
+fn function_counts(alloc: Global, files: &[SourceFile]) -> Made<Vec<usize>>
     ensures { IfOk result (λ counts. counts.items ≡ map function_count files.now) }
 {
     let mut counts = Vec::with_capacity(alloc, files.len())?;
@@ -47,7 +47,7 @@ fn function_counts(alloc: Global, files: &[SourceFile]) -> Result<Vec<usize>, Ou
 }
 
 // The prelude's files, and then these.
-fn behind_prelude(alloc: Global, mut files: Vec<SourceFile>) -> Result<Vec<SourceFile>, OutOfMemory>
+fn behind_prelude(alloc: Global, mut files: Vec<SourceFile>) -> Made<Vec<SourceFile>>
     ensures start { IfOk result (λ set. StartsWithPrelude set.items) }
     ensures standard { IfOk result (λ set. AreStandard standard_scripts (take 6 set.items)) }
     ensures small { IfOk result (λ set. All HasSmallScript (take 6 set.items)) }

@@ -11,7 +11,7 @@ ghost use Rattle.script_linker.specs.Rows.{acts_of, is_event, lacking_among, mem
 use crate::set::SourceFile;
 use line_parser::{Constant, Expr, Heading, Parameter, TypeName};
 use papy_base::{
-    Name, OutOfMemory, PRELUDE, STATE_MEMBERS, StandardBody, StandardFunction, StandardParameter,
+    Made, Name, PRELUDE, STATE_MEMBERS, StandardBody, StandardFunction, StandardParameter,
     StandardScript, Text,
 };
 use script_lexer::Sign;
@@ -23,7 +23,7 @@ const STATE_WORD: &[u8] = b"::State";
 
 /// The scripts Debug, Utility, Scene, Form, Quest and ObjectReference, in files without a name. Form
 /// has the members that every script without parent has.
-pub(crate) fn prelude_files(alloc: Global) -> Result<Vec<SourceFile>, OutOfMemory>
+pub(crate) fn prelude_files(alloc: Global) -> Made<Vec<SourceFile>>
     ensures start { IfOk result (λ files. StartsWithPrelude files.items) }
     ensures count { IfOk result (λ files. vec_len files ≡ 6) }
     ensures few { IfOk result (λ files. All HasSmallScript files.items) }
@@ -32,7 +32,7 @@ pub(crate) fn prelude_files(alloc: Global) -> Result<Vec<SourceFile>, OutOfMemor
     declared_files(alloc, &PRELUDE)
 }
 
-fn declared_files(alloc: Global, rows: &[StandardScript]) -> Result<Vec<SourceFile>, OutOfMemory>
+fn declared_files(alloc: Global, rows: &[StandardScript]) -> Made<Vec<SourceFile>>
     ensures { IfOk result (λ files. AreStandard (map standard_of rows.now) files.items) }
 {
     let mut files = Vec::with_capacity(alloc, rows.len())?;
@@ -43,7 +43,7 @@ fn declared_files(alloc: Global, rows: &[StandardScript]) -> Result<Vec<SourceFi
 }
 
 // The script that the row declares, in a file without a name.
-fn declared_file(alloc: Global, row: &StandardScript) -> Result<SourceFile, OutOfMemory>
+fn declared_file(alloc: Global, row: &StandardScript) -> Made<SourceFile>
     ensures { IfOk result (IsStandard (standard_of row.now)) }
 {
     let file_name = Text::try_from_bytes(alloc, b"")?;
@@ -70,7 +70,7 @@ fn declared_file(alloc: Global, row: &StandardScript) -> Result<SourceFile, OutO
 }
 
 // A type without parent has the members of such scripts, and any other script what its row has.
-fn file_functions(alloc: Global, row: &StandardScript) -> Result<Vec<Function>, OutOfMemory>
+fn file_functions(alloc: Global, row: &StandardScript) -> Made<Vec<Function>>
     ensures { IfOk result (λ functions. AreMembers (standard_of row.now).members functions.items) }
 {
     if row.is_library || row.parent.is_some() {
@@ -82,7 +82,7 @@ fn file_functions(alloc: Global, row: &StandardScript) -> Result<Vec<Function>, 
 
 /// Adds to each script without parent those of the members GotoState, GetState, OnBeginState and
 /// OnEndState that it doesn't declare, in this order.
-pub(crate) fn add_generated(alloc: Global, files: &mut Vec<SourceFile>) -> Result<(), OutOfMemory>
+pub(crate) fn add_generated(alloc: Global, files: &mut Vec<SourceFile>) -> Made<()>
     ensures completed { OnOk result (AreCompleted files.old.items files.new.items) }
     ensures given { OnOk result (HaveGiven files.old.items files.new.items) }
 {
@@ -94,7 +94,7 @@ pub(crate) fn add_generated(alloc: Global, files: &mut Vec<SourceFile>) -> Resul
 }
 
 // Adds the members that the script lacks, where it has no parent.
-fn complete(alloc: Global, file: &mut SourceFile) -> Result<(), OutOfMemory>
+fn complete(alloc: Global, file: &mut SourceFile) -> Made<()>
     ensures completed { OnOk result (IsCompleted file.old file.new) }
     ensures given { OnOk result (HasGiven file.old file.new) }
 {
@@ -106,7 +106,7 @@ fn complete(alloc: Global, file: &mut SourceFile) -> Result<(), OutOfMemory>
 }
 
 // Those of the four members that these functions lack.
-fn lacking_members(alloc: Global, functions: &[Function]) -> Result<Vec<Function>, OutOfMemory>
+fn lacking_members(alloc: Global, functions: &[Function]) -> Made<Vec<Function>>
     ensures { IfOk result (λ added. AreMembers (lacking functions.now) added.items) }
 {
     lacking_functions(alloc, functions, &STATE_MEMBERS)
@@ -117,7 +117,7 @@ fn lacking_functions(
     alloc: Global,
     functions: &[Function],
     rows: &[StandardFunction],
-) -> Result<Vec<Function>, OutOfMemory>
+) -> Made<Vec<Function>>
     ensures { IfOk result (λ added. AreMembers (lacking_among (map member_of rows.now) functions.now) added.items) }
 {
     let mut added = Vec::with_capacity(alloc, rows.len())?;
@@ -128,11 +128,7 @@ fn lacking_functions(
 }
 
 // Adds the member where no function has its name.
-fn add_lacking(
-    added: &mut Vec<Function>,
-    functions: &[Function],
-    member: Function,
-) -> Result<(), OutOfMemory>
+fn add_lacking(added: &mut Vec<Function>, functions: &[Function], member: Function) -> Made<()>
     ensures { OnOk result
         (added.new.items ≡ added.old.items ++ filter (λ made. is_lacking functions.now made.heading.name) (member ∷ [])) }
 {
@@ -154,7 +150,7 @@ fn first_named(functions: &[Function], name: &Name) -> Option<usize>
 }
 
 // The function that the row declares. A native one is Global too.
-fn declared_function(alloc: Global, row: &StandardFunction) -> Result<Function, OutOfMemory>
+fn declared_function(alloc: Global, row: &StandardFunction) -> Made<Function>
     ensures { IfOk result (IsMember (member_of row.now)) }
 {
     let name = Name::from_bytes(alloc, row.name.as_bytes())?;
@@ -191,7 +187,7 @@ fn is_event(body: StandardBody) -> bool
     matches!(body, StandardBody::EmptyEvent)
 }
 
-fn optional_name(alloc: Global, word: Option<&str>) -> Result<Option<Name>, OutOfMemory>
+fn optional_name(alloc: Global, word: Option<&str>) -> Made<Option<Name>>
     ensures { IfOk result (λ name. name ≡ option_map (λ word. word.now) word.entry) }
 {
     match word {
@@ -200,7 +196,7 @@ fn optional_name(alloc: Global, word: Option<&str>) -> Result<Option<Name>, OutO
     }
 }
 
-fn parameters(alloc: Global, rows: &[StandardParameter]) -> Result<Vec<Parameter>, OutOfMemory>
+fn parameters(alloc: Global, rows: &[StandardParameter]) -> Made<Vec<Parameter>>
     ensures { IfOk result (λ parameters. parameters.items ≡ map parameter_of rows.now) }
 {
     let mut parameters = Vec::with_capacity(alloc, rows.len())?;
@@ -214,7 +210,7 @@ fn parameters(alloc: Global, rows: &[StandardParameter]) -> Result<Vec<Parameter
     Ok(parameters)
 }
 
-fn body(alloc: Global, body: StandardBody) -> Result<Body, OutOfMemory>
+fn body(alloc: Global, body: StandardBody) -> Made<Body>
     ensures { IfOk result (IsBody (acts_of body)) }
 {
     match body {
@@ -226,7 +222,7 @@ fn body(alloc: Global, body: StandardBody) -> Result<Body, OutOfMemory>
 }
 
 // Calls OnEndState, changes the state, and calls OnBeginState.
-fn goto_lines(alloc: Global) -> Result<Vec<Statement>, OutOfMemory>
+fn goto_lines(alloc: Global) -> Made<Vec<Statement>>
     ensures { IfOk result (λ lines. Pairwise IsStatement acts_of_goto lines.items) }
 {
     let mut lines = Vec::with_capacity(alloc, 3)?;
@@ -236,7 +232,7 @@ fn goto_lines(alloc: Global) -> Result<Vec<Statement>, OutOfMemory>
     Ok(lines)
 }
 
-fn state_change(alloc: Global) -> Result<StatementForm, OutOfMemory>
+fn state_change(alloc: Global) -> Made<StatementForm>
     ensures { IfOk result (Does (Sets (codes "::State") (codes "asNewState"))) }
 {
     let state = Name::from_bytes(alloc, STATE_WORD)?;
@@ -249,7 +245,7 @@ fn state_change(alloc: Global) -> Result<StatementForm, OutOfMemory>
 }
 
 // Returns the name of the state.
-fn get_lines(alloc: Global) -> Result<Vec<Statement>, OutOfMemory>
+fn get_lines(alloc: Global) -> Made<Vec<Statement>>
     ensures { IfOk result (λ lines. Pairwise IsStatement (Returns (codes "::State") ∷ []) lines.items) }
 {
     let state = Name::from_bytes(alloc, STATE_WORD)?;
@@ -275,7 +271,7 @@ fn statement(form: StatementForm) -> Statement
 }
 
 // A call without arguments as a statement.
-fn call(alloc: Global, name: &[u8]) -> Result<StatementForm, OutOfMemory>
+fn call(alloc: Global, name: &[u8]) -> Made<StatementForm>
     ensures { IfOk result (Does (Calls name.now)) }
 {
     Ok(StatementForm::Plain(Expr::Call {

@@ -18,7 +18,7 @@ use crate::scripts::Scripts;
 use crate::set::SourceFile;
 use crate::signatures::{has_late_parameter, is_accessor, is_plain_event, is_word, same_signature};
 use line_parser::TypeName;
-use papy_base::{LIBRARY_COUNT, Name, NameTable, OutOfMemory, PRELUDE_COUNT};
+use papy_base::{LIBRARY_COUNT, Made, Name, NameTable, PRELUDE_COUNT};
 use script_parser::{Function, Property, PropertyForm, Script, State};
 use std::alloc::Global;
 
@@ -141,7 +141,7 @@ pub(crate) fn member_fault(
     scripts: &Scripts,
     number: usize,
     declared: usize,
-) -> Result<Option<Found>, OutOfMemory>
+) -> Made<Option<Found>>
     requires start { 6 ≤ number }
     requires script { number < length scripts.now }
     ensures line { IfOk result (λ fault. IfSome fault
@@ -211,7 +211,7 @@ fn judge_functions(
     functions: &[Function],
     holder: Holder<'_>,
     first: &mut Earliest,
-) -> Result<(), OutOfMemory>
+) -> Made<()>
     requires { number < length scripts.now }
     ensures { OnOk result (FindsAmong (map function_line functions.now) first.old first.new) }
 {
@@ -231,7 +231,7 @@ fn judge_functions(
 }
 
 // The names of variables and properties, which share one name space.
-fn judge_fields(alloc: Global, script: &Script, first: &mut Earliest) -> Result<(), OutOfMemory>
+fn judge_fields(alloc: Global, script: &Script, first: &mut Earliest) -> Made<()>
     ensures { OnOk result (FindsAmong (map variable_line script.now.variables.items ++ map property_line script.now.properties.items) first.old first.new) }
 {
     let mut lines = NameTable::new(alloc);
@@ -256,7 +256,7 @@ fn judge_states(
     number: usize,
     states: &[State],
     first: &mut Earliest,
-) -> Result<(), OutOfMemory>
+) -> Made<()>
     requires { number < length scripts.now }
     ensures { OnOk result (FindsAmong (flat_map state_lines states.now) first.old first.new) }
 {
@@ -281,7 +281,7 @@ fn judge_properties(
     number: usize,
     properties: &[Property],
     first: &mut Earliest,
-) -> Result<(), OutOfMemory>
+) -> Made<()>
     requires { number < length scripts.now }
     ensures { OnOk result (FindsAmong (flat_map property_lines properties.now) first.old first.new) }
 {
@@ -299,7 +299,7 @@ fn judge_form(
     number: usize,
     property: &Property,
     first: &mut Earliest,
-) -> Result<(), OutOfMemory>
+) -> Made<()>
     requires { number < length scripts.now }
     ensures { OnOk result (FindsAmong (map function_line (accessors property.now.form)) first.old first.new) }
 {

@@ -4,7 +4,7 @@ ghost use Rattle.line_parser.specs.Blocks.{begins_block, opens_block};
 
 use crate::fault::{BlockFault, bad_block, of_line};
 use line_parser::{LineTree, TypeWords, doc_at_end, parse_line};
-use papy_base::{OutOfMemory, Text};
+use papy_base::{Made, Text};
 use script_lexer::{Line, Spanned, Token};
 use std::alloc::Global;
 
@@ -28,7 +28,7 @@ pub(crate) struct LineAt<'a> {
 impl<'a> Reader<'a> {
     ghost use Rattle.script_parser.specs.Reader.{Found, GoesOn, IsBlockFault, StandsAt, left};
 
-    pub(crate) fn new(alloc: Global, lines: &'a [Line]) -> Result<Self, OutOfMemory>
+    pub(crate) fn new(alloc: Global, lines: &'a [Line]) -> Made<Self>
         ensures { IfOk result (λ reader. reader.lines.now ≡ lines.now) }
     {
         Ok(Reader {

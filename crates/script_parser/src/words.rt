@@ -6,7 +6,7 @@ ghost use Rattle.script_parser.specs.Held.{held};
 ghost use Rattle.script_parser.specs.Words.{word_of, words_in, words_of, same_bytes, CountsDifferent};
 
 use indexmap::IndexSet;
-use papy_base::OutOfMemory;
+use papy_base::{Made, OutOfMemory};
 use script_lexer::{Line, Spanned, Token};
 use std::alloc::Global;
 
@@ -22,7 +22,7 @@ struct Words<'a> {
 }
 
 /// The number of different byte lists among the lines' words, texts and documentation texts.
-pub(crate) fn count_words(alloc: Global, lines: &[Line]) -> Result<u32, OutOfMemory>
+pub(crate) fn count_words(alloc: Global, lines: &[Line]) -> Made<u32>
     ensures { IfOk result (λ count. CountsDifferent (words_of lines.now) count) }
 {
     let lately = vec![in alloc; 0; PLACES]?;
@@ -41,7 +41,7 @@ pub(crate) fn count_words(alloc: Global, lines: &[Line]) -> Result<u32, OutOfMem
     Ok(count as u32)
 }
 
-fn add_words<'a>(words: &mut Words<'a>, tokens: &'a [Spanned]) -> Result<(), OutOfMemory>
+fn add_words<'a>(words: &mut Words<'a>, tokens: &'a [Spanned]) -> Made<()>
     ensures { OnOk result
         (held words.new.all ≡ insert_all same_bytes (held words.old.all) (words_in tokens.now)) }
 {
@@ -51,7 +51,7 @@ fn add_words<'a>(words: &mut Words<'a>, tokens: &'a [Spanned]) -> Result<(), Out
     Ok(())
 }
 
-fn add_word<'a>(words: &mut Words<'a>, token: &'a Token) -> Result<(), OutOfMemory>
+fn add_word<'a>(words: &mut Words<'a>, token: &'a Token) -> Made<()>
     ensures { OnOk result
         (held words.new.all ≡ insert_all same_bytes (held words.old.all) (word_of token.now)) }
 {
@@ -63,7 +63,7 @@ fn add_word<'a>(words: &mut Words<'a>, token: &'a Token) -> Result<(), OutOfMemo
     }
 }
 
-fn add_bytes<'a>(words: &mut Words<'a>, bytes: &'a [u8]) -> Result<(), OutOfMemory>
+fn add_bytes<'a>(words: &mut Words<'a>, bytes: &'a [u8]) -> Made<()>
     ensures { OnOk result
         (held words.new.all ≡ insert_all same_bytes (held words.old.all) (bytes.now ∷ [])) }
 {
@@ -96,7 +96,7 @@ fn are_same(left: &[u8], right: &[u8]) -> bool
 
 // It is rare, so it stays out of the way of the words that came lately.
 #[inline(never)]
-fn insert<'a>(words: &mut Words<'a>, place: usize, bytes: &'a [u8]) -> Result<(), OutOfMemory>
+fn insert<'a>(words: &mut Words<'a>, place: usize, bytes: &'a [u8]) -> Made<()>
     ensures { OnOk result
         (held words.new.all ≡ insert_all same_bytes (held words.old.all) (bytes.now ∷ [])) }
 {

@@ -14,10 +14,10 @@ ghost use Rattle.type_scope.specs.Types.{signatures};
 use crate::fault::TypeFault;
 use crate::functions::clone_text;
 use crate::members::{auto_state, core_properties, core_states, core_variables};
-use crate::work::{Result, ScriptRules};
+use crate::work::ScriptRules;
 use core_tree::{CoreProperty, CoreScript, CoreSet, CoreState, CoreVariable};
 use expression_rules::TypeRule;
-use papy_base::PRELUDE_COUNT;
+use papy_base::{Made, PRELUDE_COUNT};
 use script_linker::ScriptSet;
 use script_parser::Script;
 use std::alloc::Global;
@@ -71,7 +71,7 @@ struct Members {
 }
 
 // The script of this number in its set.
-fn judge_script(catalog: &Catalog<'_>, number: u16) -> Result<JudgedScript>
+fn judge_script(catalog: &Catalog<'_>, number: u16) -> Made<JudgedScript>
     requires { number < length catalog.now.set.now }
     ensures in_range { IfOk result (λ judged. ScriptInRange (signatures catalog.now.set.now) (script_of judged.script)) }
     ensures head { (file : SourceFile) → IfOk result (λ judged. core_script_head judged.script ≡ script_head catalog.now.set.now (slice_index_or catalog.now.set.now number file)) }
@@ -92,7 +92,7 @@ fn judge_layout(
     layout: &Layout<'_>,
     number: u16,
     script: &Script,
-) -> Result<(Members, ScriptFaults)>
+) -> Made<(Members, ScriptFaults)>
     ensures variables { IfOk result (λ judged. map core_variable_head judged.0.variables.items ≡ map (variable_head catalog.now.set.now) (map declaration layout.now.sources.items)) }
     ensures properties { IfOk result (λ judged. map core_property_head judged.0.properties.items ≡ property_heads catalog.now.set.now script.now) }
     ensures states { IfOk result (λ judged. map core_state_head judged.0.states.items ≡ state_heads catalog.now.set.now script.now) }
@@ -101,7 +101,7 @@ fn judge_layout(
     judge_members(ScriptRules::new(catalog, layout, number), script)
 }
 
-fn judge_members(mut work: ScriptRules<'_>, script: &Script) -> Result<(Members, ScriptFaults)>
+fn judge_members(mut work: ScriptRules<'_>, script: &Script) -> Made<(Members, ScriptFaults)>
     ensures variables { IfOk result (λ judged. map core_variable_head judged.0.variables.items ≡ map (variable_head (set_of work.entry)) (map declaration work.entry.layout.now.sources.items)) }
     ensures properties { IfOk result (λ judged. map core_property_head judged.0.properties.items ≡ property_heads (set_of work.entry) script.now) }
     ensures states { IfOk result (λ judged. map core_state_head judged.0.states.items ≡ state_heads (set_of work.entry) script.now) }
@@ -118,7 +118,7 @@ fn judge_members(mut work: ScriptRules<'_>, script: &Script) -> Result<(Members,
     Ok((members, work.faults(script.line)))
 }
 
-fn core_script(catalog: &Catalog<'_>, number: u16, members: Members) -> Result<CoreScript>
+fn core_script(catalog: &Catalog<'_>, number: u16, members: Members) -> Made<CoreScript>
     requires { number < length catalog.now.set.now }
     ensures in_range { MembersInRange (signatures catalog.now.set.now) members → IfOk result (λ made. ScriptInRange (signatures catalog.now.set.now) (script_of made)) }
     ensures head { (file : SourceFile) → map core_property_head members.properties.items ≡ property_heads catalog.now.set.now (slice_index_or catalog.now.set.now number file).script →

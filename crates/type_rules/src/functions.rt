@@ -12,16 +12,16 @@ ghost use Rattle.type_scope.specs.Types.{type_named};
 use crate::members::known;
 use crate::sizes::function_size;
 use crate::statements::{BLOCK_LIMIT, Promise, core_block};
-use crate::work::{Result, ScriptRules};
+use crate::work::ScriptRules;
 use core_tree::{CoreFunction, CoreLine, CoreType};
 use expression_rules::{Scope, TypeRule, default_fits};
 use line_parser::{Constant, Parameter, TypeName};
-use papy_base::Text;
+use papy_base::{Made, Text};
 use script_parser::{Body, Function};
 use std::alloc::Global;
 
 /// A function. What its heading breaks is noted at its line, what its statements break at theirs.
-pub(crate) fn core_function(work: &mut ScriptRules<'_>, function: &Function) -> Result<CoreFunction>
+pub(crate) fn core_function(work: &mut ScriptRules<'_>, function: &Function) -> Made<CoreFunction>
     ensures head { IfOk result (λ made. core_function_head made ≡ function_head (set_of work.old) function.now) }
     ensures kept { OnOk result (KeepsScript work.old work.new) }
     ensures in_range { WorkInRange work.old → IfOk result (CoreFunctionInRange work.old) }
@@ -50,7 +50,7 @@ fn promise_of(scope: &mut Scope<'_>, result_type: &Option<TypeName>) -> Promise
     }
 }
 
-fn add_parameters(scope: &mut Scope<'_>, parameters: &[Parameter]) -> Result<()>
+fn add_parameters(scope: &mut Scope<'_>, parameters: &[Parameter]) -> Made<()>
     ensures grows { OnOk result (Grows scope.old scope.new) }
     ensures added { OnOk result (map known scope.new.locals.kinds.items ≡ map known scope.old.locals.kinds.items ++ map (parameter_type (scope_set scope.old)) parameters.now) }
 {
@@ -60,7 +60,7 @@ fn add_parameters(scope: &mut Scope<'_>, parameters: &[Parameter]) -> Result<()>
     Ok(())
 }
 
-fn add_parameter(scope: &mut Scope<'_>, parameter: &Parameter) -> Result<()>
+fn add_parameter(scope: &mut Scope<'_>, parameter: &Parameter) -> Made<()>
     ensures grows { OnOk result (Grows scope.old scope.new) }
     ensures added { OnOk result (scope.new.locals.kinds.items ≡ scope.old.locals.kinds.items ++ type_named (scope_set scope.old) parameter.now.kind ∷ []) }
 {
@@ -81,7 +81,7 @@ fn judge_default(scope: &mut Scope<'_>, default: &Option<Constant>, kind: Option
     }
 }
 
-fn core_body(scope: &mut Scope<'_>, body: &Body, promise: Promise) -> Result<Vec<CoreLine>>
+fn core_body(scope: &mut Scope<'_>, body: &Body, promise: Promise) -> Made<Vec<CoreLine>>
     ensures grows { OnOk result (Grows scope.old scope.new) }
     ensures in_range { ScopeInRange scope.old → PromiseInRange (scope_bounds scope.old).functions promise →
         IfOk result (λ lines. BlockInRange (scope_bounds scope.new) (block_of lines.items)) }
@@ -101,7 +101,7 @@ fn assemble(
     promise: Promise,
     parameters: Vec<CoreType>,
     body: Vec<CoreLine>,
-) -> Result<CoreFunction>
+) -> Made<CoreFunction>
     ensures in_range { ScopeInRange scope.now → vec_len parameters ≤ vec_len scope.now.locals.kinds → All (TypeInRange (scope_bounds scope.now).functions) parameters.items →
         PromiseInRange (scope_bounds scope.now).functions promise → BlockInRange (scope_bounds scope.now) (block_of body.items) →
         IfOk result (λ made. FunctionInRange (scope_bounds scope.now).functions (scope_bounds scope.now).variables (function_of made)) }
@@ -126,7 +126,7 @@ fn assemble(
     })
 }
 
-fn known_types(alloc: Global, kinds: &[Option<CoreType>]) -> Result<Vec<CoreType>>
+fn known_types(alloc: Global, kinds: &[Option<CoreType>]) -> Made<Vec<CoreType>>
     ensures { IfOk result (λ found. found.items ≡ map known kinds.now) }
 {
     let mut found = Vec::with_capacity(alloc, kinds.len())?;
@@ -146,7 +146,7 @@ fn result_of(promise: Promise) -> Option<CoreType>
 }
 
 /// An equal text, where there is one.
-pub(crate) fn clone_text(alloc: Global, text: &Option<Text>) -> Result<Option<Text>>
+pub(crate) fn clone_text(alloc: Global, text: &Option<Text>) -> Made<Option<Text>>
     ensures { IfOk result (λ found. found ≡ text.now) }
 {
     match text {

@@ -10,14 +10,14 @@ ghost use Rattle.type_rules.specs.Variables.{core_variable_head, variable_head};
 ghost use Rattle.type_scope.specs.Sources.{declaration, of_property, of_variable};
 
 use crate::functions::{clone_text, core_function};
-use crate::work::{Result, ScriptRules};
+use crate::work::ScriptRules;
 use core_tree::{
     Core, CoreAccess, CoreFunction, CoreLine, CoreProperty, CoreState, CoreStatement, CoreType,
     CoreVariable, Value,
 };
 use expression_rules::{TypeRule, default_of, kind_of, value_of};
 use line_parser::Constant;
-use papy_base::{Name, OutOfMemory};
+use papy_base::{Made, Name, OutOfMemory};
 use script_parser::{Function, Property, PropertyForm, Script, State, Variable};
 use std::alloc::Global;
 use type_scope::{Kind, Source};
@@ -26,7 +26,7 @@ use type_scope::{Kind, Source};
 const CONSTANT_GET_SIZE: u32 = 2;
 
 /// The variables of the script, those of its Auto properties among them, in order of line.
-pub(crate) fn core_variables(work: &mut ScriptRules<'_>) -> Result<Vec<CoreVariable>>
+pub(crate) fn core_variables(work: &mut ScriptRules<'_>) -> Made<Vec<CoreVariable>>
     ensures kept { KeepsScript work.old work.new }
     ensures heads { IfOk result (λ found. map core_variable_head found.items ≡ map (variable_head (set_of work.old)) (map declaration work.old.layout.now.sources.items)) }
     ensures count { IfOk result (λ found. vec_len found ≡ variables_of work.old) }
@@ -40,7 +40,7 @@ pub(crate) fn core_variables(work: &mut ScriptRules<'_>) -> Result<Vec<CoreVaria
     Ok(found)
 }
 
-fn source_variable(work: &mut ScriptRules<'_>, source: &Source<'_>) -> Result<CoreVariable>
+fn source_variable(work: &mut ScriptRules<'_>, source: &Source<'_>) -> Made<CoreVariable>
     ensures kept { KeepsScript work.old work.new }
     ensures head { IfOk result (λ made. core_variable_head made ≡ variable_head (set_of work.old) (declaration source.now)) }
     ensures in_range { IfOk result (VariableInRange (functions_of work.old)) }
@@ -51,7 +51,7 @@ fn source_variable(work: &mut ScriptRules<'_>, source: &Source<'_>) -> Result<Co
     }
 }
 
-fn declared_variable(work: &mut ScriptRules<'_>, variable: &Variable) -> Result<CoreVariable>
+fn declared_variable(work: &mut ScriptRules<'_>, variable: &Variable) -> Made<CoreVariable>
     ensures kept { KeepsScript work.old work.new }
     ensures head { IfOk result (λ made. core_variable_head made ≡ variable_head (set_of work.old) (of_variable variable.now)) }
     ensures in_range { IfOk result (VariableInRange (functions_of work.old)) }
@@ -66,7 +66,7 @@ fn declared_variable(work: &mut ScriptRules<'_>, variable: &Variable) -> Result<
 }
 
 // The variable in which an Auto property keeps its value.
-fn property_variable(work: &mut ScriptRules<'_>, property: &Property) -> Result<CoreVariable>
+fn property_variable(work: &mut ScriptRules<'_>, property: &Property) -> Made<CoreVariable>
     ensures kept { KeepsScript work.old work.new }
     ensures head { IfOk result (λ made. core_variable_head made ≡ variable_head (set_of work.old) (of_property property.now)) }
     ensures in_range { IfOk result (VariableInRange (functions_of work.old)) }
@@ -84,7 +84,7 @@ fn property_value(
     work: &mut ScriptRules<'_>,
     property: &Property,
     kind: Option<CoreType>,
-) -> Result<Value>
+) -> Made<Value>
     ensures kept { KeepsScript work.old work.new }
     ensures in_range { IfOk result LiteralInRange }
 {
@@ -95,7 +95,7 @@ fn property_value(
 }
 
 // The name of the variable of the Auto property of this name.
-fn variable_name(alloc: Global, property: &Name) -> Result<Name>
+fn variable_name(alloc: Global, property: &Name) -> Made<Name>
     ensures { IfOk result (λ name. name ≡ codes "::" ++ property.now ++ codes "_var") }
 {
     let mut bytes = b"::".to_vec(alloc)?;
@@ -108,7 +108,7 @@ fn variable_name(alloc: Global, property: &Name) -> Result<Name>
 pub(crate) fn core_properties(
     work: &mut ScriptRules<'_>,
     properties: &[Property],
-) -> Result<Vec<CoreProperty>>
+) -> Made<Vec<CoreProperty>>
     ensures heads { IfOk result (λ found. map core_property_head found.items ≡ map (property_head (set_of work.old)) properties.now) }
     ensures kept { OnOk result (KeepsScript work.old work.new) }
     ensures in_range { WorkInRange work.old → IfOk result (λ found. All (CorePropertyInRange work.old) found.items) }
@@ -124,7 +124,7 @@ fn core_property(
     work: &mut ScriptRules<'_>,
     place: usize,
     property: &Property,
-) -> Result<CoreProperty>
+) -> Made<CoreProperty>
     ensures head { IfOk result (λ made. core_property_head made ≡ property_head (set_of work.old) property.now) }
     ensures kept { OnOk result (KeepsScript work.old work.new) }
     ensures in_range { WorkInRange work.old → IfOk result (CorePropertyInRange work.old) }
@@ -148,7 +148,7 @@ fn core_access(
     place: usize,
     property: &Property,
     kind: Option<CoreType>,
-) -> Result<CoreAccess>
+) -> Made<CoreAccess>
     ensures head { IfOk result (λ access. core_access_head access ≡ access_head (set_of work.old) (known kind) property.now.line property.now.form) }
     ensures kept { OnOk result (KeepsScript work.old work.new) }
     ensures in_range { WorkInRange work.old → ResultInRange (functions_of work.old) kind →
@@ -174,7 +174,7 @@ fn constant_get(
     line: u16,
     constant: &Constant,
     kind: Option<CoreType>,
-) -> Result<CoreFunction>
+) -> Made<CoreFunction>
     ensures head { IfOk result (λ made. core_function_head made ≡ constant_get (known kind) line) }
     ensures kept { OnOk result (KeepsScript work.old work.new) }
     ensures in_range { ResultInRange (functions_of work.old) kind → IfOk result (CoreFunctionInRange work.old) }
@@ -227,7 +227,7 @@ fn is_get(name: &Name) -> bool
     name.as_bytes().eq_ignore_ascii_case(b"Get")
 }
 
-fn full_access(work: &mut ScriptRules<'_>, functions: &[Function]) -> Result<CoreAccess>
+fn full_access(work: &mut ScriptRules<'_>, functions: &[Function]) -> Made<CoreAccess>
     ensures head { IfOk result (λ access. core_access_head access
         ≡ ByFunctions (option_map (function_head (set_of work.old)) (getter functions.now)) (option_map (function_head (set_of work.old)) (setter functions.now))) }
     ensures kept { OnOk result (KeepsScript work.old work.new) }
@@ -245,7 +245,7 @@ fn full_access(work: &mut ScriptRules<'_>, functions: &[Function]) -> Result<Cor
 }
 
 /// The states of the script, the empty state first.
-pub(crate) fn core_states(work: &mut ScriptRules<'_>, script: &Script) -> Result<Vec<CoreState>>
+pub(crate) fn core_states(work: &mut ScriptRules<'_>, script: &Script) -> Made<Vec<CoreState>>
     ensures heads { IfOk result (λ found. map core_state_head found.items ≡ state_heads (set_of work.old) script.now) }
     ensures kept { OnOk result (KeepsScript work.old work.new) }
     ensures in_range { WorkInRange work.old → IfOk result (λ found. All (CoreStateInRange work.old) found.items) }
@@ -261,7 +261,7 @@ pub(crate) fn core_states(work: &mut ScriptRules<'_>, script: &Script) -> Result
     Ok(found)
 }
 
-fn core_state(work: &mut ScriptRules<'_>, name: Name, functions: &[Function]) -> Result<CoreState>
+fn core_state(work: &mut ScriptRules<'_>, name: Name, functions: &[Function]) -> Made<CoreState>
     ensures head { IfOk result (λ made. core_state_head made ≡ record { name = name; functions = map (function_head (set_of work.old)) functions.now }) }
     ensures kept { OnOk result (KeepsScript work.old work.new) }
     ensures in_range { WorkInRange work.old → IfOk result (CoreStateInRange work.old) }
@@ -271,7 +271,7 @@ fn core_state(work: &mut ScriptRules<'_>, name: Name, functions: &[Function]) ->
 }
 
 // The functions of a state, in their order.
-fn core_functions(work: &mut ScriptRules<'_>, functions: &[Function]) -> Result<Vec<CoreFunction>>
+fn core_functions(work: &mut ScriptRules<'_>, functions: &[Function]) -> Made<Vec<CoreFunction>>
     ensures heads { IfOk result (λ found. map core_function_head found.items ≡ map (function_head (set_of work.old)) functions.now) }
     ensures kept { OnOk result (KeepsScript work.old work.new) }
     ensures in_range { WorkInRange work.old → IfOk result (λ found. All (CoreFunctionInRange work.old) found.items) }
@@ -284,7 +284,7 @@ fn core_functions(work: &mut ScriptRules<'_>, functions: &[Function]) -> Result<
 }
 
 /// The name of the first Auto state.
-pub(crate) fn auto_state(alloc: Global, states: &[State]) -> Result<Option<Name>>
+pub(crate) fn auto_state(alloc: Global, states: &[State]) -> Made<Option<Name>>
     ensures { IfOk result (λ found. found ≡ auto_state_of states.now) }
 {
     for state in states {
@@ -303,7 +303,7 @@ fn first_value(
     line: u16,
     constant: &Option<Constant>,
     kind: Option<CoreType>,
-) -> Result<Value>
+) -> Made<Value>
     ensures kept { KeepsScript work.old work.new }
     ensures in_range { IfOk result LiteralInRange }
 {
@@ -319,7 +319,7 @@ fn constant_value(
     line: u16,
     constant: &Constant,
     kind: Option<CoreType>,
-) -> Result<Value>
+) -> Made<Value>
     ensures kept { KeepsScript work.old work.new }
     ensures in_range { IfOk result LiteralInRange }
 {
@@ -343,7 +343,7 @@ fn holds_none(kind: CoreType) -> bool {
 }
 
 /// The value with which a thing of this type begins that is given none.
-pub(crate) fn initial_value(alloc: Global, kind: Option<CoreType>) -> Result<Value>
+pub(crate) fn initial_value(alloc: Global, kind: Option<CoreType>) -> Made<Value>
     ensures { IfOk result LiteralInRange }
 {
     match kind {

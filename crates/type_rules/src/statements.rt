@@ -7,11 +7,10 @@ ghost use Rattle.expression_rules.specs.Scopes.{Keeps, ScopeInRange, scope_bound
 ghost use Rattle.type_rules.specs.Ranges.{Grows, PromiseInRange};
 
 use crate::members::initial_value;
-use crate::work::Result;
 use core_tree::{Core, CoreLine, CoreStatement, CoreType};
 use expression_rules::{Scope, TypeRule};
 use line_parser::{Expr, TypeName};
-use papy_base::{Name, OutOfMemory};
+use papy_base::{Made, Name, OutOfMemory};
 use script_parser::{Statement, StatementForm};
 
 /// The most blocks that stand inside each other: the body of a function, and 64 `If` and `While` in it.
@@ -33,7 +32,7 @@ pub(crate) fn core_block(
     statements: &[Statement],
     promise: Promise,
     depth: u8,
-) -> Result<Vec<CoreLine>>
+) -> Made<Vec<CoreLine>>
     ensures grows { OnOk result (Grows scope.old scope.new) }
     ensures in_range { ScopeInRange scope.old → PromiseInRange (scope_bounds scope.old).functions promise →
         IfOk result (λ lines. BlockInRange (scope_bounds scope.new) (block_of lines.items)) }
@@ -60,7 +59,7 @@ fn core_statement(
     form: &StatementForm,
     promise: Promise,
     depth: u8,
-) -> Result<CoreStatement>
+) -> Made<CoreStatement>
     ensures grows { OnOk result (Grows scope.old scope.new) }
     ensures in_range { ScopeInRange scope.old → PromiseInRange (scope_bounds scope.old).functions promise →
         IfOk result (FormInRange (scope_bounds scope.new)) }
@@ -98,7 +97,7 @@ fn branches(
     tests: &[(u16, Expr, Vec<Statement>)],
     promise: Promise,
     depth: u8,
-) -> Result<Vec<(u16, Core, Vec<CoreLine>)>>
+) -> Made<Vec<(u16, Core, Vec<CoreLine>)>>
     ensures grows { OnOk result (Grows scope.old scope.new) }
     ensures in_range { ScopeInRange scope.old → PromiseInRange (scope_bounds scope.old).functions promise →
         IfOk result (λ tests. BranchesInRange (scope_bounds scope.new) (branches_of tests.items)) }
@@ -119,7 +118,7 @@ fn definition(
     kind: &TypeName,
     name: &Name,
     value: &Option<Expr>,
-) -> Result<CoreStatement>
+) -> Made<CoreStatement>
     ensures grows { OnOk result (Grows scope.old scope.new) }
     ensures in_range { ScopeInRange scope.old → IfOk result (FormInRange (scope_bounds scope.new)) }
 {
@@ -130,7 +129,7 @@ fn definition(
 }
 
 // The value that is written, or where none is that of the type.
-fn local_value(scope: &mut Scope<'_>, value: &Option<Expr>, kind: Option<CoreType>) -> Result<Core>
+fn local_value(scope: &mut Scope<'_>, value: &Option<Expr>, kind: Option<CoreType>) -> Made<Core>
     ensures kept { Keeps scope.old scope.new }
     ensures in_range { ScopeInRange scope.old → ResultInRange (scope_bounds scope.old).functions kind → IfOk result (CoreInRange (scope_bounds scope.old)) }
 {
@@ -145,7 +144,7 @@ fn return_statement(
     scope: &mut Scope<'_>,
     value: &Option<Expr>,
     promise: Promise,
-) -> Result<CoreStatement>
+) -> Made<CoreStatement>
     ensures kept { Keeps scope.old scope.new }
     ensures in_range { ScopeInRange scope.old → PromiseInRange (scope_bounds scope.old).functions promise → IfOk result (FormInRange (scope_bounds scope.old)) }
 {

@@ -10,12 +10,8 @@ use crate::sizes::Sizes;
 use core_tree::CoreType;
 use expression_rules::{Notes, Scope, TypeRule};
 use line_parser::TypeName;
-use papy_base::OutOfMemory;
 use std::mem;
 use type_scope::{Catalog, Layout};
-
-/// What is made, unless there is no memory for it.
-pub(crate) type Result<T> = std::result::Result<T, OutOfMemory>;
 
 /// A script while it is judged: what its names mean, and what was found so far.
 #[derive(Drop)]

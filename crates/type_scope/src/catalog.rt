@@ -9,7 +9,7 @@ ghost use Rattle.type_scope.specs.Types.{array_of, element_named, plain_type, si
 use crate::COMPARED_LIMIT;
 use core_tree::{CoreType, FunctionPlace};
 use line_parser::{Heading, TypeName};
-use papy_base::{LIBRARY_COUNT, Name, NameTable, OutOfMemory};
+use papy_base::{LIBRARY_COUNT, Made, Name, NameTable};
 use script_linker::{PropertyRef, ScriptSet};
 use script_parser::{Property, Script};
 use std::alloc::Global;
@@ -59,7 +59,7 @@ impl<'a> Catalog<'a> {
     ghost use Rattle.script_linker.specs.declared.set.SourceFile.{SourceFile};
 
     /// The catalog of a set.
-    pub fn new(alloc: Global, set: &'a ScriptSet) -> Result<Catalog<'a>, OutOfMemory>
+    pub fn new(alloc: Global, set: &'a ScriptSet) -> Made<Catalog<'a>>
         ensures { IfOk result (λ catalog. catalog.set.now ≡ set.now) }
     {
         let mut numbers = NameTable::new(alloc);

@@ -4,7 +4,7 @@ ghost use Rattle.type_scope.specs.Sources.{InOrderOfLine, auto_declarations, dec
 
 use crate::COMPARED_LIMIT;
 use line_parser::TypeName;
-use papy_base::{Name, NameTable, OutOfMemory};
+use papy_base::{Made, Name, NameTable};
 use script_parser::{Property, PropertyForm, Script, Variable};
 use std::alloc::Global;
 
@@ -53,7 +53,7 @@ pub struct Layout<'a> {
 
 impl<'a> Layout<'a> {
     /// The variables of this script.
-    pub fn new(alloc: Global, script: &'a Script) -> Result<Layout<'a>, OutOfMemory>
+    pub fn new(alloc: Global, script: &'a Script) -> Made<Layout<'a>>
         ensures { IfOk result (λ layout. InOrderOfLine (declarations script.now) (map declaration layout.sources.items)) }
     {
         let sources = sources_of(alloc, script)?;
@@ -101,7 +101,7 @@ impl<'a> Layout<'a> {
     }
 }
 
-fn sources_of<'a>(alloc: Global, script: &'a Script) -> Result<Vec<Source<'a>>, OutOfMemory>
+fn sources_of<'a>(alloc: Global, script: &'a Script) -> Made<Vec<Source<'a>>>
     ensures { IfOk result (λ sources. InOrderOfLine (declarations script.now) (map declaration sources.items)) }
 {
     let mut sources = declared_sources(alloc, script.variables.as_slice())?;
@@ -110,7 +110,7 @@ fn sources_of<'a>(alloc: Global, script: &'a Script) -> Result<Vec<Source<'a>>, 
     Ok(sources)
 }
 
-fn declared_sources(alloc: Global, variables: &[Variable]) -> Result<Vec<Source<'_>>, OutOfMemory>
+fn declared_sources(alloc: Global, variables: &[Variable]) -> Made<Vec<Source<'_>>>
     ensures { IfOk result (λ sources. map declaration sources.items ≡ map of_variable variables.now) }
 {
     let mut sources = Vec::with_capacity(alloc, variables.len())?;
@@ -120,10 +120,7 @@ fn declared_sources(alloc: Global, variables: &[Variable]) -> Result<Vec<Source<
     Ok(sources)
 }
 
-fn add_auto_sources<'a>(
-    sources: &mut Vec<Source<'a>>,
-    properties: &'a [Property],
-) -> Result<(), OutOfMemory>
+fn add_auto_sources<'a>(sources: &mut Vec<Source<'a>>, properties: &'a [Property]) -> Made<()>
     ensures { OnOk result
         (map declaration sources.new.items ≡ map declaration sources.old.items ++ auto_declarations properties.now) }
 {

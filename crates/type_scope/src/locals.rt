@@ -3,7 +3,7 @@ ghost use Rattle.std.specs.Prelude.{◌≡◌, [], ◌∷◌, ◌++◌, IfOk, If
 
 use crate::COMPARED_LIMIT;
 use core_tree::CoreType;
-use papy_base::{Name, OutOfMemory};
+use papy_base::{Made, Name};
 use std::alloc::Global;
 use std::collections::HashMap;
 
@@ -50,7 +50,7 @@ impl Locals {
     }
 
     /// Adds a local, which is seen from now on, and gives its number.
-    pub fn add(&mut self, name: &Name, kind: Option<CoreType>) -> Result<usize, OutOfMemory>
+    pub fn add(&mut self, name: &Name, kind: Option<CoreType>) -> Made<usize>
         ensures number { IfOk result (λ number. number ≡ vec_len self.old.kinds) }
         ensures added { OnOk result (self.new.kinds.items ≡ self.old.kinds.items ++ kind ∷ []) }
     {
