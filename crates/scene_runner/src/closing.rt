@@ -73,7 +73,9 @@ fn write_properties<S: Sink>(
 {
     let scripts = scripts_of(alloc, machine, instance)?;
     for script in scripts.iter().rev() {
-        write_declared(alloc, machine, instance, *script as u16, sink)?;
+        if let Ok(script) = u16::try_from(*script) {
+            write_declared(alloc, machine, instance, script, sink)?;
+        }
     }
     Ok(())
 }
