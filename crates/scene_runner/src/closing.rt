@@ -8,7 +8,7 @@ ghost use Rattle.scene_runner.specs.Report.{Closes};
 
 use crate::lines::{instance_line, property_line, stack_line, turns_line};
 use core_tree::OutlineProperty;
-use papy_base::{Made, lineage_of};
+use papy_base::{Made, upward};
 use papy_io::{IoFault, Sink};
 use stack_machine::{Machine, TurnFault};
 use std::alloc::Global;
@@ -73,9 +73,7 @@ fn write_properties<S: Sink>(
 {
     let scripts = scripts_of(alloc, machine, instance)?;
     for script in scripts.iter().rev() {
-        if let Ok(script) = u16::try_from(*script) {
-            write_declared(alloc, machine, instance, script, sink)?;
-        }
+        write_declared(alloc, machine, instance, *script, sink)?;
     }
     Ok(())
 }
@@ -119,9 +117,13 @@ fn properties_of(machine: &Machine, script: u16) -> &[OutlineProperty] {
 }
 
 // The script of an instance, and those above it in turn.
-fn scripts_of(alloc: Global, machine: &Machine, instance: u16) -> Made<Vec<usize>> {
-    match machine.scene().instances.get(usize::from(instance)) {
-        Some(bound) => lineage_of(alloc, &machine.outline().scripts, usize::from(bound.script)),
-        None => Ok(Vec::new(alloc)),
-    }
+fn scripts_of(alloc: Global, machine: &Machine, instance: u16) -> Made<Vec<u16>> {
+    let Some(bound) = machine.scene().instances.get(usize::from(instance)) else {
+        return Ok(Vec::new(alloc));
+    };
+    let way = upward(&machine.outline().scripts, usize::from(bound.script));
+    Ok(
+        way.filter_map(|script| u16::try_from(script).ok())
+            .collect(alloc)?,
+    )
 }
