@@ -6,7 +6,7 @@ use Rattle.pex_values.specs.declared.debug.PexLines.{PexLines}
 use Rattle.pex_values.specs.Opcodes.{operands_of}
 use Rattle.pex_values.specs.Plain.{plain_lines}
 use Rattle.pex_values.specs.Shape.{ArePair, IsShapedInstruction, IsShapedLines}
-use Rattle.code_emit.specs.declared.operand.Operand.{Operand}
+use Rattle.code_emit.specs.declared.operand.ValuePlace.{ValuePlace}
 use Rattle.code_emit.specs.Operands.{needs}
 
 -- how many strings and instructions there are, and the places of the jumps that haven't landed
@@ -45,7 +45,7 @@ abbrev pub landed : Written → ℕ → Written
 landed written ahead = record written { ahead = without written.ahead ahead }
 
 -- each operand names strings that are there
-abbrev pub AreThere : ℕ → List Operand → Type 0
+abbrev pub AreThere : ℕ → List ValuePlace → Type 0
 AreThere strings operands = AllByRecursion (λ operand. needs operand ≤ strings) operands
 
 -- an instruction of this opcode has so many fixed operands, the result among them, and no others

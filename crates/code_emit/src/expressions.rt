@@ -10,7 +10,7 @@ ghost use Rattle.code_emit.specs.Operands.{needs};
 ghost use Rattle.code_emit.specs.Writing.{GoesOn, AreThere, Leaps, Takes};
 
 use crate::faults::{EmitFault, Result};
-use crate::operand::{Operand, arith_opcode, order_opcode};
+use crate::operand::{ValuePlace, arith_opcode, order_opcode};
 use crate::strings::{Numbered, script_at};
 use crate::writer::Writer;
 use core_tree::{Core, CoreType, FunctionPlace, Value};
@@ -35,7 +35,7 @@ pub(crate) fn one_deeper(depth: u16) -> Result<u16>
 /// Appends the code of an expression, and gives the operand that has its value. `depth` counts operands behind the first
 /// one, so that a chain as `a + b + c` takes one level.
 #[cycle(expression)]
-pub(crate) fn value(writer: &mut Writer<'_>, expression: &Core, depth: u16) -> Result<Operand>
+pub(crate) fn value(writer: &mut Writer<'_>, expression: &Core, depth: u16) -> Result<ValuePlace>
     ensures operand { IfOk result (λ operand. needs operand ≤ writer.new.strings) }
     ensures goes { GoesOn writer.old writer.new }
 {
@@ -48,7 +48,7 @@ pub(crate) fn value(writer: &mut Writer<'_>, expression: &Core, depth: u16) -> R
         return form_value(writer, expression, first, depth);
     }
     let mut forms = spine(writer.alloc(), expression)?;
-    let mut operand = Operand::NoneValue;
+    let mut operand = ValuePlace::NoneValue;
     'forms: while let Some(form) = forms.pop() {
         operand = form_value(writer, form, operand, depth)?;
     }
@@ -57,24 +57,24 @@ pub(crate) fn value(writer: &mut Writer<'_>, expression: &Core, depth: u16) -> R
 
 // The value of a form without a first operand: one without operands, or a call without a target.
 #[cycle(expression)]
-fn leaf_value(writer: &mut Writer<'_>, form: &Core, depth: u16) -> Result<Operand>
+fn leaf_value(writer: &mut Writer<'_>, form: &Core, depth: u16) -> Result<ValuePlace>
     ensures operand { IfOk result (λ operand. needs operand ≤ writer.new.strings) }
     ensures goes { GoesOn writer.old writer.new }
 {
     match form {
         Core::Lit(literal) => constant(writer, literal),
-        Core::Local(number) => Ok(Operand::Word(writer.local(*number)?)),
+        Core::Local(number) => Ok(ValuePlace::Word(writer.local(*number)?)),
         Core::Field(number) => field(writer, *number),
-        Core::SelfValue => Ok(Operand::Word(writer.numbered(Numbered::OwnInstance)?)),
+        Core::SelfValue => Ok(ValuePlace::Word(writer.numbered(Numbered::OwnInstance)?)),
         Core::StateText => state_text(writer),
         Core::NewArray(kind, count) => new_array(writer, *kind, *count),
-        _ => call_value(writer, form, Operand::NoneValue, depth),
+        _ => call_value(writer, form, ValuePlace::NoneValue, depth),
     }
 }
 
 // Appends the code of a form whose first operand, where it has one, is evaluated.
 #[cycle(expression)]
-fn form_value(writer: &mut Writer<'_>, form: &Core, first: Operand, depth: u16) -> Result<Operand>
+fn form_value(writer: &mut Writer<'_>, form: &Core, first: ValuePlace, depth: u16) -> Result<ValuePlace>
     requires { needs first ≤ writer.old.strings }
     ensures operand { IfOk result (λ operand. needs operand ≤ writer.new.strings) }
     ensures goes { GoesOn writer.old writer.new }
@@ -109,7 +109,7 @@ fn form_value(writer: &mut Writer<'_>, form: &Core, first: Operand, depth: u16) 
 
 // Appends the code of a call whose target, where it has one, is evaluated.
 #[cycle(expression)]
-fn call_value(writer: &mut Writer<'_>, form: &Core, target: Operand, depth: u16) -> Result<Operand>
+fn call_value(writer: &mut Writer<'_>, form: &Core, target: ValuePlace, depth: u16) -> Result<ValuePlace>
     requires { needs target ≤ writer.old.strings }
     ensures operand { IfOk result (λ operand. needs operand ≤ writer.new.strings) }
     ensures goes { GoesOn writer.old writer.new }
@@ -120,11 +120,11 @@ fn call_value(writer: &mut Writer<'_>, form: &Core, target: Operand, depth: u16)
     match form {
         Core::CallMethod { name, .. } => {
             let of = writer.kept(target, up_to_last_call(called.0, depth) > 0)?;
-            let name = Operand::Word(writer.string(name.as_bytes())?);
+            let name = ValuePlace::Word(writer.string(name.as_bytes())?);
             call(writer, CALL_METHOD, &[name, of], called, depth)
         }
         Core::CallParent { name, .. } => {
-            let name = Operand::Word(writer.string(name.as_bytes())?);
+            let name = ValuePlace::Word(writer.string(name.as_bytes())?);
             call(writer, CALL_PARENT, &[name], called, depth)
         }
         Core::CallGlobal { at, .. } | Core::CallNative { at, .. } => {
@@ -166,37 +166,37 @@ fn called_by(form: &Core) -> Option<Called<'_>> {
 }
 
 /// The operand of a value that the tree has written out.
-pub(crate) fn constant(writer: &mut Writer<'_>, value: &Value) -> Result<Operand>
+pub(crate) fn constant(writer: &mut Writer<'_>, value: &Value) -> Result<ValuePlace>
     ensures operand { IfOk result (λ operand. needs operand ≤ writer.new.strings) }
     ensures goes { GoesOn writer.old writer.new }
 {
     match value {
-        Value::NoneValue => Ok(Operand::NoneValue),
-        Value::Int(number) => Ok(Operand::Int(*number)),
-        Value::Bool(truth) => Ok(Operand::Bool(*truth)),
-        Value::Text(text) => Ok(Operand::Text(writer.string(text.as_bytes())?)),
+        Value::NoneValue => Ok(ValuePlace::NoneValue),
+        Value::Int(number) => Ok(ValuePlace::Int(*number)),
+        Value::Bool(truth) => Ok(ValuePlace::Bool(*truth)),
+        Value::Text(text) => Ok(ValuePlace::Text(writer.string(text.as_bytes())?)),
         Value::Instance(_) | Value::Array(_) => Err(EmitFault::OutOfRange),
     }
 }
 
 /// The variable of this number.
-pub(crate) fn field(writer: &mut Writer<'_>, number: u16) -> Result<Operand>
+pub(crate) fn field(writer: &mut Writer<'_>, number: u16) -> Result<ValuePlace>
     ensures operand { IfOk result (λ operand. needs operand ≤ writer.new.strings) }
     ensures goes { GoesOn writer.old writer.new }
 {
     let (variable, name) = writer.variable(number)?;
     let kind = variable.kind;
-    Ok(Operand::Variable { name, kind })
+    Ok(ValuePlace::Variable { name, kind })
 }
 
 /// The name of the state.
-pub(crate) fn state_text(writer: &mut Writer<'_>) -> Result<Operand>
+pub(crate) fn state_text(writer: &mut Writer<'_>) -> Result<ValuePlace>
     ensures operand { IfOk result (λ operand. needs operand ≤ writer.new.strings) }
     ensures goes { GoesOn writer.old writer.new }
 {
     let name = writer.string(b"::State")?;
     let kind = CoreType::Text;
-    Ok(Operand::Variable { name, kind })
+    Ok(ValuePlace::Variable { name, kind })
 }
 
 /// The operand of an expression. Where calls come before it is read, it keeps the value that it has now.
@@ -207,7 +207,7 @@ pub(crate) fn kept_value(
     expression: &Core,
     before_calls: bool,
     depth: u16,
-) -> Result<Operand>
+) -> Result<ValuePlace>
     ensures operand { IfOk result (λ operand. needs operand ≤ writer.new.strings) }
     ensures goes { GoesOn writer.old writer.new }
 {
@@ -216,13 +216,13 @@ pub(crate) fn kept_value(
 }
 
 // The operand, with the value that it has before another expression is evaluated.
-fn kept_before(writer: &mut Writer<'_>, first: Operand, next: &Core, depth: u16) -> Result<Operand>
+fn kept_before(writer: &mut Writer<'_>, first: ValuePlace, next: &Core, depth: u16) -> Result<ValuePlace>
     requires { needs first ≤ writer.old.strings }
     ensures operand { IfOk result (λ operand. needs operand ≤ writer.new.strings) }
     ensures goes { GoesOn writer.old writer.new }
 {
     match first {
-        Operand::Variable { .. } => writer.kept(first, contains_call(next, depth)),
+        ValuePlace::Variable { .. } => writer.kept(first, contains_call(next, depth)),
         _ => Ok(first),
     }
 }
@@ -232,10 +232,10 @@ fn with_second(
     writer: &mut Writer<'_>,
     opcode: u8,
     kind: CoreType,
-    first: Operand,
+    first: ValuePlace,
     second: &Core,
     depth: u16,
-) -> Result<Operand>
+) -> Result<ValuePlace>
     requires opcode { Takes opcode 3 }
     requires first { needs first ≤ writer.old.strings }
     ensures operand { IfOk result (λ operand. needs operand ≤ writer.new.strings) }
@@ -250,11 +250,11 @@ fn with_second(
 fn find(
     writer: &mut Writer<'_>,
     opcode: u8,
-    array: Operand,
+    array: ValuePlace,
     searched: &Core,
     start: &Core,
     depth: u16,
-) -> Result<Operand>
+) -> Result<ValuePlace>
     requires opcode { Takes opcode 4 }
     requires array { needs array ≤ writer.old.strings }
     ensures operand { IfOk result (λ operand. needs operand ≤ writer.new.strings) }
@@ -269,12 +269,12 @@ fn find(
     Ok(place)
 }
 
-fn new_array(writer: &mut Writer<'_>, kind: CoreType, count: u8) -> Result<Operand>
+fn new_array(writer: &mut Writer<'_>, kind: CoreType, count: u8) -> Result<ValuePlace>
     ensures operand { IfOk result (λ operand. needs operand ≤ writer.new.strings) }
     ensures goes { GoesOn writer.old writer.new }
 {
     let array = array_of(kind).ok_or(EmitFault::OutOfRange)?;
-    writer.compute(ARRAY_CREATE, array, Operand::Int(i32::from(count)))
+    writer.compute(ARRAY_CREATE, array, ValuePlace::Int(i32::from(count)))
 }
 
 // The type of arrays with elements of this type.
@@ -291,17 +291,17 @@ fn array_of(element: CoreType) -> Option<CoreType> {
 /// Appends the use of a property of an instance.
 pub(crate) fn get_property(
     writer: &mut Writer<'_>,
-    of: Operand,
+    of: ValuePlace,
     name: &Name,
     kind: CoreType,
-) -> Result<Operand>
+) -> Result<ValuePlace>
     requires { needs of ≤ writer.old.strings }
     ensures operand { IfOk result (λ operand. needs operand ≤ writer.new.strings) }
     ensures goes { GoesOn writer.old writer.new }
 {
     let name = writer.string(name.as_bytes())?;
     let more = Vec::new(writer.alloc());
-    writer.call(PROPGET, &[Operand::Word(name), of], Some(kind), more)
+    writer.call(PROPGET, &[ValuePlace::Word(name), of], Some(kind), more)
 }
 
 // ---- calls: the arguments in order of writing, each placed at its parameter
@@ -314,10 +314,10 @@ type Called<'a> = (&'a [Core], &'a [u16], Option<CoreType>);
 fn call(
     writer: &mut Writer<'_>,
     opcode: u8,
-    operands: &[Operand],
+    operands: &[ValuePlace],
     called: Called<'_>,
     depth: u16,
-) -> Result<Operand>
+) -> Result<ValuePlace>
     requires opcode { operands_of opcode ≡ Some (suc (length operands.now), true) }
     requires operands { AreThere writer.old.strings operands.now }
     ensures operand { IfOk result (λ operand. needs operand ≤ writer.new.strings) }
@@ -333,7 +333,7 @@ fn call(
 
 // The operands of the arguments. Each keeps its value while those behind it are evaluated.
 #[cycle(expression)]
-fn argument_values(writer: &mut Writer<'_>, arguments: &[Core], depth: u16) -> Result<Vec<Operand>>
+fn argument_values(writer: &mut Writer<'_>, arguments: &[Core], depth: u16) -> Result<Vec<ValuePlace>>
     ensures operands { IfOk result (λ operands. AreThere writer.new.strings operands.items) }
     ensures goes { GoesOn writer.old writer.new }
 {
@@ -347,7 +347,7 @@ fn argument_values(writer: &mut Writer<'_>, arguments: &[Core], depth: u16) -> R
 }
 
 /// The names of the script and of a function of its empty state.
-fn global_names(writer: &mut Writer<'_>, at: FunctionPlace) -> Result<(Operand, Operand)>
+fn global_names(writer: &mut Writer<'_>, at: FunctionPlace) -> Result<(ValuePlace, ValuePlace)>
     ensures names { IfOk result (λ names. AreThere writer.new.strings (names.0 ∷ names.1 ∷ [])) }
     ensures goes { GoesOn writer.old writer.new }
 {
@@ -357,11 +357,11 @@ fn global_names(writer: &mut Writer<'_>, at: FunctionPlace) -> Result<(Operand, 
     let member = found.ok_or(EmitFault::OutOfRange)?;
     let script = writer.numbered(Numbered::Type(Some(CoreType::Script(at.script))))?;
     let function = writer.string(member.name.as_bytes())?;
-    Ok((Operand::Word(script), Operand::Word(function)))
+    Ok((ValuePlace::Word(script), ValuePlace::Word(function)))
 }
 
 // The operands in the order of their parameters.
-fn placed(alloc: Global, values: &[Operand], places: &[u16]) -> Result<Vec<Datum>>
+fn placed(alloc: Global, values: &[ValuePlace], places: &[u16]) -> Result<Vec<Datum>>
     ensures { IfOk result (λ found. (strings : ℕ) → AreThere strings values.now → AllByRecursion (IsShapedDatum strings) found.items) }
 {
     if places.len() != values.len() {
@@ -386,10 +386,10 @@ fn placed(alloc: Global, values: &[Operand], places: &[u16]) -> Result<Vec<Datum
 fn either(
     writer: &mut Writer<'_>,
     decided: bool,
-    left: Operand,
+    left: ValuePlace,
     right: &Core,
     depth: u16,
-) -> Result<Operand>
+) -> Result<ValuePlace>
     requires { needs left ≤ writer.old.strings }
     ensures operand { IfOk result (λ operand. needs operand ≤ writer.new.strings) }
     ensures goes { GoesOn writer.old writer.new }
@@ -415,7 +415,7 @@ fn jump_where(decided: bool, condition: Datum) -> JumpKind
 
 /// Appends the code of an expression, whose value goes to a variable.
 #[cycle(expression)]
-pub(crate) fn store_value(writer: &mut Writer<'_>, to: Operand, of: &Core, depth: u16) -> Result<()>
+pub(crate) fn store_value(writer: &mut Writer<'_>, to: ValuePlace, of: &Core, depth: u16) -> Result<()>
     requires { needs to ≤ writer.old.strings }
     ensures { GoesOn writer.old writer.new }
 {

@@ -37,7 +37,7 @@ pub(crate) fn order_opcode(order: Order) -> u8
 
 /// Where the value of an expression stands. A name or text is given by its place among the file's strings.
 #[derive(Clone, Copy)]
-pub(crate) enum Operand {
+pub(crate) enum ValuePlace {
     NoneValue,
     Int(i32),
     Bool(bool),
@@ -50,37 +50,37 @@ pub(crate) enum Operand {
     Temporary { name: u16, kind: u16 },
 }
 
-impl Operand {
+impl ValuePlace {
     /// The operand as the file has it.
     pub(crate) fn datum(self) -> Datum
         ensures value { result ≡ datum_of self }
         ensures within { IsWithin result }
     {
         match self {
-            Operand::NoneValue => Datum::NoneValue,
-            Operand::Int(number) => Datum::Int(number),
-            Operand::Bool(truth) => Datum::Bool(u8::from(truth)),
-            Operand::Text(text) => Datum::Quoted(text),
-            Operand::Word(name) => Datum::Word(name),
-            Operand::Variable { name, .. } => Datum::Word(name),
-            Operand::Temporary { name, .. } => Datum::Word(name),
+            ValuePlace::NoneValue => Datum::NoneValue,
+            ValuePlace::Int(number) => Datum::Int(number),
+            ValuePlace::Bool(truth) => Datum::Bool(u8::from(truth)),
+            ValuePlace::Text(text) => Datum::Quoted(text),
+            ValuePlace::Word(name) => Datum::Word(name),
+            ValuePlace::Variable { name, .. } => Datum::Word(name),
+            ValuePlace::Temporary { name, .. } => Datum::Word(name),
         }
     }
 
     /// The operand for an instruction after which it is read again.
-    pub(crate) fn lasting(self) -> Operand
+    pub(crate) fn lasting(self) -> ValuePlace
         ensures value { result ≡ lasting self }
         ensures strings { needs result ≡ needs self }
     {
         match self {
-            Operand::Temporary { name, .. } => Operand::Word(name),
+            ValuePlace::Temporary { name, .. } => ValuePlace::Word(name),
             other => other,
         }
     }
 }
 
 /// The operands as the file has them, and room for one more.
-pub(crate) fn data(alloc: Global, operands: &[Operand]) -> Made<Vec<Datum>>
+pub(crate) fn data(alloc: Global, operands: &[ValuePlace]) -> Made<Vec<Datum>>
     ensures values { IfOk result (λ found. found.items ≡ map datum_of operands.now) }
     ensures within { IfOk result (λ found. AllByRecursion IsWithin found.items) }
 {

@@ -9,7 +9,7 @@ use crate::expressions::{
     store_value, value,
 };
 use crate::faults::Result;
-use crate::operand::{Operand, arith_opcode};
+use crate::operand::{ValuePlace, arith_opcode};
 use crate::writer::Writer;
 use core_tree::{Arith, Core, CoreLine, CoreStatement, CoreType};
 use jump_patch::{Ahead, JumpKind, Mark};
@@ -38,7 +38,7 @@ fn statement(writer: &mut Writer<'_>, statement: &CoreStatement, depth: u16) -> 
     let depth = one_deeper(depth)?;
     match statement {
         CoreStatement::SetLocal(number, to) => {
-            let place = Operand::Word(writer.local(*number)?);
+            let place = ValuePlace::Word(writer.local(*number)?);
             store_value(writer, place, to, depth)
         }
         CoreStatement::SetField(number, to) => {
@@ -77,7 +77,7 @@ fn give(writer: &mut Writer<'_>, of: &Option<Core>, depth: u16) -> Result<()>
 {
     let of = match of {
         Some(of) => value(writer, of, depth)?,
-        None => Operand::NoneValue,
+        None => ValuePlace::NoneValue,
     };
     writer.act(RETURN, &[of])
 }
@@ -194,7 +194,7 @@ fn set_property(
     let of = kept_value(writer, of, contains_call(to, depth), depth)?;
     let to = value(writer, to, depth)?;
     let name = writer.string(name.as_bytes())?;
-    writer.act(PROPSET, &[Operand::Word(name), of, to])
+    writer.act(PROPSET, &[ValuePlace::Word(name), of, to])
 }
 
 /// The property is read, then the right side is evaluated, then it is written.
@@ -215,7 +215,7 @@ fn change_property(
     let right = value(writer, right, depth)?;
     let new = writer.combine(arith_opcode(operation), kind, old, right)?;
     let name = writer.string(name.as_bytes())?;
-    writer.act(PROPSET, &[Operand::Word(name), of, new])
+    writer.act(PROPSET, &[ValuePlace::Word(name), of, new])
 }
 
 fn set_element(
@@ -239,7 +239,7 @@ fn element(
     index: &Core,
     next: &Core,
     depth: u16,
-) -> Result<(Operand, Operand)>
+) -> Result<(ValuePlace, ValuePlace)>
     ensures operands { IfOk result (λ operands. AreThere writer.new.strings (operands.0 ∷ operands.1 ∷ [])) }
     ensures goes { GoesOn writer.old writer.new }
 {

@@ -28,14 +28,14 @@ pub(crate) enum Numbered {
 
 /// The strings so far. Contracts see them as a list, in which none stands twice.
 #[derive(Drop)]
-pub(crate) struct Strings {
+pub(crate) struct StringTable {
     alloc: Global,
     numbers: IndexSet<Vec<u8>>,
     // The places of numbered names that were looked up already.
     noted: Vec<Option<u16>>,
 }
 
-impl Model for Strings {
+impl Model for StringTable {
     ghost use Rattle.std.specs.Prelude.{ℕ, ◌≤◌, List, length, map};
     ghost use Rattle.code_emit.specs.Strings.{AreNoted};
 
@@ -46,12 +46,12 @@ impl Model for Strings {
     ghost invariant = { λ s. (length s.numbers.keys ≤ 65535) × AreNoted (length s.numbers.keys) s.noted.items };
 }
 
-impl Strings {
+impl StringTable {
     /// No strings.
-    pub(crate) fn new(alloc: Global) -> Strings
+    pub(crate) fn new(alloc: Global) -> StringTable
         ensures { result ≡ [] }
     {
-        Strings {
+        StringTable {
             alloc,
             numbers: IndexSet::new(alloc),
             noted: Vec::new(alloc),

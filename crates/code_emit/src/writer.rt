@@ -13,8 +13,8 @@ ghost use Rattle.code_emit.specs.Writing.{GoesOn, Leaps, AreThere, Takes, landed
 
 use crate::emitter::DebugName;
 use crate::faults::{EmitFault, Result};
-use crate::operand::{Operand, data};
-use crate::strings::{Numbered, Strings, name_bytes};
+use crate::operand::{ValuePlace, data};
+use crate::strings::{Numbered, StringTable, name_bytes};
 use core_tree::{CoreFunction, CoreScript, CoreSet, CoreType, CoreVariable};
 use jump_patch::{Ahead, Code, CodeBuffer, JumpKind, Mark};
 use papy_base::Text;
@@ -40,7 +40,7 @@ pub(crate) struct Writer<'a> {
     alloc: Global,
     set: &'a CoreSet,
     script: &'a CoreScript,
-    strings: Strings,
+    strings: StringTable,
     debug: Vec<PexLines>,
     code: CodeBuffer,
     count: usize,
@@ -76,7 +76,7 @@ impl<'a> Writer<'a> {
             alloc,
             set,
             script,
-            strings: Strings::new(alloc),
+            strings: StringTable::new(alloc),
             debug: Vec::new(alloc),
             code: CodeBuffer::new(alloc),
             count: 0,
@@ -238,7 +238,7 @@ impl<'a> Writer<'a> {
     }
 
     /// A temporary of this type that isn't still to be read.
-    pub(crate) fn take(&mut self, kind: CoreType) -> Result<Operand>
+    pub(crate) fn take(&mut self, kind: CoreType) -> Result<ValuePlace>
         ensures operand { IfOk result (λ operand. needs operand ≤ self.new.strings) }
         ensures goes { GoesOn self.old self.new }
     {
@@ -247,7 +247,7 @@ impl<'a> Writer<'a> {
             Some(name) => name,
             None => self.new_local(kind)?,
         };
-        Ok(Operand::Temporary { name, kind })
+        Ok(ValuePlace::Temporary { name, kind })
     }
 
     fn take_spare(&mut self, kind: u16) -> Option<u16>
@@ -292,7 +292,7 @@ impl<'a> Writer<'a> {
         opcode: u8,
         fixed: Vec<Datum>,
         more: Vec<Datum>,
-        read: &[Operand],
+        read: &[ValuePlace],
     ) -> Result<()>
         requires agrees { AgreesWith (operands_of opcode) (length fixed.items) (length more.items) }
         requires fixed { AllByRecursion (IsShapedDatum self.old.strings) fixed.items }
@@ -309,11 +309,11 @@ impl<'a> Writer<'a> {
     }
 
     /// Gives a temporary back that is read no more.
-    pub(crate) fn give_back(&mut self, operand: Operand) -> Result<()>
+    pub(crate) fn give_back(&mut self, operand: ValuePlace) -> Result<()>
         requires { needs operand ≤ self.old.strings }
         ensures { self.new ≡ self.old }
     {
-        if let Operand::Temporary { name, kind } = operand {
+        if let ValuePlace::Temporary { name, kind } = operand {
             self.spare.push((kind, name))?;
         }
         Ok(())
@@ -321,7 +321,7 @@ impl<'a> Writer<'a> {
 
     /// Gives back the temporaries among operands that are read no more.
     #[inline(always)]
-    pub(crate) fn give_all_back(&mut self, operands: &[Operand]) -> Result<()>
+    pub(crate) fn give_all_back(&mut self, operands: &[ValuePlace]) -> Result<()>
         requires { AreThere self.old.strings operands.now }
         ensures { self.new ≡ self.old }
     {
@@ -332,7 +332,7 @@ impl<'a> Writer<'a> {
     }
 
     /// Writes an instruction without a result, and gives back the temporaries that it reads.
-    pub(crate) fn act(&mut self, opcode: u8, operands: &[Operand]) -> Result<()>
+    pub(crate) fn act(&mut self, opcode: u8, operands: &[ValuePlace]) -> Result<()>
         requires opcode { Takes opcode (length operands.now) }
         requires operands { AreThere self.old.strings operands.now }
         ensures { GoesOn self.old self.new }
@@ -343,7 +343,7 @@ impl<'a> Writer<'a> {
     }
 
     /// Writes an instruction whose result stands before its operand, and gives that back where it is a temporary.
-    pub(crate) fn compute(&mut self, opcode: u8, kind: CoreType, of: Operand) -> Result<Operand>
+    pub(crate) fn compute(&mut self, opcode: u8, kind: CoreType, of: ValuePlace) -> Result<ValuePlace>
         requires opcode { Takes opcode 2 }
         requires of { needs of ≤ self.old.strings }
         ensures operand { IfOk result (λ operand. needs operand ≤ self.new.strings) }
@@ -355,7 +355,7 @@ impl<'a> Writer<'a> {
     }
 
     /// As `compute`, into a variable that is there.
-    pub(crate) fn store(&mut self, opcode: u8, place: Operand, of: Operand) -> Result<()>
+    pub(crate) fn store(&mut self, opcode: u8, place: ValuePlace, of: ValuePlace) -> Result<()>
         requires opcode { Takes opcode 2 }
         requires place { needs place ≤ self.old.strings }
         requires of { needs of ≤ self.old.strings }
@@ -371,9 +371,9 @@ impl<'a> Writer<'a> {
         &mut self,
         opcode: u8,
         kind: CoreType,
-        left: Operand,
-        right: Operand,
-    ) -> Result<Operand>
+        left: ValuePlace,
+        right: ValuePlace,
+    ) -> Result<ValuePlace>
         requires opcode { Takes opcode 3 }
         requires left { needs left ≤ self.old.strings }
         requires right { needs right ≤ self.old.strings }
@@ -392,10 +392,10 @@ impl<'a> Writer<'a> {
     pub(crate) fn call(
         &mut self,
         opcode: u8,
-        operands: &[Operand],
+        operands: &[ValuePlace],
         kind: Option<CoreType>,
         more: Vec<Datum>,
-    ) -> Result<Operand>
+    ) -> Result<ValuePlace>
         requires agrees { AgreesWith (operands_of opcode) (suc (length operands.now)) (length more.items) }
         requires operands { AreThere self.old.strings operands.now }
         requires more { AllByRecursion (IsShapedDatum self.old.strings) more.items }
@@ -410,25 +410,25 @@ impl<'a> Writer<'a> {
     }
 
     // The variable that takes the result of a call.
-    fn place_for(&mut self, kind: Option<CoreType>) -> Result<Operand>
+    fn place_for(&mut self, kind: Option<CoreType>) -> Result<ValuePlace>
         ensures operand { IfOk result (λ operand. needs operand ≤ self.new.strings) }
         ensures goes { GoesOn self.old self.new }
     {
         match kind {
             Some(kind) => self.take(kind),
-            None => Ok(Operand::Word(self.none_variable()?)),
+            None => Ok(ValuePlace::Word(self.none_variable()?)),
         }
     }
 
     /// The operand, or where calls come before it is read and may change it, a temporary with its value.
     #[inline(never)]
-    pub(crate) fn kept(&mut self, operand: Operand, before_calls: bool) -> Result<Operand>
+    pub(crate) fn kept(&mut self, operand: ValuePlace, before_calls: bool) -> Result<ValuePlace>
         requires { needs operand ≤ self.old.strings }
         ensures operand { IfOk result (λ operand. needs operand ≤ self.new.strings) }
         ensures goes { GoesOn self.old self.new }
     {
         match (before_calls, operand) {
-            (true, Operand::Variable { kind, .. }) => self.compute(ASSIGN, kind, operand),
+            (true, ValuePlace::Variable { kind, .. }) => self.compute(ASSIGN, kind, operand),
             _ => Ok(operand),
         }
     }

@@ -10,7 +10,7 @@ use std::test::Fail;
 
 /// What a call answered: its status, and what it wrote.
 #[derive(Drop)]
-pub(crate) struct Answer {
+pub(crate) struct CommandAnswer {
     pub(crate) status: u8,
     pub(crate) out: MemorySink,
     pub(crate) notes: MemorySink,
@@ -47,7 +47,7 @@ pub(crate) fn call_failing(
     words: &[String],
     out: &[u32],
     notes: &[u32],
-) -> Result<Answer, Fail>
+) -> Result<CommandAnswer, Fail>
     requires { desk.old.busy ≡ Idle }
     ensures { desk.new.busy ≡ Idle }
 {
@@ -55,5 +55,5 @@ pub(crate) fn call_failing(
     let mut notes = sink(alloc, notes)?;
     let mut devices = four_devices(alloc)?;
     let status = papyrus(alloc, words, desk, &mut out, &mut notes, &mut devices);
-    Ok(Answer { status, out, notes })
+    Ok(CommandAnswer { status, out, notes })
 }

@@ -1,7 +1,7 @@
 ghost use Rattle.std.specs.Prelude.{◌≡◌, IfOk};
 ghost use Rattle.papy_io.specs.Activity.{Idle};
 
-use crate::calls::{Answer, call_failing, words_of};
+use crate::calls::{CommandAnswer, call_failing, words_of};
 use command_files::{Ending, Place, Rule};
 use latent_natives::Device;
 use papy_io::{MemoryDesk, MemorySink};
@@ -46,7 +46,7 @@ fn desk_with(alloc: Global, failing: &[u32]) -> Result<MemoryDesk, Fail>
 /// What a command is to answer: its status, and what it writes to `out` and to `notes`.
 type Wanted<'a> = (u8, &'a [u8], &'a [u8]);
 
-fn is_answer(answer: &Answer, wanted: Wanted<'_>) -> bool {
+fn is_answer(answer: &CommandAnswer, wanted: Wanted<'_>) -> bool {
     answer.status == wanted.0 && answer.out.bytes() == wanted.1 && answer.notes.bytes() == wanted.2
 }
 

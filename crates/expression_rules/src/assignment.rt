@@ -4,9 +4,9 @@ ghost use Rattle.core_tree.specs.InRange.{Bounds, ResultInRange, TypeInRange};
 ghost use Rattle.expression_rules.specs.Operations.{sign_of_change};
 ghost use Rattle.expression_rules.specs.Ranges.{CoreInRange, FormInRange, TypedInRange, TargetInRange, ContextInRange, bounds_of};
 
-use crate::names::{Access, Resolved};
+use crate::names::{PropertyUse, Resolved};
 use crate::operators::operand_type;
-use crate::rule::{Notes, TypeRule};
+use crate::rule::{ScriptNotes, TypeRule};
 use crate::scope::{Context, Typed};
 use core_tree::{Arith, Core, CoreStatement, CoreType, Value};
 use line_parser::Expr;
@@ -58,7 +58,7 @@ impl Context<'_> {
     /// An assignment, also one such as `+=`.
     pub fn assign(
         &self,
-        notes: &mut Notes,
+        notes: &mut ScriptNotes,
         target: &Expr,
         sign: Sign,
         right: &Expr,
@@ -67,9 +67,9 @@ impl Context<'_> {
     {
         let change = change_of(sign);
         let access = if change.is_some() {
-            Access::Change
+            PropertyUse::Change
         } else {
-            Access::Write
+            PropertyUse::Write
         };
         let target = self.target(notes, target, access)?;
         let right = self.value(notes, right)?;
@@ -80,7 +80,7 @@ impl Context<'_> {
     }
 
     // What is assigned to.
-    fn target(&self, notes: &mut Notes, target: &Expr, access: Access) -> Made<Target>
+    fn target(&self, notes: &mut ScriptNotes, target: &Expr, access: PropertyUse) -> Made<Target>
         ensures { ContextInRange self.now → IfOk result (TargetInRange (bounds_of self.now)) }
     {
         match target {
@@ -108,7 +108,7 @@ impl Context<'_> {
         }
     }
 
-    fn word_target(&self, notes: &mut Notes, name: &Name, access: Access) -> Made<Target>
+    fn word_target(&self, notes: &mut ScriptNotes, name: &Name, access: PropertyUse) -> Made<Target>
         ensures { ContextInRange self.now → IfOk result (TargetInRange (bounds_of self.now)) }
     {
         match self.resolve(name) {
@@ -131,11 +131,11 @@ impl Context<'_> {
 
     fn property_target(
         &self,
-        notes: &mut Notes,
+        notes: &mut ScriptNotes,
         of: Box<Core>,
         at: PropertyRef,
         name: &Name,
-        access: Access,
+        access: PropertyUse,
     ) -> Made<Target>
         ensures { CoreInRange (bounds_of self.now) of.value → IfOk result (TargetInRange (bounds_of self.now)) }
     {
@@ -147,7 +147,7 @@ impl Context<'_> {
         Ok(Target::Property(of, name, kind))
     }
 
-    fn element_target(&self, notes: &mut Notes, of: &Expr, at: &Expr) -> Made<Target>
+    fn element_target(&self, notes: &mut ScriptNotes, of: &Expr, at: &Expr) -> Made<Target>
         ensures { ContextInRange self.now → IfOk result (TargetInRange (bounds_of self.now)) }
     {
         let array = self.value(notes, of)?;
@@ -160,7 +160,7 @@ impl Context<'_> {
     }
 
     // `=`
-    fn store(&self, notes: &mut Notes, target: Target, value: Typed) -> Made<CoreStatement>
+    fn store(&self, notes: &mut ScriptNotes, target: Target, value: Typed) -> Made<CoreStatement>
         ensures { TargetInRange (bounds_of self.now) target → TypedInRange (bounds_of self.now) value → IfOk result (FormInRange (bounds_of self.now)) }
     {
         let core = self.convert(notes, value, target.kind())?;
@@ -172,7 +172,7 @@ impl Context<'_> {
     // the new value, so both have the type of the operation.
     fn change(
         &self,
-        notes: &mut Notes,
+        notes: &mut ScriptNotes,
         target: Target,
         sign: Sign,
         value: Typed,

@@ -6,7 +6,7 @@ ghost use Rattle.expression_rules.specs.Ranges.{CoreInRange, TypedInRange, Given
 
 use crate::conversions::{default_fits, kind_of, value_of};
 use crate::names::element_kind;
-use crate::rule::{Notes, TypeRule};
+use crate::rule::{ScriptNotes, TypeRule};
 use crate::scope::{Context, Typed};
 use core_tree::{Core, CoreType, FunctionPlace};
 use line_parser::{Constant, Heading, Parameter, TypeName};
@@ -24,7 +24,7 @@ pub(crate) struct Given<'t> {
 /// A call as it is written: the function's name, and the arguments. These are kept with the last one
 /// first, so that each is taken from the end.
 #[derive(Drop)]
-pub(crate) struct Call<'t> {
+pub(crate) struct WrittenCall<'t> {
     pub(crate) name: &'t Name,
     pub(crate) given: Vec<Given<'t>>,
 }
@@ -158,7 +158,7 @@ enum CallForm<'t> {
 
 impl<'s> Context<'s> {
     /// `name(arguments)`: a function of the script or of a parent, else a Global one of an import.
-    pub fn plain_call(&self, notes: &mut Notes, call: Call<'_>) -> Made<Typed>
+    pub fn plain_call(&self, notes: &mut ScriptNotes, call: WrittenCall<'_>) -> Made<Typed>
         ensures { GivenInRange (bounds_of self.now) call.entry.given.items → IfOk result (TypedInRange (bounds_of self.now)) }
     {
         let Some(callee) = self.plain_callee(call.name) else {
@@ -182,7 +182,7 @@ impl<'s> Context<'s> {
     }
 
     /// `Parent.name(arguments)`
-    pub fn parent_call(&self, notes: &mut Notes, call: Call<'_>) -> Made<Typed>
+    pub fn parent_call(&self, notes: &mut ScriptNotes, call: WrittenCall<'_>) -> Made<Typed>
         ensures { GivenInRange (bounds_of self.now) call.entry.given.items → IfOk result (TypedInRange (bounds_of self.now)) }
     {
         self.needs_instance(notes);
@@ -197,7 +197,7 @@ impl<'s> Context<'s> {
 
     /// `word.name(arguments)` where the word names no value: a Global function of the script of that name, or
     /// of a parent of it.
-    pub fn script_call(&self, notes: &mut Notes, word: &Name, call: Call<'_>) -> Made<Typed>
+    pub fn script_call(&self, notes: &mut ScriptNotes, word: &Name, call: WrittenCall<'_>) -> Made<Typed>
         ensures { GivenInRange (bounds_of self.now) call.entry.given.items → IfOk result (TypedInRange (bounds_of self.now)) }
     {
         let Some(script) = self.catalog.find_script(word) else {
@@ -213,7 +213,7 @@ impl<'s> Context<'s> {
 
     fn global_call(
         &self,
-        notes: &mut Notes,
+        notes: &mut ScriptNotes,
         callee: Callee<'_>,
         given: Vec<Given<'_>>,
     ) -> Made<Typed>
@@ -227,7 +227,7 @@ impl<'s> Context<'s> {
     }
 
     /// `of.name(arguments)`: a search in an array, or a function of the value's script or of a parent.
-    pub fn member_call(&self, notes: &mut Notes, of: Typed, call: Call<'_>) -> Made<Typed>
+    pub fn member_call(&self, notes: &mut ScriptNotes, of: Typed, call: WrittenCall<'_>) -> Made<Typed>
         ensures { TypedInRange (bounds_of self.now) of → GivenInRange (bounds_of self.now) call.entry.given.items → IfOk result (TypedInRange (bounds_of self.now)) }
     {
         if of.kind == Kind::Unknown {
@@ -260,7 +260,7 @@ impl<'s> Context<'s> {
     // A call of a function with this heading. It keeps its type where a rule is broken in its arguments.
     fn call(
         &self,
-        notes: &mut Notes,
+        notes: &mut ScriptNotes,
         form: CallForm<'_>,
         heading: &Heading,
         given: Vec<Given<'_>>,
@@ -331,10 +331,10 @@ impl<'s> Context<'s> {
     // `.Find` and `.RFind`
     fn search_call(
         &self,
-        notes: &mut Notes,
+        notes: &mut ScriptNotes,
         array: Box<Core>,
         element: CoreType,
-        call: Call<'_>,
+        call: WrittenCall<'_>,
     ) -> Made<Typed>
         ensures { CoreInRange (bounds_of self.now) array.value → TypeInRange (bounds_of self.now).functions element → GivenInRange (bounds_of self.now) call.entry.given.items → IfOk result (TypedInRange (bounds_of self.now)) }
     {
@@ -371,7 +371,7 @@ impl<'s> Context<'s> {
     // There are none where a rule is broken in them, or where too many defaults are written out.
     fn place_arguments(
         &self,
-        notes: &mut Notes,
+        notes: &mut ScriptNotes,
         given: Vec<Given<'_>>,
         parameters: Parameters<'_>,
     ) -> Made<Option<Arguments>>
@@ -398,7 +398,7 @@ impl<'s> Context<'s> {
     // Gives the parameter at this place an argument.
     fn place_argument(
         &self,
-        notes: &mut Notes,
+        notes: &mut ScriptNotes,
         found: &mut Arguments,
         parameters: Parameters<'_>,
         place: Option<usize>,
@@ -417,7 +417,7 @@ impl<'s> Context<'s> {
     // Gives each parameter that has none its default argument.
     fn add_defaults(
         &self,
-        notes: &mut Notes,
+        notes: &mut ScriptNotes,
         found: &mut Arguments,
         parameters: Parameters<'_>,
     ) -> Made<()>
@@ -436,7 +436,7 @@ impl<'s> Context<'s> {
     // Gives a parameter its default argument, and whether there is one, unless there are too many already.
     fn add_default(
         &self,
-        notes: &mut Notes,
+        notes: &mut ScriptNotes,
         found: &mut Arguments,
         parameters: Parameters<'_>,
         place: usize,
@@ -464,7 +464,7 @@ impl<'s> Context<'s> {
     // function that declares it.
     fn default_argument(
         &self,
-        notes: &mut Notes,
+        notes: &mut ScriptNotes,
         default: &Constant,
         kind: Option<CoreType>,
     ) -> Made<Box<Core>>

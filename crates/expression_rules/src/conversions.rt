@@ -6,7 +6,7 @@ ghost use Rattle.expression_rules.specs.Constants.{default_value, constant_value
 ghost use Rattle.expression_rules.specs.Conversions.{prints};
 ghost use Rattle.expression_rules.specs.Ranges.{CoreInRange, TypedInRange, bounds_of};
 
-use crate::rule::{Notes, TypeRule};
+use crate::rule::{ScriptNotes, TypeRule};
 use crate::scope::{Context, Typed};
 use core_tree::{Core, CoreType, Value};
 use line_parser::{Constant, TypeName};
@@ -63,7 +63,7 @@ pub fn default_fits(catalog: &Catalog<'_>, constant: &Constant, kind: Option<Cor
 
 impl Context<'_> {
     /// The tree of a value as this type: the value's own where it has the type, else with a `Cast`.
-    pub fn convert(&self, notes: &mut Notes, of: Typed, to: Option<CoreType>) -> Made<Box<Core>>
+    pub fn convert(&self, notes: &mut ScriptNotes, of: Typed, to: Option<CoreType>) -> Made<Box<Core>>
         ensures { (b : Bounds) → ResultInRange b.functions to → TypedInRange b of → IfOk result (λ core. CoreInRange b core.value) }
     {
         let Some(to) = to else {
@@ -80,7 +80,7 @@ impl Context<'_> {
     }
 
     /// `as`
-    pub fn cast(&self, notes: &mut Notes, of: Typed, to: &TypeName) -> Made<Typed>
+    pub fn cast(&self, notes: &mut ScriptNotes, of: Typed, to: &TypeName) -> Made<Typed>
         ensures { TypedInRange (bounds_of self.now) of → IfOk result (TypedInRange (bounds_of self.now)) }
     {
         let Some(to) = self.kind_named(notes, to) else {

@@ -3,8 +3,8 @@ ghost use Rattle.std.specs.Prelude.{◌<◌, IfOk, IfSome};
 ghost use Rattle.line_parser.specs.declared.tree.Expr.{size-Expr as size_of};
 ghost use Rattle.expression_rules.specs.Ranges.{TypedInRange, GivenInRange, ContextInRange, bounds_of};
 
-use crate::calls::{Call, Given};
-use crate::rule::{Notes, TypeRule};
+use crate::calls::{WrittenCall, Given};
+use crate::rule::{ScriptNotes, TypeRule};
 use crate::scope::{Context, Typed};
 use core_tree::{CoreType, Value};
 use line_parser::{Argument, Expr};
@@ -18,14 +18,14 @@ const DEPTH_LIMIT: u16 = 512;
 
 impl Context<'_> {
     /// An expression. Its kind is `Nothing` where it calls a function without result.
-    pub fn any(&self, notes: &mut Notes, tree: &Expr) -> Made<Typed>
+    pub fn any(&self, notes: &mut ScriptNotes, tree: &Expr) -> Made<Typed>
         ensures { ContextInRange self.now → IfOk result (TypedInRange (bounds_of self.now)) }
     {
         self.expression(notes, tree, DEPTH_LIMIT)
     }
 
     /// An expression whose value is needed. `NoValue` is broken where it has none.
-    pub fn value(&self, notes: &mut Notes, tree: &Expr) -> Made<Typed>
+    pub fn value(&self, notes: &mut ScriptNotes, tree: &Expr) -> Made<Typed>
         ensures { ContextInRange self.now → IfOk result (TypedInRange (bounds_of self.now)) }
     {
         let value = self.any(notes, tree)?;
@@ -33,7 +33,7 @@ impl Context<'_> {
     }
 
     // The same where a value is needed.
-    fn used(&self, notes: &mut Notes, value: Typed) -> Typed
+    fn used(&self, notes: &mut ScriptNotes, value: Typed) -> Typed
         ensures { TypedInRange (bounds_of self.now) value → TypedInRange (bounds_of self.now) result }
     {
         if value.kind != Kind::Nothing {
@@ -48,7 +48,7 @@ impl Context<'_> {
 
     // An expression. `OutOfMemory` is also the answer where it is deeper than any line's.
     #[cycle(expression)]
-    fn expression(&self, notes: &mut Notes, tree: &Expr, depth: u16) -> Made<Typed>
+    fn expression(&self, notes: &mut ScriptNotes, tree: &Expr, depth: u16) -> Made<Typed>
         ensures { ContextInRange self.now → IfOk result (TypedInRange (bounds_of self.now)) }
     {
         let Some(inner) = depth.checked_sub(1) else {
@@ -70,7 +70,7 @@ impl Context<'_> {
     #[cycle(expression)]
     fn first(
         &self,
-        notes: &mut Notes,
+        notes: &mut ScriptNotes,
         tree: &Expr,
         step: &mut Option<&Expr>,
         depth: u16,
@@ -89,11 +89,11 @@ impl Context<'_> {
             Expr::Word(name) => self.word(notes, name, step, depth),
             Expr::Call { name, arguments } => {
                 let given = self.given(notes, arguments.as_slice(), depth)?;
-                self.plain_call(notes, Call { name, given })
+                self.plain_call(notes, WrittenCall { name, given })
             }
             Expr::ParentCall { name, arguments } => {
                 let given = self.given(notes, arguments.as_slice(), depth)?;
-                self.parent_call(notes, Call { name, given })
+                self.parent_call(notes, WrittenCall { name, given })
             }
             Expr::NewArray { element, count } => self.new_array(notes, element, *count),
             // The others begin with another expression.
@@ -105,7 +105,7 @@ impl Context<'_> {
     #[cycle(expression)]
     fn word(
         &self,
-        notes: &mut Notes,
+        notes: &mut ScriptNotes,
         word: &Name,
         step: &mut Option<&Expr>,
         depth: u16,
@@ -124,7 +124,7 @@ impl Context<'_> {
                 },
             ) => {
                 let given = self.given(notes, arguments.as_slice(), depth)?;
-                self.script_call(notes, word, Call { name, given })
+                self.script_call(notes, word, WrittenCall { name, given })
             }
             Some(Expr::Member { .. } | Expr::Length { .. }) => self.member_of_word(notes, word),
             _ => self.broken(notes, TypeRule::UnknownName),
@@ -133,7 +133,7 @@ impl Context<'_> {
 
     // What is done to the value of the part that an expression begins with.
     #[cycle(expression)]
-    fn step(&self, notes: &mut Notes, of: Typed, tree: &Expr, depth: u16) -> Made<Typed>
+    fn step(&self, notes: &mut ScriptNotes, of: Typed, tree: &Expr, depth: u16) -> Made<Typed>
         ensures { ContextInRange self.now → TypedInRange (bounds_of self.now) of → IfOk result (TypedInRange (bounds_of self.now)) }
     {
         let of = self.used(notes, of);
@@ -146,7 +146,7 @@ impl Context<'_> {
                 ..
             } => {
                 let given = self.given(notes, arguments.as_slice(), depth)?;
-                self.member_call(notes, of, Call { name, given })
+                self.member_call(notes, of, WrittenCall { name, given })
             }
             Expr::Index { at, .. } => {
                 let at = self.expression(notes, at, depth)?;
@@ -169,7 +169,7 @@ impl Context<'_> {
     #[cycle(expression)]
     fn given<'t>(
         &self,
-        notes: &mut Notes,
+        notes: &mut ScriptNotes,
         arguments: &'t [Argument],
         depth: u16,
     ) -> Made<Vec<Given<'t>>>

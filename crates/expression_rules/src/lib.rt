@@ -12,5 +12,5 @@ mod rule;
 mod scope;
 
 pub use conversions::{default_fits, default_of, kind_of, value_of};
-pub use rule::{Notes, TypeRule};
+pub use rule::{ScriptNotes, TypeRule};
 pub use scope::Scope;

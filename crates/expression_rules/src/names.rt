@@ -5,7 +5,7 @@ ghost use Rattle.type_scope.specs.Scope.{KindInRange};
 ghost use Rattle.type_scope.specs.Types.{signatures};
 ghost use Rattle.expression_rules.specs.Ranges.{CoreInRange, TypedInRange, ResolvedInRange, ContextInRange, bounds_of};
 
-use crate::rule::{Notes, TypeRule};
+use crate::rule::{ScriptNotes, TypeRule};
 use crate::scope::{Context, Typed};
 use core_tree::{Core, CoreType};
 use papy_base::{Made, Name};
@@ -27,7 +27,7 @@ pub(crate) enum Resolved {
 
 /// What is done with a property.
 #[derive(Clone, Copy, PartialEq, Eq)]
-pub(crate) enum Access {
+pub(crate) enum PropertyUse {
     Read,
     Write,
     /// Read and then written.
@@ -53,7 +53,7 @@ impl Context<'_> {
     }
 
     /// The value of a word that names this.
-    pub fn read_word(&self, notes: &mut Notes, resolved: Resolved, name: &Name) -> Made<Typed>
+    pub fn read_word(&self, notes: &mut ScriptNotes, resolved: Resolved, name: &Name) -> Made<Typed>
         ensures { ResolvedInRange (bounds_of self.now) resolved → IfOk result (TypedInRange (bounds_of self.now)) }
     {
         match resolved {
@@ -72,7 +72,7 @@ impl Context<'_> {
     }
 
     /// `Self`
-    pub fn instance(&self, notes: &mut Notes) -> Made<Typed>
+    pub fn instance(&self, notes: &mut ScriptNotes) -> Made<Typed>
         ensures { ContextInRange self.now → IfOk result (TypedInRange (bounds_of self.now)) }
     {
         self.needs_instance(notes);
@@ -80,7 +80,7 @@ impl Context<'_> {
     }
 
     /// A member of a word that names no value. It may name a script, which has no members.
-    pub fn member_of_word(&self, notes: &mut Notes, word: &Name) -> Made<Typed>
+    pub fn member_of_word(&self, notes: &mut ScriptNotes, word: &Name) -> Made<Typed>
         ensures { IfOk result (TypedInRange (bounds_of self.now)) }
     {
         match self.catalog.find_script(word) {
@@ -90,7 +90,7 @@ impl Context<'_> {
     }
 
     /// `of.name`, read.
-    pub fn member(&self, notes: &mut Notes, of: Typed, name: &Name) -> Made<Typed>
+    pub fn member(&self, notes: &mut ScriptNotes, of: Typed, name: &Name) -> Made<Typed>
         ensures { TypedInRange (bounds_of self.now) of → IfOk result (TypedInRange (bounds_of self.now)) }
     {
         match self.property_of(notes, of.kind, name) {
@@ -100,7 +100,7 @@ impl Context<'_> {
     }
 
     /// The property of this name that values of the type have.
-    pub fn property_of(&self, notes: &mut Notes, kind: Kind, name: &Name) -> Option<PropertyRef> {
+    pub fn property_of(&self, notes: &mut ScriptNotes, kind: Kind, name: &Name) -> Option<PropertyRef> {
         let found = match kind {
             Kind::Unknown => return None,
             Kind::Of(CoreType::Script(script)) => self.catalog.find_property(script, name),
@@ -115,14 +115,14 @@ impl Context<'_> {
     // The value of a property: a variable, where it is an own Auto property of the frame's instance.
     fn read_property(
         &self,
-        notes: &mut Notes,
+        notes: &mut ScriptNotes,
         of: Box<Core>,
         at: PropertyRef,
         name: &Name,
     ) -> Made<Typed>
         ensures { CoreInRange (bounds_of self.now) of.value → IfOk result (TypedInRange (bounds_of self.now)) }
     {
-        let Some(kind) = self.kind_for(notes, at, Access::Read) else {
+        let Some(kind) = self.kind_for(notes, at, PropertyUse::Read) else {
             return self.unknown();
         };
         if let Some(number) = self.own_variable(&of, at) {
@@ -138,7 +138,7 @@ impl Context<'_> {
     }
 
     /// A property's type. `PropertyDirection` is broken where it can't be used so.
-    pub fn kind_for(&self, notes: &mut Notes, at: PropertyRef, access: Access) -> Option<CoreType>
+    pub fn kind_for(&self, notes: &mut ScriptNotes, at: PropertyRef, access: PropertyUse) -> Option<CoreType>
         ensures { ResultInRange (signatures self.now.catalog.now.set.now) result }
     {
         let property = self.catalog.property(at)?;
@@ -161,7 +161,7 @@ impl Context<'_> {
     }
 
     /// `of.Length`
-    pub fn length(&self, notes: &mut Notes, of: Typed) -> Made<Typed>
+    pub fn length(&self, notes: &mut ScriptNotes, of: Typed) -> Made<Typed>
         ensures { TypedInRange (bounds_of self.now) of → IfOk result (TypedInRange (bounds_of self.now)) }
     {
         if of.kind != Kind::Unknown && element_kind(of.kind).is_none() {
@@ -171,7 +171,7 @@ impl Context<'_> {
     }
 
     /// `of[at]`, read.
-    pub fn element(&self, notes: &mut Notes, of: Typed, at: Typed) -> Made<Typed>
+    pub fn element(&self, notes: &mut ScriptNotes, of: Typed, at: Typed) -> Made<Typed>
         ensures { TypedInRange (bounds_of self.now) of → TypedInRange (bounds_of self.now) at → IfOk result (TypedInRange (bounds_of self.now)) }
     {
         let at = self.convert(notes, at, Some(CoreType::Int))?;
@@ -182,7 +182,7 @@ impl Context<'_> {
     }
 
     /// The type of the elements of what `[ ]` stands on.
-    pub fn indexed(&self, notes: &mut Notes, kind: Kind) -> Option<CoreType>
+    pub fn indexed(&self, notes: &mut ScriptNotes, kind: Kind) -> Option<CoreType>
         ensures { (functions : Signatures) → KindInRange functions kind → ResultInRange functions result }
     {
         let element = element_kind(kind);
@@ -193,7 +193,7 @@ impl Context<'_> {
     }
 
     /// `New word[count]`
-    pub fn new_array(&self, notes: &mut Notes, word: &Name, count: i32) -> Made<Typed>
+    pub fn new_array(&self, notes: &mut ScriptNotes, word: &Name, count: i32) -> Made<Typed>
         ensures { IfOk result (TypedInRange (bounds_of self.now)) }
     {
         let size = array_size(count);
@@ -208,13 +208,13 @@ impl Context<'_> {
     }
 }
 
-fn allows(property: &Property, access: Access) -> bool {
+fn allows(property: &Property, access: PropertyUse) -> bool {
     match &property.form {
         PropertyForm::Auto(_) => true,
-        PropertyForm::ReadOnly(_) => access == Access::Read,
+        PropertyForm::ReadOnly(_) => access == PropertyUse::Read,
         PropertyForm::Full(functions) => {
-            (access == Access::Write || has(functions.as_slice(), b"get"))
-                && (access == Access::Read || has(functions.as_slice(), b"set"))
+            (access == PropertyUse::Write || has(functions.as_slice(), b"get"))
+                && (access == PropertyUse::Read || has(functions.as_slice(), b"set"))
         }
     }
 }

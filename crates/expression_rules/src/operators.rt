@@ -4,7 +4,7 @@ ghost use Rattle.expression_rules.specs.Operations.{whole_operation, operation_o
 ghost use Rattle.expression_rules.specs.Ranges.{TypedInRange, bounds_of};
 
 use crate::conversions::{common_type, prints};
-use crate::rule::{Notes, TypeRule};
+use crate::rule::{ScriptNotes, TypeRule};
 use crate::scope::{Context, Typed};
 use core_tree::{Arith, Core, CoreType, Order};
 use papy_base::Made;
@@ -15,7 +15,7 @@ const INT: Kind = Kind::Of(CoreType::Int);
 
 impl Context<'_> {
     /// `-of` or `!of`
-    pub fn unary(&self, notes: &mut Notes, sign: Sign, of: Typed) -> Made<Typed>
+    pub fn unary(&self, notes: &mut ScriptNotes, sign: Sign, of: Typed) -> Made<Typed>
         ensures { TypedInRange (bounds_of self.now) of → IfOk result (TypedInRange (bounds_of self.now)) }
     {
         if of.kind == Kind::Unknown {
@@ -32,7 +32,7 @@ impl Context<'_> {
     }
 
     /// A sign between two values.
-    pub fn binary(&self, notes: &mut Notes, sign: Sign, left: Typed, right: Typed) -> Made<Typed>
+    pub fn binary(&self, notes: &mut ScriptNotes, sign: Sign, left: Typed, right: Typed) -> Made<Typed>
         ensures { TypedInRange (bounds_of self.now) left → TypedInRange (bounds_of self.now) right → IfOk result (TypedInRange (bounds_of self.now)) }
     {
         if left.kind == Kind::Unknown || right.kind == Kind::Unknown {
@@ -54,7 +54,7 @@ impl Context<'_> {
     }
 
     // `&&` and `||`
-    fn logical(&self, notes: &mut Notes, sign: Sign, left: Typed, right: Typed) -> Made<Typed>
+    fn logical(&self, notes: &mut ScriptNotes, sign: Sign, left: Typed, right: Typed) -> Made<Typed>
         ensures { TypedInRange (bounds_of self.now) left → TypedInRange (bounds_of self.now) right → IfOk result (TypedInRange (bounds_of self.now)) }
     {
         let left = self.convert(notes, left, Some(CoreType::Bool))?;
@@ -66,7 +66,7 @@ impl Context<'_> {
         }
     }
 
-    fn equal(&self, notes: &mut Notes, left: Typed, right: Typed) -> Made<Typed>
+    fn equal(&self, notes: &mut ScriptNotes, left: Typed, right: Typed) -> Made<Typed>
         ensures { TypedInRange (bounds_of self.now) left → TypedInRange (bounds_of self.now) right → IfOk result (TypedInRange (bounds_of self.now)) }
     {
         let to = common_type(self.catalog, left.kind, right.kind);
@@ -78,7 +78,7 @@ impl Context<'_> {
         self.known(Core::Equal(left, right), CoreType::Bool)
     }
 
-    fn compare(&self, notes: &mut Notes, order: Order, left: Typed, right: Typed) -> Made<Typed>
+    fn compare(&self, notes: &mut ScriptNotes, order: Order, left: Typed, right: Typed) -> Made<Typed>
         ensures { TypedInRange (bounds_of self.now) left → TypedInRange (bounds_of self.now) right → IfOk result (TypedInRange (bounds_of self.now)) }
     {
         if left.kind != INT || right.kind != INT {
@@ -88,7 +88,7 @@ impl Context<'_> {
     }
 
     // Arithmetic on whole numbers, or two texts joined.
-    fn arithmetic(&self, notes: &mut Notes, sign: Sign, left: Typed, right: Typed) -> Made<Typed>
+    fn arithmetic(&self, notes: &mut ScriptNotes, sign: Sign, left: Typed, right: Typed) -> Made<Typed>
         ensures { TypedInRange (bounds_of self.now) left → TypedInRange (bounds_of self.now) right → IfOk result (TypedInRange (bounds_of self.now)) }
     {
         match self.operation(notes, sign, left.kind, right.kind) {
@@ -100,7 +100,7 @@ impl Context<'_> {
         }
     }
 
-    fn join(&self, notes: &mut Notes, left: Typed, right: Typed) -> Made<Typed>
+    fn join(&self, notes: &mut ScriptNotes, left: Typed, right: Typed) -> Made<Typed>
         ensures { TypedInRange (bounds_of self.now) left → TypedInRange (bounds_of self.now) right → IfOk result (TypedInRange (bounds_of self.now)) }
     {
         let left = self.convert(notes, left, Some(CoreType::Text))?;
@@ -109,7 +109,7 @@ impl Context<'_> {
     }
 
     /// What a sign does with values of these types. `Operand` is broken where it does nothing with them.
-    pub fn operation(&self, notes: &mut Notes, sign: Sign, left: Kind, right: Kind) -> Option<Arith>
+    pub fn operation(&self, notes: &mut ScriptNotes, sign: Sign, left: Kind, right: Kind) -> Option<Arith>
         ensures { result ≡ operation_of sign left right }
     {
         let found = operation_of(sign, left, right);

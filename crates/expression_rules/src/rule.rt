@@ -64,7 +64,7 @@ impl TypeRule {
 /// The first broken rule of a script, and the different texts that its calls write out: default texts, and
 /// the names of Global functions as they are declared.
 #[derive(Drop)]
-pub struct Notes {
+pub struct ScriptNotes {
     alloc: Global,
     first: Option<(u16, TypeRule)>,
     texts: HashSet<Vec<u8>>,
@@ -72,12 +72,12 @@ pub struct Notes {
     defaults: u32,
 }
 
-impl Notes {
+impl ScriptNotes {
     /// Nothing noted.
-    pub fn new(alloc: Global) -> Notes
+    pub fn new(alloc: Global) -> ScriptNotes
         ensures { result.first ≡ None }
     {
-        Notes {
+        ScriptNotes {
             alloc,
             first: None,
             texts: HashSet::new(alloc),

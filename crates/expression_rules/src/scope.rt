@@ -7,7 +7,7 @@ ghost use Rattle.expression_rules.specs.Ranges.{CoreInRange, FormInRange, TypedI
 ghost use Rattle.expression_rules.specs.Rules.{IsFirst};
 ghost use Rattle.expression_rules.specs.Scopes.{Keeps, ScopeInRange, scope_bounds};
 
-use crate::rule::{Notes, TypeRule};
+use crate::rule::{ScriptNotes, TypeRule};
 use core_tree::{Core, CoreStatement, CoreType, Value};
 use line_parser::{Expr, TypeName};
 use papy_base::{Made, Name};
@@ -78,7 +78,7 @@ impl Context<'_> {
     }
 
     /// The same where this rule is broken.
-    pub fn broken(&self, notes: &mut Notes, rule: TypeRule) -> Made<Typed>
+    pub fn broken(&self, notes: &mut ScriptNotes, rule: TypeRule) -> Made<Typed>
         ensures noted { IsSome notes.new.first }
         ensures least { IfSome notes.new.first (IsFirst notes.old.first self.now.line rule) }
         ensures in_range { IfOk result (TypedInRange (bounds_of self.now)) }
@@ -95,7 +95,7 @@ impl Context<'_> {
     }
 
     /// Notes that a rule is broken.
-    pub fn fault(&self, notes: &mut Notes, rule: TypeRule)
+    pub fn fault(&self, notes: &mut ScriptNotes, rule: TypeRule)
         ensures noted { IsSome notes.new.first }
         ensures least { IfSome notes.new.first (IsFirst notes.old.first self.now.line rule) }
     {
@@ -103,7 +103,7 @@ impl Context<'_> {
     }
 
     /// Notes that something needs an instance, which a Global function has not.
-    pub fn needs_instance(&self, notes: &mut Notes)
+    pub fn needs_instance(&self, notes: &mut ScriptNotes)
         ensures { IsTrue self.now.is_global → IsSome notes.new.first }
     {
         if self.is_global {
@@ -112,7 +112,7 @@ impl Context<'_> {
     }
 
     /// The type of this name. `UnknownType` is broken where there is none.
-    pub fn kind_named(&self, notes: &mut Notes, name: &TypeName) -> Option<CoreType>
+    pub fn kind_named(&self, notes: &mut ScriptNotes, name: &TypeName) -> Option<CoreType>
         ensures found { result ≡ type_named self.now.catalog.now.set.now name.now }
         ensures in_range { ResultInRange (signatures self.now.catalog.now.set.now) result }
         ensures noted { IfNone result (IsSome notes.new.first) }
@@ -152,7 +152,7 @@ pub struct Scope<'a> {
     pub line: u16,
     /// The function's parameters and locals.
     pub locals: Locals,
-    pub notes: Notes,
+    pub notes: ScriptNotes,
 }
 
 impl<'a> Scope<'a> {
@@ -163,7 +163,7 @@ impl<'a> Scope<'a> {
         script: u16,
         is_global: bool,
         line: u16,
-        notes: Notes,
+        notes: ScriptNotes,
     ) -> Scope<'a>
         ensures catalog { result.catalog ≡ catalog.entry }
         ensures layout { result.layout ≡ layout.entry }
@@ -183,7 +183,7 @@ impl<'a> Scope<'a> {
     }
 
     /// What was noted.
-    pub fn into_notes(self) -> Notes
+    pub fn into_notes(self) -> ScriptNotes
         ensures { result ≡ self.entry.notes }
     {
         self.notes

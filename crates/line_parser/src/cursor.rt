@@ -10,13 +10,13 @@ use std::alloc::Global;
 
 /// The tokens of a line that are still to be read.
 #[derive(Drop)]
-pub(crate) struct Cursor<'a> {
+pub(crate) struct TokenCursor<'a> {
     pub(crate) alloc: Global,
     pub(crate) types: &'a TypeWords,
     pub(crate) rest: &'a [Spanned],
 }
 
-impl<'a> Cursor<'a> {
+impl<'a> TokenCursor<'a> {
     pub(crate) fn next_sign(&self) -> Option<Sign>
         ensures { IsSome result → 0 < length self.now.rest.now }
     {

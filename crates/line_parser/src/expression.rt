@@ -1,7 +1,7 @@
 // The grammar of expressions, one function for each production.
 ghost use Rattle.std.specs.Prelude.{◌≡◌, ◌+◌, ◌<◌, ◌≤◌, length, OnOk, IfOk};
 
-use crate::cursor::{Cursor, is_sign_at};
+use crate::cursor::{TokenCursor, is_sign_at};
 use crate::fault::{FormFault, NoForm};
 use crate::simple::{leaf, type_name};
 use crate::tree::{Argument, Expr};
@@ -15,7 +15,7 @@ const UNARY_PRECEDENCE: u8 = 6;
 
 /// An expression. At most `depth` brackets may be open in it.
 #[cycle(expression)]
-pub(crate) fn expression(cursor: &mut Cursor<'_>, depth: u8) -> Result<Expr, FormFault>
+pub(crate) fn expression(cursor: &mut TokenCursor<'_>, depth: u8) -> Result<Expr, FormFault>
     ensures shorter { OnOk result (length cursor.new.rest.now < length cursor.old.rest.now) }
 {
     operands(cursor, 1, depth)
@@ -24,7 +24,7 @@ pub(crate) fn expression(cursor: &mut Cursor<'_>, depth: u8) -> Result<Expr, For
 // Operands with signs of at least this precedence between them. Most are one token. An operand behind a sign holds
 // only signs that bind tighter, so signs of one precedence group to the left.
 #[cycle(expression)]
-fn operands(cursor: &mut Cursor<'_>, least: u8, depth: u8) -> Result<Expr, FormFault>
+fn operands(cursor: &mut TokenCursor<'_>, least: u8, depth: u8) -> Result<Expr, FormFault>
     ensures shorter { OnOk result (length cursor.new.rest.now < length cursor.old.rest.now) }
 {
     if cursor.next_is_alone(least) {
@@ -43,7 +43,7 @@ fn operands(cursor: &mut Cursor<'_>, least: u8, depth: u8) -> Result<Expr, FormF
 }
 
 #[cycle(expression)]
-fn unary(cursor: &mut Cursor<'_>, depth: u8) -> Result<Expr, FormFault>
+fn unary(cursor: &mut TokenCursor<'_>, depth: u8) -> Result<Expr, FormFault>
     ensures shorter { OnOk result (length cursor.new.rest.now < length cursor.old.rest.now) }
 {
     if cursor.next_is_alone(UNARY_PRECEDENCE) {
@@ -61,7 +61,7 @@ fn unary(cursor: &mut Cursor<'_>, depth: u8) -> Result<Expr, FormFault>
 
 // An atom with members, calls and indexes behind it, and the type that it is cast to.
 #[cycle(expression)]
-fn cast(cursor: &mut Cursor<'_>, depth: u8) -> Result<Expr, FormFault>
+fn cast(cursor: &mut TokenCursor<'_>, depth: u8) -> Result<Expr, FormFault>
     ensures shorter { OnOk result (length cursor.new.rest.now < length cursor.old.rest.now) }
 {
     let mut of = atom(cursor, depth)?;
@@ -80,7 +80,7 @@ fn cast(cursor: &mut Cursor<'_>, depth: u8) -> Result<Expr, FormFault>
 
 // A member, a call of one, or an index.
 #[cycle(expression)]
-fn link(cursor: &mut Cursor<'_>, of: Expr, depth: u8) -> Result<Expr, FormFault>
+fn link(cursor: &mut TokenCursor<'_>, of: Expr, depth: u8) -> Result<Expr, FormFault>
     ensures shorter { OnOk result (length cursor.new.rest.now < length cursor.old.rest.now) }
 {
     if cursor.take_sign(Sign::Dot) {
@@ -96,7 +96,7 @@ fn link(cursor: &mut Cursor<'_>, of: Expr, depth: u8) -> Result<Expr, FormFault>
 
 // What stands behind a `.`.
 #[cycle(expression)]
-fn member(cursor: &mut Cursor<'_>, of: Expr, depth: u8) -> Result<Expr, FormFault>
+fn member(cursor: &mut TokenCursor<'_>, of: Expr, depth: u8) -> Result<Expr, FormFault>
     ensures shorter { OnOk result (length cursor.new.rest.now < length cursor.old.rest.now) }
 {
     let of = boxed(cursor.alloc, of)?;
@@ -117,7 +117,7 @@ fn member(cursor: &mut Cursor<'_>, of: Expr, depth: u8) -> Result<Expr, FormFaul
 
 // An expression and the closing sign behind it; the opening one is taken.
 #[cycle(expression)]
-fn bracketed(cursor: &mut Cursor<'_>, close: Sign, depth: u8) -> Result<Expr, FormFault>
+fn bracketed(cursor: &mut TokenCursor<'_>, close: Sign, depth: u8) -> Result<Expr, FormFault>
     ensures shorter { OnOk result (length cursor.new.rest.now < length cursor.old.rest.now) }
 {
     let inner = expression(cursor, one_deeper(depth)?)?;
@@ -126,7 +126,7 @@ fn bracketed(cursor: &mut Cursor<'_>, close: Sign, depth: u8) -> Result<Expr, Fo
 }
 
 #[cycle(expression)]
-fn atom(cursor: &mut Cursor<'_>, depth: u8) -> Result<Expr, FormFault>
+fn atom(cursor: &mut TokenCursor<'_>, depth: u8) -> Result<Expr, FormFault>
     ensures shorter { OnOk result (length cursor.new.rest.now < length cursor.old.rest.now) }
 {
     if cursor.take_sign(Sign::OpenParen) {
@@ -145,7 +145,7 @@ fn atom(cursor: &mut Cursor<'_>, depth: u8) -> Result<Expr, FormFault>
 
 // A function's name and the arguments of its call.
 #[cycle(expression)]
-fn call(cursor: &mut Cursor<'_>, depth: u8) -> Result<(Name, Vec<Argument>), FormFault>
+fn call(cursor: &mut TokenCursor<'_>, depth: u8) -> Result<(Name, Vec<Argument>), FormFault>
     ensures shorter { OnOk result (length cursor.new.rest.now < length cursor.old.rest.now) }
 {
     let name = cursor.expect_word()?;
@@ -155,7 +155,7 @@ fn call(cursor: &mut Cursor<'_>, depth: u8) -> Result<(Name, Vec<Argument>), For
 
 // The arguments of a call and the `)` behind them; the `(` is taken.
 #[cycle(expression)]
-fn arguments(cursor: &mut Cursor<'_>, depth: u8) -> Result<Vec<Argument>, FormFault>
+fn arguments(cursor: &mut TokenCursor<'_>, depth: u8) -> Result<Vec<Argument>, FormFault>
     ensures shorter { OnOk result (length cursor.new.rest.now < length cursor.old.rest.now) }
 {
     let depth = one_deeper(depth)?;

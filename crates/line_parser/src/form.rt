@@ -5,7 +5,7 @@ ghost use Rattle.line_parser.specs.Nesting.{IsTooDeep};
 ghost use Rattle.line_parser.specs.declared.fault.LineFault.TheVariants.{Broken};
 ghost use Rattle.line_parser.specs.declared.fault.LineRule.TheVariants.{TooDeep, BadBlock};
 
-use crate::cursor::Cursor;
+use crate::cursor::TokenCursor;
 use crate::expression::expression;
 use crate::fault::{FormFault, LineFault, LineRule};
 use crate::nesting::{BRACKET_LIMIT, is_too_deep};
@@ -44,7 +44,7 @@ pub fn parse_line(alloc: Global, types: &TypeWords, line: &Line) -> Result<LineT
         });
     }
     let doc = doc_at_end(alloc, tokens)?;
-    let mut cursor = Cursor {
+    let mut cursor = TokenCursor {
         alloc,
         types,
         rest: without_doc(tokens),
@@ -81,7 +81,7 @@ pub fn doc_at_end(alloc: Global, tokens: &[Spanned]) -> Made<Option<Text>> {
     Ok(Some(text.try_clone(alloc)?))
 }
 
-fn form(cursor: &mut Cursor<'_>) -> Result<LineForm, FormFault>
+fn form(cursor: &mut TokenCursor<'_>) -> Result<LineForm, FormFault>
     ensures { IfOk result (λ form. IsTrue (opens_block form) → IsTrue (begins_block cursor.old.rest.now)) }
 {
     if begins_declaration(cursor.rest) {
@@ -95,7 +95,7 @@ fn form(cursor: &mut Cursor<'_>) -> Result<LineForm, FormFault>
 }
 
 // A line that begins with a keyword, and with no declared type.
-fn keyword_form(cursor: &mut Cursor<'_>, keyword: Keyword) -> Result<LineForm, FormFault>
+fn keyword_form(cursor: &mut TokenCursor<'_>, keyword: Keyword) -> Result<LineForm, FormFault>
     ensures { IfOk result (λ form. IsTrue (opens_block form) → IsTrue (is_block_word keyword)) }
 {
     match keyword {
@@ -119,7 +119,7 @@ fn keyword_form(cursor: &mut Cursor<'_>, keyword: Keyword) -> Result<LineForm, F
     }
 }
 
-fn script_name(cursor: &mut Cursor<'_>) -> Result<LineForm, FormFault>
+fn script_name(cursor: &mut TokenCursor<'_>) -> Result<LineForm, FormFault>
     ensures { IfOk result (λ form. opens_block form ≡ false) }
 {
     cursor.expect_keyword(Keyword::ScriptName)?;
@@ -137,14 +137,14 @@ fn script_name(cursor: &mut Cursor<'_>) -> Result<LineForm, FormFault>
     })
 }
 
-fn import(cursor: &mut Cursor<'_>) -> Result<LineForm, FormFault>
+fn import(cursor: &mut TokenCursor<'_>) -> Result<LineForm, FormFault>
     ensures { IfOk result (λ form. opens_block form ≡ false) }
 {
     cursor.expect_keyword(Keyword::Import)?;
     Ok(LineForm::Import(cursor.expect_word()?))
 }
 
-fn state(cursor: &mut Cursor<'_>) -> Result<LineForm, FormFault>
+fn state(cursor: &mut TokenCursor<'_>) -> Result<LineForm, FormFault>
     ensures { IfOk result (λ form. opens_block form ≡ false) }
 {
     let is_auto = cursor.take_keyword(Keyword::Auto);
@@ -154,7 +154,7 @@ fn state(cursor: &mut Cursor<'_>) -> Result<LineForm, FormFault>
 }
 
 // `If`, `ElseIf` or `While`, and its test.
-fn test_line(cursor: &mut Cursor<'_>, keyword: Keyword) -> Result<LineForm, FormFault>
+fn test_line(cursor: &mut TokenCursor<'_>, keyword: Keyword) -> Result<LineForm, FormFault>
     ensures { IfOk result (λ form. IsTrue (opens_block form) → IsTrue (is_block_word keyword)) }
 {
     cursor.expect_keyword(keyword)?;
@@ -166,7 +166,7 @@ fn test_line(cursor: &mut Cursor<'_>, keyword: Keyword) -> Result<LineForm, Form
     })
 }
 
-fn return_line(cursor: &mut Cursor<'_>) -> Result<LineForm, FormFault>
+fn return_line(cursor: &mut TokenCursor<'_>) -> Result<LineForm, FormFault>
     ensures { IfOk result (λ form. opens_block form ≡ false) }
 {
     cursor.expect_keyword(Keyword::Return)?;
@@ -177,7 +177,7 @@ fn return_line(cursor: &mut Cursor<'_>) -> Result<LineForm, FormFault>
 }
 
 // A type, and what it is the type of.
-fn declaration(cursor: &mut Cursor<'_>) -> Result<LineForm, FormFault>
+fn declaration(cursor: &mut TokenCursor<'_>) -> Result<LineForm, FormFault>
     ensures { IfOk result (λ form. opens_block form ≡ false) }
 {
     let kind = type_name(cursor)?;
@@ -188,7 +188,7 @@ fn declaration(cursor: &mut Cursor<'_>) -> Result<LineForm, FormFault>
     }
 }
 
-fn definition(cursor: &mut Cursor<'_>, kind: TypeName) -> Result<LineForm, FormFault>
+fn definition(cursor: &mut TokenCursor<'_>, kind: TypeName) -> Result<LineForm, FormFault>
     ensures { IfOk result (λ form. opens_block form ≡ false) }
 {
     let name = cursor.expect_word()?;
@@ -206,7 +206,7 @@ fn definition(cursor: &mut Cursor<'_>, kind: TypeName) -> Result<LineForm, FormF
     })
 }
 
-fn property(cursor: &mut Cursor<'_>, kind: TypeName) -> Result<LineForm, FormFault>
+fn property(cursor: &mut TokenCursor<'_>, kind: TypeName) -> Result<LineForm, FormFault>
     ensures { IfOk result (λ form. opens_block form ≡ false) }
 {
     cursor.expect_keyword(Keyword::Property)?;
@@ -221,7 +221,7 @@ fn property(cursor: &mut Cursor<'_>, kind: TypeName) -> Result<LineForm, FormFau
     })
 }
 
-fn access(cursor: &mut Cursor<'_>) -> Result<Access, FormFault> {
+fn access(cursor: &mut TokenCursor<'_>) -> Result<Access, FormFault> {
     let value = initial_constant(cursor)?;
     if cursor.take_keyword(Keyword::Auto) {
         return Ok(Access::Auto(value));
@@ -235,7 +235,7 @@ fn access(cursor: &mut Cursor<'_>) -> Result<Access, FormFault> {
 
 // What begins with `Function` or `Event`, whichever the keyword is.
 fn function(
-    cursor: &mut Cursor<'_>,
+    cursor: &mut TokenCursor<'_>,
     keyword: Keyword,
     result_type: Option<TypeName>,
 ) -> Result<LineForm, FormFault>
@@ -259,7 +259,7 @@ fn function(
 }
 
 // `Global`, which no event is, and `Native`, each at most once, in either order.
-fn global_and_native(cursor: &mut Cursor<'_>, is_event: bool) -> (bool, bool) {
+fn global_and_native(cursor: &mut TokenCursor<'_>, is_event: bool) -> (bool, bool) {
     let is_global = !is_event && cursor.take_keyword(Keyword::Global);
     let is_native = cursor.take_keyword(Keyword::Native);
     if is_native && !is_global && !is_event {
@@ -269,7 +269,7 @@ fn global_and_native(cursor: &mut Cursor<'_>, is_event: bool) -> (bool, bool) {
 }
 
 // An assignment, or an expression alone.
-fn statement(cursor: &mut Cursor<'_>) -> Result<LineForm, FormFault>
+fn statement(cursor: &mut TokenCursor<'_>) -> Result<LineForm, FormFault>
     ensures { IfOk result (λ form. opens_block form ≡ false) }
 {
     let target = expression(cursor, BRACKET_LIMIT)?;

@@ -1,7 +1,7 @@
 // Types, constants and flags: the parts of a line that hold no expression.
 ghost use Rattle.std.specs.Prelude.{◌<◌, ◌≤◌, length, OnOk};
 
-use crate::cursor::{Cursor, is_array_mark_at};
+use crate::cursor::{TokenCursor, is_array_mark_at};
 use crate::fault::{FormFault, NoForm};
 use crate::tree::{Constant, Expr, Parameter, TypeName};
 use papy_base::{Fault, Made, Name, neg};
@@ -28,7 +28,7 @@ impl TypeWords {
 }
 
 // The word of a type: a word, `Int`, `Bool` or `String`.
-fn type_word(cursor: &mut Cursor<'_>) -> Result<Name, FormFault>
+fn type_word(cursor: &mut TokenCursor<'_>) -> Result<Name, FormFault>
     ensures shorter { OnOk result (length cursor.new.rest.now < length cursor.old.rest.now) }
 {
     let types = cursor.types;
@@ -43,7 +43,7 @@ fn type_word(cursor: &mut Cursor<'_>) -> Result<Name, FormFault>
 }
 
 /// A type, with `[]` for an array.
-pub(crate) fn type_name(cursor: &mut Cursor<'_>) -> Result<TypeName, FormFault>
+pub(crate) fn type_name(cursor: &mut TokenCursor<'_>) -> Result<TypeName, FormFault>
     ensures shorter { OnOk result (length cursor.new.rest.now < length cursor.old.rest.now) }
 {
     let word = type_word(cursor)?;
@@ -52,7 +52,7 @@ pub(crate) fn type_name(cursor: &mut Cursor<'_>) -> Result<TypeName, FormFault>
 }
 
 /// An atom that holds no expression: a word, `Self`, a new array, or a constant without `-`.
-pub(crate) fn leaf(cursor: &mut Cursor<'_>) -> Result<Expr, FormFault>
+pub(crate) fn leaf(cursor: &mut TokenCursor<'_>) -> Result<Expr, FormFault>
     ensures shorter { OnOk result (length cursor.new.rest.now < length cursor.old.rest.now) }
 {
     let token = cursor.take()?;
@@ -74,7 +74,7 @@ fn value_of(alloc: Global, token: &Token) -> Result<Expr, FormFault> {
     })
 }
 
-fn new_array(cursor: &mut Cursor<'_>) -> Result<Expr, FormFault>
+fn new_array(cursor: &mut TokenCursor<'_>) -> Result<Expr, FormFault>
     ensures shorter { OnOk result (length cursor.new.rest.now < length cursor.old.rest.now) }
 {
     let element = type_word(cursor)?;
@@ -97,7 +97,7 @@ fn constant_of(alloc: Global, token: &Token) -> Result<Constant, FormFault> {
 }
 
 // A constant. The least number's negation is itself.
-fn constant(cursor: &mut Cursor<'_>) -> Result<Constant, FormFault>
+fn constant(cursor: &mut TokenCursor<'_>) -> Result<Constant, FormFault>
     ensures shorter { OnOk result (length cursor.new.rest.now < length cursor.old.rest.now) }
 {
     if cursor.take_sign(Sign::Minus) {
@@ -107,7 +107,7 @@ fn constant(cursor: &mut Cursor<'_>) -> Result<Constant, FormFault>
 }
 
 /// `=` and a constant, where `=` is next.
-pub(crate) fn initial_constant(cursor: &mut Cursor<'_>) -> Result<Option<Constant>, FormFault>
+pub(crate) fn initial_constant(cursor: &mut TokenCursor<'_>) -> Result<Option<Constant>, FormFault>
     ensures bound { OnOk result (length cursor.new.rest.now ≤ length cursor.old.rest.now) }
 {
     if cursor.take_sign(Sign::Assign) {
@@ -117,7 +117,7 @@ pub(crate) fn initial_constant(cursor: &mut Cursor<'_>) -> Result<Option<Constan
     }
 }
 
-fn parameter(cursor: &mut Cursor<'_>) -> Result<Parameter, FormFault>
+fn parameter(cursor: &mut TokenCursor<'_>) -> Result<Parameter, FormFault>
     ensures shorter { OnOk result (length cursor.new.rest.now < length cursor.old.rest.now) }
 {
     let kind = type_name(cursor)?;
@@ -131,7 +131,7 @@ fn parameter(cursor: &mut Cursor<'_>) -> Result<Parameter, FormFault>
 }
 
 /// The parameters of a function in their brackets.
-pub(crate) fn parameters(cursor: &mut Cursor<'_>) -> Result<Vec<Parameter>, FormFault> {
+pub(crate) fn parameters(cursor: &mut TokenCursor<'_>) -> Result<Vec<Parameter>, FormFault> {
     cursor.expect_sign(Sign::OpenParen)?;
     let mut found = Vec::new(cursor.alloc);
     'parameters: while !cursor.list_ends(found.is_empty())? {
@@ -145,7 +145,7 @@ const HIDDEN: u32 = 1;
 const CONDITIONAL: u32 = 2;
 
 /// The flags `Hidden` and `Conditional`, each at most once.
-pub(crate) fn flags(cursor: &mut Cursor<'_>) -> Result<u32, FormFault> {
+pub(crate) fn flags(cursor: &mut TokenCursor<'_>) -> Result<u32, FormFault> {
     let mut bits = 0;
     'flags: while let Some((first, others)) = cursor.rest.split_first() {
         let Token::Word(name) = &first.token else {

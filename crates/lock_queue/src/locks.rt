@@ -4,7 +4,7 @@ ghost use Rattle.std.specs.Prelude.{◌≡◌, ◌<◌, ◌++◌, ◌∷◌, [],
 ghost use Rattle.std.specs.Option.{ForSome};
 ghost use Rattle.lock_queue.specs.LockTable.{IsIdle, seat_of, held_by, waits_for, owner_of, pairs_of, pairs_if, may_take, without_stack, waiter_after, ready_after, start_after};
 
-use crate::queues::{Order, Queues};
+use crate::queues::{StackList, Queues};
 use crate::ready::ReadySet;
 use crate::seat::Seat;
 use papy_base::Made;
@@ -17,7 +17,7 @@ use std::marker::Model;
 pub struct Locks {
     seats: Vec<Seat>,
     owners: Vec<Option<u16>>,
-    order: Order,
+    order: StackList,
     queues: Queues,
     ready: ReadySet,
 }
@@ -46,7 +46,7 @@ impl Locks {
         Ok(Locks {
             seats: vec![in alloc; Seat::Resting; usize::from(stacks)]?,
             owners: vec![in alloc; None; usize::from(instances)]?,
-            order: Order::with_room(alloc, stacks)?,
+            order: StackList::with_room(alloc, stacks)?,
             queues: Queues::with_room(alloc, instances, stacks)?,
             ready: ReadySet::with_room(alloc, stacks)?,
         })

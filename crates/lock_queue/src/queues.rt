@@ -23,14 +23,14 @@ fn relink(links: &mut Vec<Option<u16>>, end: &mut Option<u16>, from: Option<u16>
 
 /// A list of different stacks. Each call takes constant time.
 #[derive(Drop)]
-pub struct Order {
+pub struct StackList {
     after: Vec<Option<u16>>,
     before: Vec<Option<u16>>,
     first: Option<u16>,
     last: Option<u16>,
 }
 
-impl Model for Order {
+impl Model for StackList {
     ghost use Rattle.std.specs.Prelude.{length};
     ghost use Rattle.lock_queue.specs.Order.{Sequence, IsLinked};
     ghost use Rattle.lock_queue.specs.Links.{walk};
@@ -43,13 +43,13 @@ impl Model for Order {
         (length o.after.items) (walk (length o.after.items) o.after.items o.first) };
 }
 
-impl Order {
+impl StackList {
     /// No stack, and room for this many.
-    pub fn with_room(alloc: Global, room: u16) -> Result<Order, AllocError>
+    pub fn with_room(alloc: Global, room: u16) -> Result<StackList, AllocError>
         ensures { IfOk result (λ o. o ≡ record { room = room; stacks = [] }) }
     {
         let links = usize::from(room);
-        Ok(Order {
+        Ok(StackList {
             after: vec![in alloc; None; links]?,
             before: vec![in alloc; None; links]?,
             first: None,

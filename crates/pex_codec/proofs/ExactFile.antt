@@ -8,7 +8,7 @@ use Rattle.pex_values.specs.Plain.{PlainLines, PlainDebug, PlainObject, PlainPex
 use Rattle.pex_values.specs.Shape.{IsReference, IsShapedLines, IsShapedDebug, IsShapedFlag, IsShapedObject, IsWellShaped}
 use Rattle.pex_values.specs.Spelling.{one_byte, two_bytes, four_bytes, eight_bytes, string, list, lines, debug, flag, object, heading, spelling}
 use Rattle.pex_codec.specs.declared.faults.PexRule.TheVariants.{BadMagic, BadVersion, BadGame, BadDebugFlag}
-use Rattle.pex_codec.specs.declared.cursor.Heading.{Heading}
+use Rattle.pex_codec.specs.declared.cursor.FileHeader.{FileHeader}
 use Rattle.pex_codec.specs.declared.cursor.LinesHead.{LinesHead}
 use Rattle.pex_codec.specs.Laws.{AreBytes}
 use Rattle.pex_codec.specs.Reading.{Reader, Got, then_read, read_as, judged, byte_at, number_at, list_at, lines_head_at, lines_with, lines_at, debug_flag_at, debug_with, debug_at, flag_at, heading_at, Texts, texts_at, pex_with, pex_at}
@@ -168,11 +168,11 @@ flag_exact strings =
 abbrev IsMinor : ℕ → Type 0
 IsMinor n = (n ≡ 1) ⊎ (n ≡ 2)
 
-record IsHeading (h : Heading) : Type 0 where
+record IsHeading (h : FileHeader) : Type 0 where
   pub minor : IsMinor h.minor
   pub time : h.time < 2 ^ 64
 
-abbrev heading_bytes : Heading → List ℕ
+abbrev heading_bytes : FileHeader → List ℕ
 heading_bytes h = heading h.minor ++ eight_bytes h.time
 
 minor_tests : (n : ℕ) → IsMinor n → (n < 256) × ((n == 1 || n == 2) ≡ true)
@@ -196,22 +196,22 @@ minor_exact = judged_exact (λ minor. minor == 1 || minor == 2) BadVersion (λ a
 game_exact : IsExact (λ n. (n < 2 ^ 16) × ((n == 1) ≡ true)) two_bytes (λ at bytes. judged (λ game. game == 1) BadGame at (number_at 2 at bytes))
 game_exact = judged_exact (λ game. game == 1) BadGame (λ at. at) two_exact
 
-abbrev make_heading : ℕ → ℕ → Heading
+abbrev make_heading : ℕ → ℕ → FileHeader
 make_heading minor time = record { minor = minor; time = time }
 
-abbrev behind_game : ℕ → ℕ → Reader Heading
+abbrev behind_game : ℕ → ℕ → Reader FileHeader
 behind_game minor game at bytes = read_as (λ time. make_heading minor time) (number_at 8 at bytes)
 
-abbrev behind_minor : ℕ → Reader Heading
+abbrev behind_minor : ℕ → Reader FileHeader
 behind_minor minor at bytes = then_read (judged (λ game. game == 1) BadGame at (number_at 2 at bytes)) (behind_game minor)
 
-abbrev behind_major : ℕ → Reader Heading
+abbrev behind_major : ℕ → Reader FileHeader
 behind_major major at bytes = then_read (judged (λ minor. minor == 1 || minor == 2) BadVersion at (byte_at at bytes)) behind_minor
 
-abbrev behind_magic : ℕ → Reader Heading
+abbrev behind_magic : ℕ → Reader FileHeader
 behind_magic magic at bytes = then_read (judged (λ major. major == 3) BadVersion at (byte_at at bytes)) behind_major
 
-heading_complete : (h : Heading) (at : ℕ) (rest : List ℕ) → IsHeading h → heading_at at (heading_bytes h ++ rest) ≡ Got h (at + length (heading_bytes h)) rest
+heading_complete : (h : FileHeader) (at : ℕ) (rest : List ℕ) → IsHeading h → heading_at at (heading_bytes h ++ rest) ≡ Got h (at + length (heading_bytes h)) rest
 unfolding heading_at
 heading_complete h at rest p =
     row5 heading_at at (four_bytes 0xFA57C0DE) (one_byte 3) (one_byte h.minor) (two_bytes 1) (eight_bytes h.time) rest h
@@ -221,7 +221,7 @@ heading_complete h at rest p =
     ∙ (follow (behind_game h.minor) game_exact 1 (at + 4 + 1 + 1) (eight_bytes h.time ++ rest) (omega arith, refl)
     ∙ ending (λ time. make_heading h.minor time) eight_exact h.time (at + 4 + 1 + 1 + 2) rest p.time))))
 
-heading_sound : (h : Heading) (at : ℕ) (bytes : List ℕ) (end : ℕ) (rest : List ℕ) → AreBytes bytes → heading_at at bytes ≡ Got h end rest → Stands IsHeading heading_bytes h at bytes end rest
+heading_sound : (h : FileHeader) (at : ℕ) (bytes : List ℕ) (end : ℕ) (rest : List ℕ) → AreBytes bytes → heading_at at bytes ≡ Got h end rest → Stands IsHeading heading_bytes h at bytes end rest
 unfolding heading_at
 heading_sound h at bytes end rest b e =
     let magic = taken magic_exact behind_magic at bytes h end rest b e in
@@ -310,7 +310,7 @@ info_second : (strings : ℕ) (d : Option PlainDebug) → ShapedDebug strings d 
 info_second strings None p = tt
 info_second strings (Some d) p = p.1
 
-abbrev make_pex : Heading → Texts → Option PlainDebug → List (ℕ × ℕ) → List PlainObject → PlainPex
+abbrev make_pex : FileHeader → Texts → Option PlainDebug → List (ℕ × ℕ) → List PlainObject → PlainPex
 make_pex h t debug flags objects = record {
   minor = h.minor;
   time = h.time;
@@ -323,10 +323,10 @@ make_pex h t debug flags objects = record {
   objects = objects;
 }
 
-abbrev behind_texts : Heading → Texts → Reader PlainPex
+abbrev behind_texts : FileHeader → Texts → Reader PlainPex
 behind_texts h t at bytes = pex_with h t at bytes
 
-abbrev behind_heading : Heading → Reader PlainPex
+abbrev behind_heading : FileHeader → Reader PlainPex
 behind_heading h at bytes = then_read (texts_at at bytes) (behind_texts h)
 
 pex_complete : (v : PlainPex) (at : ℕ) (rest : List ℕ) → IsFile v → pex_at at (spelling v ++ rest) ≡ Got v (at + length (spelling v)) rest

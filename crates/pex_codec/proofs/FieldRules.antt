@@ -9,7 +9,7 @@ use Rattle.pex_values.specs.Opcodes.{operands_of}
 use Rattle.pex_values.specs.declared.values.SizeForm.TheVariants.{Counted, Bare}
 use Rattle.pex_codec.specs.declared.faults.PexRule.{PexRule}
 use Rattle.pex_codec.specs.declared.faults.PexRule.TheVariants.{BadSize, Truncated, Trailing, TooLarge}
-use Rattle.pex_codec.specs.declared.cursor.Heading.{Heading}
+use Rattle.pex_codec.specs.declared.cursor.FileHeader.{FileHeader}
 use Rattle.pex_codec.specs.declared.cursor.FunctionHead.{FunctionHead}
 use Rattle.pex_codec.specs.declared.cursor.PropertyHead.{PropertyHead}
 use Rattle.pex_codec.specs.declared.cursor.ObjectHead.{ObjectHead}
@@ -268,7 +268,7 @@ texts_by_field =
     then_field string_at _ string_by_field (λ source. then_field string_at _ string_by_field (λ user. then_field string_at _ string_by_field
     (λ machine. as_field _ (list_at string_at) (list_by_field string_at string_by_field))))
 
-pex_with_by_field : (heading : Heading) (texts : Texts) → RefusesByField (pex_with heading texts)
+pex_with_by_field : (heading : FileHeader) (texts : Texts) → RefusesByField (pex_with heading texts)
 pex_with_by_field heading texts =
     let strings = length texts.strings in
     then_field (debug_at strings) _ (debug_by_field strings) (λ debug. then_field (list_at (flag_at strings)) _ (list_by_field (flag_at strings) (flag_by_field strings))

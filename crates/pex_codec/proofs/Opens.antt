@@ -5,7 +5,7 @@ use Rattle.pex_values.specs.declared.values.Datum.{Datum}
 use Rattle.pex_values.specs.Bits.{has_read, has_write}
 use Rattle.pex_values.specs.Opcodes.{operands_of}
 use Rattle.pex_values.specs.Plain.{PlainInstruction, PlainPex}
-use Rattle.pex_codec.specs.declared.cursor.Heading.{Heading}
+use Rattle.pex_codec.specs.declared.cursor.FileHeader.{FileHeader}
 use Rattle.pex_codec.specs.declared.cursor.FunctionHead.{FunctionHead}
 use Rattle.pex_codec.specs.declared.cursor.PropertyHead.{PropertyHead}
 use Rattle.pex_codec.specs.declared.cursor.ObjectHead.{ObjectHead}
@@ -196,7 +196,7 @@ strings_of v = length v.strings
 abbrev behind_strings : List Task
 behind_strings = task part.Objects 1 ∷ task part.Flags 1 ∷ task part.Debug 1 ∷ []
 
-with_rest : (heading : Heading) (texts : Texts) (at : ℕ) (bytes : List ℕ) → read_as strings_of (pex_with heading texts at bytes) ≡ tasks_at behind_strings (length texts.strings) at bytes
+with_rest : (heading : FileHeader) (texts : Texts) (at : ℕ) (bytes : List ℕ) → read_as strings_of (pex_with heading texts at bytes) ≡ tasks_at behind_strings (length texts.strings) at bytes
 with_rest heading texts at bytes =
     let n = length texts.strings in
     follow strings_of n part.Debug 1 (task part.Objects 1 ∷ task part.Flags 1 ∷ []) at bytes (debug_at n at bytes) _ (times_once part.Debug n at bytes)
@@ -210,20 +210,20 @@ behind_heading = task part.Objects 1 ∷ task part.Flags 1 ∷ task part.Debug 1
 abbrev texts_of : List ℕ → List ℕ → List ℕ → List (List ℕ) → Texts
 texts_of source user machine strings = record { source = source; user = user; machine = machine; strings = strings }
 
-table_rest : (heading : Heading) (source user machine : List ℕ) (table : Reading (List (List ℕ)))
+table_rest : (heading : FileHeader) (source user machine : List ℕ) (table : Reading (List (List ℕ)))
     → read_as strings_of (then_read (read_as (texts_of source user machine) table) (pex_with heading))
     ≡ then_read (read_as length table) (tasks_at behind_strings)
 table_rest heading source user machine (Got strings at rest) = with_rest heading (texts_of source user machine strings) at rest
 table_rest heading source user machine Short = refl
 table_rest heading source user machine (Refused o rule) = refl
 
-strings_rest : (heading : Heading) (source user machine : List ℕ) (at : ℕ) (bytes : List ℕ)
+strings_rest : (heading : FileHeader) (source user machine : List ℕ) (at : ℕ) (bytes : List ℕ)
     → read_as strings_of (then_read (read_as (texts_of source user machine) (list_at string_at at bytes)) (pex_with heading)) ≡ tasks_at behind_heading 0 at bytes
 strings_rest heading source user machine at bytes =
     table_rest heading source user machine (list_at string_at at bytes)
     ∙ sym (tasks_append behind_strings (task part.Strings 1 ∷ []) 0 at bytes ∙ ap (λ (r : Reading ℕ). then_read r (tasks_at behind_strings)) (times_once part.Strings 0 at bytes))
 
-text_step : {A : Type 0} (heading : Heading) (n : ℕ) (first : Reading A) (next : A → Reader Texts)
+text_step : {A : Type 0} (heading : FileHeader) (n : ℕ) (first : Reading A) (next : A → Reader Texts)
     → ((a : A) (at1 : ℕ) (rest1 : List ℕ) → read_as strings_of (then_read (next a at1 rest1) (pex_with heading)) ≡ then_read (times_at part.Text n 0 at1 rest1) (tasks_at behind_heading))
     → read_as strings_of (then_read (then_read first next) (pex_with heading))
     ≡ then_read (then_read (with_strings 0 first) (λ strings1 at1 rest1. times_at part.Text n strings1 at1 rest1)) (tasks_at behind_heading)
@@ -231,7 +231,7 @@ text_step heading n (Got a at1 rest1) next same = same a at1 rest1
 text_step heading n Short next same = refl
 text_step heading n (Refused o rule) next same = refl
 
-three_texts : (heading : Heading) (at : ℕ) (bytes : List ℕ) → read_as strings_of (then_read (texts_at at bytes) (pex_with heading)) ≡ tasks_at (behind_heading ++ (task part.Text 3 ∷ [])) 0 at bytes
+three_texts : (heading : FileHeader) (at : ℕ) (bytes : List ℕ) → read_as strings_of (then_read (texts_at at bytes) (pex_with heading)) ≡ tasks_at (behind_heading ++ (task part.Text 3 ∷ [])) 0 at bytes
 unfolding texts_at
 three_texts heading at bytes =
     text_step heading 2 (string_at at bytes) _

@@ -9,7 +9,7 @@ use Rattle.pex_values.specs.Opcodes.{operands_of}
 use Rattle.pex_values.specs.declared.values.SizeForm.TheVariants.{Counted, Bare}
 use Rattle.pex_codec.specs.declared.faults.PexRule.{PexRule}
 use Rattle.pex_codec.specs.declared.faults.PexRule.TheVariants.{BadSize}
-use Rattle.pex_codec.specs.declared.cursor.Heading.{Heading}
+use Rattle.pex_codec.specs.declared.cursor.FileHeader.{FileHeader}
 use Rattle.pex_codec.specs.declared.cursor.FunctionHead.{FunctionHead}
 use Rattle.pex_codec.specs.declared.cursor.PropertyHead.{PropertyHead}
 use Rattle.pex_codec.specs.declared.cursor.ObjectHead.{ObjectHead}
@@ -269,7 +269,7 @@ texts_stable =
     then_stable string_at _ string_stable (λ source. then_stable string_at _ string_stable (λ user. then_stable string_at _ string_stable
     (λ machine. as_stable _ (list_at string_at) (list_stable string_at string_stable))))
 
-pub pex_with_stable : (heading : Heading) (texts : Texts) → IsStable (pex_with heading texts)
+pub pex_with_stable : (heading : FileHeader) (texts : Texts) → IsStable (pex_with heading texts)
 pex_with_stable heading texts =
     let strings = length texts.strings in
     then_stable (debug_at strings) _ (debug_stable strings) (λ debug. then_stable (list_at (flag_at strings)) _ (list_stable (flag_at strings) (flag_stable strings))

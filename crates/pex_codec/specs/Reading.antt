@@ -12,7 +12,7 @@ use Rattle.pex_values.specs.Opcodes.{operands_of}
 use Rattle.pex_values.specs.Plain.{PlainInstruction, PlainFunction, PlainState, PlainProperty, PlainObject, PlainLines, PlainDebug, PlainPex}
 use Rattle.pex_codec.specs.declared.faults.PexRule.{PexRule}
 use Rattle.pex_codec.specs.declared.faults.PexRule.TheVariants.{BadMagic, BadVersion, BadGame, BadDebugFlag, BadKind, BadOpcode, BadCount, BadIndex, BadSize}
-use Rattle.pex_codec.specs.declared.cursor.Heading.{Heading}
+use Rattle.pex_codec.specs.declared.cursor.FileHeader.{FileHeader}
 use Rattle.pex_codec.specs.declared.cursor.FunctionHead.{FunctionHead}
 use Rattle.pex_codec.specs.declared.cursor.PropertyHead.{PropertyHead}
 use Rattle.pex_codec.specs.declared.cursor.ObjectHead.{ObjectHead}
@@ -278,7 +278,7 @@ flag_at strings at bytes = then_read (reference_at strings at bytes) (λ name at
 -- ---- the file
 
 -- FA57C0DE, the major version 3, the minor one, the game's number 1 and the time
-unfoldable pub heading_at : Reader Heading
+unfoldable pub heading_at : Reader FileHeader
 heading_at at bytes =
     then_read (judged (λ magic. magic == 0xFA57C0DE) BadMagic at (number_at 4 at bytes))
     (λ magic at1 rest1. then_read (judged (λ major. major == 3) BadVersion at1 (byte_at at1 rest1))
@@ -300,7 +300,7 @@ texts_at at bytes =
     (λ machine at3 rest3. read_as (λ strings. record { source = source; user = user; machine = machine; strings = strings }) (list_at string_at at3 rest3))))
 
 -- what stands behind the string table
-abbrev pub pex_with : Heading → Texts → Reader PlainPex
+abbrev pub pex_with : FileHeader → Texts → Reader PlainPex
 pex_with heading texts at bytes =
     then_read (debug_at (length texts.strings) at bytes) (λ debug at1 rest1. then_read (list_at (flag_at (length texts.strings)) at1 rest1)
     (λ user_flags at2 rest2. read_as (λ objects. record {

@@ -45,7 +45,7 @@ fn judged<T: Copy>(part: T, good: bool, offset: u32, rule: PexRule) -> Taken<T>
 
 /// What the header says besides its strings.
 #[derive(Clone, Copy)]
-pub(crate) struct Heading {
+pub(crate) struct FileHeader {
     pub minor: u8,
     pub time: u64,
 }
@@ -306,7 +306,7 @@ impl<'a> Cursor<'a> {
     }
 
     #[tactic(auto, unfolding(crate::specs::Reading::heading_at))]
-    pub(crate) fn heading(&mut self) -> Taken<Heading>
+    pub(crate) fn heading(&mut self) -> Taken<FileHeader>
         ensures { Takes (λ head. head) reading.heading_at result self.old self.new }
     {
         let start = self.at;
@@ -322,7 +322,7 @@ impl<'a> Cursor<'a> {
         let game = self.u16()?;
         judged(game, game == 1, number, PexRule::BadGame)?;
         let time = self.u64()?;
-        Ok(Heading { minor, time })
+        Ok(FileHeader { minor, time })
     }
 
     #[tactic(auto, unfolding(crate::specs::Reading::function_head_at))]

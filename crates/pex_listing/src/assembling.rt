@@ -11,7 +11,7 @@ ghost use Rattle.pex_listing.specs.Reading.{ReadsAll, HoldsLines, ReadsDebug, de
 
 use crate::faults::{BAD_LINE, ListingFault, Read, at_line};
 use crate::listing::{FirstWord, Item, Listing, Room, check_place, read_all};
-use crate::strings::Strings;
+use crate::strings::StringWords;
 use papy_base::Text;
 use pex_values::{Pex, PexDebug, PexLines};
 use std::alloc::Global;
@@ -76,7 +76,7 @@ impl Item for PexLines {
 
     ghost spelling = { λ e. spell.lines (plain_lines e) };
 
-    fn read(listing: &mut Listing, names: &Strings, room: &mut Room) -> Read<Self> {
+    fn read(listing: &mut Listing, names: &StringWords, room: &mut Room) -> Read<Self> {
         room.spend(9)?;
         let object = listing.reference(names)?;
         let state = listing.reference(names)?;
@@ -113,7 +113,7 @@ fn read_debug_line(listing: &mut Listing, room: &mut Room) -> Read<Option<u64>>
 /// The debug information of this time, where there is one.
 fn read_entries(
     listing: &mut Listing,
-    names: &Strings,
+    names: &StringWords,
     room: &mut Room,
     time: Option<u64>,
 ) -> Read<Option<PexDebug>>
@@ -133,7 +133,7 @@ impl Item for (u16, u8) {
 
     ghost spelling = { spell.flag };
 
-    fn read(listing: &mut Listing, names: &Strings, room: &mut Room) -> Read<Self> {
+    fn read(listing: &mut Listing, names: &StringWords, room: &mut Room) -> Read<Self> {
         room.spend(3)?;
         let name = listing.reference(names)?;
         let index = listing.unsigned_8()?;
@@ -157,7 +157,7 @@ fn read_pex(listing: &mut Listing) -> Read<Pex>
     let machine = read_string(listing, &mut room, b"machine")?;
     let strings = read_strings(listing, &mut room)?;
     let debug_time = read_debug_line(listing, &mut room)?;
-    let names = Strings::new(listing.alloc, &strings)?;
+    let names = StringWords::new(listing.alloc, &strings)?;
     let debug = read_entries(listing, &names, &mut room, debug_time)?;
     let user_flags = read_all(listing, &names, &mut room, FirstWord::Word(b"flag"))?;
     let objects = read_all(listing, &names, &mut room, FirstWord::Word(b"object"))?;

@@ -59,17 +59,17 @@ pub enum ListingFault {
 }
 
 /// What is read of lines, or why one can't stand where it does.
-pub(crate) type Read<T> = Result<T, LineFault>;
+pub(crate) type Read<T> = Result<T, LineRefusal>;
 
 /// Why a line can't stand where it does.
-pub(crate) type LineFault = Fault<ListingRule>;
+pub(crate) type LineRefusal = Fault<ListingRule>;
 
-pub(crate) const BAD_LINE: LineFault = Fault::Broken(ListingRule::BadLine);
+pub(crate) const BAD_LINE: LineRefusal = Fault::Broken(ListingRule::BadLine);
 
-pub(crate) const BAD_NAME: LineFault = Fault::Broken(ListingRule::BadName);
+pub(crate) const BAD_NAME: LineRefusal = Fault::Broken(ListingRule::BadName);
 
 /// The fault of the whole listing, where this is the line.
-pub(crate) fn at_line(line: u32, fault: LineFault) -> ListingFault {
+pub(crate) fn at_line(line: u32, fault: LineRefusal) -> ListingFault {
     match fault {
         Fault::Broken(rule) => ListingFault::Broken { line, rule },
         Fault::OutOfMemory => ListingFault::OutOfMemory,

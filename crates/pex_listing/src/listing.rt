@@ -11,7 +11,7 @@ ghost use Rattle.pex_listing.specs.Opened.{Opens, TakesField, SameWord, fields_l
 ghost use Rattle.pex_listing.specs.Reading.{Reads, ReadsAll};
 
 use crate::faults::{BAD_LINE, ListingRule, Read};
-use crate::strings::{Strings, is_word};
+use crate::strings::{StringWords, is_word};
 use papy_base::{Fault, Text};
 use pex_values::{FILE_LIMIT, OPCODES, SizeForm};
 use std::alloc::Global;
@@ -279,7 +279,7 @@ impl<'a> Listing<'a> {
     }
 
     /// A reference. None where there is no such string.
-    pub(crate) fn reference(&mut self, names: &Strings) -> Read<Option<u16>>
+    pub(crate) fn reference(&mut self, names: &StringWords) -> Read<Option<u16>>
         ensures { IfOk result (λ found. IfSome found (IsReference (vec_len names.now.spelled))) }
     {
         let field = self.field()?;
@@ -487,7 +487,7 @@ pub(crate) trait Item: Drop {
     ghost spelling: { Self → List ℕ };
 
     /// Reads the part. The open line begins with its first word.
-    fn read(listing: &mut Listing, names: &Strings, room: &mut Room) -> Read<Self>
+    fn read(listing: &mut Listing, names: &StringWords, room: &mut Room) -> Read<Self>
         ensures { IfOk result (λ part. Reads (holds (vec_len names.now.spelled)) spelling room.old.left room.new.left part) };
 }
 
@@ -504,7 +504,7 @@ pub(crate) fn check_place(length: usize) -> Read<()>
 /// All parts that follow, which begin with this first word.
 pub(crate) fn read_all<T: Item>(
     listing: &mut Listing,
-    names: &Strings,
+    names: &StringWords,
     room: &mut Room,
     first_word: FirstWord,
 ) -> Read<Vec<T>>

@@ -9,14 +9,14 @@ ghost use Rattle.pex_listing.specs.Reading.{Reads, ReadsData, ReadsMore, ReadsAc
 
 use crate::faults::{BAD_LINE, BAD_NAME, Read};
 use crate::listing::{FirstWord, Item, Listing, Room, read_all};
-use crate::strings::Strings;
+use crate::strings::StringWords;
 use pex_values::{
     Datum, Instruction, PexFunction, PexObject, PexProperty, PexState, PexVariable, has_read,
     has_variable, has_write, operand_count,
 };
 
 /// A value, and its bytes in a file. None where its reference names no string.
-fn read_sized(listing: &mut Listing, names: &Strings) -> Read<(u32, Option<Datum>)>
+fn read_sized(listing: &mut Listing, names: &StringWords) -> Read<(u32, Option<Datum>)>
     ensures sized { IfOk result (λ r. 0 < r.0) }
     ensures value { IfOk result (λ r. IfSome r.1 (λ d. IsShapedDatum (vec_len names.now.spelled) d × (length (spell.datum d) ≡ r.0))) }
 {
@@ -32,7 +32,7 @@ fn read_sized(listing: &mut Listing, names: &Strings) -> Read<(u32, Option<Datum
 }
 
 /// A value. None where its reference names no string.
-fn read_datum(listing: &mut Listing, names: &Strings, room: &mut Room) -> Read<Option<Datum>>
+fn read_datum(listing: &mut Listing, names: &StringWords, room: &mut Room) -> Read<Option<Datum>>
     ensures value { IfOk result (λ found. IfSome found (Reads (IsShapedDatum (vec_len names.now.spelled)) spell.datum room.old.left room.new.left)) }
     ensures less { OnOk result (room.new.left < room.old.left) }
 {
@@ -44,7 +44,7 @@ fn read_datum(listing: &mut Listing, names: &Strings, room: &mut Room) -> Read<O
 /// So many values. None where a reference in them names no string.
 fn read_fixed(
     listing: &mut Listing,
-    names: &Strings,
+    names: &StringWords,
     room: &mut Room,
     count: u8,
 ) -> Read<Option<Vec<Datum>>>
@@ -67,7 +67,7 @@ fn read_fixed(
 /// The values up to the end of the line, where some may stand there. None where a reference in them names no string.
 fn read_more(
     listing: &mut Listing,
-    names: &Strings,
+    names: &StringWords,
     room: &mut Room,
     may_follow: bool,
 ) -> Read<Option<Vec<Datum>>>
@@ -98,7 +98,7 @@ impl Item for Instruction {
 
     ghost spelling = { λ i. spell.instruction (plain_instruction i) };
 
-    fn read(listing: &mut Listing, names: &Strings, room: &mut Room) -> Read<Self> {
+    fn read(listing: &mut Listing, names: &StringWords, room: &mut Room) -> Read<Self> {
         let opcode = listing.opcode;
         let Some((count, may_follow)) = operand_count(opcode) else {
             return Err(BAD_LINE);
@@ -123,7 +123,7 @@ impl Item for (u16, u16) {
 
     ghost spelling = { spell.pair };
 
-    fn read(listing: &mut Listing, names: &Strings, room: &mut Room) -> Read<Self> {
+    fn read(listing: &mut Listing, names: &StringWords, room: &mut Room) -> Read<Self> {
         room.spend(4)?;
         let name = listing.reference(names)?;
         let kind = listing.reference(names)?;
@@ -138,7 +138,7 @@ impl Item for (u16, u16) {
 /// bytes of a function with empty lists were taken before.
 fn read_function(
     listing: &mut Listing,
-    names: &Strings,
+    names: &StringWords,
     room: &mut Room,
     is_known: bool,
 ) -> Read<PexFunction>
@@ -176,7 +176,7 @@ impl Item for (u16, PexFunction) {
 
     ghost spelling = { λ f. spell.named (plain_named f) };
 
-    fn read(listing: &mut Listing, names: &Strings, room: &mut Room) -> Read<Self> {
+    fn read(listing: &mut Listing, names: &StringWords, room: &mut Room) -> Read<Self> {
         room.spend(17)?;
         let name = listing.reference(names)?;
         let function = read_function(listing, names, room, name.is_some())?;
@@ -189,7 +189,7 @@ impl Item for (u16, PexFunction) {
 /// taken before.
 fn read_accessor(
     listing: &mut Listing,
-    names: &Strings,
+    names: &StringWords,
     room: &mut Room,
     word: &[u8],
     is_asked: bool,
@@ -208,7 +208,7 @@ impl Item for PexVariable {
 
     ghost spelling = { spell.variable };
 
-    fn read(listing: &mut Listing, names: &Strings, room: &mut Room) -> Read<Self> {
+    fn read(listing: &mut Listing, names: &StringWords, room: &mut Room) -> Read<Self> {
         room.spend(8)?;
         let name = listing.reference(names)?;
         let kind = listing.reference(names)?;
@@ -237,7 +237,7 @@ fn least_bytes(is_asked: bool) -> u32
 /// The reference to the variable of a property, which stands only where the bits ask for it.
 fn read_property_variable(
     listing: &mut Listing,
-    names: &Strings,
+    names: &StringWords,
     room: &mut Room,
     bits: u8,
 ) -> Read<Option<Option<u16>>>
@@ -258,7 +258,7 @@ impl Item for PexProperty {
 
     ghost spelling = { λ p. spell.property (plain_property p) };
 
-    fn read(listing: &mut Listing, names: &Strings, room: &mut Room) -> Read<Self> {
+    fn read(listing: &mut Listing, names: &StringWords, room: &mut Room) -> Read<Self> {
         room.spend(11)?;
         let name = listing.reference(names)?;
         let kind = listing.reference(names)?;
@@ -295,7 +295,7 @@ impl Item for PexState {
 
     ghost spelling = { λ s. spell.state (plain_state s) };
 
-    fn read(listing: &mut Listing, names: &Strings, room: &mut Room) -> Read<Self> {
+    fn read(listing: &mut Listing, names: &StringWords, room: &mut Room) -> Read<Self> {
         room.spend(4)?;
         let name = listing.reference(names)?;
         listing.end_of_line()?;
@@ -311,7 +311,7 @@ impl Item for PexObject {
 
     ghost spelling = { λ o. spell.object (plain_object o) };
 
-    fn read(listing: &mut Listing, names: &Strings, room: &mut Room) -> Read<Self> {
+    fn read(listing: &mut Listing, names: &StringWords, room: &mut Room) -> Read<Self> {
         room.spend(22)?;
         let name = listing.reference(names)?;
         let size_form = listing.size_form()?;

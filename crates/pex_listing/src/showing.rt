@@ -58,7 +58,7 @@ fn put_string_line(out: &mut String, word: &str, text: &Text) -> Result<(), Allo
 
 /// Lines that weren't written yet, and how references in them are spelled.
 #[derive(Drop)]
-struct Lines<'a> {
+struct UnwrittenLines<'a> {
     pub text: String,
     /// For each string of the file the word that a reference to it is spelled by, if it is.
     pub words: Vec<Option<&'a str>>,
@@ -67,10 +67,10 @@ struct Lines<'a> {
 /// A part of a file, as a listing has it.
 trait Shown {
     /// Adds what the listing has of it.
-    fn put(&self, lines: &mut Lines) -> Result<(), AllocError>;
+    fn put(&self, lines: &mut UnwrittenLines) -> Result<(), AllocError>;
 }
 
-impl<'a> Lines<'a> {
+impl<'a> UnwrittenLines<'a> {
     fn put_all<T: Shown>(&mut self, parts: &[T]) -> Result<(), AllocError> {
         for part in parts {
             part.put(self)?;
@@ -126,7 +126,7 @@ impl<'a> Lines<'a> {
 
 /// A value with a space before it.
 impl Shown for Datum {
-    fn put(&self, lines: &mut Lines) -> Result<(), AllocError> {
+    fn put(&self, lines: &mut UnwrittenLines) -> Result<(), AllocError> {
         match *self {
             Datum::NoneValue => lines.text.push_str(" none"),
             Datum::Word(index) => lines.put_names(" id", &[index]),
@@ -139,7 +139,7 @@ impl Shown for Datum {
 }
 
 impl Shown for Instruction {
-    fn put(&self, lines: &mut Lines) -> Result<(), AllocError> {
+    fn put(&self, lines: &mut UnwrittenLines) -> Result<(), AllocError> {
         if let Some(opcode) = OPCODES.get(self.opcode as usize) {
             lines.text.push_str(opcode.name)?;
         }
@@ -151,7 +151,7 @@ impl Shown for Instruction {
 
 /// The rest of the line that a function begins with, and the lines of its parameters, locals and code.
 impl Shown for PexFunction {
-    fn put(&self, lines: &mut Lines) -> Result<(), AllocError> {
+    fn put(&self, lines: &mut UnwrittenLines) -> Result<(), AllocError> {
         lines.put_names("", &[self.result, self.doc])?;
         write!(lines.text, " {} {}\n", self.flags, self.bits)?;
         lines.put_pairs("param", &self.parameters)?;
@@ -162,14 +162,14 @@ impl Shown for PexFunction {
 
 /// A function of a state.
 impl Shown for (u16, PexFunction) {
-    fn put(&self, lines: &mut Lines) -> Result<(), AllocError> {
+    fn put(&self, lines: &mut UnwrittenLines) -> Result<(), AllocError> {
         lines.put_names("function", &[self.0])?;
         self.1.put(lines)
     }
 }
 
 impl Shown for PexVariable {
-    fn put(&self, lines: &mut Lines) -> Result<(), AllocError> {
+    fn put(&self, lines: &mut UnwrittenLines) -> Result<(), AllocError> {
         lines.put_names("variable", &[self.name, self.kind])?;
         write!(lines.text, " {}", self.flags)?;
         self.value.put(lines)?;
@@ -179,7 +179,7 @@ impl Shown for PexVariable {
 
 /// A property with its functions.
 impl Shown for PexProperty {
-    fn put(&self, lines: &mut Lines) -> Result<(), AllocError> {
+    fn put(&self, lines: &mut UnwrittenLines) -> Result<(), AllocError> {
         lines.put_names("property", &[self.name, self.kind, self.doc])?;
         write!(lines.text, " {} {}", self.flags, self.bits)?;
         if let Some(variable) = self.variable {
@@ -193,7 +193,7 @@ impl Shown for PexProperty {
 
 /// An entry of the debug information.
 impl Shown for PexLines {
-    fn put(&self, lines: &mut Lines) -> Result<(), AllocError> {
+    fn put(&self, lines: &mut UnwrittenLines) -> Result<(), AllocError> {
         lines.put_names("lines", &[self.object, self.state, self.function])?;
         write!(lines.text, " {}", self.kind)?;
         for line in &self.lines {
@@ -205,7 +205,7 @@ impl Shown for PexLines {
 
 /// A user flag.
 impl Shown for (u16, u8) {
-    fn put(&self, lines: &mut Lines) -> Result<(), AllocError> {
+    fn put(&self, lines: &mut UnwrittenLines) -> Result<(), AllocError> {
         lines.put_names("flag", &[self.0])?;
         write!(lines.text, " {}\n", self.1)
     }
@@ -223,7 +223,7 @@ pub fn show<S: Sink>(alloc: Global, value: &Pex, sink: &mut S) -> Result<(), Sho
     ensures begun { IfOk result (λ _. Begins (head_lines (plain value.now)) (S.written sink.old) (S.written sink.new)) }
 {
     let words = reference_words(alloc, &value.strings)?;
-    let mut lines = Lines {
+    let mut lines = UnwrittenLines {
         text: String::new(alloc),
         words,
     };
@@ -294,7 +294,7 @@ fn show_table<S: Sink>(out: &mut String, strings: &[Text], sink: &mut S) -> Writ
 }
 
 /// The debug line, and the entries behind it.
-fn show_debug<S: Sink>(lines: &mut Lines, debug: &Option<PexDebug>, sink: &mut S) -> Written
+fn show_debug<S: Sink>(lines: &mut UnwrittenLines, debug: &Option<PexDebug>, sink: &mut S) -> Written
     ensures faults { Shows S.faults result sink.old sink.new }
     ensures appended { AppendsSome (S.written sink.old) (S.written sink.new) }
 {
@@ -317,7 +317,7 @@ fn flush_part<S: Sink>(out: &mut String, sink: &mut S) -> Written
 }
 
 /// Parts one after another, written where there are bytes enough.
-fn show_all<S: Sink, T: Shown>(lines: &mut Lines, parts: &[T], sink: &mut S) -> Written
+fn show_all<S: Sink, T: Shown>(lines: &mut UnwrittenLines, parts: &[T], sink: &mut S) -> Written
     ensures faults { Shows S.faults result sink.old sink.new }
     ensures appended { AppendsSome (S.written sink.old) (S.written sink.new) }
 {
@@ -328,7 +328,7 @@ fn show_all<S: Sink, T: Shown>(lines: &mut Lines, parts: &[T], sink: &mut S) -> 
     Ok(())
 }
 
-fn show_states<S: Sink>(lines: &mut Lines, states: &[PexState], sink: &mut S) -> Written
+fn show_states<S: Sink>(lines: &mut UnwrittenLines, states: &[PexState], sink: &mut S) -> Written
     ensures faults { Shows S.faults result sink.old sink.new }
     ensures appended { AppendsSome (S.written sink.old) (S.written sink.new) }
 {
@@ -340,7 +340,7 @@ fn show_states<S: Sink>(lines: &mut Lines, states: &[PexState], sink: &mut S) ->
     Ok(())
 }
 
-fn show_objects<S: Sink>(lines: &mut Lines, objects: &[PexObject], sink: &mut S) -> Written
+fn show_objects<S: Sink>(lines: &mut UnwrittenLines, objects: &[PexObject], sink: &mut S) -> Written
     ensures faults { Shows S.faults result sink.old sink.new }
     ensures appended { AppendsSome (S.written sink.old) (S.written sink.new) }
 {

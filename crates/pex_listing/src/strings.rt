@@ -14,7 +14,7 @@ const LONGEST_WORD: usize = 64;
 
 /// Where the strings of a file stand, and which references are spelled by them.
 #[derive(Drop)]
-pub(crate) struct Strings {
+pub(crate) struct StringWords {
     /// The first place of each string that is a word.
     first: IndexMap<Vec<u8>, usize>,
     /// For each string, whether a reference to it is spelled by it: it is a word of at most 64 bytes, and the first
@@ -31,8 +31,8 @@ pub(crate) fn is_word(bytes: &[u8]) -> bool {
     !bytes.is_empty() && bytes.iter().all(|byte| is_word_byte(*byte))
 }
 
-impl Strings {
-    pub(crate) fn new(alloc: Global, strings: &[Text]) -> Made<Strings>
+impl StringWords {
+    pub(crate) fn new(alloc: Global, strings: &[Text]) -> Made<StringWords>
         ensures { IfOk result (λ table. vec_len table.spelled ≡ length strings.now) }
     {
         let mut first = IndexMap::new(alloc);
@@ -45,7 +45,7 @@ impl Strings {
             }
             spelled.push(is_first && bytes.len() <= LONGEST_WORD)?;
         }
-        Ok(Strings { first, spelled })
+        Ok(StringWords { first, spelled })
     }
 
     /// The first place of a string of these bytes, which are a word.
@@ -67,7 +67,7 @@ pub(crate) fn reference_words<'a>(
     alloc: Global,
     strings: &'a [Text],
 ) -> Made<Vec<Option<&'a str>>> {
-    let spelled = Strings::new(alloc, strings)?.spelled;
+    let spelled = StringWords::new(alloc, strings)?.spelled;
     let mut words = Vec::with_capacity(alloc, strings.len())?;
     for (text, is_spelled) in strings.iter().zip(&spelled) {
         let word = str::from_utf8(text.as_bytes()).ok();

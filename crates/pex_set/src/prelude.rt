@@ -22,7 +22,7 @@ pub struct Prelude {
 }
 
 // The strings of a file, each once.
-type Strings = Vec<Text>;
+type TextList = Vec<Text>;
 
 // The reference to the empty string.
 const EMPTY: u16 = 0;
@@ -56,7 +56,7 @@ impl Prelude {
 }
 
 // The reference to a word, which stands behind the strings where they lack it.
-fn reference(alloc: Global, strings: &mut Strings, word: &str) -> Made<u16> {
+fn reference(alloc: Global, strings: &mut TextList, word: &str) -> Made<u16> {
     let found = strings
         .iter()
         .position(|string| string.as_bytes() == word.as_bytes());
@@ -67,7 +67,7 @@ fn reference(alloc: Global, strings: &mut Strings, word: &str) -> Made<u16> {
     Ok(place.min(usize::from(u16::MAX)) as u16)
 }
 
-fn objects(alloc: Global, strings: &mut Strings) -> Made<Vec<PexObject>>
+fn objects(alloc: Global, strings: &mut TextList) -> Made<Vec<PexObject>>
     ensures count { IfOk result (λ objects. vec_len objects ≡ 6) }
     ensures plain { IfOk result (λ objects. All HasNoProperties objects.items) }
 {
@@ -78,7 +78,7 @@ fn objects(alloc: Global, strings: &mut Strings) -> Made<Vec<PexObject>>
     Ok(objects)
 }
 
-fn object(alloc: Global, strings: &mut Strings, script: &StandardScript) -> Made<PexObject>
+fn object(alloc: Global, strings: &mut TextList, script: &StandardScript) -> Made<PexObject>
     ensures { IfOk result HasNoProperties }
 {
     Ok(PexObject {
@@ -95,7 +95,7 @@ fn object(alloc: Global, strings: &mut Strings, script: &StandardScript) -> Made
 }
 
 // The empty state with these functions, and no state where there are none.
-fn states(alloc: Global, strings: &mut Strings, rows: &[StandardFunction]) -> Made<Vec<PexState>> {
+fn states(alloc: Global, strings: &mut TextList, rows: &[StandardFunction]) -> Made<Vec<PexState>> {
     let mut states = Vec::new(alloc);
     if !rows.is_empty() {
         states.push(PexState {
@@ -108,7 +108,7 @@ fn states(alloc: Global, strings: &mut Strings, rows: &[StandardFunction]) -> Ma
 
 fn functions(
     alloc: Global,
-    strings: &mut Strings,
+    strings: &mut TextList,
     rows: &[StandardFunction],
 ) -> Made<Vec<(u16, PexFunction)>>
     ensures { IfOk result (λ functions. vec_len functions ≡ length rows.now) }
@@ -121,7 +121,7 @@ fn functions(
     Ok(functions)
 }
 
-fn function(alloc: Global, strings: &mut Strings, row: &StandardFunction) -> Made<PexFunction> {
+fn function(alloc: Global, strings: &mut TextList, row: &StandardFunction) -> Made<PexFunction> {
     let mut function = PexFunction {
         result: reference(alloc, strings, row.result.unwrap_or("None"))?,
         doc: EMPTY,
@@ -151,7 +151,7 @@ fn function(alloc: Global, strings: &mut Strings, row: &StandardFunction) -> Mad
 
 fn parameters(
     alloc: Global,
-    strings: &mut Strings,
+    strings: &mut TextList,
     rows: &[StandardParameter],
 ) -> Made<Vec<(u16, u16)>> {
     let mut parameters = Vec::with_capacity(alloc, rows.len())?;
@@ -163,7 +163,7 @@ fn parameters(
 }
 
 // Calls OnEndState, changes the state, and calls OnBeginState.
-fn change_state(alloc: Global, strings: &mut Strings) -> Made<Vec<Instruction>> {
+fn change_state(alloc: Global, strings: &mut TextList) -> Made<Vec<Instruction>> {
     let end = ["OnEndState", "self", "::NoneVar"];
     let begin = ["OnBeginState", "self", "::NoneVar"];
     let mut code = Vec::with_capacity(alloc, 3)?;
@@ -176,7 +176,7 @@ fn change_state(alloc: Global, strings: &mut Strings) -> Made<Vec<Instruction>> 
 // An instruction of which each operand is a name.
 fn instruction(
     alloc: Global,
-    strings: &mut Strings,
+    strings: &mut TextList,
     opcode: u8,
     names: &[&str],
 ) -> Made<Instruction> {

@@ -1,12 +1,12 @@
 // Jumps, read into If and While, and the definitions of locals in them.
-use crate::code::Code;
-use crate::fault::{Found, NOT_FOUND, SourceFault, check};
-use crate::reader::{Outcome, Reader};
+use crate::code::FunctionCode;
+use crate::fault::{Attempt, NOT_FOUND, SourceFault, check};
+use crate::reader::{Outcome, TreeReader};
 use pex_values::{JMP, JMPF};
 
 /// A line of a function's body, whose expressions are given by their numbers among those of the function.
 #[derive(Clone, Copy)]
-pub(crate) enum Line {
+pub(crate) enum BodyLine {
     /// A definition of a local.
     Define(usize, usize),
     /// What is set, as the expression that gets it, and the value.
@@ -28,7 +28,7 @@ pub(crate) enum Line {
 // What a block that is open belongs to, where it ends, how many statements stand in it so far, and the first local that wasn't
 // defined when it began.
 #[derive(Clone, Copy)]
-struct Block {
+struct OpenBlock {
     kind: BlockKind,
     end: usize,
     statements: usize,
@@ -51,9 +51,9 @@ enum BlockKind {
 /// The body of a function as it is read: its lines, with its expressions in the reader.
 #[derive(Drop)]
 pub(crate) struct Blocks<'w, 'f> {
-    pub reader: Reader<'w, 'f>,
-    pub lines: Vec<Line>,
-    open: Vec<Block>,
+    pub reader: TreeReader<'w, 'f>,
+    pub lines: Vec<BodyLine>,
+    open: Vec<OpenBlock>,
     // Whether a statement or a test has begun, and the jump back of the While whose test it is.
     begun: bool,
     back: Option<usize>,
@@ -61,10 +61,10 @@ pub(crate) struct Blocks<'w, 'f> {
 
 impl<'w, 'f> Blocks<'w, 'f> {
     /// A body without lines, in which the slots from `first` on are temporaries.
-    pub(crate) fn new(code: &'f Code<'w>, first: usize) -> Blocks<'w, 'f> {
+    pub(crate) fn new(code: &'f FunctionCode<'w>, first: usize) -> Blocks<'w, 'f> {
         let alloc = code.world.alloc;
         Blocks {
-            reader: Reader::new(code, first),
+            reader: TreeReader::new(code, first),
             lines: Vec::new(alloc),
             open: Vec::new(alloc),
             begun: false,
@@ -74,7 +74,7 @@ impl<'w, 'f> Blocks<'w, 'f> {
 
     /// Reads the function. A file doesn't tell how many of its locals were locals of the source, so the numbers are tried in turn,
     /// the least first: it has the fewest lines. `NotFound` comes where none of them gives a body.
-    pub(crate) fn read(&mut self) -> Found<()> {
+    pub(crate) fn read(&mut self) -> Attempt<()> {
         let code = self.reader.code;
         for first in code.function.parameters.len()..code.locals_end().saturating_add(1) {
             *self = Blocks::new(code, first);
@@ -87,7 +87,7 @@ impl<'w, 'f> Blocks<'w, 'f> {
     }
 
     // Each turn goes behind an instruction, or ends a block, of which an instruction opens two at most.
-    fn attempt(&mut self) -> Found<()> {
+    fn attempt(&mut self) -> Attempt<()> {
         let count = self.reader.code.steps.len();
         self.open_block(BlockKind::Function, count)?;
         let mut at = 0usize;
@@ -100,13 +100,13 @@ impl<'w, 'f> Blocks<'w, 'f> {
         Err(NOT_FOUND)
     }
 
-    fn innermost(&self) -> Found<Block> {
+    fn innermost(&self) -> Attempt<OpenBlock> {
         self.open.last().copied().ok_or(NOT_FOUND)
     }
 
     // What stands at a place is read: the end of a block, or an instruction, with which a statement or a test begins unless one has.
     // Gives the place behind it, and none at the function's end.
-    fn turn(&mut self, at: usize) -> Found<Option<usize>> {
+    fn turn(&mut self, at: usize) -> Attempt<Option<usize>> {
         let block = self.innermost()?;
         if !self.begun && block.end == at {
             return self.end_block(block, at);
@@ -127,10 +127,10 @@ impl<'w, 'f> Blocks<'w, 'f> {
         }
     }
 
-    fn take(&mut self, outcome: Outcome, at: usize) -> Found<()> {
+    fn take(&mut self, outcome: Outcome, at: usize) -> Attempt<()> {
         match outcome {
             None => return Ok(()),
-            Some(Line::If(test)) => match self.back.take() {
+            Some(BodyLine::If(test)) => match self.back.take() {
                 Some(back) => self.open_while(test, at, back)?,
                 None => self.open_if(test, at)?,
             },
@@ -145,20 +145,20 @@ impl<'w, 'f> Blocks<'w, 'f> {
     }
 
     // The test of a While ends with the jump at this place.
-    fn open_while(&mut self, test: usize, at: usize, back: usize) -> Found<()> {
+    fn open_while(&mut self, test: usize, at: usize, back: usize) -> Attempt<()> {
         let target = self.reader.code.step(at)?.target;
         check(at < back && target == Some(back.saturating_add(1)))?;
-        self.lines.push(Line::While(test))?;
+        self.lines.push(BodyLine::While(test))?;
         self.open_block(BlockKind::While, back)
     }
 
     // The test of an If ends with the jump at this place. It has an Else where the jump before the target leads ahead, and belongs to
     // this If: no test inside has the same target.
-    fn open_if(&mut self, test: usize, at: usize) -> Found<()> {
+    fn open_if(&mut self, test: usize, at: usize) -> Attempt<()> {
         let over = self.reader.code.step(at)?.target.ok_or(NOT_FOUND)?;
         let limit = self.innermost()?.end;
         check(over > at && over <= limit)?;
-        self.lines.push(Line::If(test))?;
+        self.lines.push(BodyLine::If(test))?;
         let last = over.saturating_sub(1);
         let jump = self.reader.code.step(last)?;
         let is_own = jump.opcode == JMP && self.reader.code.jump_to(over, JMPF) == Some(at);
@@ -171,8 +171,8 @@ impl<'w, 'f> Blocks<'w, 'f> {
         }
     }
 
-    fn open_block(&mut self, kind: BlockKind, end: usize) -> Found<()> {
-        self.open.push(Block {
+    fn open_block(&mut self, kind: BlockKind, end: usize) -> Attempt<()> {
+        self.open.push(OpenBlock {
             kind,
             end,
             statements: 0,
@@ -181,7 +181,7 @@ impl<'w, 'f> Blocks<'w, 'f> {
         Ok(())
     }
 
-    fn end_block(&mut self, block: Block, at: usize) -> Found<Option<usize>> {
+    fn end_block(&mut self, block: OpenBlock, at: usize) -> Attempt<Option<usize>> {
         let _ = self.open.pop();
         self.reader.slots.end_block(block.defined_end);
         let mut next = at;
@@ -190,17 +190,17 @@ impl<'w, 'f> Blocks<'w, 'f> {
             // An Else whose statements have no code has one that does nothing.
             BlockKind::ThenElse { over, end } => {
                 let line = self.lines.len();
-                self.lines.push(Line::Else)?;
+                self.lines.push(BodyLine::Else)?;
                 if end == over {
-                    self.lines.push(Line::Nothing)?;
+                    self.lines.push(BodyLine::Nothing)?;
                 }
                 self.open_block(BlockKind::Else { line }, end)?;
                 return Ok(Some(over));
             }
-            BlockKind::Then => self.lines.push(Line::EndIf)?,
+            BlockKind::Then => self.lines.push(BodyLine::EndIf)?,
             BlockKind::Else { line } => self.end_else(line, block.statements)?,
             BlockKind::While => {
-                self.lines.push(Line::EndWhile)?;
+                self.lines.push(BodyLine::EndWhile)?;
                 next = at.saturating_add(1);
             }
         }
@@ -209,20 +209,20 @@ impl<'w, 'f> Blocks<'w, 'f> {
     }
 
     // An If that is all of an Else is an ElseIf, and the end of that If is the end of this one.
-    fn end_else(&mut self, line: usize, statements: usize) -> Found<()> {
+    fn end_else(&mut self, line: usize, statements: usize) -> Attempt<()> {
         let behind = line.saturating_add(1);
         match self.lines.get(behind) {
-            Some(Line::If(test)) if statements == 1 => {
+            Some(BodyLine::If(test)) if statements == 1 => {
                 let test = *test;
-                self.set(line, Line::Skipped);
-                self.set(behind, Line::ElseIf(test));
+                self.set(line, BodyLine::Skipped);
+                self.set(behind, BodyLine::ElseIf(test));
             }
-            _ => self.lines.push(Line::EndIf)?,
+            _ => self.lines.push(BodyLine::EndIf)?,
         }
         Ok(())
     }
 
-    fn set(&mut self, at: usize, line: Line) {
+    fn set(&mut self, at: usize, line: BodyLine) {
         if let Some(old) = self.lines.get_mut(at) {
             *old = line;
         }

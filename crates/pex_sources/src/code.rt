@@ -1,6 +1,6 @@
 // The code of a function, with its operands resolved, and what is known of it however many locals its source had.
-use crate::fault::{Found, NOT_FOUND};
-use crate::world::{BOOL, INT, NONE, OWN_INSTANCE, STATE_VARIABLE, STRING, Script, World};
+use crate::fault::{Attempt, NOT_FOUND};
+use crate::world::{BOOL, INT, NONE, OWN_INSTANCE, STATE_VARIABLE, STRING, CompiledScript, CompiledScripts};
 use pex_values::{
     ARRAY_CREATE, ARRAY_FINDELEMENT, ARRAY_GETELEMENT, ARRAY_LENGTH, ARRAY_RFINDELEMENT, ASSIGN,
     CALL_METHOD, CALL_PARENT, CALL_STATIC, CMP_EQ, Datum, Instruction, JMP, JMPF, JMPT, PROPGET,
@@ -44,7 +44,7 @@ pub(crate) fn sign_of(opcode: u8) -> Option<(&'static [u8], u8)> {
 
 /// What an operand stands for. A slot is a parameter or a local by its place, and a variable one of the script by its place.
 #[derive(Clone, Copy, PartialEq, Eq)]
-pub(crate) enum Operand {
+pub(crate) enum OperandMeaning {
     Slot(usize),
     Variable(usize),
     OwnInstance,
@@ -55,7 +55,7 @@ pub(crate) enum Operand {
 /// An instruction. Its operands that are no names stand among those of the function from `first` to `end`, and from `arguments` on
 /// those that are arguments.
 #[derive(Clone, Copy)]
-pub(crate) struct Step {
+pub(crate) struct CodeStep {
     pub opcode: u8,
     /// References to the names of a script, and of a function or a property, where it has them.
     pub names: (u16, u16),
@@ -70,30 +70,30 @@ pub(crate) struct Step {
 
 /// The instructions of a function.
 #[derive(Drop)]
-pub(crate) struct Code<'w> {
-    pub world: &'w World<'w>,
-    pub script: &'w Script<'w>,
+pub(crate) struct FunctionCode<'w> {
+    pub world: &'w CompiledScripts<'w>,
+    pub script: &'w CompiledScript<'w>,
     pub function: &'w PexFunction,
-    pub steps: Vec<Step>,
+    pub steps: Vec<CodeStep>,
     /// References to the names and types of the slots.
     pub pairs: Vec<(u16, u16)>,
     // Each operand, and whether it is a slot that the next instruction that has the slot reads.
-    operands: Vec<(Operand, bool)>,
+    operands: Vec<(OperandMeaning, bool)>,
     // By its target and its opcode, the last jump that leads there; of those without test only one from behind.
     jumps: HashMap<(usize, u8), usize>,
     // The first slot of each name.
     slots: HashMap<usize, usize>,
 }
 
-impl<'w> Code<'w> {
+impl<'w> FunctionCode<'w> {
     /// A function of the script, of which no instruction is read.
     pub(crate) fn new(
-        world: &'w World<'w>,
-        script: &'w Script<'w>,
+        world: &'w CompiledScripts<'w>,
+        script: &'w CompiledScript<'w>,
         function: &'w PexFunction,
-    ) -> Code<'w> {
+    ) -> FunctionCode<'w> {
         let alloc = world.alloc;
-        Code {
+        FunctionCode {
             world,
             script,
             function,
@@ -106,7 +106,7 @@ impl<'w> Code<'w> {
     }
 
     /// Reads the instructions.
-    pub(crate) fn fill(&mut self) -> Found<()> {
+    pub(crate) fn fill(&mut self) -> Attempt<()> {
         self.add_slots()?;
         for (at, instruction) in self.function.code.iter().enumerate() {
             self.add(at, instruction)?;
@@ -114,7 +114,7 @@ impl<'w> Code<'w> {
         self.note_uses()
     }
 
-    fn add_slots(&mut self) -> Found<()> {
+    fn add_slots(&mut self) -> Attempt<()> {
         let pairs = self.function.parameters.iter();
         for (slot, pair) in pairs.chain(self.function.locals.iter()).enumerate() {
             self.pairs.push(*pair)?;
@@ -126,7 +126,7 @@ impl<'w> Code<'w> {
     }
 
     // Adds an instruction with its operands.
-    fn add(&mut self, at: usize, instruction: &Instruction) -> Found<()> {
+    fn add(&mut self, at: usize, instruction: &Instruction) -> Attempt<()> {
         let opcode = instruction.opcode;
         let (names, fixed) = match (opcode, instruction.fixed.as_slice()) {
             (CALL_STATIC, [Datum::Word(script), Datum::Word(name), fixed @ ..]) => {
@@ -148,7 +148,7 @@ impl<'w> Code<'w> {
         if let Some(target) = target.filter(|target| opcode != JMP || *target <= at) {
             self.jumps.insert((target, opcode), at)?;
         }
-        self.steps.push(Step {
+        self.steps.push(CodeStep {
             opcode,
             names,
             first,
@@ -160,11 +160,11 @@ impl<'w> Code<'w> {
         Ok(())
     }
 
-    fn add_operands(&mut self, data: &[Datum]) -> Found<()> {
+    fn add_operands(&mut self, data: &[Datum]) -> Attempt<()> {
         for datum in data {
             let operand = match *datum {
                 Datum::Word(name) => self.variable(self.script.number(name))?,
-                literal => Operand::Literal(literal),
+                literal => OperandMeaning::Literal(literal),
             };
             self.operands.push((operand, false))?;
         }
@@ -172,20 +172,20 @@ impl<'w> Code<'w> {
     }
 
     // What the identifier of this number means.
-    fn variable(&self, name: usize) -> Found<Operand> {
+    fn variable(&self, name: usize) -> Attempt<OperandMeaning> {
         if let Some(slot) = self.slots.get(&name) {
-            return Ok(Operand::Slot(*slot));
+            return Ok(OperandMeaning::Slot(*slot));
         }
         match (self.world.variable(self.script, name), name) {
-            (Some(place), _) => Ok(Operand::Variable(place)),
-            (None, OWN_INSTANCE) => Ok(Operand::OwnInstance),
-            (None, STATE_VARIABLE) => Ok(Operand::StateText),
+            (Some(place), _) => Ok(OperandMeaning::Variable(place)),
+            (None, OWN_INSTANCE) => Ok(OperandMeaning::OwnInstance),
+            (None, STATE_VARIABLE) => Ok(OperandMeaning::StateText),
             _ => Err(NOT_FOUND),
         }
     }
 
     // Which operands are read next, from the last instruction to the first.
-    fn note_uses(&mut self) -> Found<()> {
+    fn note_uses(&mut self) -> Attempt<()> {
         let mut reads = vec![in self.world.alloc; false; self.pairs.len()]?;
         for step in self.steps.iter().rev() {
             note_step(*step, &mut self.operands, &mut reads);
@@ -198,7 +198,7 @@ impl<'w> Code<'w> {
         let written = self.steps.iter().filter(|step| step.opcode != ASSIGN);
         written
             .filter_map(|step| match self.operands.get(step.result?)?.0 {
-                Operand::Slot(slot) if slot >= self.function.parameters.len() => Some(slot),
+                OperandMeaning::Slot(slot) if slot >= self.function.parameters.len() => Some(slot),
                 _ => None,
             })
             .min()
@@ -206,12 +206,12 @@ impl<'w> Code<'w> {
     }
 
     /// The instruction at a place.
-    pub(crate) fn step(&self, at: usize) -> Found<Step> {
+    pub(crate) fn step(&self, at: usize) -> Attempt<CodeStep> {
         self.steps.get(at).copied().ok_or(NOT_FOUND)
     }
 
     /// The operand at a place among those of the function, and whether the next instruction that has it as its slot reads it.
-    pub(crate) fn operand(&self, at: usize) -> Found<(Operand, bool)> {
+    pub(crate) fn operand(&self, at: usize) -> Attempt<(OperandMeaning, bool)> {
         self.operands.get(at).copied().ok_or(NOT_FOUND)
     }
 
@@ -221,34 +221,34 @@ impl<'w> Code<'w> {
     }
 
     /// References to the name and the type of a parameter or a local.
-    pub(crate) fn pair(&self, slot: usize) -> Found<(u16, u16)> {
+    pub(crate) fn pair(&self, slot: usize) -> Attempt<(u16, u16)> {
         self.pairs.get(slot).copied().ok_or(NOT_FOUND)
     }
 
     /// The type of a parameter or a local.
-    pub(crate) fn slot_type(&self, slot: usize) -> Found<usize> {
+    pub(crate) fn slot_type(&self, slot: usize) -> Attempt<usize> {
         Ok(self.script.number(self.pair(slot)?.1))
     }
 
     /// The type of what an operand stands for.
-    pub(crate) fn type_of(&self, operand: Operand) -> Found<usize> {
+    pub(crate) fn type_of(&self, operand: OperandMeaning) -> Attempt<usize> {
         Ok(match operand {
-            Operand::Slot(slot) => self.slot_type(slot)?,
-            Operand::Variable(place) => self.script.number(self.script.variable(place)?.kind),
-            Operand::OwnInstance => self.script.name(),
-            Operand::StateText | Operand::Literal(Datum::Quoted(_)) => STRING,
-            Operand::Literal(Datum::Int(_)) => INT,
-            Operand::Literal(Datum::Bool(_)) => BOOL,
-            Operand::Literal(_) => NONE,
+            OperandMeaning::Slot(slot) => self.slot_type(slot)?,
+            OperandMeaning::Variable(place) => self.script.number(self.script.variable(place)?.kind),
+            OperandMeaning::OwnInstance => self.script.name(),
+            OperandMeaning::StateText | OperandMeaning::Literal(Datum::Quoted(_)) => STRING,
+            OperandMeaning::Literal(Datum::Int(_)) => INT,
+            OperandMeaning::Literal(Datum::Bool(_)) => BOOL,
+            OperandMeaning::Literal(_) => NONE,
         })
     }
 }
 
 // Notes which operands of an instruction are read next, where `reads` says it of each slot behind the instruction, and then before
 // it.
-fn note_step(step: Step, operands: &mut [(Operand, bool)], reads: &mut [bool]) {
+fn note_step(step: CodeStep, operands: &mut [(OperandMeaning, bool)], reads: &mut [bool]) {
     for at in step.first..step.end {
-        let Some((Operand::Slot(slot), _)) = operands.get(at).copied() else {
+        let Some((OperandMeaning::Slot(slot), _)) = operands.get(at).copied() else {
             continue;
         };
         if let (Some(operand), Some(is_read)) = (operands.get_mut(at), reads.get_mut(slot)) {

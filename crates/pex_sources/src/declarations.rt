@@ -1,10 +1,10 @@
 // The text of a script: its heading, imports, variables, properties, functions and states.
 use crate::blocks::Blocks;
-use crate::code::Code;
+use crate::code::FunctionCode;
 use crate::expressions::Speaker;
-use crate::fault::{Found, NOT_FOUND, check};
+use crate::fault::{Attempt, NOT_FOUND, check};
 use crate::page::Page;
-use crate::world::{NONE, Script, World};
+use crate::world::{NONE, CompiledScript, CompiledScripts};
 use papy_base::Text;
 use pex_values::{
     CALL_STATIC, Datum, Instruction, PexFunction, PexProperty, PexState, PexVariable, RETURN,
@@ -24,13 +24,13 @@ const LINE_LIMIT: usize = 65_535;
 // The script that is written.
 #[derive(Clone, Copy)]
 struct Author<'a> {
-    world: &'a World<'a>,
-    script: &'a Script<'a>,
+    world: &'a CompiledScripts<'a>,
+    script: &'a CompiledScript<'a>,
 }
 
 /// The text of the script of this number, without indentation where it would be too long with it. `NotFound` comes where there is
 /// no such script, or where it has what no compiler writes.
-pub(crate) fn script_text(world: &World<'_>, number: usize) -> Found<Text> {
+pub(crate) fn script_text(world: &CompiledScripts<'_>, number: usize) -> Attempt<Text> {
     let script = world.script(number)?;
     let author = Author { world, script };
     let mut page = Page::new(world.alloc, true);
@@ -44,7 +44,7 @@ pub(crate) fn script_text(world: &World<'_>, number: usize) -> Found<Text> {
 }
 
 impl<'a> Author<'a> {
-    fn put_script(self, page: &mut Page) -> Found<()> {
+    fn put_script(self, page: &mut Page) -> Attempt<()> {
         let (script, object) = (self.script, self.script.object);
         page.begin(&[b"ScriptName ", script.text(object.name)])?;
         if self.has_parent() {
@@ -65,7 +65,7 @@ impl<'a> Author<'a> {
     }
 
     // A line for each import: scripts whose Global functions it calls, and whose names mean something else there.
-    fn put_imports(self, page: &mut Page) -> Found<()> {
+    fn put_imports(self, page: &mut Page) -> Attempt<()> {
         let object = self.script.object;
         let (properties, states) = (object.properties.iter(), object.states.iter());
         let accessors = properties.flat_map(|of| of.read.iter().chain(of.write.iter()));
@@ -96,7 +96,7 @@ impl<'a> Author<'a> {
     }
 
     // Variables and properties: each variable before the first Auto property whose variable stands behind it.
-    fn put_fields(self, page: &mut Page) -> Found<()> {
+    fn put_fields(self, page: &mut Page) -> Attempt<()> {
         let mut written = 0usize;
         for property in &self.script.object.properties {
             if let Some(name) = property.variable {
@@ -109,13 +109,13 @@ impl<'a> Author<'a> {
         self.put_variables(page, written, self.script.object.variables.len())
     }
 
-    fn variable_place(self, name: u16) -> Found<usize> {
+    fn variable_place(self, name: u16) -> Attempt<usize> {
         let place = self.world.variable(self.script, self.script.number(name));
         place.ok_or(NOT_FOUND)
     }
 
     // The variables from one place up to another, but for those of Auto properties.
-    fn put_variables(self, page: &mut Page, from: usize, to: usize) -> Found<()> {
+    fn put_variables(self, page: &mut Page, from: usize, to: usize) -> Attempt<()> {
         let script = self.script;
         for place in from..to {
             let variable = script.variable(place)?;
@@ -132,7 +132,7 @@ impl<'a> Author<'a> {
     }
 
     // The value with which a variable begins, unless it is that of its type.
-    fn put_initial(self, page: &mut Page, variable: &PexVariable) -> Found<()> {
+    fn put_initial(self, page: &mut Page, variable: &PexVariable) -> Attempt<()> {
         match variable.value {
             Datum::NoneValue | Datum::Int(0) | Datum::Bool(0) => Ok(()),
             Datum::Quoted(text) if self.script.text(text).is_empty() => Ok(()),
@@ -140,12 +140,12 @@ impl<'a> Author<'a> {
         }
     }
 
-    fn put_value(self, page: &mut Page, value: Datum) -> Found<()> {
+    fn put_value(self, page: &mut Page, value: Datum) -> Attempt<()> {
         page.put(&[b" = "])?;
         page.put_literal(self.script, value)
     }
 
-    fn put_property(self, page: &mut Page, property: &'a PexProperty) -> Found<()> {
+    fn put_property(self, page: &mut Page, property: &'a PexProperty) -> Attempt<()> {
         let script = self.script;
         let (kind, name) = (script.text(property.kind), script.text(property.name));
         page.begin(&[kind, b" Property ", name])?;
@@ -189,7 +189,7 @@ impl<'a> Author<'a> {
         self.script.text(function.doc).is_empty() && function.flags == 0 && function.bits == 0
     }
 
-    fn put_state(self, page: &mut Page, state: &'a PexState, is_first: bool) -> Found<()> {
+    fn put_state(self, page: &mut Page, state: &'a PexState, is_first: bool) -> Attempt<()> {
         let name = self.script.text(state.name);
         if name.is_empty() {
             check(is_first)?;
@@ -205,7 +205,7 @@ impl<'a> Author<'a> {
     }
 
     // The first functions of a state, so many.
-    fn put_functions(self, page: &mut Page, state: &'a PexState, count: usize) -> Found<()> {
+    fn put_functions(self, page: &mut Page, state: &'a PexState, count: usize) -> Attempt<()> {
         for (name, function) in state.functions.iter().take(count) {
             self.put_function(page, self.script.text(*name), function)?;
         }
@@ -233,7 +233,7 @@ impl<'a> Author<'a> {
         }
     }
 
-    fn put_function(self, page: &mut Page, name: &[u8], function: &'a PexFunction) -> Found<()> {
+    fn put_function(self, page: &mut Page, name: &[u8], function: &'a PexFunction) -> Attempt<()> {
         let (begin, end): (&[u8], &[u8]) = if self.is_event(name, function) {
             (b"Event ", b"EndEvent")
         } else {
@@ -253,7 +253,7 @@ impl<'a> Author<'a> {
             return Ok(());
         }
         page.indent();
-        let mut code = Code::new(self.world, self.script, function);
+        let mut code = FunctionCode::new(self.world, self.script, function);
         code.fill()?;
         put_code(page, &code)?;
         page.outdent();
@@ -270,7 +270,7 @@ impl<'a> Author<'a> {
         begins && function.bits & GLOBAL == 0 && !self.has_result(function)
     }
 
-    fn put_parameters(self, page: &mut Page, function: &PexFunction) -> Found<()> {
+    fn put_parameters(self, page: &mut Page, function: &PexFunction) -> Attempt<()> {
         for (place, pair) in function.parameters.iter().enumerate() {
             let comma: &[u8] = if place > 0 { b", " } else { b"" };
             page.put(&[comma, self.script.text(pair.1), b" "])?;
@@ -280,7 +280,7 @@ impl<'a> Author<'a> {
     }
 }
 
-fn put_code(page: &mut Page, code: &Code<'_>) -> Found<()> {
+fn put_code(page: &mut Page, code: &FunctionCode<'_>) -> Attempt<()> {
     let mut blocks = Blocks::new(code, 0);
     blocks.read()?;
     let trees = &blocks.reader.trees;

@@ -1,9 +1,9 @@
 // The text of a function's body: its lines, and their expressions.
-use crate::blocks::Line;
-use crate::code::{CMP_NE, Code, Operand, sign_of};
-use crate::fault::{Found, NOT_FOUND, check};
+use crate::blocks::BodyLine;
+use crate::code::{CMP_NE, FunctionCode, OperandMeaning, sign_of};
+use crate::fault::{Attempt, NOT_FOUND, check};
 use crate::page::Page;
-use crate::trees::{Form, Input, Node, Trees};
+use crate::trees::{Form, Input, ExpressionNode, Trees};
 use crate::world::{BOOL, NONE, STRING, Slot};
 use pex_values::{
     ARRAY_CREATE, ARRAY_FINDELEMENT, ARRAY_GETELEMENT, ARRAY_LENGTH, ARRAY_RFINDELEMENT,
@@ -23,7 +23,7 @@ const DEBUG: usize = 0;
 
 /// What is still to be written of a line.
 #[derive(Clone, Copy)]
-enum Item<'a> {
+enum Unwritten<'a> {
     /// An expression, in brackets where its own level is below this one.
     Node(usize, u8),
     Bytes(&'a [u8]),
@@ -31,53 +31,53 @@ enum Item<'a> {
     Slot(Slot<'a>),
 }
 
-type Items<'a> = Vec<Item<'a>>;
+type Items<'a> = Vec<Unwritten<'a>>;
 
 /// A function whose expressions are written.
 #[derive(Clone, Copy)]
 pub(crate) struct Speaker<'w, 'f> {
-    pub code: &'f Code<'w>,
+    pub code: &'f FunctionCode<'w>,
     pub trees: &'f Trees,
 }
 
 impl<'w, 'f> Speaker<'w, 'f> {
     /// Appends the lines of the body.
-    pub(crate) fn put_lines(self, page: &mut Page, lines: &[Line]) -> Found<()> {
+    pub(crate) fn put_lines(self, page: &mut Page, lines: &[BodyLine]) -> Attempt<()> {
         for line in lines {
             self.put_line(page, *line)?;
         }
         Ok(())
     }
 
-    fn put_line(self, page: &mut Page, line: Line) -> Found<()> {
+    fn put_line(self, page: &mut Page, line: BodyLine) -> Attempt<()> {
         match line {
-            Line::Skipped => return Ok(()),
-            Line::EndIf | Line::EndWhile | Line::Else | Line::ElseIf(_) => page.outdent(),
+            BodyLine::Skipped => return Ok(()),
+            BodyLine::EndIf | BodyLine::EndWhile | BodyLine::Else | BodyLine::ElseIf(_) => page.outdent(),
             _ => {}
         }
         page.begin(&[])?;
         match line {
-            Line::If(test) => self.put_value(page, b"If ", test, BOOL)?,
-            Line::ElseIf(test) => self.put_value(page, b"ElseIf ", test, BOOL)?,
-            Line::While(test) => self.put_value(page, b"While ", test, BOOL)?,
-            Line::Else => page.put(&[b"Else"])?,
-            Line::EndIf => page.put(&[b"EndIf"])?,
-            Line::EndWhile => page.put(&[b"EndWhile"])?,
-            Line::Nothing => page.put(&[b"0"])?,
-            Line::Skipped => {}
-            Line::Plain(value) => self.put(page, &[Item::Node(value, 0)])?,
-            Line::Return(value) => self.put_return(page, value)?,
-            Line::Define(slot, value) => self.put_definition(page, slot, value)?,
-            Line::Set(target, value) => self.put_assignment(page, target, value)?,
+            BodyLine::If(test) => self.put_value(page, b"If ", test, BOOL)?,
+            BodyLine::ElseIf(test) => self.put_value(page, b"ElseIf ", test, BOOL)?,
+            BodyLine::While(test) => self.put_value(page, b"While ", test, BOOL)?,
+            BodyLine::Else => page.put(&[b"Else"])?,
+            BodyLine::EndIf => page.put(&[b"EndIf"])?,
+            BodyLine::EndWhile => page.put(&[b"EndWhile"])?,
+            BodyLine::Nothing => page.put(&[b"0"])?,
+            BodyLine::Skipped => {}
+            BodyLine::Plain(value) => self.put(page, &[Unwritten::Node(value, 0)])?,
+            BodyLine::Return(value) => self.put_return(page, value)?,
+            BodyLine::Define(slot, value) => self.put_definition(page, slot, value)?,
+            BodyLine::Set(target, value) => self.put_assignment(page, target, value)?,
         }
         page.end()?;
-        if let Line::If(_) | Line::ElseIf(_) | Line::Else | Line::While(_) = line {
+        if let BodyLine::If(_) | BodyLine::ElseIf(_) | BodyLine::Else | BodyLine::While(_) = line {
             page.indent();
         }
         Ok(())
     }
 
-    fn put_return(self, page: &mut Page, value: usize) -> Found<()> {
+    fn put_return(self, page: &mut Page, value: usize) -> Attempt<()> {
         let kind = self.code.script.number(self.code.function.result);
         if kind == NONE && self.is_literal(value, Datum::NoneValue)? {
             return page.put(&[b"Return"]);
@@ -85,18 +85,18 @@ impl<'w, 'f> Speaker<'w, 'f> {
         self.put_value(page, b"Return ", value, kind)
     }
 
-    fn put_definition(self, page: &mut Page, slot: usize, value: usize) -> Found<()> {
+    fn put_definition(self, page: &mut Page, slot: usize, value: usize) -> Attempt<()> {
         let (_, kind) = self.code.pair(slot)?;
-        let name = self.leaf(Operand::Slot(slot))?;
-        self.put(page, &[self.name(kind), Item::Bytes(b" "), name])?;
+        let name = self.leaf(OperandMeaning::Slot(slot))?;
+        self.put(page, &[self.name(kind), Unwritten::Bytes(b" "), name])?;
         if self.is_literal(value, Datum::NoneValue)? {
             return Ok(());
         }
         self.put_value(page, b" = ", value, self.code.script.number(kind))
     }
 
-    fn put_assignment(self, page: &mut Page, target: usize, value: usize) -> Found<()> {
-        self.put(page, &[Item::Node(target, 0)])?;
+    fn put_assignment(self, page: &mut Page, target: usize, value: usize) -> Attempt<()> {
+        self.put(page, &[Unwritten::Node(target, 0)])?;
         let Some((opcode, right)) = self.trees.change(value, target)? else {
             return self.put_value(page, b" = ", value, self.trees.node(target)?.kind);
         };
@@ -106,25 +106,25 @@ impl<'w, 'f> Speaker<'w, 'f> {
     }
 
     // A value behind these bytes, which converts to the type by itself.
-    fn put_value(self, page: &mut Page, lead: &'static [u8], value: usize, to: usize) -> Found<()> {
-        let value = Item::Node(self.loose(value, to)?, 0);
-        self.put(page, &[Item::Bytes(lead), value])
+    fn put_value(self, page: &mut Page, lead: &'static [u8], value: usize, to: usize) -> Attempt<()> {
+        let value = Unwritten::Node(self.loose(value, to)?, 0);
+        self.put(page, &[Unwritten::Bytes(lead), value])
     }
 
     // Appends these parts to a line.
-    fn put(self, page: &mut Page, parts: &[Item<'w>]) -> Found<()> {
+    fn put(self, page: &mut Page, parts: &[Unwritten<'w>]) -> Attempt<()> {
         let mut items = Vec::new(page.alloc);
         push(&mut items, parts)?;
         for _ in 0..self.trees.size().saturating_mul(8).saturating_add(8) {
             match items.pop() {
-                Some(Item::Node(number, level)) => {
+                Some(Unwritten::Node(number, level)) => {
                     let mut parts = Vec::new(page.alloc);
                     self.expand(number, level, &mut parts)?;
                     push(&mut items, &parts)?;
                 }
-                Some(Item::Bytes(bytes)) => page.put(&[bytes])?,
-                Some(Item::Literal(value)) => page.put_literal(self.code.script, value)?,
-                Some(Item::Slot(slot)) => self.code.world.put_slot(page, slot)?,
+                Some(Unwritten::Bytes(bytes)) => page.put(&[bytes])?,
+                Some(Unwritten::Literal(value)) => page.put_literal(self.code.script, value)?,
+                Some(Unwritten::Slot(slot)) => self.code.world.put_slot(page, slot)?,
                 None => return Ok(()),
             }
         }
@@ -132,7 +132,7 @@ impl<'w, 'f> Speaker<'w, 'f> {
     }
 
     // Appends the parts of an expression.
-    fn expand(self, number: usize, level: u8, parts: &mut Items<'w>) -> Found<()> {
+    fn expand(self, number: usize, level: u8, parts: &mut Items<'w>) -> Attempt<()> {
         let mut node = self.trees.node(number)?;
         if let (Form::Apply(NOT, names), [of]) = (node.form, self.trees.inputs(node)?) {
             let inner = self.trees.node(of.node)?;
@@ -144,12 +144,12 @@ impl<'w, 'f> Speaker<'w, 'f> {
         if level_of(node.form) >= level {
             return self.expand_bare(node, parts);
         }
-        parts.push(Item::Bytes(b"("))?;
+        parts.push(Unwritten::Bytes(b"("))?;
         self.expand_bare(node, parts)?;
-        add(parts, &[Item::Bytes(b")")])
+        add(parts, &[Unwritten::Bytes(b")")])
     }
 
-    fn expand_bare(self, node: Node, parts: &mut Items<'w>) -> Found<()> {
+    fn expand_bare(self, node: ExpressionNode, parts: &mut Items<'w>) -> Attempt<()> {
         let (opcode, names) = match node.form {
             Form::Leaf(operand) => return add(parts, &[self.leaf(operand)?]),
             Form::Apply(opcode, names) => (opcode, names),
@@ -159,21 +159,21 @@ impl<'w, 'f> Speaker<'w, 'f> {
             (CALL_METHOD | CALL_PARENT | CALL_STATIC, _) => self.call(node, opcode, names, parts),
             (NOT, [of]) => {
                 let value = self.loose(of.node, BOOL)?;
-                add(parts, &[Item::Bytes(b"!"), Item::Node(value, CAST_LEVEL)])
+                add(parts, &[Unwritten::Bytes(b"!"), Unwritten::Node(value, CAST_LEVEL)])
             }
-            (INEG, [of]) => add(parts, &[Item::Bytes(b"-"), Item::Node(of.node, CAST_LEVEL)]),
-            (CAST, [of]) => add(parts, &[chain(of), Item::Bytes(b" as "), name]),
-            (PROPGET, [of]) => add(parts, &[chain(of), Item::Bytes(b"."), name]),
-            (ARRAY_LENGTH, [of]) => add(parts, &[chain(of), Item::Bytes(b".Length")]),
+            (INEG, [of]) => add(parts, &[Unwritten::Bytes(b"-"), Unwritten::Node(of.node, CAST_LEVEL)]),
+            (CAST, [of]) => add(parts, &[chain(of), Unwritten::Bytes(b" as "), name]),
+            (PROPGET, [of]) => add(parts, &[chain(of), Unwritten::Bytes(b"."), name]),
+            (ARRAY_LENGTH, [of]) => add(parts, &[chain(of), Unwritten::Bytes(b".Length")]),
             (ARRAY_GETELEMENT, [of, index]) => {
-                add(parts, &[chain(of), Item::Bytes(b"[")])?;
-                add(parts, &[Item::Node(index.node, 0), Item::Bytes(b"]")])
+                add(parts, &[chain(of), Unwritten::Bytes(b"[")])?;
+                add(parts, &[Unwritten::Node(index.node, 0), Unwritten::Bytes(b"]")])
             }
             (ARRAY_CREATE, [size]) => {
                 let element = self.code.script.text(names.1).strip_suffix(b"[]");
-                let element = Item::Bytes(element.ok_or(NOT_FOUND)?);
-                add(parts, &[Item::Bytes(b"new "), element, Item::Bytes(b"[")])?;
-                add(parts, &[Item::Node(size.node, 0), Item::Bytes(b"]")])
+                let element = Unwritten::Bytes(element.ok_or(NOT_FOUND)?);
+                add(parts, &[Unwritten::Bytes(b"new "), element, Unwritten::Bytes(b"[")])?;
+                add(parts, &[Unwritten::Node(size.node, 0), Unwritten::Bytes(b"]")])
             }
             (ARRAY_FINDELEMENT, _) => self.find(node, b".Find(", 0, parts),
             (ARRAY_RFINDELEMENT, _) => self.find(node, b".RFind(", -1, parts),
@@ -181,31 +181,31 @@ impl<'w, 'f> Speaker<'w, 'f> {
         }
     }
 
-    fn name(self, reference: u16) -> Item<'w> {
-        Item::Bytes(self.code.script.text(reference))
+    fn name(self, reference: u16) -> Unwritten<'w> {
+        Unwritten::Bytes(self.code.script.text(reference))
     }
 
-    fn leaf(self, operand: Operand) -> Found<Item<'w>> {
+    fn leaf(self, operand: OperandMeaning) -> Attempt<Unwritten<'w>> {
         let script = self.code.script;
         match operand {
-            Operand::Slot(place) => Ok(Item::Slot((script, self.code.pair(place)?, place))),
-            Operand::Variable(place) => {
+            OperandMeaning::Slot(place) => Ok(Unwritten::Slot((script, self.code.pair(place)?, place))),
+            OperandMeaning::Variable(place) => {
                 let name = script.variable(place)?.name;
                 let property = self.code.world.property(script, script.number(name));
                 Ok(self.name(property.map_or(name, |property| property.name)))
             }
-            Operand::OwnInstance => Ok(Item::Bytes(b"Self")),
-            Operand::Literal(value) => Ok(Item::Literal(value)),
-            Operand::StateText => Err(NOT_FOUND),
+            OperandMeaning::OwnInstance => Ok(Unwritten::Bytes(b"Self")),
+            OperandMeaning::Literal(value) => Ok(Unwritten::Literal(value)),
+            OperandMeaning::StateText => Err(NOT_FOUND),
         }
     }
 
-    fn is_literal(self, node: usize, value: Datum) -> Found<bool> {
-        Ok(self.trees.node(node)?.form == Form::Leaf(Operand::Literal(value)))
+    fn is_literal(self, node: usize, value: Datum) -> Attempt<bool> {
+        Ok(self.trees.node(node)?.form == Form::Leaf(OperandMeaning::Literal(value)))
     }
 
     // Two values with a sign between them. The cast of one side, or with And and Or of both, is left out where it comes by itself.
-    fn binary(self, node: Node, opcode: u8, parts: &mut Items<'w>) -> Found<()> {
+    fn binary(self, node: ExpressionNode, opcode: u8, parts: &mut Items<'w>) -> Attempt<()> {
         let (Some((sign, level)), [left, right]) = (sign_of(opcode), self.trees.inputs(node)?)
         else {
             return Err(NOT_FOUND);
@@ -225,54 +225,54 @@ impl<'w, 'f> Speaker<'w, 'f> {
             }
             _ => {}
         }
-        add(parts, &[Item::Node(left, level), Item::Bytes(sign)])?;
-        add(parts, &[Item::Node(right, level.saturating_add(1))])
+        add(parts, &[Unwritten::Node(left, level), Unwritten::Bytes(sign)])?;
+        add(parts, &[Unwritten::Node(right, level.saturating_add(1))])
     }
 
     // A search, whose start is left out where it is the one that stands for none.
-    fn find(self, node: Node, name: &'static [u8], start: i32, parts: &mut Items<'w>) -> Found<()> {
+    fn find(self, node: ExpressionNode, name: &'static [u8], start: i32, parts: &mut Items<'w>) -> Attempt<()> {
         let [array, value, from] = self.trees.inputs(node)? else {
             return Err(NOT_FOUND);
         };
         let element = self.code.world.element(self.trees.node(array.node)?.kind)?;
-        let value = Item::Node(self.loose(value.node, element)?, 0);
-        add(parts, &[chain(array), Item::Bytes(name), value])?;
+        let value = Unwritten::Node(self.loose(value.node, element)?, 0);
+        add(parts, &[chain(array), Unwritten::Bytes(name), value])?;
         if !self.is_literal(from.node, Datum::Int(start))? {
-            add(parts, &[Item::Bytes(b", "), Item::Node(from.node, 0)])?;
+            add(parts, &[Unwritten::Bytes(b", "), Unwritten::Node(from.node, 0)])?;
         }
-        add(parts, &[Item::Bytes(b")")])
+        add(parts, &[Unwritten::Bytes(b")")])
     }
 
-    fn call(self, node: Node, opcode: u8, names: (u16, u16), parts: &mut Items<'w>) -> Found<()> {
+    fn call(self, node: ExpressionNode, opcode: u8, names: (u16, u16), parts: &mut Items<'w>) -> Attempt<()> {
         let script = self.code.script;
         let (kind, arguments) = match (opcode, self.trees.inputs(node)?) {
             (CALL_PARENT, arguments) => {
-                add(parts, &[Item::Bytes(b"Parent.")])?;
+                add(parts, &[Unwritten::Bytes(b"Parent.")])?;
                 (script.number(script.object.parent), arguments)
             }
             (CALL_METHOD, [of, arguments @ ..]) => {
                 let target = self.trees.node(of.node)?;
-                if target.form != Form::Leaf(Operand::OwnInstance) {
-                    add(parts, &[chain(of), Item::Bytes(b".")])?;
+                if target.form != Form::Leaf(OperandMeaning::OwnInstance) {
+                    add(parts, &[chain(of), Unwritten::Bytes(b".")])?;
                 }
                 (target.kind, arguments)
             }
             (_, arguments) => {
                 let kind = script.number(names.0);
                 if !self.code.world.hides(script, kind) {
-                    add(parts, &[self.name(names.0), Item::Bytes(b".")])?;
+                    add(parts, &[self.name(names.0), Unwritten::Bytes(b".")])?;
                 }
                 (kind, arguments)
             }
         };
-        add(parts, &[self.name(names.1), Item::Bytes(b"(")])?;
+        add(parts, &[self.name(names.1), Unwritten::Bytes(b"(")])?;
         self.arguments(kind, names.1, arguments, parts)?;
-        add(parts, &[Item::Bytes(b")")])
+        add(parts, &[Unwritten::Bytes(b")")])
     }
 
     // The arguments of a call of the function that is found from the script of this type upward, each with the name of its
     // parameter from the first on that doesn't stand at its place.
-    fn arguments(self, of: usize, name: u16, inputs: &[Input], parts: &mut Items<'w>) -> Found<()> {
+    fn arguments(self, of: usize, name: u16, inputs: &[Input], parts: &mut Items<'w>) -> Attempt<()> {
         let name = self.code.script.number(name);
         let found = self.code.world.find_function(of, name);
         let (script, function) = found.ok_or(NOT_FOUND)?;
@@ -287,20 +287,20 @@ impl<'w, 'f> Speaker<'w, 'f> {
                 continue;
             }
             if at > 0 {
-                add(parts, &[Item::Bytes(b", ")])?;
+                add(parts, &[Unwritten::Bytes(b", ")])?;
             }
             if is_named {
-                let slot = Item::Slot((script, pair, input.place));
-                add(parts, &[slot, Item::Bytes(b" = ")])?;
+                let slot = Unwritten::Slot((script, pair, input.place));
+                add(parts, &[slot, Unwritten::Bytes(b" = ")])?;
             }
             let value = self.loose(input.node, script.number(pair.1))?;
-            add(parts, &[Item::Node(value, 0)])?;
+            add(parts, &[Unwritten::Node(value, 0)])?;
         }
         Ok(())
     }
 
     // The expression without its cast, where a value converts to that type by itself.
-    fn loose(self, number: usize, to: usize) -> Found<usize> {
+    fn loose(self, number: usize, to: usize) -> Attempt<usize> {
         let node = self.trees.node(number)?;
         let (Form::Apply(CAST, _), [inner]) = (node.form, self.trees.inputs(node)?) else {
             return Ok(number);
@@ -311,7 +311,7 @@ impl<'w, 'f> Speaker<'w, 'f> {
     }
 
     // One side of such an operation without its cast, where the other side brings it back.
-    fn loose_beside(self, side: usize, other: usize, opcode: u8) -> Found<usize> {
+    fn loose_beside(self, side: usize, other: usize, opcode: u8) -> Attempt<usize> {
         let kind = self.trees.node(side)?.kind;
         let loose = self.loose(side, kind)?;
         let (other, inner) = (self.trees.node(other)?.kind, self.trees.node(loose)?.kind);
@@ -321,20 +321,20 @@ impl<'w, 'f> Speaker<'w, 'f> {
 }
 
 // Puts parts on top of the items, the first uppermost.
-fn push<'a>(items: &mut Items<'a>, parts: &[Item<'a>]) -> Found<()> {
+fn push<'a>(items: &mut Items<'a>, parts: &[Unwritten<'a>]) -> Attempt<()> {
     for part in parts.iter().rev() {
         items.push(*part)?;
     }
     Ok(())
 }
 
-fn add<'a>(parts: &mut Items<'a>, more: &[Item<'a>]) -> Found<()> {
+fn add<'a>(parts: &mut Items<'a>, more: &[Unwritten<'a>]) -> Attempt<()> {
     parts.extend_from_slice(more)?;
     Ok(())
 }
 
-fn chain<'a>(of: &Input) -> Item<'a> {
-    Item::Node(of.node, CHAIN)
+fn chain<'a>(of: &Input) -> Unwritten<'a> {
+    Unwritten::Node(of.node, CHAIN)
 }
 
 fn level_of(form: Form) -> u8 {

@@ -17,10 +17,10 @@ pub enum SourceFault {
 pub(crate) const NOT_FOUND: SourceFault = SourceFault::NotFound;
 
 /// What was found, or why nothing was.
-pub(crate) type Found<T> = Result<T, SourceFault>;
+pub(crate) type Attempt<T> = Result<T, SourceFault>;
 
 /// `NotFound` comes unless this holds.
-pub(crate) fn check(holds: bool) -> Found<()> {
+pub(crate) fn check(holds: bool) -> Attempt<()> {
     if holds { Ok(()) } else { Err(NOT_FOUND) }
 }
 

@@ -1,6 +1,6 @@
 // The text of a script while it is written.
-use crate::fault::{Found, NOT_FOUND};
-use crate::world::Script;
+use crate::fault::{Attempt, NOT_FOUND};
+use crate::world::CompiledScript;
 use pex_values::Datum;
 use std::alloc::Global;
 
@@ -32,7 +32,7 @@ impl Page {
     }
 
     /// Appends these bytes to the line, one after the other.
-    pub(crate) fn put(&mut self, parts: &[&[u8]]) -> Found<()> {
+    pub(crate) fn put(&mut self, parts: &[&[u8]]) -> Attempt<()> {
         for part in parts {
             self.bytes.extend_from_slice(part)?;
         }
@@ -40,7 +40,7 @@ impl Page {
     }
 
     /// Begins a line with these bytes.
-    pub(crate) fn begin(&mut self, parts: &[&[u8]]) -> Found<()> {
+    pub(crate) fn begin(&mut self, parts: &[&[u8]]) -> Attempt<()> {
         self.is_at_start = false;
         for _ in 0..self.depth {
             self.bytes.extend_from_slice(INDENT)?;
@@ -49,12 +49,12 @@ impl Page {
     }
 
     /// Ends a line.
-    pub(crate) fn end(&mut self) -> Found<()> {
+    pub(crate) fn end(&mut self) -> Attempt<()> {
         self.put(&[b"\n"])
     }
 
     /// An empty line before the next part, unless a block has just begun or the line before is empty.
-    pub(crate) fn blank(&mut self) -> Found<()> {
+    pub(crate) fn blank(&mut self) -> Attempt<()> {
         if self.is_indented && !self.is_at_start {
             self.end()?;
         }
@@ -63,13 +63,13 @@ impl Page {
     }
 
     /// A whole line.
-    pub(crate) fn line(&mut self, parts: &[&[u8]]) -> Found<()> {
+    pub(crate) fn line(&mut self, parts: &[&[u8]]) -> Attempt<()> {
         self.begin(parts)?;
         self.end()
     }
 
     /// Ends a heading with flags and documentation.
-    pub(crate) fn end_heading(&mut self, script: &Script<'_>, flags: u32, doc: u16) -> Found<()> {
+    pub(crate) fn end_heading(&mut self, script: &CompiledScript<'_>, flags: u32, doc: u16) -> Attempt<()> {
         self.put_flags(flags)?;
         let doc = script.text(doc);
         if doc.is_empty() {
@@ -94,19 +94,19 @@ impl Page {
     }
 
     /// Appends the words for the flags of a script or a member.
-    pub(crate) fn put_flags(&mut self, flags: u32) -> Found<()> {
+    pub(crate) fn put_flags(&mut self, flags: u32) -> Attempt<()> {
         self.put_bits(flags, [b" Hidden", b" Conditional"])
     }
 
     /// Appends the words for the two lowest of some bits.
-    pub(crate) fn put_bits(&mut self, bits: u32, words: [&[u8]; 2]) -> Found<()> {
+    pub(crate) fn put_bits(&mut self, bits: u32, words: [&[u8]; 2]) -> Attempt<()> {
         let [first, second] = words;
         self.put(&[if bits & 1 != 0 { first } else { b"" }])?;
         self.put(&[if bits & 2 != 0 { second } else { b"" }])
     }
 
     /// Appends a literal of a script, a number below 0 in hexadecimal. `NotFound` comes for what is none.
-    pub(crate) fn put_literal(&mut self, script: &Script<'_>, value: Datum) -> Found<()> {
+    pub(crate) fn put_literal(&mut self, script: &CompiledScript<'_>, value: Datum) -> Attempt<()> {
         match value {
             Datum::NoneValue => self.put(&[b"None"]),
             Datum::Int(number) if number < 0 => {
@@ -121,7 +121,7 @@ impl Page {
     }
 
     // Appends a text in quotes.
-    fn put_text(&mut self, text: &[u8]) -> Found<()> {
+    fn put_text(&mut self, text: &[u8]) -> Attempt<()> {
         self.bytes.push(b'"')?;
         for byte in text {
             match *byte {

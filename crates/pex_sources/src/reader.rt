@@ -1,7 +1,7 @@
 // The instructions of a function, read one after another into expressions and simple statements.
-use crate::blocks::Line;
-use crate::code::{Code, Operand, Step};
-use crate::fault::{Found, NOT_FOUND, check};
+use crate::blocks::BodyLine;
+use crate::code::{FunctionCode, OperandMeaning, CodeStep};
+use crate::fault::{Attempt, NOT_FOUND, check};
 use crate::slots::Slots;
 use crate::trees::{Form, Input, Trees};
 use crate::world::{BOOL, NONE};
@@ -13,7 +13,7 @@ use std::collections::HashMap;
 
 /// The line of the statement that an instruction ends, or that of an If where it is the jump behind a test. None where the statement
 /// goes on.
-pub(crate) type Outcome = Option<Line>;
+pub(crate) type Outcome = Option<BodyLine>;
 
 // The left side of And or Or, whose value stands in a slot, and the place behind its right side.
 #[derive(Clone, Copy)]
@@ -27,8 +27,8 @@ struct Side {
 
 /// The state of reading.
 #[derive(Drop)]
-pub(crate) struct Reader<'w, 'f> {
-    pub code: &'f Code<'w>,
+pub(crate) struct TreeReader<'w, 'f> {
+    pub code: &'f FunctionCode<'w>,
     pub trees: Trees,
     pub slots: Slots<'w, 'f>,
     // The expressions whose values temporaries have that are still to be read, and whether they were read before.
@@ -40,11 +40,11 @@ pub(crate) struct Reader<'w, 'f> {
     fresh: Option<usize>,
 }
 
-impl<'w, 'f> Reader<'w, 'f> {
+impl<'w, 'f> TreeReader<'w, 'f> {
     /// A reader for which the slots from `first` on are temporaries.
-    pub(crate) fn new(code: &'f Code<'w>, first: usize) -> Reader<'w, 'f> {
+    pub(crate) fn new(code: &'f FunctionCode<'w>, first: usize) -> TreeReader<'w, 'f> {
         let alloc = code.world.alloc;
-        Reader {
+        TreeReader {
             code,
             trees: Trees::new(alloc),
             slots: Slots::new(code, first),
@@ -56,14 +56,14 @@ impl<'w, 'f> Reader<'w, 'f> {
     }
 
     /// Reads the instruction at a place of a block that ends at `end`.
-    pub(crate) fn step(&mut self, at: usize, end: usize) -> Found<Outcome> {
+    pub(crate) fn step(&mut self, at: usize, end: usize) -> Attempt<Outcome> {
         let fresh = self.fresh.take();
         let step = self.code.step(at)?;
         self.read_inputs(step)?;
         match step.opcode {
             ASSIGN => self.assign(at, step),
             JMPF | JMPT => self.jump(at, step, end, fresh),
-            RETURN => Ok(Some(Line::Return(self.end_with_one()?))),
+            RETURN => Ok(Some(BodyLine::Return(self.end_with_one()?))),
             PROPSET | ARRAY_SETELEMENT => self.set(at, step),
             _ => self.apply(at, step),
         }
@@ -72,7 +72,7 @@ impl<'w, 'f> Reader<'w, 'f> {
     // Reads the operands of an instruction. Arguments are read as the parameters stand, where they can be evaluated so, and else
     // those with code in the order of their code, then the others. A get whose value an assignment computes with that sets it has
     // its inputs in order as they stand.
-    fn read_inputs(&mut self, step: Step) -> Found<()> {
+    fn read_inputs(&mut self, step: CodeStep) -> Attempt<()> {
         self.inputs.clear();
         for operand in step.first..step.end {
             if step.result != Some(operand) {
@@ -93,10 +93,10 @@ impl<'w, 'f> Reader<'w, 'f> {
     }
 
     // Reads the operand at a place among those of the function.
-    fn read(&mut self, step: Step, at: usize) -> Found<Input> {
+    fn read(&mut self, step: CodeStep, at: usize) -> Attempt<Input> {
         let (operand, is_read_next) = self.code.operand(at)?;
         let (node, is_shared) = match operand {
-            Operand::Slot(slot) if self.slots.is_temporary(slot) => {
+            OperandMeaning::Slot(slot) if self.slots.is_temporary(slot) => {
                 self.take_value(step.opcode, slot, is_read_next)?
             }
             _ => (self.leaf(operand)?, false),
@@ -115,14 +115,14 @@ impl<'w, 'f> Reader<'w, 'f> {
         })
     }
 
-    fn leaf(&mut self, operand: Operand) -> Found<usize> {
+    fn leaf(&mut self, operand: OperandMeaning) -> Attempt<usize> {
         check(self.slots.undefined(operand).is_none())?;
         let kind = self.code.type_of(operand)?;
         self.trees.add(Form::Leaf(operand), kind, &[], None)
     }
 
     // The expression whose value a temporary has, and whether it is shared: what a get reads may be read once more by a set.
-    fn take_value(&mut self, opcode: u8, slot: usize, is_read_next: bool) -> Found<(usize, bool)> {
+    fn take_value(&mut self, opcode: u8, slot: usize, is_read_next: bool) -> Attempt<(usize, bool)> {
         let (node, was_read) = self.values.remove(&slot).ok_or(NOT_FOUND)?;
         if is_read_next {
             check(is_get(opcode) && !was_read)?;
@@ -134,12 +134,12 @@ impl<'w, 'f> Reader<'w, 'f> {
     }
 
     // Notes that a temporary has the value of this expression from now on, and whether it was read before.
-    fn put_value(&mut self, slot: usize, node: usize, was_read: bool) -> Found<()> {
+    fn put_value(&mut self, slot: usize, node: usize, was_read: bool) -> Attempt<()> {
         check(self.values.insert(slot, (node, was_read))?.is_none())
     }
 
     // Whether the code of each input stands before that of the next, and a variable is kept exactly where a later one acts.
-    fn is_in_order(&self) -> Found<bool> {
+    fn is_in_order(&self) -> Attempt<bool> {
         let mut acts = false;
         let mut behind = usize::MAX;
         for input in self.inputs.iter().rev() {
@@ -155,9 +155,9 @@ impl<'w, 'f> Reader<'w, 'f> {
     }
 
     // Takes back the temporaries that are read no more.
-    fn give_back(&mut self) -> Found<()> {
+    fn give_back(&mut self) -> Attempt<()> {
         for input in &self.inputs {
-            if let Operand::Slot(slot) = input.operand
+            if let OperandMeaning::Slot(slot) = input.operand
                 && !self.values.contains_key(&slot)
             {
                 self.slots.give_back(slot)?;
@@ -167,24 +167,24 @@ impl<'w, 'f> Reader<'w, 'f> {
     }
 
     // A statement or a test ends, with nothing left to be read.
-    fn end(&mut self) -> Found<()> {
+    fn end(&mut self) -> Attempt<()> {
         check(self.values.is_empty() && self.sides.is_empty())?;
         self.give_back()
     }
 
     // The same, where it has one value.
-    fn end_with_one(&mut self) -> Found<usize> {
+    fn end_with_one(&mut self) -> Attempt<usize> {
         self.end()?;
         Ok(self.only_input()?.node)
     }
 
     // The operand that is read, which stands first where there is also how far a jump leads.
-    fn only_input(&self) -> Found<Input> {
+    fn only_input(&self) -> Attempt<Input> {
         self.inputs.first().copied().ok_or(NOT_FOUND)
     }
 
     // The value that an instruction has given to a temporary, the operand at this place. It is a statement where nobody reads it.
-    fn store(&mut self, operand: usize, slot: usize, node: usize) -> Found<Outcome> {
+    fn store(&mut self, operand: usize, slot: usize, node: usize) -> Attempt<Outcome> {
         let (_, is_read_next) = self.code.operand(operand)?;
         if is_read_next && self.code.slot_type(slot)? != NONE {
             self.put_value(slot, node, false)?;
@@ -192,15 +192,15 @@ impl<'w, 'f> Reader<'w, 'f> {
         }
         check(self.values.is_empty() && self.sides.is_empty())?;
         self.slots.give_back(slot)?;
-        Ok(Some(Line::Plain(node)))
+        Ok(Some(BodyLine::Plain(node)))
     }
 
     // A jump: the left side of And or Or ends with it where the instruction before assigned what it tests, and else a test.
-    fn jump(&mut self, at: usize, step: Step, end: usize, fresh: Option<usize>) -> Found<Outcome> {
+    fn jump(&mut self, at: usize, step: CodeStep, end: usize, fresh: Option<usize>) -> Attempt<Outcome> {
         let left = self.only_input()?;
-        let Some(slot) = fresh.filter(|slot| left.operand == Operand::Slot(*slot)) else {
+        let Some(slot) = fresh.filter(|slot| left.operand == OperandMeaning::Slot(*slot)) else {
             check(step.opcode == JMPF)?;
-            return Ok(Some(Line::If(self.end_with_one()?)));
+            return Ok(Some(BodyLine::If(self.end_with_one()?)));
         };
         let outer = self.sides.last().map_or(end, |side| side.end);
         let end = step.target.ok_or(NOT_FOUND)?;
@@ -216,9 +216,9 @@ impl<'w, 'f> Reader<'w, 'f> {
     }
 
     // An assignment. The first to a local is its definition.
-    fn assign(&mut self, at: usize, step: Step) -> Found<Outcome> {
+    fn assign(&mut self, at: usize, step: CodeStep) -> Attempt<Outcome> {
         let (target, _) = self.code.operand(step.first)?;
-        if let Operand::Slot(slot) = target
+        if let OperandMeaning::Slot(slot) = target
             && self.slots.is_temporary(slot)
         {
             return self.assign_temporary(at, step, slot);
@@ -226,13 +226,13 @@ impl<'w, 'f> Reader<'w, 'f> {
         let value = self.end_with_one()?;
         if let Some(slot) = self.slots.undefined(target) {
             self.slots.define(slot)?;
-            return Ok(Some(Line::Define(slot, value)));
+            return Ok(Some(BodyLine::Define(slot, value)));
         }
-        Ok(Some(Line::Set(self.leaf(target)?, value)))
+        Ok(Some(BodyLine::Set(self.leaf(target)?, value)))
     }
 
     // A temporary gets a value: a side of And or Or, or a variable that is kept while a later operand acts.
-    fn assign_temporary(&mut self, at: usize, step: Step, slot: usize) -> Found<Outcome> {
+    fn assign_temporary(&mut self, at: usize, step: CodeStep, slot: usize) -> Attempt<Outcome> {
         let next = at.saturating_add(1);
         let last = self.sides.last().copied();
         if let Some(side) = last.filter(|side| side.slot == slot && side.end == next) {
@@ -254,7 +254,7 @@ impl<'w, 'f> Reader<'w, 'f> {
     }
 
     // The right side of the innermost And or Or, which is this one, ends with an assignment.
-    fn end_side(&mut self, at: usize, step: Step, side: Side) -> Found<Outcome> {
+    fn end_side(&mut self, at: usize, step: CodeStep, side: Side) -> Attempt<Outcome> {
         let _ = self.sides.pop();
         self.give_back()?;
         let right = Input {
@@ -272,14 +272,14 @@ impl<'w, 'f> Reader<'w, 'f> {
         self.code.steps.get(at).is_some_and(|step| {
             let operand = self.code.operand(step.first);
             matches!(step.opcode, JMPF | JMPT)
-                && operand.is_ok_and(|(operand, _)| operand == Operand::Slot(slot))
+                && operand.is_ok_and(|(operand, _)| operand == OperandMeaning::Slot(slot))
         })
     }
 
     // An instruction that gives a value to a temporary.
-    fn apply(&mut self, at: usize, step: Step) -> Found<Outcome> {
+    fn apply(&mut self, at: usize, step: CodeStep) -> Attempt<Outcome> {
         let result = step.result.ok_or(NOT_FOUND)?;
-        let (Operand::Slot(slot), _) = self.code.operand(result)? else {
+        let (OperandMeaning::Slot(slot), _) = self.code.operand(result)? else {
             return Err(NOT_FOUND);
         };
         check(self.slots.is_temporary(slot))?;
@@ -297,7 +297,7 @@ impl<'w, 'f> Reader<'w, 'f> {
     }
 
     // A property or an element is set, which a shared input may also have computed with.
-    fn set(&mut self, at: usize, step: Step) -> Found<Outcome> {
+    fn set(&mut self, at: usize, step: CodeStep) -> Attempt<Outcome> {
         self.end()?;
         let value = self.inputs.pop().ok_or(NOT_FOUND)?.node;
         let world = self.code.world;
@@ -314,7 +314,7 @@ impl<'w, 'f> Reader<'w, 'f> {
         if self.has_shared() {
             check(self.trees.change(value, target)?.is_some())?;
         }
-        Ok(Some(Line::Set(target, value)))
+        Ok(Some(BodyLine::Set(target, value)))
     }
 }
 

@@ -1,15 +1,15 @@
 // Which slots are locals of the source that may be used, and which temporaries a compiler hands out.
 ghost use Rattle.std.specs.Prelude.{◌<◌, length, IfSome};
 
-use crate::code::{Code, Operand};
-use crate::fault::{Found, check};
+use crate::code::{FunctionCode, OperandMeaning};
+use crate::fault::{Attempt, check};
 use crate::world::NONE;
 use std::collections::HashSet;
 
 /// The slots of a function: parameters, then locals of the source, and from `first` on temporaries.
 #[derive(Drop)]
 pub(crate) struct Slots<'w, 'f> {
-    code: &'f Code<'w>,
+    code: &'f FunctionCode<'w>,
     first: usize,
     /// The next local to be defined.
     pub next_local: usize,
@@ -23,7 +23,7 @@ pub(crate) struct Slots<'w, 'f> {
 
 impl<'w, 'f> Slots<'w, 'f> {
     /// No local is defined and no temporary is handed out. The slots from `first` on are temporaries.
-    pub(crate) fn new(code: &'f Code<'w>, first: usize) -> Slots<'w, 'f> {
+    pub(crate) fn new(code: &'f FunctionCode<'w>, first: usize) -> Slots<'w, 'f> {
         let alloc = code.world.alloc;
         Slots {
             code,
@@ -46,8 +46,8 @@ impl<'w, 'f> Slots<'w, 'f> {
     }
 
     /// The local that isn't defined in a block that is open, where the operand is such a local.
-    pub(crate) fn undefined(&self, operand: Operand) -> Option<usize> {
-        let Operand::Slot(slot) = operand else {
+    pub(crate) fn undefined(&self, operand: OperandMeaning) -> Option<usize> {
+        let OperandMeaning::Slot(slot) = operand else {
             return None;
         };
         let is_local = slot >= self.code.function.parameters.len() && slot < self.first;
@@ -55,7 +55,7 @@ impl<'w, 'f> Slots<'w, 'f> {
     }
 
     /// Defines a local. They are defined in the order of their slots.
-    pub(crate) fn define(&mut self, slot: usize) -> Found<()> {
+    pub(crate) fn define(&mut self, slot: usize) -> Attempt<()> {
         check(slot == self.next_local)?;
         self.next_local = slot.saturating_add(1);
         self.defined.insert(slot)?;
@@ -70,7 +70,7 @@ impl<'w, 'f> Slots<'w, 'f> {
     }
 
     /// Hands out this temporary, where it is the one that a compiler takes for a value of its type.
-    pub(crate) fn take(&mut self, slot: usize) -> Found<()> {
+    pub(crate) fn take(&mut self, slot: usize) -> Attempt<()> {
         let kind = self.code.slot_type(slot)?;
         let taken = match spare_place(&self.spare, kind) {
             Some(at) => self.spare.remove(at).1,
@@ -85,7 +85,7 @@ impl<'w, 'f> Slots<'w, 'f> {
     }
 
     /// Takes a slot back, which is read no more, where it is a temporary.
-    pub(crate) fn give_back(&mut self, slot: usize) -> Found<()> {
+    pub(crate) fn give_back(&mut self, slot: usize) -> Attempt<()> {
         let kind = self.code.slot_type(slot)?;
         if self.is_temporary(slot) && kind != NONE {
             self.spare.push((kind, slot))?;

@@ -2,7 +2,7 @@ ghost use Rattle.std.specs.Prelude.{◌≡◌, length, vec_len, IfOk};
 
 use crate::declarations::script_text;
 use crate::fault::SourceFault;
-use crate::world::World;
+use crate::world::CompiledScripts;
 use papy_base::{PRELUDE_COUNT, Text};
 use pex_set::Prelude;
 use pex_values::Pex;
@@ -19,13 +19,13 @@ pub fn sources(alloc: Global, files: &[Pex]) -> Result<Vec<Text>, SourceFault>
     ensures { IfOk result (λ texts. vec_len texts ≡ length files.now) }
 {
     let prelude = Prelude::new(alloc)?;
-    let mut world = World::new(alloc, &prelude)?;
+    let mut world = CompiledScripts::new(alloc, &prelude)?;
     world.fill(&prelude, files)?;
     texts_of(&world, files.len())
 }
 
 // The texts of the first scripts behind the prelude's, so many.
-fn texts_of(world: &World<'_>, count: usize) -> Result<Vec<Text>, SourceFault>
+fn texts_of(world: &CompiledScripts<'_>, count: usize) -> Result<Vec<Text>, SourceFault>
     ensures { IfOk result (λ texts. vec_len texts ≡ count) }
 {
     let mut texts = Vec::with_capacity(world.alloc, count)?;

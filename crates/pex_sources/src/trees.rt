@@ -1,6 +1,6 @@
 // Expressions, all of a function in two lists.
-use crate::code::{Operand, sign_of};
-use crate::fault::{Found, NOT_FOUND};
+use crate::code::{OperandMeaning, sign_of};
+use crate::fault::{Attempt, NOT_FOUND};
 use pex_values::{CALL_METHOD, CALL_PARENT, CALL_STATIC, PROPGET};
 use std::alloc::Global;
 
@@ -8,13 +8,13 @@ use std::alloc::Global;
 /// or a property, or to that of its type. And and Or have the opcodes of their jumps.
 #[derive(Clone, Copy, PartialEq, Eq)]
 pub(crate) enum Form {
-    Leaf(Operand),
+    Leaf(OperandMeaning),
     Apply(u8, (u16, u16)),
 }
 
 /// An expression, with the number of its type and its inputs among those of the function.
 #[derive(Clone, Copy)]
-pub(crate) struct Node {
+pub(crate) struct ExpressionNode {
     pub form: Form,
     pub kind: usize,
     first: usize,
@@ -25,12 +25,12 @@ pub(crate) struct Node {
     pub acts: bool,
 }
 
-impl Node {
+impl ExpressionNode {
     /// Whether an act may change it: a variable of the script, or the name of the state.
     pub(crate) fn varies(self) -> bool {
         matches!(
             self.form,
-            Form::Leaf(Operand::Variable(_) | Operand::StateText)
+            Form::Leaf(OperandMeaning::Variable(_) | OperandMeaning::StateText)
         )
     }
 
@@ -44,7 +44,7 @@ impl Node {
 #[derive(Clone, Copy)]
 pub(crate) struct Input {
     pub node: usize,
-    pub operand: Operand,
+    pub operand: OperandMeaning,
     /// The place of its parameter, where it is an argument.
     pub place: usize,
     /// Whether it is read here and by an assignment that also computes with what is read.
@@ -56,7 +56,7 @@ pub(crate) struct Input {
 /// The expressions of a function, each behind its inputs.
 #[derive(Drop)]
 pub(crate) struct Trees {
-    nodes: Vec<Node>,
+    nodes: Vec<ExpressionNode>,
     inputs: Vec<Input>,
 }
 
@@ -75,12 +75,12 @@ impl Trees {
     }
 
     /// The expression of this number, or `NotFound`.
-    pub(crate) fn node(&self, number: usize) -> Found<Node> {
+    pub(crate) fn node(&self, number: usize) -> Attempt<ExpressionNode> {
         self.nodes.get(number).copied().ok_or(NOT_FOUND)
     }
 
     /// The inputs of an expression of these. `NotFound` comes where it has inputs that aren't there.
-    pub(crate) fn inputs(&self, node: Node) -> Found<&[Input]> {
+    pub(crate) fn inputs(&self, node: ExpressionNode) -> Attempt<&[Input]> {
         self.inputs.get(node.first..node.end).ok_or(NOT_FOUND)
     }
 
@@ -92,7 +92,7 @@ impl Trees {
         kind: usize,
         inputs: &[Input],
         mut code: Option<(usize, usize)>,
-    ) -> Found<usize> {
+    ) -> Attempt<usize> {
         let first = self.inputs.len();
         let mut acts = matches!(
             form,
@@ -108,7 +108,7 @@ impl Trees {
             self.inputs.push(*input)?;
         }
         let number = self.nodes.len();
-        self.nodes.push(Node {
+        self.nodes.push(ExpressionNode {
             form,
             kind,
             first,
@@ -121,7 +121,7 @@ impl Trees {
 
     /// The opcode and the right side of a value with which an assignment also computes: an operation on numbers, or one that joins
     /// texts, whose left side is the target.
-    pub(crate) fn change(&self, value: usize, target: usize) -> Found<Option<(u8, usize)>> {
+    pub(crate) fn change(&self, value: usize, target: usize) -> Attempt<Option<(u8, usize)>> {
         let node = self.node(value)?;
         let (Form::Apply(opcode, _), [left, right]) = (node.form, self.inputs(node)?) else {
             return Ok(None);

@@ -1,5 +1,5 @@
 // The scripts of a set, the prelude's before those of the files, and what is found among them by name.
-use crate::fault::{Found, NOT_FOUND, check};
+use crate::fault::{Attempt, NOT_FOUND, check};
 use crate::page::Page;
 use papy_base::{Made, Text, upward};
 use pex_set::{FileNames, NameNumbers, Prelude, text_at};
@@ -30,11 +30,11 @@ static WORDS: [&str; 35] = [
 ];
 
 /// A parameter or a local: its script, references to its name and type, and its place.
-pub(crate) type Slot<'a> = (&'a Script<'a>, (u16, u16), usize);
+pub(crate) type Slot<'a> = (&'a CompiledScript<'a>, (u16, u16), usize);
 
 /// A script.
 #[derive(Drop)]
-pub(crate) struct Script<'a> {
+pub(crate) struct CompiledScript<'a> {
     /// Its place among the scripts of the set.
     pub place: usize,
     pub object: &'a PexObject,
@@ -42,7 +42,7 @@ pub(crate) struct Script<'a> {
     pub names: FileNames,
 }
 
-impl<'a> Script<'a> {
+impl<'a> CompiledScript<'a> {
     /// The string of a reference, and an empty one where the file has none.
     pub(crate) fn text(&self, reference: u16) -> &'a [u8] {
         text_at(self.strings, reference)
@@ -59,7 +59,7 @@ impl<'a> Script<'a> {
     }
 
     /// The variable at a place, or `NotFound`.
-    pub(crate) fn variable(&self, place: usize) -> Found<&'a PexVariable> {
+    pub(crate) fn variable(&self, place: usize) -> Attempt<&'a PexVariable> {
         self.object.variables.get(place).ok_or(NOT_FOUND)
     }
 }
@@ -69,9 +69,9 @@ type Key = (usize, usize);
 
 /// The scripts and their names.
 #[derive(Drop)]
-pub(crate) struct World<'a> {
+pub(crate) struct CompiledScripts<'a> {
     pub alloc: Global,
-    scripts: Vec<Script<'a>>,
+    scripts: Vec<CompiledScript<'a>>,
     // Of each script the place of its parent, where there is one.
     parents: Vec<Option<usize>>,
     // What stands in the names that are made up, so that nothing in the set has one of them.
@@ -90,11 +90,11 @@ pub(crate) struct World<'a> {
     members: &'a [(u16, PexFunction)],
 }
 
-impl<'a> World<'a> {
+impl<'a> CompiledScripts<'a> {
     /// A world without scripts.
-    pub(crate) fn new(alloc: Global, prelude: &'a Prelude) -> Made<World<'a>> {
+    pub(crate) fn new(alloc: Global, prelude: &'a Prelude) -> Made<CompiledScripts<'a>> {
         let table = NameNumbers::new(alloc)?;
-        Ok(World {
+        Ok(CompiledScripts {
             alloc,
             scripts: Vec::new(alloc),
             parents: Vec::new(alloc),
@@ -111,7 +111,7 @@ impl<'a> World<'a> {
     }
 
     /// Adds the scripts of these files behind those of the prelude. `NotFound` comes where a file hasn't one script.
-    pub(crate) fn fill(&mut self, prelude: &'a Prelude, files: &'a [Pex]) -> Found<()> {
+    pub(crate) fn fill(&mut self, prelude: &'a Prelude, files: &'a [Pex]) -> Attempt<()> {
         self.infix = free_infix(self.alloc, files)?;
         self.take_words()?;
         self.add_file(&prelude.file)?;
@@ -132,7 +132,7 @@ impl<'a> World<'a> {
 
     fn add_file(&mut self, file: &'a Pex) -> Made<()> {
         for object in &file.objects {
-            let script = Script {
+            let script = CompiledScript {
                 place: self.scripts.len(),
                 object,
                 strings: &file.strings,
@@ -145,7 +145,7 @@ impl<'a> World<'a> {
     }
 
     // Adds the members of the next script, and its name.
-    fn add_members(&mut self, script: &Script<'a>) -> Made<()> {
+    fn add_members(&mut self, script: &CompiledScript<'a>) -> Made<()> {
         self.by_name.insert(script.name(), script.place)?;
         self.names.insert((script.place, script.name()), ())?;
         self.taken.insert(script.name())?;
@@ -155,7 +155,7 @@ impl<'a> World<'a> {
     }
 
     // Adds the functions of the empty state, which stands first where there is one.
-    fn add_functions(&mut self, script: &Script<'a>) -> Made<()> {
+    fn add_functions(&mut self, script: &CompiledScript<'a>) -> Made<()> {
         if let Some(state) = script.object.states.first() {
             for (name, function) in &state.functions {
                 let key = (script.place, script.number(*name));
@@ -165,7 +165,7 @@ impl<'a> World<'a> {
         Ok(())
     }
 
-    fn add_properties(&mut self, script: &Script<'a>) -> Made<()> {
+    fn add_properties(&mut self, script: &CompiledScript<'a>) -> Made<()> {
         for property in &script.object.properties {
             let name = script.number(property.name);
             self.taken.insert(name)?;
@@ -178,7 +178,7 @@ impl<'a> World<'a> {
         Ok(())
     }
 
-    fn add_variables(&mut self, script: &Script<'a>) -> Made<()> {
+    fn add_variables(&mut self, script: &CompiledScript<'a>) -> Made<()> {
         for (place, variable) in script.object.variables.iter().enumerate() {
             let name = script.number(variable.name);
             self.taken.insert(name)?;
@@ -197,22 +197,22 @@ impl<'a> World<'a> {
     }
 
     /// The script of this number, or `NotFound`.
-    pub(crate) fn script(&self, number: usize) -> Found<&Script<'a>> {
+    pub(crate) fn script(&self, number: usize) -> Attempt<&CompiledScript<'a>> {
         self.scripts.get(number).ok_or(NOT_FOUND)
     }
 
     /// The place of a script's own variable of this name.
-    pub(crate) fn variable(&self, script: &Script<'_>, name: usize) -> Option<usize> {
+    pub(crate) fn variable(&self, script: &CompiledScript<'_>, name: usize) -> Option<usize> {
         self.variables.get(&(script.place, name)).copied()
     }
 
     /// A script's own property of this name, or whose variable has it.
-    pub(crate) fn property(&self, script: &Script<'_>, name: usize) -> Option<&'a PexProperty> {
+    pub(crate) fn property(&self, script: &CompiledScript<'_>, name: usize) -> Option<&'a PexProperty> {
         self.properties.get(&(script.place, name)).copied()
     }
 
     /// Appends the name of a parameter or a local: its own where that is a word that is free, else one by its type and place.
-    pub(crate) fn put_slot(&self, page: &mut Page, slot: Slot<'_>) -> Found<()> {
+    pub(crate) fn put_slot(&self, page: &mut Page, slot: Slot<'_>) -> Attempt<()> {
         let (script, (name, kind), place) = slot;
         let own = script.text(name);
         if is_word(own) && !self.taken.contains(&script.number(name)) {
@@ -236,7 +236,7 @@ impl<'a> World<'a> {
     }
 
     // The script that is this type.
-    fn script_of(&self, kind: usize) -> Option<&Script<'a>> {
+    fn script_of(&self, kind: usize) -> Option<&CompiledScript<'a>> {
         self.scripts.get(*self.by_name.get(&kind)?)
     }
 
@@ -246,7 +246,7 @@ impl<'a> World<'a> {
         members: &HashMap<Key, T>,
         kind: usize,
         name: usize,
-    ) -> Option<(&Script<'a>, T)> {
+    ) -> Option<(&CompiledScript<'a>, T)> {
         let first = *self.by_name.get(&kind)?;
         let mut way = upward(&self.parents, first);
         let (place, member) = way.find_map(|place| Some((place, *members.get(&(place, name))?)))?;
@@ -259,7 +259,7 @@ impl<'a> World<'a> {
         &self,
         kind: usize,
         name: usize,
-    ) -> Option<(&Script<'a>, &'a PexFunction)> {
+    ) -> Option<(&CompiledScript<'a>, &'a PexFunction)> {
         let found = self.nearest(&self.functions, kind, name);
         if found.is_some() {
             return found;
@@ -277,12 +277,12 @@ impl<'a> World<'a> {
     }
 
     /// Whether the name of a script means a variable or a property in this one.
-    pub(crate) fn hides(&self, script: &Script<'_>, name: usize) -> bool {
+    pub(crate) fn hides(&self, script: &CompiledScript<'_>, name: usize) -> bool {
         self.variable(script, name).is_some() || self.find_property(script.name(), name).is_some()
     }
 
     /// The type of the elements of an array type. `NotFound` comes for every other type.
-    pub(crate) fn element(&self, kind: usize) -> Found<usize> {
+    pub(crate) fn element(&self, kind: usize) -> Attempt<usize> {
         let element = self.table.name(kind).strip_suffix(b"[]").ok_or(NOT_FOUND)?;
         self.table.find(self.alloc, element)?.ok_or(NOT_FOUND)
     }

@@ -14,7 +14,7 @@ use Rattle.pex_set.specs.Names.{number_in}
 use Rattle.pex_set.specs.declared.inherited.MemberPlace.{MemberPlace}
 use Rattle.pex_set.specs.declared.inherited.OwnMember.{OwnMember}
 use Rattle.pex_set.specs.Nearest.{nearest}
-use Rattle.pex_verify.specs.declared.scripts.PropertyHead.{PropertyHead}
+use Rattle.pex_verify.specs.declared.scripts.PropertySignature.{PropertySignature}
 use Rattle.pex_verify.specs.declared.scripts.Signature.{Signature}
 use Rattle.pex_verify.specs.Agreement.{IsOffered, IsPropertyOffered}
 use Rattle.pex_verify.specs.Meanings.{Meanings}
@@ -35,7 +35,7 @@ zip_from_paired R (x ∷ xs) (y ∷ ys) h =
     (h.each 0 x y (omega arith), zip_from_paired R xs ys (record { count = omega arith; each = λ k a b l. h.each (suc k) a b (omega arith) }))
 
 -- the head of a property at its place among those of all scripts
-pub head_at_map : {A : Type 0} (f : A → List PropertyHead) (xs : List A) (place : MemberPlace) → option_and_then (λ x. slice_get (f x) place.place) (slice_get xs place.object) ≡ head_at (map f xs) place
+pub head_at_map : {A : Type 0} (f : A → List PropertySignature) (xs : List A) (place : MemberPlace) → option_and_then (λ x. slice_get (f x) place.place) (slice_get xs place.object) ≡ head_at (map f xs) place
 head_at_map {A} f xs place = by xs place.object
   where
     by : (xs : List A) (object : ℕ) → option_and_then (λ x. slice_get (f x) place.place) (slice_get xs object) ≡ slice_get (slice_index_or (map f xs) object []) place.place
@@ -68,7 +68,7 @@ module _ (types : Meanings) (names : List (List ℕ)) (outline : List ScriptShap
       functions_agree script number name signature within named e =
           IsOffered-from_views types names outline scripts views viewed (Replaces-from_tables outline views members signature_at are have keeps_sought) outlined script number name signature named (offered_from_sought outline views members signature_at are have script number signature (sym (sought_upward script number within) ∙ e))
 
-  module _ (heads : List (List PropertyHead)) (property_at : MemberPlace → Option PropertyHead) (at_heads : (place : MemberPlace) → property_at place ≡ head_at heads place) (are : ArePropertyMembers heads members) where
+  module _ (heads : List (List PropertySignature)) (property_at : MemberPlace → Option PropertySignature) (at_heads : (place : MemberPlace) → property_at place ≡ head_at heads place) (are : ArePropertyMembers heads members) where
     at_same : (o : Option MemberPlace) → option_and_then property_at o ≡ option_and_then (head_at heads) o
     at_same None = refl
     at_same (Some place) = at_heads place
@@ -82,19 +82,19 @@ module _ (types : Meanings) (names : List (List ℕ)) (outline : List ScriptShap
     no_head (Some f) h = absurd (none-some f.head (sym h))
 
     -- what V5 says of what the table finds
-    pub new_by_table : ((script parent : ℕ) → parent_in (slice_get outline script) ≡ Some parent → parent < length parents) → ((script parent k : ℕ) (head : PropertyHead) → slice_get (heads_of heads script) k ≡ Some head → parent_in (slice_get outline script) ≡ Some parent → option_and_then property_at (found parent head.name) ≡ None) → AreNew outline heads
+    pub new_by_table : ((script parent : ℕ) → parent_in (slice_get outline script) ≡ Some parent → parent < length parents) → ((script parent k : ℕ) (head : PropertySignature) → slice_get (heads_of heads script) k ≡ Some head → parent_in (slice_get outline script) ≡ Some parent → option_and_then property_at (found parent head.name) ≡ None) → AreNew outline heads
     new_by_table above_within new script parent name own e p =
-        let own_is = numbered_is (λ (head : PropertyHead). head.name == name) (heads_of heads script) own e in
+        let own_is = numbered_is (λ (head : PropertySignature). head.name == name) (heads_of heads script) own e in
         let named = eqb-true own.1.name name own_is.passes in
         let none = subst (λ n. option_and_then property_at (found parent n) ≡ None) named (new script parent own.0 own.1 own_is.stands p) in
         no_head (first_head heads (lineage outline (Some parent)) name) (sym (head_upward parent name (above_within script parent p)) ∙ none)
 
-    found_head : (property : PropertyHead) (o : Option PropertyFound) → option_map (λ (f : PropertyFound). f.head) o ≡ Some property → (f : PropertyFound) × (o ≡ Some f) × (f.head ≡ property)
+    found_head : (property : PropertySignature) (o : Option PropertyFound) → option_map (λ (f : PropertyFound). f.head) o ≡ Some property → (f : PropertyFound) × (o ≡ Some f) × (f.head ≡ property)
     found_head property None h = absurd (none-some property h)
     found_head property (Some f) h = (f, refl, same_Some f.head property h)
 
     -- a property that the table finds is offered
-    pub properties_agree : HaveProperties types names outline scripts heads → AreNew outline heads → (script number : ℕ) (name : List ℕ) (property : PropertyHead) → script < length parents → number_in names name ≡ Some number → option_and_then property_at (found script number) ≡ Some property → IsPropertyOffered types outline scripts script name property
+    pub properties_agree : HaveProperties types names outline scripts heads → AreNew outline heads → (script number : ℕ) (name : List ℕ) (property : PropertySignature) → script < length parents → number_in names name ≡ Some number → option_and_then property_at (found script number) ≡ Some property → IsPropertyOffered types outline scripts script name property
     properties_agree have new script number name property within named e =
         let f = found_head property (first_head heads (lineage outline (Some script)) number) (sym (head_upward script number within) ∙ e) in
         subst (IsPropertyOffered types outline scripts script name) f.2 (IsPropertyOffered-from_heads types names outline scripts heads have new script number name f.0 named f.1)

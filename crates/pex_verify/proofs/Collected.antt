@@ -18,7 +18,7 @@ use Rattle.pex_set.proofs.NearestLemmas.{nearest_in}
 use Rattle.pex_values.specs.declared.values.PexObject.{PexObject}
 use Rattle.pex_values.specs.declared.values.PexState.{PexState}
 use Rattle.pex_verify.specs.declared.loaded.LoadedScript.{LoadedScript}
-use Rattle.pex_verify.specs.declared.scripts.PropertyHead.{PropertyHead}
+use Rattle.pex_verify.specs.declared.scripts.PropertySignature.{PropertySignature}
 use Rattle.pex_verify.specs.declared.scripts.ScriptHead.{ScriptHead}
 use Rattle.pex_verify.specs.declared.sources.SetFile.{SetFile}
 use Rattle.pex_verify.specs.Found.{rank_of}
@@ -169,11 +169,11 @@ module _ {set : LoadedSet} (whole : IsWholeSet set) where
       let at = script_at script within in
       at.properties_at (0, name)
       ∙ own_properties (record { number = script; span = span_at (tables whole).table.descent script }) at.o at.head name
-      ∙ ap (λ l. option_map (λ (own : ℕ × PropertyHead). record { object = script; state = 0; place = own.0 }) (own_property l name)) (sym at.properties_are))
+      ∙ ap (λ l. option_map (λ (own : ℕ × PropertySignature). record { object = script; state = 0; place = own.0 }) (own_property l name)) (sym at.properties_are))
       (λ (past : length (objects whole) ≤ script).
       ap (λ l. own_member l script (0, name)) all_properties
       ∙ joined_past properties_in properties_are_own (tables whole).table.descent (objects whole) (heads whole) script (0, name) past
-      ∙ ap (λ l. option_map (λ (own : ℕ × PropertyHead). record { object = script; state = 0; place = own.0 }) (own_property l name))
+      ∙ ap (λ l. option_map (λ (own : ℕ × PropertySignature). record { object = script; state = 0; place = own.0 }) (own_property l name))
       (sym (heads_past (heads whole) script (omega (arith, heads_count whole)))))
       (cases_lt script (length (objects whole)))
 

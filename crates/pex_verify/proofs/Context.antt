@@ -5,9 +5,9 @@ use Rattle.pex_set.specs.Names.{empty_name}
 use Rattle.pex_set.specs.Objects.{parents_in}
 use Rattle.pex_values.specs.declared.values.PexState.{PexState}
 use Rattle.pex_verify.specs.declared.members.MemberLists.{MemberLists}
-use Rattle.pex_verify.specs.declared.scripts.PropertyHead.{PropertyHead}
+use Rattle.pex_verify.specs.declared.scripts.PropertySignature.{PropertySignature}
 use Rattle.pex_verify.specs.declared.scripts.ScriptHead.{ScriptHead}
-use Rattle.pex_verify.specs.declared.scripts.ScriptSet.{ScriptSet}
+use Rattle.pex_verify.specs.declared.scripts.SetHeads.{SetHeads}
 use Rattle.pex_verify.specs.Heads.{Placed, placed_objects, Members, members_of, member_at}
 use Rattle.pex_verify.specs.Sets.{LoadedSet}
 use Rattle.pex_verify.specs.Signatures.{Declared, declared_by, number_at}
@@ -43,7 +43,7 @@ views_of members _ _ = []
 
 -- ---- a set
 module _ {set : LoadedSet} (whole : IsWholeSet set) where
-  abbrev pub tables : ScriptSet
+  abbrev pub tables : SetHeads
   tables = whole.judged.loaded.set
 
   abbrev pub parents : List (Option ℕ)
@@ -61,7 +61,7 @@ module _ {set : LoadedSet} (whole : IsWholeSet set) where
   abbrev pub views : List (List StateView)
   views = views_of members objects heads
 
-  abbrev pub property_heads : List (List PropertyHead)
+  abbrev pub property_heads : List (List PropertySignature)
   property_heads = map (λ (head : ScriptHead). head.properties.items) heads
 
   -- the members of all scripts, in the order in which they are collected

@@ -16,7 +16,7 @@ use Rattle.pex_set.specs.declared.objects.Head.{Head}
 use Rattle.pex_set.proofs.ObjectLemmas.{AreAmong-parents_in}
 use Rattle.pex_verify.specs.declared.loaded.LoadedScript.{LoadedScript}
 use Rattle.pex_verify.specs.declared.scripts.ScriptHead.{ScriptHead}
-use Rattle.pex_verify.specs.declared.scripts.ScriptSet.{ScriptSet}
+use Rattle.pex_verify.specs.declared.scripts.SetHeads.{SetHeads}
 use Rattle.pex_verify.specs.declared.sources.SetFile.{SetFile}
 use Rattle.pex_verify.specs.Heads.{Placed, placed, placed_in, placed_objects, IsHeadOf, parent_at}
 use Rattle.pex_verify.specs.Loading.{IsWholeObject}
@@ -169,7 +169,7 @@ module _ {set : LoadedSet} (whole : IsWholeSet set) where
       let is = object_is script o.item s.item l within in
       let count = length (heads whole) in
       is.object.loaded.shape.parent
-      ∙ ap (λ (judged_by : ScriptSet). parent_among (length judged_by.heads.items) (parent_in_heads judged_by.heads.items is.object.home.here)) is.object.set
+      ∙ ap (λ (judged_by : SetHeads). parent_among (length judged_by.heads.items) (parent_in_heads judged_by.heads.items is.object.home.here)) is.object.set
       ∙ ap (λ here. parent_among count (parent_in_heads (heads whole) here)) is.object.number
       ∙ ap (parent_among count) (parent_by_heads script within)
       ∙ among_itself count (parent_of (parents whole) script) few (λ parent e. omega (arith, (parent_within script parent e).1, heads_count))

@@ -24,7 +24,7 @@ use Rattle.pex_verify.specs.declared.loaded.LoadedFunction.{LoadedFunction}
 use Rattle.pex_verify.specs.declared.loaded.LoadedProperty.{LoadedProperty}
 use Rattle.pex_verify.specs.declared.loaded.LoadedScript.{LoadedScript}
 use Rattle.pex_verify.specs.declared.scope.Home.{Home}
-use Rattle.pex_verify.specs.declared.scripts.ScriptSet.{ScriptSet}
+use Rattle.pex_verify.specs.declared.scripts.SetHeads.{SetHeads}
 use Rattle.pex_verify.specs.declared.sources.DefaultMembers.{DefaultMembers}
 use Rattle.pex_verify.specs.Agreement.{Agrees}
 use Rattle.pex_verify.specs.Loading.{AreProperties}
@@ -176,11 +176,11 @@ module _ {set : LoadedSet} (whole : IsWholeSet set) where
       names = whole.judged.names;
       outline = outline;
       scripts = scripts_of set;
-      agrees = subst (λ (s : ScriptSet). Agrees s whole.judged.names outline (scripts_of set)) (sym is.set_is) agrees;
+      agrees = subst (λ (s : SetHeads). Agrees s whole.judged.names outline (scripts_of set)) (sym is.set_is) agrees;
       numbered = numbered;
-      here = subst (λ (s : ScriptSet). is.home.here < vec_len s.heads) (sym is.set_is) (omega (arith, is.number, is.within));
+      here = subst (λ (s : SetHeads). is.home.here < vec_len s.heads) (sym is.set_is) (omega (arith, is.number, is.within));
       variables = is.variables ∙ ap (λ here. variable_kinds (slice_get outline here)) (sym is.number);
-      variables_among = subst (λ (s : ScriptSet). All (λ variable. IsTypeAmong (vec_len s.heads) variable.kind) is.home.variables.now.list.items) (sym is.set_is) is.variables_among;
+      variables_among = subst (λ (s : SetHeads). All (λ variable. IsTypeAmong (vec_len s.heads) variable.kind) is.home.variables.now.list.items) (sym is.set_is) is.variables_among;
     }
 
     -- the code of what is loaded for a function is typed

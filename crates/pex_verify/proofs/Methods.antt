@@ -13,7 +13,7 @@ use Rattle.pex_values.specs.declared.values.PexObject.{PexObject}
 use Rattle.pex_values.specs.declared.values.PexState.{PexState}
 use Rattle.pex_verify.specs.declared.scope.Home.{Home}
 use Rattle.pex_verify.specs.declared.scripts.ScriptHead.{ScriptHead}
-use Rattle.pex_verify.specs.declared.scripts.ScriptSet.{ScriptSet}
+use Rattle.pex_verify.specs.declared.scripts.SetHeads.{SetHeads}
 use Rattle.pex_verify.specs.declared.scripts.Signature.{Signature}
 use Rattle.pex_verify.specs.declared.sources.SetFile.{SetFile}
 use Rattle.pex_verify.specs.Agreement.{IsOffered}
@@ -107,7 +107,7 @@ function_cases members numbers lacking state k declared e =
 abbrev AreAlikeIn : List ℕ → PexFunction → Signature → Type 0
 AreAlikeIn numbers function signature = AreAlike (declared_of signature) (declared_by numbers (0, function))
 
-abbrev ReplacesBy : Bool → ScriptSet → ℕ → List ℕ → ℕ × PexFunction → Type 0
+abbrev ReplacesBy : Bool → SetHeads → ℕ → List ℕ → ℕ × PexFunction → Type 0
 ReplacesBy true set here numbers function =
     (parent : ℕ) (signature : Signature) → parent_of set here ≡ Some parent → function_found set parent (number_at numbers function.0) ≡ Some signature → AreAlikeIn numbers function.1 signature
 ReplacesBy false set here numbers function =
@@ -136,7 +136,7 @@ module _ {set : LoadedSet} (whole : IsWholeSet set) where
       let here = by_home (number_at home.source.now.names.now state.name == 0) home function one in
       subst (λ (n : List ℕ). ReplacesBy (number_at n state.name == 0) (tables whole) script n function) numbers
       (subst (λ (k : ℕ). ReplacesBy (number_at home.source.now.names.now state.name == 0) (tables whole) k home.source.now.names.now function) is.number
-      (subst (λ (t : ScriptSet). ReplacesBy (number_at home.source.now.names.now state.name == 0) t home.here home.source.now.names.now function) is.set here))
+      (subst (λ (t : SetHeads). ReplacesBy (number_at home.source.now.names.now state.name == 0) t home.here home.source.now.names.now function) is.set here))
 
   within_views : (script i : ℕ) (view : StateView) → slice_get (view_of (views whole) script) i ≡ Some view → script < length (objects whole)
   within_views script i view e =

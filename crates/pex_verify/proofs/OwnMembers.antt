@@ -14,7 +14,7 @@ use Rattle.pex_set.specs.declared.inherited.OwnMember.{OwnMember}
 use Rattle.papy_base.proofs.Lists.{In, Differ}
 use Rattle.pex_values.specs.declared.values.PexFunction.{PexFunction}
 use Rattle.pex_values.specs.declared.values.PexState.{PexState}
-use Rattle.pex_verify.specs.declared.scripts.PropertyHead.{PropertyHead}
+use Rattle.pex_verify.specs.declared.scripts.PropertySignature.{PropertySignature}
 use Rattle.pex_verify.specs.declared.scripts.ScriptHead.{ScriptHead}
 use Rattle.pex_verify.specs.declared.scripts.Signature.{Signature}
 use Rattle.pex_verify.specs.Heads.{Placed, Members, member_at, empty_state_of, empty_functions, functions_of_state, IsHeadOf}
@@ -53,21 +53,21 @@ methods_are_own owner o head =
 
 pub properties_are_own : (owner : Owner) (o : Placed) (head : ScriptHead) → AllByRecursion (IsOf owner) (properties_in owner o head)
 properties_are_own owner o head =
-    all_places (IsOf owner) (λ p (property : PropertyHead). member_of owner 0 (empty_name, property.name) p) (λ p x. (refl, refl)) 0 head.properties.items
+    all_places (IsOf owner) (λ p (property : PropertySignature). member_of owner 0 (empty_name, property.name) p) (λ p x. (refl, refl)) 0 head.properties.items
 
 -- ---- properties
-property_placed : (owner : Owner) (o : Option (ℕ × PropertyHead))
-    → option_map place (option_map (λ (f : ℕ × PropertyHead). member_of owner 0 (empty_name, f.1.name) f.0) o)
-    ≡ option_map (λ (own : ℕ × PropertyHead). record { object = owner.number; state = 0; place = own.0 }) o
+property_placed : (owner : Owner) (o : Option (ℕ × PropertySignature))
+    → option_map place (option_map (λ (f : ℕ × PropertySignature). member_of owner 0 (empty_name, f.1.name) f.0) o)
+    ≡ option_map (λ (own : ℕ × PropertySignature). record { object = owner.number; state = 0; place = own.0 }) o
 property_placed owner None = refl
 property_placed owner (Some found) = refl
 
 pub own_properties : (owner : Owner) (o : Placed) (head : ScriptHead) (name : ℕ)
     → own_member (properties_in owner o head) owner.number (0, name)
-    ≡ option_map (λ (own : ℕ × PropertyHead). record { object = owner.number; state = 0; place = own.0 }) (own_property head.properties.items name)
+    ≡ option_map (λ (own : ℕ × PropertySignature). record { object = owner.number; state = 0; place = own.0 }) (own_property head.properties.items name)
 own_properties owner o head name =
     ap (option_map place)
-    (find_places (λ p (property : PropertyHead). member_of owner 0 (empty_name, property.name) p) (is_own owner.number (0, name)) (λ property. property.name == name) (λ p property. own_test owner 0 (0, name) (empty_name, property.name) p) head.properties.items)
+    (find_places (λ p (property : PropertySignature). member_of owner 0 (empty_name, property.name) p) (is_own owner.number (0, name)) (λ property. property.name == name) (λ p property. own_test owner 0 (0, name) (empty_name, property.name) p) head.properties.items)
     ∙ property_placed owner (own_property head.properties.items name)
 
 -- the numbers of the names of states

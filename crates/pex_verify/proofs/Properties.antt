@@ -13,7 +13,7 @@ use Rattle.pex_set.specs.Names.{number_in}
 use Rattle.pex_set.specs.declared.inherited.MemberPlace.{MemberPlace}
 use Rattle.pex_set.specs.declared.inherited.OwnMember.{OwnMember}
 use Rattle.pex_set.specs.Nearest.{nearest}
-use Rattle.pex_verify.specs.declared.scripts.PropertyHead.{PropertyHead}
+use Rattle.pex_verify.specs.declared.scripts.PropertySignature.{PropertySignature}
 use Rattle.pex_verify.specs.declared.value_type.ValueType.TheVariants.{Of}
 use Rattle.pex_verify.specs.Meanings.{Meanings}
 use Rattle.pex_verify.specs.Agreement.{IsPropertyOffered}
@@ -35,7 +35,7 @@ module _ (types : Meanings) (names : List (List ℕ)) (outline : List ScriptShap
   AreProperties (Some found) None = ⊥
   AreProperties (Some found) (Some property) = IsPropertyOf found property
 
-  of_script : (script : ℕ) (a : Option (ℕ × PropertyHead)) (b : Option (ℕ × Property)) → AreFound (IsPropertyViewed types names outline script) a b → AreProperties (property_of_script script a) (property_at script b)
+  of_script : (script : ℕ) (a : Option (ℕ × PropertySignature)) (b : Option (ℕ × Property)) → AreFound (IsPropertyViewed types names outline script) a b → AreProperties (property_of_script script a) (property_at script b)
   of_script script None None h = tt
   of_script script None (Some y) h = absurd h
   of_script script (Some x) None h = absurd h
@@ -48,7 +48,7 @@ module _ (types : Meanings) (names : List (List ℕ)) (outline : List ScriptShap
   or_properties (Some a) c None d h k = absurd h
   or_properties (Some a) c (Some b) d h k = h
 
-  module _ (scripts : List Script) (heads : List (List PropertyHead)) (have : HaveProperties types names outline scripts heads) where
+  module _ (scripts : List Script) (heads : List (List PropertySignature)) (have : HaveProperties types names outline scripts heads) where
     -- what is found by a text is what is found by its number
     pub properties_by_numbers : (upward : List ℕ) (n : ℕ) (text : List ℕ) → number_in names text ≡ Some n → AreProperties (first_head heads upward n) (first_property scripts upward text)
     properties_by_numbers [] n text e = tt
@@ -57,7 +57,7 @@ module _ (types : Meanings) (names : List (List ℕ)) (outline : List ScriptShap
         or_properties (property_of_script script (own_property (heads_of heads script) n)) (first_head heads above n) (property_at script (numbered (λ (p : Property). str_eq_ignore_ascii_case p.name text) (properties_in (slice_get scripts script)))) (first_property scripts above text) (of_script script (own_property (heads_of heads script) n) (numbered (λ (p : Property). str_eq_ignore_ascii_case p.name text) (properties_in (slice_get scripts script))) found) (properties_by_numbers above n text e)
 
     module _ (new : AreNew outline heads) where
-      same_by : (script parent name : ℕ) (found : PropertyFound) → parent_in (slice_get outline script) ≡ Some parent → first_head heads (lineage outline (Some parent)) name ≡ Some found → (o : Option (ℕ × PropertyHead)) → own_property (heads_of heads script) name ≡ o → option_or (property_of_script script o) (first_head heads (lineage outline (Some parent)) name) ≡ Some found
+      same_by : (script parent name : ℕ) (found : PropertyFound) → parent_in (slice_get outline script) ≡ Some parent → first_head heads (lineage outline (Some parent)) name ≡ Some found → (o : Option (ℕ × PropertySignature)) → own_property (heads_of heads script) name ≡ o → option_or (property_of_script script o) (first_head heads (lineage outline (Some parent)) name) ≡ Some found
       same_by script parent name found p h None e = h
       same_by script parent name found p h (Some own) e = absurd (none-some found (sym (new script parent name own e p) ∙ h))
 
@@ -84,7 +84,7 @@ module _ (types : Meanings) (names : List (List ℕ)) (outline : List ScriptShap
           subst (λ p. SetMeets outline kinds None (Some p)) (sym of_found.is) (meets of_found.whole of_found.viewed)
 
       -- a property has one type, whichever way it is found
-      same_kind : (head : PropertyHead) (script other : ℕ) (a b : Property) (x : IsPropertyViewed types names outline script head a) (y : IsPropertyViewed types names outline other head b) → x.kind ≡ y.kind
+      same_kind : (head : PropertySignature) (script other : ℕ) (a b : Property) (x : IsPropertyViewed types names outline script head a) (y : IsPropertyViewed types names outline other head b) → x.kind ≡ y.kind
       same_kind head script other a b x y =
           let e : Of x.kind ≡ Of y.kind = sym x.kind_is ∙ y.kind_is in
           cc
@@ -110,33 +110,33 @@ module _ (types : Meanings) (names : List (List ℕ)) (outline : List ScriptShap
 abbrev pub found_property : PropertyFound → MemberPlace
 found_property found = record { object = found.script; state = 0; place = found.number }
 
-property_place : (script : ℕ) (o : Option (ℕ × PropertyHead)) → option_map (λ (own : ℕ × PropertyHead). record { object = script; state = 0; place = own.0 }) o ≡ option_map found_property (property_of_script script o)
+property_place : (script : ℕ) (o : Option (ℕ × PropertySignature)) → option_map (λ (own : ℕ × PropertySignature). record { object = script; state = 0; place = own.0 }) o ≡ option_map found_property (property_of_script script o)
 property_place script None = refl
 property_place script (Some own) = refl
 
-nearest_property : (heads : List (List PropertyHead)) (members : List OwnMember) → ArePropertyMembers heads members → (upward : List ℕ) (name : ℕ) → nearest members upward (0, name) ≡ option_map found_property (first_head heads upward name)
+nearest_property : (heads : List (List PropertySignature)) (members : List OwnMember) → ArePropertyMembers heads members → (upward : List ℕ) (name : ℕ) → nearest members upward (0, name) ≡ option_map found_property (first_head heads upward name)
 nearest_property heads members are [] name = refl
 nearest_property heads members are (script ∷ above) name =
     ap (λ o. option_or o (nearest members above (0, name))) (are script name ∙ property_place script (own_property (heads_of heads script) name))
     ∙ ap (option_or (option_map found_property (property_of_script script (own_property (heads_of heads script) name)))) (nearest_property heads members are above name)
     ∙ map-or found_property (property_of_script script (own_property (heads_of heads script) name)) (first_head heads above name)
 
-head_by : (heads : List (List PropertyHead)) (script name : ℕ) (o : Option (ℕ × PropertyHead)) (rest : Option PropertyFound) (found : PropertyFound) → own_property (heads_of heads script) name ≡ o → option_or (property_of_script script o) rest ≡ Some found → (rest ≡ Some found → head_at heads (found_property found) ≡ Some found.head) → head_at heads (found_property found) ≡ Some found.head
+head_by : (heads : List (List PropertySignature)) (script name : ℕ) (o : Option (ℕ × PropertySignature)) (rest : Option PropertyFound) (found : PropertyFound) → own_property (heads_of heads script) name ≡ o → option_or (property_of_script script o) rest ≡ Some found → (rest ≡ Some found → head_at heads (found_property found) ≡ Some found.head) → head_at heads (found_property found) ≡ Some found.head
 head_by heads script name None rest found e h rec = rec h
 head_by heads script name (Some (number, head)) rest found e h rec =
-    let r = numbered_is (λ (p : PropertyHead). p.name == name) (heads_of heads script) (number, head) e in
+    let r = numbered_is (λ (p : PropertySignature). p.name == name) (heads_of heads script) (number, head) e in
     subst (λ f. head_at heads (found_property f) ≡ Some f.head) (same_Some _ found h) r.stands
 
-first_head_is : (heads : List (List PropertyHead)) (upward : List ℕ) (name : ℕ) (found : PropertyFound) → first_head heads upward name ≡ Some found → head_at heads (found_property found) ≡ Some found.head
+first_head_is : (heads : List (List PropertySignature)) (upward : List ℕ) (name : ℕ) (found : PropertyFound) → first_head heads upward name ≡ Some found → head_at heads (found_property found) ≡ Some found.head
 first_head_is heads [] name found h = absurd (none-some found h)
 first_head_is heads (script ∷ above) name found h =
     head_by heads script name (own_property (heads_of heads script) name) (first_head heads above name) found refl h (first_head_is heads above name found)
 
-head_sought_by : (heads : List (List PropertyHead)) (upward : List ℕ) (name : ℕ) (o : Option PropertyFound) → first_head heads upward name ≡ o → option_and_then (head_at heads) (option_map found_property o) ≡ option_map (λ (found : PropertyFound). found.head) o
+head_sought_by : (heads : List (List PropertySignature)) (upward : List ℕ) (name : ℕ) (o : Option PropertyFound) → first_head heads upward name ≡ o → option_and_then (head_at heads) (option_map found_property o) ≡ option_map (λ (found : PropertyFound). found.head) o
 head_sought_by heads upward name None e = refl
 head_sought_by heads upward name (Some found) e = first_head_is heads upward name found e
 
 -- what the table finds is the head of the first property
-pub head_sought_is : (outline : List ScriptShape) (heads : List (List PropertyHead)) (members : List OwnMember) → ArePropertyMembers heads members → (script name : ℕ) → head_sought outline heads members script name ≡ option_map (λ (found : PropertyFound). found.head) (first_head heads (lineage outline (Some script)) name)
+pub head_sought_is : (outline : List ScriptShape) (heads : List (List PropertySignature)) (members : List OwnMember) → ArePropertyMembers heads members → (script name : ℕ) → head_sought outline heads members script name ≡ option_map (λ (found : PropertyFound). found.head) (first_head heads (lineage outline (Some script)) name)
 head_sought_is outline heads members are script name =
     ap (option_and_then (head_at heads)) (nearest_property heads members are (lineage outline (Some script)) name) ∙ head_sought_by heads (lineage outline (Some script)) name (first_head heads (lineage outline (Some script)) name) refl

@@ -21,9 +21,9 @@ use Rattle.pex_values.specs.declared.values.PexProperty.{PexProperty}
 use Rattle.pex_verify.specs.declared.loaded.LoadedProperty.{LoadedProperty}
 use Rattle.pex_verify.specs.declared.loaded.LoadedScript.{LoadedScript}
 use Rattle.pex_verify.specs.declared.scope.Home.{Home}
-use Rattle.pex_verify.specs.declared.scripts.PropertyHead.{PropertyHead}
+use Rattle.pex_verify.specs.declared.scripts.PropertySignature.{PropertySignature}
 use Rattle.pex_verify.specs.declared.scripts.ScriptHead.{ScriptHead}
-use Rattle.pex_verify.specs.declared.scripts.ScriptSet.{ScriptSet}
+use Rattle.pex_verify.specs.declared.scripts.SetHeads.{SetHeads}
 use Rattle.pex_verify.specs.declared.sources.SetFile.{SetFile}
 use Rattle.pex_verify.specs.Agreement.{IsPropertyOffered}
 use Rattle.pex_verify.specs.Found.{rank_of, property_at, property_found, parent_of as table_parent}
@@ -66,7 +66,7 @@ module _ (home : Home) (outline : List ScriptShape) (script : ℕ) (outlined : O
       (viewed, viewed_from properties loaded (record { count = omega arith; each = λ k a b h. are.each (suc k) a b (omega arith) }) (All-tail HasParts p properties parts))
 
 -- the properties of an object of this file are viewed
-abbrev AreViewedAt : List ScriptShape → List (List ℕ) → ℕ → LoadedScript → OutlineScript → ScriptSet → SetFile → PexObject → Type 0
+abbrev AreViewedAt : List ScriptShape → List (List ℕ) → ℕ → LoadedScript → OutlineScript → SetHeads → SetFile → PexObject → Type 0
 AreViewedAt outline names script loaded outlined t source object =
     map variable_type outlined.variables.items ≡ map (type_of_variable t.types source.names.now) object.variables.items
     → AreTitlesNumbered names source
@@ -86,12 +86,12 @@ viewed_at : (outline : List ScriptShape) (names : List (List ℕ)) (judged : Jud
     → AreViewedAt outline names script loaded outlined judged.set o.source o.object
 viewed_at outline names judged script o loaded outlined is stands =
     let here = viewed_by_home outline names script is.home loaded outlined is.loaded.properties stands in
-    let with_set = subst (λ (t : ScriptSet). AreViewedAt outline names script loaded outlined t is.home.source.now is.home.object.now) is.set here in
+    let with_set = subst (λ (t : SetHeads). AreViewedAt outline names script loaded outlined t is.home.source.now is.home.object.now) is.set here in
     let with_source = subst (λ (f : SetFile). AreViewedAt outline names script loaded outlined judged.set f is.home.object.now) is.source with_set in
     subst (λ (b : PexObject). AreViewedAt outline names script loaded outlined judged.set o.source b) is.object with_source
 
 -- no property has the name of one of a script above, as it was judged
-abbrev AreNewAt : ScriptSet → ℕ → SetFile → PexObject → Type 0
+abbrev AreNewAt : SetHeads → ℕ → SetFile → PexObject → Type 0
 AreNewAt t here source object =
     (k : ℕ) (property : PexProperty) → slice_get object.properties.items k ≡ Some property
     → (parent : ℕ) → table_parent t here ≡ Some parent → property_found t parent (number_at source.names.now property.name) ≡ None
@@ -109,13 +109,13 @@ new_at : (judged : Judged) (script : ℕ) (o : Placed) (loaded : LoadedScript) (
     → IsObjectOf judged script o loaded outlined → AreNewAt judged.set script o.source o.object
 new_at judged script o loaded outlined is =
     let here = new_by_home is.home loaded.properties.items is.loaded.properties in
-    let with_set = subst (λ (t : ScriptSet). AreNewAt t is.home.here is.home.source.now is.home.object.now) is.set here in
+    let with_set = subst (λ (t : SetHeads). AreNewAt t is.home.here is.home.source.now is.home.object.now) is.set here in
     let with_number = subst (λ (n : ℕ). AreNewAt judged.set n is.home.source.now is.home.object.now) is.number with_set in
     let with_source = subst (λ (f : SetFile). AreNewAt judged.set script f is.home.object.now) is.source with_number in
     subst (λ (b : PexObject). AreNewAt judged.set script o.source b) is.object with_source
 
 -- the property that a head tells of
-property_behind : (numbers : List ℕ) (head : PropertyHead) (o : Option PexProperty) → option_map (property_by numbers) o ≡ Some head
+property_behind : (numbers : List ℕ) (head : PropertySignature) (o : Option PexProperty) → option_map (property_by numbers) o ≡ Some head
     → (property : PexProperty) × (o ≡ Some property) × (property_by numbers property ≡ head)
 property_behind numbers head None e = absurd (none-some head e)
 property_behind numbers head (Some property) e = (property, refl, same_Some (property_by numbers property) head e)
@@ -182,7 +182,7 @@ module _ {set : LoadedSet} (whole : IsWholeSet set) where
   properties_by n loaded e =
       ap properties_in (slice_get-map (script_of (outline_of set)) set.scripts n ∙ ap (option_map (script_of (outline_of set))) e)
 
-  abbrev AreViewedOf : ℕ → List PropertyHead → List Property → Type 0
+  abbrev AreViewedOf : ℕ → List PropertySignature → List Property → Type 0
   AreViewedOf script = AllZip (IsPropertyViewed (tables whole).types whole.judged.names (outline_of set) script)
 
   abbrev AreViewed : ℕ → Type 0
@@ -194,7 +194,7 @@ module _ {set : LoadedSet} (whole : IsWholeSet set) where
       let viewed_of = viewed_at (outline_of set) whole.judged.names judged script at.placed at.loaded at.outlined at.is_object.object outlined in
       let viewed = viewed_of at.is_object.variables (title_number whole at.placed.source at.named) at.parts in
       let of_head = sym (heads_by script at.head at.heads_have ∙ at.is_head.properties) in
-      let with_heads = subst (λ (l : List PropertyHead). AreViewedOf script l (map (property_of (outline_of set)) at.loaded.properties.items)) of_head viewed in
+      let with_heads = subst (λ (l : List PropertySignature). AreViewedOf script l (map (property_of (outline_of set)) at.loaded.properties.items)) of_head viewed in
       subst (AreViewedOf script (heads_of (property_heads whole) script)) (sym (properties_by script at.loaded at.scripts_have)) with_heads
 
   viewed_past : (script : ℕ) → length (objects whole) ≤ script → AreViewed script
@@ -204,7 +204,7 @@ module _ {set : LoadedSet} (whole : IsWholeSet set) where
       let heads_past : heads_of (property_heads whole) script ≡ [] = get_or_past (property_heads whole) script [] (simp length-map (omega arith)) in
       let scripts_past : properties_in (slice_get (scripts_of set) script) ≡ [] = ap properties_in (slice_get_past (scripts_of set) script (simp length-map (omega arith))) in
       let none = subst (AreViewedOf script []) (sym scripts_past) tt in
-      subst (λ (l : List PropertyHead). AreViewedOf script l (properties_in (slice_get (scripts_of set) script))) (sym heads_past) none
+      subst (λ (l : List PropertySignature). AreViewedOf script l (properties_in (slice_get (scripts_of set) script))) (sym heads_past) none
 
   viewed : (script : ℕ) → AreViewed script
   viewed script =
@@ -234,20 +234,20 @@ module _ {set : LoadedSet} (whole : IsWholeSet set) where
 
   new_behind : (script parent : ℕ) (at : Stands script) → at.head.parent ≡ Some parent
       → (k : ℕ) (property : PexProperty) → slice_get at.placed.object.properties.items k ≡ Some property
-      → (head : PropertyHead) → property_by at.placed.source.names.now property ≡ head → property_found (tables whole) parent head.name ≡ None
+      → (head : PropertySignature) → property_by at.placed.source.names.now property ≡ head → property_found (tables whole) parent head.name ≡ None
   new_behind script parent at above k property e head same =
       let told : table_parent (tables whole) script ≡ Some parent = ap (option_and_then (λ (h : ScriptHead). h.parent)) at.heads_have ∙ above in
       let none = new_at judged script at.placed at.loaded at.outlined at.is_object.object k property e parent told in
-      subst (λ (h : PropertyHead). property_found (tables whole) parent h.name ≡ None) same none
+      subst (λ (h : PropertySignature). property_found (tables whole) parent h.name ≡ None) same none
 
-  new_in_table : (script parent k : ℕ) (head : PropertyHead) → slice_get (heads_of (property_heads whole) script) k ≡ Some head
+  new_in_table : (script parent k : ℕ) (head : PropertySignature) → slice_get (heads_of (property_heads whole) script) k ≡ Some head
       → parent_in (slice_get (outline_of set) script) ≡ Some parent → property_found (tables whole) parent head.name ≡ None
   new_in_table script parent k head e p =
       let above = sym (outline_parent whole script) ∙ p in
       let at = stands script (parent_within whole script parent above).0 in
       let numbers = at.placed.source.names.now in
       let written = heads_by script at.head at.heads_have ∙ at.is_head.properties in
-      let of_file = sym (slice_get-map (property_by numbers) at.placed.object.properties.items k) ∙ sym (ap (λ (l : List PropertyHead). slice_get l k) written) ∙ e in
+      let of_file = sym (slice_get-map (property_by numbers) at.placed.object.properties.items k) ∙ sym (ap (λ (l : List PropertySignature). slice_get l k) written) ∙ e in
       let behind = property_behind numbers head (slice_get at.placed.object.properties.items k) of_file in
       new_behind script parent at (at.is_head.parent ∙ above) k behind.0 behind.1 head behind.2
 
@@ -256,7 +256,7 @@ module _ {set : LoadedSet} (whole : IsWholeSet set) where
       new_by_table (tables whole).types whole.judged.names (outline_of set) (scripts_of set) (parents whole) same_count (outline_parent whole)
       (collected_members whole).properties found (properties_found whole) (property_heads whole) (property_at (tables whole)) at_heads (properties_collected whole) above_within new_in_table
 
-  pub properties_are_offered : (script number : ℕ) (name : List ℕ) (property : PropertyHead)
+  pub properties_are_offered : (script number : ℕ) (name : List ℕ) (property : PropertySignature)
       → script < vec_len (tables whole).heads → number_in whole.judged.names name ≡ Some number → property_found (tables whole) script number ≡ Some property
       → IsPropertyOffered (tables whole).types (outline_of set) (scripts_of set) script name property
   properties_are_offered script number name property within named e =

@@ -11,7 +11,7 @@ use Rattle.code_meaning.specs.LookUp.{method_in, first_method}
 use Rattle.code_meaning.specs.Typed.{Scope, AllGive, Calls, CallsOn, Gives, MethodMeets, Stores}
 use Rattle.pex_verify.specs.declared.loaded.Operand.{Operand}
 use Rattle.pex_verify.specs.declared.scope.FunctionScope.{FunctionScope}
-use Rattle.pex_verify.specs.declared.scripts.PropertyHead.{PropertyHead}
+use Rattle.pex_verify.specs.declared.scripts.PropertySignature.{PropertySignature}
 use Rattle.pex_verify.specs.declared.scripts.Signature.{Signature}
 use Rattle.pex_verify.specs.declared.value_type.ValueType.{ValueType}
 use Rattle.pex_verify.specs.declared.value_type.ValueType.TheVariants.{Nothing, Float, Unknown, Of}
@@ -99,14 +99,14 @@ module _ (scope : FunctionScope) (outline : List ScriptShape) (scripts : List Sc
   value_among Unknown among = tt
   value_among (Of kind) among = among
 
-  pub gets_property : (object to : Operand) (name : List ℕ) (script : ℕ) (property : PropertyHead) → IsPropertyOffered scope.home.now.set.now.types outline scripts script name property → is_readable property ≡ true
+  pub gets_property : (object to : Operand) (name : List ℕ) (script : ℕ) (property : PropertySignature) → IsPropertyOffered scope.home.now.set.now.types outline scripts script name property → is_readable property ≡ true
       → script_type (type_by scope object) ≡ Some script → IsSeenIn scope.is_global object → Takes scope to (value_meaning scope.home.now.set.now.types property.kind) → IsSeenIn scope.is_global to
       → (script : ℕ) × (given : CoreType) × Gives placed (kinds.Script script) (operand_of object) × Stores placed (operand_of to) (Some given) × CallsOn placed script (ByGet name) [] (Some given)
   gets_property object to name script property offered readable objected s takes t =
       let among = subst (λ (v : ValueType). IsValueTypeAmong (vec_len scope.home.now.set.now.heads) v) offered.kind_is (value_among (result_meaning scope.home.now.set.now.types property.kind) (types.meanings property.kind)) in
       (script, offered.kind, gives_object object script s objected, stores scope outline scripts function types stands to (Some offered.kind) among t (subst (λ (v : ValueType). Takes scope to v) offered.kind_is takes), λ own below. (refl, offered.gets readable own below))
 
-  pub sets_property : (object value : Operand) (name : List ℕ) (script : ℕ) (property : PropertyHead) → IsPropertyOffered scope.home.now.set.now.types outline scripts script name property → is_writable property ≡ true
+  pub sets_property : (object value : Operand) (name : List ℕ) (script : ℕ) (property : PropertySignature) → IsPropertyOffered scope.home.now.set.now.types outline scripts script name property → is_writable property ≡ true
       → script_type (type_by scope object) ≡ Some script → IsSeenIn scope.is_global object → IsFor scope (value_meaning scope.home.now.set.now.types property.kind) value → IsSeenIn scope.is_global value
       → (script : ℕ) × (kind : CoreType) × Gives placed (kinds.Script script) (operand_of object) × Gives placed kind (operand_of value) × CallsOn placed script (BySet name) (kind ∷ []) None
   sets_property object value name script property offered writable objected s fits t =

@@ -15,7 +15,7 @@ use Rattle.code_meaning.specs.LookUp.{states_in}
 use Rattle.pex_verify.specs.declared.loaded.LoadedScript.{LoadedScript}
 use Rattle.pex_verify.specs.declared.scope.Home.{Home}
 use Rattle.pex_verify.specs.declared.scripts.ScriptHead.{ScriptHead}
-use Rattle.pex_verify.specs.declared.scripts.ScriptSet.{ScriptSet}
+use Rattle.pex_verify.specs.declared.scripts.SetHeads.{SetHeads}
 use Rattle.pex_verify.specs.declared.sources.DefaultMembers.{DefaultMembers}
 use Rattle.pex_verify.specs.Found.{function_at}
 use Rattle.pex_verify.specs.Heads.{Placed, Members, members_of, member_at, empty_functions, lacking_in, parent_at, IsHeadOf}
@@ -62,7 +62,7 @@ module _ {set : LoadedSet} (whole : IsWholeSet set) where
   abbrev IsHead : ℕ → Placed → ScriptHead → Type 0
   IsHead n o h = IsHeadOf (members whole) (parent_at (parents whole) n) o.source.names.now o.object h
 
-  abbrev AreViews : ScriptSet → List StateView → List State → Type 0
+  abbrev AreViews : SetHeads → List StateView → List State → Type 0
   AreViews tables seen states = AllZip (IsViewed tables.types whole.judged.names) seen states
 
   -- ---- what stands at a number
@@ -128,7 +128,7 @@ module _ {set : LoadedSet} (whole : IsWholeSet set) where
     lacking_same : lacking_places home ≡ at.head.lacking.items
     lacking_same =
         ap (λ m. lacking_in (slice_get home.set.now.heads.items m)) at.is.object.number
-        ∙ ap (λ (s : ScriptSet). lacking_in (slice_get s.heads.items n)) at.is.object.set
+        ∙ ap (λ (s : SetHeads). lacking_in (slice_get s.heads.items n)) at.is.object.set
         ∙ ap lacking_in at.head_at
 
     views_same : views_with home (lacking_places home) ≡ view_of (views whole) n
@@ -149,7 +149,7 @@ module _ {set : LoadedSet} (whole : IsWholeSet set) where
     pub at_viewed : AreViews (tables whole) (view_of (views whole) n) loaded_states
     at_viewed =
         subst (λ (v : List StateView). AreViews (tables whole) v loaded_states) views_same
-        (subst (λ (s : ScriptSet). AreViews s (views_with home (lacking_places home)) loaded_states) at.is.object.set home_states)
+        (subst (λ (s : SetHeads). AreViews s (views_with home (lacking_places home)) loaded_states) at.is.object.set home_states)
 
     states_at : AreViews (tables whole) (view_of (views whole) n) (states_in (slice_get (scripts_of set) n))
     states_at =

@@ -14,7 +14,7 @@ use Rattle.pex_set.specs.Names.{number_in}
 use Rattle.pex_set.specs.declared.inherited.MemberPlace.{MemberPlace}
 use Rattle.pex_set.specs.declared.inherited.OwnMember.{OwnMember}
 use Rattle.pex_set.specs.Nearest.{nearest, own_member}
-use Rattle.pex_verify.specs.declared.scripts.PropertyHead.{PropertyHead}
+use Rattle.pex_verify.specs.declared.scripts.PropertySignature.{PropertySignature}
 use Rattle.pex_verify.specs.declared.scripts.Signature.{Signature}
 use Rattle.pex_verify.specs.declared.value_type.ValueType.TheVariants.{Of}
 use Rattle.pex_verify.specs.Found.{is_readable, is_writable}
@@ -129,7 +129,7 @@ pub record KeepsAbove (outline : List ScriptShape) (views : List (List StateView
 
 -- ---- properties
 -- a property, as its head says: it is read and written so
-pub record IsPropertyViewed (types : Meanings) (names : List (List ℕ)) (outline : List ScriptShape) (script : ℕ) (head : PropertyHead) (property : Property) : Type 0 where
+pub record IsPropertyViewed (types : Meanings) (names : List (List ℕ)) (outline : List ScriptShape) (script : ℕ) (head : PropertySignature) (property : Property) : Type 0 where
   pub name : number_in names property.name ≡ Some head.name
   pub kind : CoreType
   pub kind_is : value_meaning types head.kind ≡ Of kind
@@ -137,47 +137,47 @@ pub record IsPropertyViewed (types : Meanings) (names : List (List ℕ)) (outlin
   pub sets : is_writable head ≡ true → (number : ℕ) → SetMeets outline (kind ∷ []) None (Some (script, number, property.access))
 
 -- the heads of the properties of a script
-abbrev pub heads_of : List (List PropertyHead) → ℕ → List PropertyHead
+abbrev pub heads_of : List (List PropertySignature) → ℕ → List PropertySignature
 heads_of heads script = slice_index_or heads script []
 
 -- a property that a script has, by its numbers
 pub record PropertyFound : Type 0 where
   pub script : ℕ
   pub number : ℕ
-  pub head : PropertyHead
+  pub head : PropertySignature
 
-abbrev pub property_of_script : ℕ → Option (ℕ × PropertyHead) → Option PropertyFound
+abbrev pub property_of_script : ℕ → Option (ℕ × PropertySignature) → Option PropertyFound
 property_of_script script None = None
 property_of_script script (Some (number, head)) = Some (record { script = script; number = number; head = head })
 
-abbrev pub own_property : List PropertyHead → ℕ → Option (ℕ × PropertyHead)
+abbrev pub own_property : List PropertySignature → ℕ → Option (ℕ × PropertySignature)
 own_property heads name = numbered (λ head. head.name == name) heads
 
 -- the first of these scripts that has a property of the name
-abbrev pub first_head : List (List PropertyHead) → List ℕ → ℕ → Option PropertyFound
+abbrev pub first_head : List (List PropertySignature) → List ℕ → ℕ → Option PropertyFound
 first_head heads [] name = None
 first_head heads (script ∷ above) name =
     option_or (property_of_script script (own_property (heads_of heads script) name)) (first_head heads above name)
 
 -- the scripts have these properties
-pub record HaveProperties (types : Meanings) (names : List (List ℕ)) (outline : List ScriptShape) (scripts : List Script) (heads : List (List PropertyHead)) : Type 0 where
+pub record HaveProperties (types : Meanings) (names : List (List ℕ)) (outline : List ScriptShape) (scripts : List Script) (heads : List (List PropertySignature)) : Type 0 where
   pub viewed : (script : ℕ) → AllZip (IsPropertyViewed types names outline script) (heads_of heads script) (properties_in (slice_get scripts script))
   pub rooted : (script parent : ℕ) → parent_in (slice_get outline script) ≡ Some parent → lineage outline (Some script) ≡ script ∷ lineage outline (Some parent)
 
 -- no property has the name of one of a script above (V5)
-abbrev pub AreNew : List ScriptShape → List (List PropertyHead) → Type 0
+abbrev pub AreNew : List ScriptShape → List (List PropertySignature) → Type 0
 AreNew outline heads =
-    (script parent name : ℕ) (own : ℕ × PropertyHead) → own_property (heads_of heads script) name ≡ Some own → parent_in (slice_get outline script) ≡ Some parent → first_head heads (lineage outline (Some parent)) name ≡ None
+    (script parent name : ℕ) (own : ℕ × PropertySignature) → own_property (heads_of heads script) name ≡ Some own → parent_in (slice_get outline script) ≡ Some parent → first_head heads (lineage outline (Some parent)) name ≡ None
 
 -- the members by the numbers of names are the properties
-abbrev pub ArePropertyMembers : List (List PropertyHead) → List OwnMember → Type 0
+abbrev pub ArePropertyMembers : List (List PropertySignature) → List OwnMember → Type 0
 ArePropertyMembers heads members =
-    (script name : ℕ) → own_member members script (0, name) ≡ option_map (λ (own : ℕ × PropertyHead). record { object = script; state = 0; place = own.0 }) (own_property (heads_of heads script) name)
+    (script name : ℕ) → own_member members script (0, name) ≡ option_map (λ (own : ℕ × PropertySignature). record { object = script; state = 0; place = own.0 }) (own_property (heads_of heads script) name)
 
 -- what the table finds by the number of a name, from a script upward
-abbrev pub head_at : List (List PropertyHead) → MemberPlace → Option PropertyHead
+abbrev pub head_at : List (List PropertySignature) → MemberPlace → Option PropertySignature
 head_at heads place = slice_get (heads_of heads place.object) place.place
 
-abbrev pub head_sought : List ScriptShape → List (List PropertyHead) → List OwnMember → ℕ → ℕ → Option PropertyHead
+abbrev pub head_sought : List ScriptShape → List (List PropertySignature) → List OwnMember → ℕ → ℕ → Option PropertySignature
 head_sought outline heads members script name =
     option_and_then (head_at heads) (nearest members (lineage outline (Some script)) (0, name))

@@ -10,7 +10,7 @@ use Rattle.pex_verify.specs.declared.loaded.Operand.TheVariants as loaded
 use Rattle.pex_verify.specs.declared.operand_rules.Lookup.{Lookup}
 use Rattle.pex_verify.specs.declared.operand_rules.Lookup.TheVariants.{Function, Property}
 use Rattle.pex_verify.specs.declared.scope.FunctionScope.{FunctionScope}
-use Rattle.pex_verify.specs.declared.scripts.ScriptSet.{ScriptSet}
+use Rattle.pex_verify.specs.declared.scripts.SetHeads.{SetHeads}
 use Rattle.pex_verify.specs.declared.value_type.ValueType.{ValueType}
 use Rattle.pex_verify.specs.declared.value_type.ValueType.TheVariants.{Of}
 use Rattle.pex_verify.specs.Judgement.{IsFor, IsOf, Takes, TakesCast, type_by}
@@ -96,7 +96,7 @@ EachFits scope kinds arguments =
     (k : ℕ) (d : Operand) → k < length arguments → ParameterFits scope (slice_get kinds k) (slice_index_or arguments k d)
 
 -- the type of the result or of the property that was found
-abbrev pub found_type : ScriptSet → Lookup → Option ValueType
+abbrev pub found_type : SetHeads → Lookup → Option ValueType
 found_type set (Function callee) = Some (result_meaning set.types callee.signature.now.answer)
 found_type set (Property property) = Some (value_meaning set.types property.kind)
 found_type set _ = None

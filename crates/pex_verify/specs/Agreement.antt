@@ -12,8 +12,8 @@ use Rattle.code_meaning.specs.LookUp.{first_method, first_property, method_in}
 use Rattle.code_meaning.specs.Operands.{slot_kinds}
 use Rattle.code_meaning.specs.Typed.{MethodMeets, GetMeets, SetMeets}
 use Rattle.pex_verify.specs.declared.scope.FunctionScope.{FunctionScope}
-use Rattle.pex_verify.specs.declared.scripts.PropertyHead.{PropertyHead}
-use Rattle.pex_verify.specs.declared.scripts.ScriptSet.{ScriptSet}
+use Rattle.pex_verify.specs.declared.scripts.PropertySignature.{PropertySignature}
+use Rattle.pex_verify.specs.declared.scripts.SetHeads.{SetHeads}
 use Rattle.pex_verify.specs.declared.scripts.Signature.{Signature}
 use Rattle.pex_verify.specs.declared.value_type.ValueType.TheVariants.{Of}
 use Rattle.pex_verify.specs.Found.{function_found, property_found, parent_of, is_global, is_readable, is_writable}
@@ -24,7 +24,7 @@ use Rattle.pex_verify.specs.Types.{IsTypeAmong, IsValueTypeAmong}
 -- ---- sets
 -- the scripts of the types that names mean are scripts of the set, and a script that the table has below another is so in
 -- the outline
-pub record HaveTypesOf (set : ScriptSet) (outline : List ScriptShape) : Type 0 where
+pub record HaveTypesOf (set : SetHeads) (outline : List ScriptShape) : Type 0 where
   pub meanings : (name : ℕ) → IsValueTypeAmong (vec_len set.heads) (result_meaning set.types name)
   pub children : (child above : ℕ) → child < vec_len set.heads → is_below set.table.descent child above ≡ true → is_child outline child above ≡ true
 
@@ -38,19 +38,19 @@ pub record IsOffered (types : Meanings) (outline : List ScriptShape) (scripts : 
   pub on_scripts : MethodMeets outline (is_global signature) parameters result (first_method scripts (lineage outline (Some script)) [] name)
 
 -- a property by its head: it is read and written so on each instance
-pub record IsPropertyOffered (types : Meanings) (outline : List ScriptShape) (scripts : List Script) (script : ℕ) (name : List ℕ) (property : PropertyHead) : Type 0 where
+pub record IsPropertyOffered (types : Meanings) (outline : List ScriptShape) (scripts : List Script) (script : ℕ) (name : List ℕ) (property : PropertySignature) : Type 0 where
   pub kind : CoreType
   pub kind_is : value_meaning types property.kind ≡ Of kind
   pub gets : is_readable property ≡ true → (own : ℕ) → is_child outline own script ≡ true → GetMeets outline (Some kind) (first_property scripts (lineage outline (Some own)) name)
   pub sets : is_writable property ≡ true → (own : ℕ) → is_child outline own script ≡ true → SetMeets outline (kind ∷ []) None (first_property scripts (lineage outline (Some own)) name)
 
 -- what the tables of a set and its table of names find is what the scripts offer
-pub record Agrees (set : ScriptSet) (names : List (List ℕ)) (outline : List ScriptShape) (scripts : List Script) : Type 0 where
+pub record Agrees (set : SetHeads) (names : List (List ℕ)) (outline : List ScriptShape) (scripts : List Script) : Type 0 where
   pub types : HaveTypesOf set outline
   pub parents : (script parent : ℕ) → parent_of set script ≡ Some parent → (parent < vec_len set.heads) × (parent_in (slice_get outline script) ≡ Some parent) × (is_child outline parent parent ≡ true)
   pub named : (number script : ℕ) (name : List ℕ) → number_in names name ≡ Some number → first_named set.objects number ≡ Some script → (script < vec_len set.heads) × (script_named outline name ≡ script)
   pub functions : (script number : ℕ) (name : List ℕ) (signature : Signature) → script < vec_len set.heads → number_in names name ≡ Some number → function_found set script number ≡ Some signature → IsOffered set.types outline scripts script name signature
-  pub properties : (script number : ℕ) (name : List ℕ) (property : PropertyHead) → script < vec_len set.heads → number_in names name ≡ Some number → property_found set script number ≡ Some property → IsPropertyOffered set.types outline scripts script name property
+  pub properties : (script number : ℕ) (name : List ℕ) (property : PropertySignature) → script < vec_len set.heads → number_in names name ≡ Some number → property_found set script number ≡ Some property → IsPropertyOffered set.types outline scripts script name property
 
 -- ---- functions
 -- a function has the types that are seen where its code is judged

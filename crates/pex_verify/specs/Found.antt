@@ -17,8 +17,8 @@ use Rattle.pex_verify.specs.declared.loaded.Operand.TheVariants as loaded
 use Rattle.pex_verify.specs.declared.operand_rules.Lookup.{Lookup}
 use Rattle.pex_verify.specs.declared.operand_rules.Lookup.TheVariants.{Unsought, Missing, Function, Property}
 use Rattle.pex_verify.specs.declared.scope.FunctionScope.{FunctionScope}
-use Rattle.pex_verify.specs.declared.scripts.PropertyHead.{PropertyHead}
-use Rattle.pex_verify.specs.declared.scripts.ScriptSet.{ScriptSet}
+use Rattle.pex_verify.specs.declared.scripts.PropertySignature.{PropertySignature}
+use Rattle.pex_verify.specs.declared.scripts.SetHeads.{SetHeads}
 use Rattle.pex_verify.specs.declared.scripts.Signature.{Signature}
 use Rattle.pex_verify.specs.Accepted.{at}
 use Rattle.pex_verify.specs.Judgement.{type_by, IsSeenIn}
@@ -27,28 +27,28 @@ use Rattle.pex_verify.specs.Uses.{use_at}
 
 -- ---- in the tables of a set
 -- the ranks of a script and of all below it begin here
-abbrev pub rank_of : ScriptSet → ℕ → ℕ
+abbrev pub rank_of : SetHeads → ℕ → ℕ
 rank_of set script = (span_at set.table.descent script).start
 
-abbrev pub function_at : ScriptSet → MemberPlace → Option Signature
+abbrev pub function_at : SetHeads → MemberPlace → Option Signature
 function_at set place =
     option_and_then (λ head. slice_get head.functions.items place.place) (slice_get set.heads.items place.object)
 
-abbrev pub property_at : ScriptSet → MemberPlace → Option PropertyHead
+abbrev pub property_at : SetHeads → MemberPlace → Option PropertySignature
 property_at set place =
     option_and_then (λ head. slice_get head.properties.items place.place) (slice_get set.heads.items place.object)
 
 -- the nearest function of this name in the empty states, from a script upward
-abbrev pub function_found : ScriptSet → ℕ → ℕ → Option Signature
+abbrev pub function_found : SetHeads → ℕ → ℕ → Option Signature
 function_found set script name =
     option_and_then (function_at set) (found_in set.table.methods (empty_name, name) (rank_of set script))
 
 -- the nearest property of this name, from a script upward
-abbrev pub property_found : ScriptSet → ℕ → ℕ → Option PropertyHead
+abbrev pub property_found : SetHeads → ℕ → ℕ → Option PropertySignature
 property_found set script name =
     option_and_then (property_at set) (found_in set.table.properties (empty_name, name) (rank_of set script))
 
-abbrev pub parent_of : ScriptSet → ℕ → Option ℕ
+abbrev pub parent_of : SetHeads → ℕ → Option ℕ
 parent_of set script = option_and_then (λ head. head.parent) (slice_get set.heads.items script)
 
 -- ---- by an instruction
@@ -64,25 +64,25 @@ name_by scope given place = word_number scope.source.now.names.now (slice_get gi
 abbrev pub object_by : FunctionScope → List Operand → Option ℕ
 object_by scope fixed = script_type (type_by scope (at fixed 1))
 
-abbrev pub script_named_by : ScriptSet → Option ℕ → Option ℕ
+abbrev pub script_named_by : SetHeads → Option ℕ → Option ℕ
 script_named_by set name = option_and_then (first_named set.objects) name
 
 -- a function or a property that was found, where it was sought
-pub record IsFunctionFound (set : ScriptSet) (script name : Option ℕ) (signature : Signature) : Type 0 where
+pub record IsFunctionFound (set : SetHeads) (script name : Option ℕ) (signature : Signature) : Type 0 where
   pub from : ℕ
   pub number : ℕ
   pub sought : script ≡ Some from
   pub named : name ≡ Some number
   pub found : function_found set from number ≡ Some signature
 
-pub record IsPropertyFound (set : ScriptSet) (script name : Option ℕ) (property : PropertyHead) : Type 0 where
+pub record IsPropertyFound (set : SetHeads) (script name : Option ℕ) (property : PropertySignature) : Type 0 where
   pub from : ℕ
   pub number : ℕ
   pub sought : script ≡ Some from
   pub named : name ≡ Some number
   pub found : property_found set from number ≡ Some property
 
-abbrev pub IsFoundBy : ScriptSet → Option ℕ → Option ℕ → Lookup → Type 0
+abbrev pub IsFoundBy : SetHeads → Option ℕ → Option ℕ → Lookup → Type 0
 IsFoundBy set script name Unsought = ⊥
 IsFoundBy set script name Missing = Unit {0}
 IsFoundBy set script name (Function callee) = IsFunctionFound set script name callee.signature.now
@@ -116,17 +116,17 @@ abbrev pub is_global : Signature → Bool
 is_global signature = not (bit_and signature.bits 1 == 0)
 
 -- bits 1 and 2 of a property: it can be read, and written
-abbrev pub is_readable : PropertyHead → Bool
+abbrev pub is_readable : PropertySignature → Bool
 is_readable property = not (bit_and property.bits 1 == 0)
 
-abbrev pub is_writable : PropertyHead → Bool
+abbrev pub is_writable : PropertySignature → Bool
 is_writable property = not (bit_and property.bits 2 == 0)
 
 abbrev pub is_static : Action → Bool
 is_static actions.CallStatic = true
 is_static _ = false
 
-abbrev pub PropertyAllows : Action → PropertyHead → Type 0
+abbrev pub PropertyAllows : Action → PropertySignature → Type 0
 PropertyAllows actions.GetProperty property = is_readable property ≡ true
 PropertyAllows _ property = is_writable property ≡ true
 

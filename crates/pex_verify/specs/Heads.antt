@@ -8,7 +8,7 @@ use Rattle.pex_values.specs.declared.values.PexFunction.{PexFunction}
 use Rattle.pex_values.specs.declared.values.PexObject.{PexObject}
 use Rattle.pex_values.specs.declared.values.PexProperty.{PexProperty}
 use Rattle.pex_values.specs.declared.values.PexState.{PexState}
-use Rattle.pex_verify.specs.declared.scripts.PropertyHead.{PropertyHead}
+use Rattle.pex_verify.specs.declared.scripts.PropertySignature.{PropertySignature}
 use Rattle.pex_verify.specs.declared.scripts.ScriptHead.{ScriptHead}
 use Rattle.pex_verify.specs.declared.sources.DefaultMembers.{DefaultMembers}
 use Rattle.pex_verify.specs.declared.sources.SetFile.{SetFile}
@@ -44,7 +44,7 @@ abbrev pub member_at : Members → ℕ → Option Declared
 member_at members place = option_map (declared_by members.numbers) (slice_get members.list place)
 
 -- ---- heads
-abbrev pub property_by : List ℕ → PexProperty → PropertyHead
+abbrev pub property_by : List ℕ → PexProperty → PropertySignature
 property_by numbers property =
     record { name = number_at numbers property.name; kind = number_at numbers property.kind; bits = property.bits }
 

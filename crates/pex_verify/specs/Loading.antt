@@ -9,7 +9,7 @@ use Rattle.pex_verify.specs.declared.loaded.LoadedScript.{LoadedScript}
 use Rattle.pex_verify.specs.declared.members.MemberTable.{MemberTable}
 use Rattle.pex_verify.specs.declared.object.Loader.{Loader}
 use Rattle.pex_verify.specs.declared.scope.Home.{Home}
-use Rattle.pex_verify.specs.declared.scripts.ScriptSet.{ScriptSet}
+use Rattle.pex_verify.specs.declared.scripts.SetHeads.{SetHeads}
 use Rattle.pex_verify.specs.declared.sources.DefaultMembers.{DefaultMembers}
 use Rattle.pex_verify.specs.declared.sources.SetFile.{SetFile}
 use Rattle.pex_verify.specs.Heads.{Placed, placed_objects, members_of, AreNumbered, AreHeads}
@@ -39,7 +39,7 @@ pub record IsScriptOf (home : Home) (script : LoadedScript) (outline : OutlineSc
 
 -- what all objects of a set are judged by
 pub record Judged : Type 0 where
-  pub set : ScriptSet
+  pub set : SetHeads
   pub members : DefaultMembers
 
 abbrev pub judged_by : Loader → Judged
@@ -75,7 +75,7 @@ pub record AreObjects (judged : Judged) (objects : List Placed) (scripts : List 
 
 -- what is loaded for the objects of these files, and how others found their members
 pub record IsLoadedSet (members : DefaultMembers) (sources : List SetFile) (scripts : List LoadedScript) (outlines : List OutlineScript) (table : MemberTable) : Type 0 where
-  pub set : ScriptSet
+  pub set : SetHeads
   pub numbered : AreNumbered (placed_objects sources) set.objects
   pub heads : AreHeads (members_of members) (parents_in set.objects) (placed_objects sources) set.heads.items
   pub objects : AreObjects (record { set = set; members = members }) (placed_objects sources) scripts outlines

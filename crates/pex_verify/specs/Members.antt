@@ -8,7 +8,7 @@ use Rattle.pex_values.specs.declared.values.PexFunction.{PexFunction}
 use Rattle.pex_values.specs.declared.values.PexObject.{PexObject}
 use Rattle.pex_values.specs.declared.values.PexState.{PexState}
 use Rattle.pex_verify.specs.declared.members.MemberLists.{MemberLists}
-use Rattle.pex_verify.specs.declared.scripts.PropertyHead.{PropertyHead}
+use Rattle.pex_verify.specs.declared.scripts.PropertySignature.{PropertySignature}
 use Rattle.pex_verify.specs.declared.scripts.ScriptHead.{ScriptHead}
 use Rattle.pex_verify.specs.declared.scripts.Signature.{Signature}
 use Rattle.pex_verify.specs.Signatures.{number_at}
@@ -31,9 +31,9 @@ abbrev pub with_places : {X Y : Type 0} → (ℕ → X → Y) → ℕ → List X
 with_places f place [] = []
 with_places f place (x ∷ xs) = f place x ∷ with_places f (suc place) xs
 
-abbrev pub properties_of : Owner → List PropertyHead → List OwnMember
+abbrev pub properties_of : Owner → List PropertySignature → List OwnMember
 properties_of owner properties =
-    with_places (λ place (property : PropertyHead). member_of owner 0 (empty_name, property.name) place) 0 properties
+    with_places (λ place (property : PropertySignature). member_of owner 0 (empty_name, property.name) place) 0 properties
 
 abbrev pub functions_of : Owner → ℕ → List Signature → List OwnMember
 functions_of owner state functions =

@@ -6,7 +6,7 @@ use Rattle.pex_set.specs.declared.inherited.MemberPlace.{MemberPlace}
 use Rattle.pex_values.specs.declared.values.PexFunction.{PexFunction}
 use Rattle.pex_values.specs.declared.values.PexState.{PexState}
 use Rattle.pex_verify.specs.declared.scope.Home.{Home}
-use Rattle.pex_verify.specs.declared.scripts.ScriptSet.{ScriptSet}
+use Rattle.pex_verify.specs.declared.scripts.SetHeads.{SetHeads}
 use Rattle.pex_verify.specs.declared.scripts.Signature.{Signature}
 use Rattle.pex_verify.specs.Found.{function_found, parent_of, property_found, rank_of}
 use Rattle.pex_verify.specs.Signatures.{AreAlike, declared_by, declared_of, number_at}
@@ -31,7 +31,7 @@ own_place script None = None
 own_place script (Some place) = if place.object == script then Some place.place else None
 
 -- the place of a script's own first property of this name
-abbrev pub first_property_of : ScriptSet → ℕ → ℕ → Option ℕ
+abbrev pub first_property_of : SetHeads → ℕ → ℕ → Option ℕ
 first_property_of set script name =
     own_place script (found_in set.table.properties (empty_name, name) (rank_of set script))
 

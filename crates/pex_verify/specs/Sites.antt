@@ -9,14 +9,14 @@ use Rattle.code_meaning.specs.Code.{Script}
 use Rattle.code_meaning.specs.Typed.{IsTyped}
 use Rattle.pex_verify.specs.declared.loaded.LoadedFunction.{LoadedFunction}
 use Rattle.pex_verify.specs.declared.scope.Home.{Home}
-use Rattle.pex_verify.specs.declared.scripts.ScriptSet.{ScriptSet}
+use Rattle.pex_verify.specs.declared.scripts.SetHeads.{SetHeads}
 use Rattle.pex_verify.specs.Agreement.{Agrees}
 use Rattle.pex_verify.specs.Plain.{function_of, instruction_of}
 use Rattle.pex_verify.specs.Types.{IsTypeAmong}
 
 -- the tables of a set, and the script of this number with these variables
 pub record Site : Type 0 where
-  pub set : ScriptSet
+  pub set : SetHeads
   pub here : ℕ
   pub variables : List OutlineVariable
 

@@ -8,7 +8,7 @@ ghost use Rattle.papy_base.specs.Ranks.{is_below, span_at, IsDescentOf};
 ghost use Rattle.pex_verify.specs.Tables.{Inherits};
 
 use crate::loaded::MethodPlace;
-use crate::scripts::{PropertyHead, ScriptHead, Signature};
+use crate::scripts::{PropertySignature, ScriptHead, Signature};
 use papy_base::{Descent, Made};
 use pex_set::{EMPTY_NAME, FileNames, Inherited, MemberPlace, OwnMembers};
 use pex_values::{PexFunction, PexObject, PexState};
@@ -52,7 +52,7 @@ impl MemberLists {
         self.add_states(number, names, object.states.as_slice())
     }
 
-    fn add_properties(&mut self, object: usize, properties: &[PropertyHead]) -> Made<()>
+    fn add_properties(&mut self, object: usize, properties: &[PropertySignature]) -> Made<()>
         ensures { OnOk result (self.new ≡ with_properties self.old (properties_of (owner_in self.old object) properties.now)) }
     {
         for (place, property) in properties.iter().enumerate() {

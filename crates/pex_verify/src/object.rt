@@ -21,7 +21,7 @@ use crate::function::{has_too_many_slots, known_type, load_function};
 use crate::loaded::{LoadedFunction, LoadedProperty, LoadedScript};
 use crate::outlining::outline_script;
 use crate::scope::{Home, NamedList, SlotList};
-use crate::scripts::{KIND_BITS, ScriptSet, Signature};
+use crate::scripts::{KIND_BITS, SetHeads, Signature};
 use crate::sources::{DefaultMembers, FileLines, OF_STATE, SetFile};
 use crate::value_type::ValueType;
 use core_tree::{CoreType, OutlineScript, OutlineVariable, Value};
@@ -35,7 +35,7 @@ use std::collections::HashMap;
 type Functions = Vec<LoadedFunction>;
 
 // A state by its name.
-type State = (Name, Functions);
+type StateFunctions = (Name, Functions);
 
 /// How many bytes the name of an object and that of its auto state may have.
 const NAME_LIMIT: usize = 255;
@@ -44,7 +44,7 @@ const NAME_LIMIT: usize = 255;
 #[derive(Clone, Copy)]
 pub(crate) struct Loader<'a> {
     pub(crate) alloc: Global,
-    pub(crate) set: &'a ScriptSet,
+    pub(crate) set: &'a SetHeads,
     /// The members of every script without parent.
     pub(crate) members: &'a DefaultMembers<'a>,
 }
@@ -215,7 +215,7 @@ fn load_properties(home: &Home<'_>, slots: &mut SlotList) -> Valid<Vec<LoadedPro
 
 // The members that a script without parent lacks stand last in its empty state, or in a last one that is
 // added for them.
-fn load_states(home: &Home<'_>, slots: &mut SlotList) -> Valid<Vec<State>>
+fn load_states(home: &Home<'_>, slots: &mut SlotList) -> Valid<Vec<StateFunctions>>
     ensures sound { IfOk result (λ states. All (λ state. IsSoundState (bounds_of home.now) state.1.items) states.items) }
     ensures written { IfOk result (λ states. AreStates (site_of home.now) (states_written home.now home.now.object.now.states.items) states.items) }
     ensures distinct { OnOk result (AreDistinct (state_numbers home.now)) }
@@ -254,7 +254,7 @@ fn has_empty_state(home: &Home<'_>) -> bool
 }
 
 // These states, none of which is the empty one, and an empty state of the members that the script lacks.
-fn completed(home: &Home<'_>, slots: &mut SlotList, mut states: Vec<State>) -> Valid<Vec<State>>
+fn completed(home: &Home<'_>, slots: &mut SlotList, mut states: Vec<StateFunctions>) -> Valid<Vec<StateFunctions>>
     requires { All (λ state. IsSoundState (bounds_of home.now) state.1.items) states.items }
     ensures sound { IfOk result (λ states. All (λ state. IsSoundState (bounds_of home.now) state.1.items) states.items) }
     ensures written { (before : List WrittenState) → AreStates (site_of home.now) before states.items
@@ -269,7 +269,7 @@ fn completed(home: &Home<'_>, slots: &mut SlotList, mut states: Vec<State>) -> V
     Ok(states)
 }
 
-fn load_state(home: &Home<'_>, slots: &mut SlotList, state: &PexState) -> Valid<State>
+fn load_state(home: &Home<'_>, slots: &mut SlotList, state: &PexState) -> Valid<StateFunctions>
     ensures sound { IfOk result (λ loaded. IsSoundState (bounds_of home.now) loaded.1.items) }
     ensures written { IfOk result (IsState (site_of home.now) (state_written home.now state.now)) }
     ensures replaces { OnOk result (EachReplaces home.now state.now) }
@@ -377,14 +377,14 @@ fn overridden<'a>(home: &Home<'a>, name: usize) -> Option<&'a Signature>
     ensures { (parent : ℕ) (signature : Signature) → parent_of home.now.set.now home.now.here ≡ Some parent
         → function_found home.now.set.now parent name ≡ Some signature → option_copied result ≡ Some signature }
 {
-    let set: &'a ScriptSet = home.set;
+    let set: &'a SetHeads = home.set;
     match set.parent(usize::from(home.here)) {
         Some(parent) => inherited_function(set, parent, name),
         None => set.member(name),
     }
 }
 
-fn inherited_function(set: &ScriptSet, script: usize, name: usize) -> Option<&Signature>
+fn inherited_function(set: &SetHeads, script: usize, name: usize) -> Option<&Signature>
     ensures { option_copied result ≡ function_found set.now script name }
 {
     Some(set.find_function(script, name)?.signature)

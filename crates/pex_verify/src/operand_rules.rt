@@ -11,7 +11,7 @@ use crate::action::Action;
 use crate::fault::VerifyRule;
 use crate::loaded::Operand;
 use crate::scope::FunctionScope;
-use crate::scripts::{Callee, PropertyHead, ScriptSet, Signature};
+use crate::scripts::{CalledFunction, PropertySignature, SetHeads, Signature};
 use crate::value_type::{BOOL, INT, ValueType};
 use core_tree::CoreType;
 use pex_values::Datum;
@@ -28,13 +28,13 @@ pub(crate) enum Lookup<'a> {
     Unsought,
     /// There is nothing of that name where it looks.
     Missing,
-    Function(Callee<'a>),
-    Property(PropertyHead),
+    Function(CalledFunction<'a>),
+    Property(PropertySignature),
 }
 
 impl Lookup<'_> {
     /// The type of the result or of the property, where one was found.
-    pub(crate) fn type_in(self, set: &ScriptSet) -> Option<ValueType>
+    pub(crate) fn type_in(self, set: &SetHeads) -> Option<ValueType>
         ensures { result ≡ found_type set.now self.entry }
     {
         match self {
@@ -75,7 +75,7 @@ fn is_static(action: Action) -> bool
     matches!(action, Action::CallStatic)
 }
 
-fn broken_use(property: PropertyHead, action: Action) -> Option<VerifyRule>
+fn broken_use(property: PropertySignature, action: Action) -> Option<VerifyRule>
     ensures { result ≡ None → sought.PropertyAllows action property }
 {
     let is_right = match action {
@@ -125,13 +125,13 @@ fn object_script(scope: &FunctionScope<'_>, fixed: &[Operand]) -> Option<usize>
     scope.type_of(fixed.get(1)?).script().map(usize::from)
 }
 
-fn script_named(set: &ScriptSet, name: Option<usize>) -> Option<usize>
+fn script_named(set: &SetHeads, name: Option<usize>) -> Option<usize>
     ensures { result ≡ sought.script_named_by set.now name }
 {
     set.objects.first_named(name?)
 }
 
-fn function_found(set: &ScriptSet, script: Option<usize>, name: Option<usize>) -> Lookup<'_>
+fn function_found(set: &SetHeads, script: Option<usize>, name: Option<usize>) -> Lookup<'_>
     ensures among { IsFoundAmong (vec_len set.now.heads) result }
     ensures found { sought.IsFoundBy set.now script name result }
     ensures function { sought.IsFunction result }
@@ -145,7 +145,7 @@ fn function_found(set: &ScriptSet, script: Option<usize>, name: Option<usize>) -
     }
 }
 
-fn property_found(set: &ScriptSet, script: Option<usize>, name: Option<usize>) -> Lookup<'_>
+fn property_found(set: &SetHeads, script: Option<usize>, name: Option<usize>) -> Lookup<'_>
     ensures among { IsFoundAmong (vec_len set.now.heads) result }
     ensures found { sought.IsFoundBy set.now script name result }
     ensures property { sought.IsProperty result }

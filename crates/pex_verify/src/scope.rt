@@ -6,7 +6,7 @@ ghost use Rattle.pex_verify.specs.declared.value_type.ValueType.TheVariants.{Unk
 
 use crate::fault::{Refusal, VerifyFault};
 use crate::loaded::Operand;
-use crate::scripts::ScriptSet;
+use crate::scripts::SetHeads;
 use crate::sources::{DefaultMembers, FileLines, SetFile};
 use crate::value_type::{BOOL, INT, TEXT, ValueType};
 use core_tree::{CoreType, OutlineVariable};
@@ -76,7 +76,7 @@ impl<T: Drop> NamedList<T> {
 #[derive(Clone, Copy)]
 pub(crate) struct Home<'a> {
     pub(crate) alloc: Global,
-    pub(crate) set: &'a ScriptSet,
+    pub(crate) set: &'a SetHeads,
     /// The members of every script without parent.
     pub(crate) members: &'a DefaultMembers<'a>,
     /// The script's number.

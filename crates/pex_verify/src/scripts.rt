@@ -94,7 +94,7 @@ fn kinds_of(alloc: Global, names: &FileNames, parameters: &[(u16, u16)]) -> Made
 
 /// A property as other scripts see it. Bits 1 and 2 say whether it can be read and written.
 #[derive(Clone, Copy, PartialEq, Eq)]
-pub(crate) struct PropertyHead {
+pub(crate) struct PropertySignature {
     pub(crate) name: usize,
     pub(crate) kind: usize,
     pub(crate) bits: u8,
@@ -102,7 +102,7 @@ pub(crate) struct PropertyHead {
 
 /// A function of an empty state, where it stands and what it gives and takes.
 #[derive(Clone, Copy)]
-pub(crate) struct Callee<'a> {
+pub(crate) struct CalledFunction<'a> {
     pub(crate) place: MemberPlace,
     pub(crate) signature: &'a Signature,
 }
@@ -111,7 +111,7 @@ pub(crate) struct Callee<'a> {
 #[derive(Drop)]
 pub(crate) struct ScriptHead {
     pub(crate) parent: Option<usize>,
-    pub(crate) properties: Vec<PropertyHead>,
+    pub(crate) properties: Vec<PropertySignature>,
     /// The place of the first empty state, and how many states there are where there is none.
     pub(crate) empty_state: usize,
     /// The functions of the first empty state, and the members that the script lacks behind them.
@@ -122,7 +122,7 @@ pub(crate) struct ScriptHead {
 
 /// The scripts of a set.
 #[derive(Drop)]
-pub(crate) struct ScriptSet {
+pub(crate) struct SetHeads {
     pub(crate) heads: Vec<ScriptHead>,
     /// The four members of every script without parent.
     pub(crate) members: Vec<Signature>,
@@ -207,12 +207,12 @@ fn property_heads(
     alloc: Global,
     names: &FileNames,
     properties: &[PexProperty],
-) -> Made<Vec<PropertyHead>>
+) -> Made<Vec<PropertySignature>>
     ensures { IfOk result (λ heads. heads.items ≡ map (property_by names.now) properties.now) }
 {
     let mut heads = Vec::with_capacity(alloc, properties.len())?;
     for property in properties {
-        heads.push(PropertyHead {
+        heads.push(PropertySignature {
             name: names.number(property.name),
             kind: names.number(property.kind),
             bits: property.bits,
@@ -329,7 +329,7 @@ fn has_members(number: usize, names: &FileNames, object: &PexObject) -> bool
     number >= LIBRARY_COUNT && names.number(object.parent) == EMPTY_NAME
 }
 
-impl ScriptSet {
+impl SetHeads {
     ghost use Rattle.std.specs.Prelude.{Some};
     ghost use Rattle.pex_verify.specs.Found as found;
     ghost use Rattle.pex_verify.specs.Rules as rules;
@@ -342,7 +342,7 @@ impl ScriptSet {
         sources: &[SetFile<'_>],
         objects: Objects,
         parents: &[Option<usize>],
-    ) -> Made<ScriptSet>
+    ) -> Made<SetHeads>
         requires { length objects ≡ object_count sources.now }
         ensures count { IfOk result (λ scripts. vec_len scripts.heads ≡ object_count sources.now) }
         ensures objects { IfOk result (λ scripts. scripts.objects ≡ objects) }
@@ -353,7 +353,7 @@ impl ScriptSet {
     {
         let types = TypeNames::of(alloc, table, &objects)?;
         let mut lists = MemberLists::new(alloc, parents)?;
-        Ok(ScriptSet {
+        Ok(SetHeads {
             heads: all_heads(alloc, &mut lists, parents, members, sources)?,
             members: signatures(alloc, members.source.names, members.list)?,
             types,
@@ -365,7 +365,7 @@ impl ScriptSet {
     }
 
     /// The nearest function of this name in the empty states, from the script upward.
-    pub(crate) fn find_function(&self, script: usize, name: usize) -> Option<Callee<'_>>
+    pub(crate) fn find_function(&self, script: usize, name: usize) -> Option<CalledFunction<'_>>
         ensures among { IfSome result (λ callee. callee.place.object < vec_len self.now.heads) }
         ensures nearest { IfSome result (λ callee. found.function_found self.now script name ≡ Some callee.signature.now) }
         ensures missing { result ≡ None → found.function_found self.now script name ≡ None }
@@ -373,11 +373,11 @@ impl ScriptSet {
         let place = self.table.in_state(script, EMPTY_NAME, name)?;
         let head = self.heads.get(place.object)?;
         let signature = head.functions.get(place.place)?;
-        Some(Callee { place, signature })
+        Some(CalledFunction { place, signature })
     }
 
     /// The nearest property of this name, from the script upward.
-    pub(crate) fn find_property(&self, script: usize, name: usize) -> Option<PropertyHead>
+    pub(crate) fn find_property(&self, script: usize, name: usize) -> Option<PropertySignature>
         ensures { result ≡ found.property_found self.now script name }
     {
         let found = self.table.property(script, name)?;

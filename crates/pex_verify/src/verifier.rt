@@ -18,7 +18,7 @@ use crate::fault::{Site, Valid, VerifyFault, VerifyRule};
 use crate::loaded::{Loaded, LoadedScript};
 use crate::members::MemberTable;
 use crate::object::{Loader, ObjectLists, load_object};
-use crate::scripts::ScriptSet;
+use crate::scripts::SetHeads;
 use crate::sources::{
     DefaultMembers, FileLines, FileStrings, SetFile, all_sources, objects_of, source_of,
     strings_of_files,
@@ -142,7 +142,7 @@ fn judged_scripts(
     files: &[Pex],
     members: &DefaultMembers<'_>,
     sources: &[SetFile<'_>],
-) -> Valid<ScriptSet>
+) -> Valid<SetHeads>
     ensures count { IfOk result (λ scripts. vec_len scripts.heads ≡ object_count sources.now) }
     ensures numbered { IfOk result (λ scripts. AreNumbered (placed_objects sources.now) scripts.objects) }
     ensures heads { IfOk result (λ scripts. AreHeads (members_of members.now) (parents_in scripts.objects) (placed_objects sources.now) scripts.heads.items) }
@@ -153,7 +153,7 @@ fn judged_scripts(
     let objects = objects_of(alloc, sources)?;
     let parents = objects.parents(alloc)?;
     judge_objects(alloc, files, &objects, parents.as_slice())?;
-    Ok(ScriptSet::of(alloc, table, members, sources, objects, parents.as_slice())?)
+    Ok(SetHeads::of(alloc, table, members, sources, objects, parents.as_slice())?)
 }
 
 // How many scripts a set may have: the prelude's 6, and 4,096 of the files.

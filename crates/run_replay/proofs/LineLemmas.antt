@@ -6,10 +6,10 @@ use Rattle.std.specs.List.{prefix_len}
 use Rattle.std.proofs.lemmas.Bool.{cond-true, cond-false, le-ltb, le-leb, and_parts}
 use Rattle.std.proofs.lemmas.Fmt.{decimal_digit}
 use Rattle.std.proofs.lemmas.List.{take-append-drop}
-use Rattle.run_replay.specs.declared.reader.Line.{Line}
+use Rattle.run_replay.specs.declared.reader.ParsedLine.{ParsedLine}
 use Rattle.run_replay.specs.declared.lock_move.LockMove.TheVariants as moves
-use Rattle.run_replay.specs.declared.reader.Keyword.{Keyword}
-use Rattle.run_replay.specs.declared.reader.Keyword.TheVariants as keyword
+use Rattle.run_replay.specs.declared.reader.JournalWord.{JournalWord}
+use Rattle.run_replay.specs.declared.reader.JournalWord.TheVariants as keyword
 use Rattle.run_replay.specs.declared.reader.Numbers.{Numbers}
 use Rattle.run_replay.specs.declared.reader.Numbers.TheVariants as numbers
 use Rattle.run_replay.specs.Lines.{JournalLine, Heading, Instance, Turn, End, Moved, line_text, LineFits, word_of, spelled, AreSmall, Ends, Lacks, is_not, is_name_byte, is_instance_name}
@@ -18,7 +18,7 @@ use Rattle.run_replay.proofs.SplitLemmas.{one_split, cut_here, lacks_all, number
 use Rattle.run_replay.proofs.NumbersLemmas.{same_numbers}
 
 -- the word of each line, and what stands behind it
-abbrev keyword_in : JournalLine → Keyword
+abbrev keyword_in : JournalLine → JournalWord
 keyword_in (Instance name) = keyword.Instance
 keyword_in Heading = keyword.Journal
 keyword_in (Turn turn) = keyword.Turn
@@ -111,7 +111,7 @@ behind_word (Moved (moves.Done k)) = refl
 behind_word (Moved (moves.Run k)) = refl
 behind_word (Moved moves.Idle) = tt
 
-word_lacks : (k : Keyword) → Lacks 32 (word_of k)
+word_lacks : (k : JournalWord) → Lacks 32 (word_of k)
 word_lacks keyword.Journal = lacks_all (is_not 32) 32 (word_of keyword.Journal) refl refl
 word_lacks keyword.Instance = lacks_all (is_not 32) 32 (word_of keyword.Instance) refl refl
 word_lacks keyword.Turn = lacks_all (is_not 32) 32 (word_of keyword.Turn) refl refl
@@ -130,7 +130,7 @@ word_lacks keyword.Idle = lacks_all (is_not 32) 32 (word_of keyword.Idle) refl r
 abbrev word_number : List ℕ → ℕ
 word_number word = get_or word 0 0 * 1000000 + get_or word 1 0 * 1000 + get_or word 2 0
 
-abbrev keyword_number : Keyword → ℕ
+abbrev keyword_number : JournalWord → ℕ
 keyword_number keyword.Journal = 106111117
 keyword_number keyword.Instance = 105110115
 keyword_number keyword.Turn = 116117114
@@ -145,7 +145,7 @@ keyword_number keyword.Done = 100111110
 keyword_number keyword.Run = 114117110
 keyword_number keyword.Idle = 105100108
 
-number_is : (k : Keyword) → word_number (word_of k) ≡ keyword_number k
+number_is : (k : JournalWord) → word_number (word_of k) ≡ keyword_number k
 number_is keyword.Journal = refl
 number_is keyword.Instance = refl
 number_is keyword.Turn = refl
@@ -161,7 +161,7 @@ number_is keyword.Run = refl
 number_is keyword.Idle = refl
 
 -- a keyword of each number
-abbrev keyword_back : ℕ → Keyword
+abbrev keyword_back : ℕ → JournalWord
 keyword_back n =
     if n == 106111117 then keyword.Journal
     else (if n == 105110115 then keyword.Instance
@@ -177,7 +177,7 @@ keyword_back n =
     else (if n == 114117110 then keyword.Run
     else keyword.Idle)))))))))))
 
-back : (k : Keyword) → keyword_back (keyword_number k) ≡ k
+back : (k : JournalWord) → keyword_back (keyword_number k) ≡ k
 back keyword.Journal = refl
 back keyword.Instance = refl
 back keyword.Turn = refl
@@ -192,7 +192,7 @@ back keyword.Done = refl
 back keyword.Run = refl
 back keyword.Idle = refl
 
-same_keyword : (j k : Keyword) → word_of j ≡ word_of k → j ≡ k
+same_keyword : (j k : JournalWord) → word_of j ≡ word_of k → j ≡ k
 same_keyword j k e =
     let number : keyword_number j ≡ keyword_number k = sym (number_is j) ∙ ap word_number e ∙ number_is k in
     sym (back j) ∙ ap keyword_back number ∙ back k
@@ -275,7 +275,7 @@ plain_arguments (Moved (moves.Run k)) other = refl
 plain_arguments (Moved moves.Idle) other = refl
 
 -- no line stands where no word does
-pub no_word : (text word rest : List ℕ) (len : ℕ) → len ≡ prefix_len (is_not 32) text → word ≡ take len text → rest ≡ drop len text → ((k : Keyword) → word ≢ word_of k) → (l : JournalLine) → LineFits l → text ≢ line_text l
+pub no_word : (text word rest : List ℕ) (len : ℕ) → len ≡ prefix_len (is_not 32) text → word ≡ take len text → rest ≡ drop len text → ((k : JournalWord) → word ≢ word_of k) → (l : JournalLine) → LineFits l → text ≢ line_text l
 no_word text word rest len run front back none l fits is = none (keyword_in l) (parts text word rest len l run front back is).word_is
 
 no_name_in : (l : JournalLine) (rest : List ℕ) → keyword_in l ≡ keyword.Instance → LineFits l → rest ≡ arguments l → ((name : List ℕ) → is_instance_name name ≡ true → rest ≢ 32 ∷ name) → ⊥
@@ -298,7 +298,7 @@ no_name text word rest len run front back here none l fits is =
     let p = parts text word rest len l run front back is in
     no_name_in l rest (same_keyword (keyword_in l) keyword.Instance (sym p.word_is ∙ here)) fits p.rest_is none
 
-pub no_numbers : (text word rest : List ℕ) (len : ℕ) (k : Keyword) → len ≡ prefix_len (is_not 32) text → word ≡ take len text → rest ≡ drop len text → word ≡ word_of k → (k ≡ keyword.Instance → ⊥) → ((ns : Numbers) → AreSmall ns → rest ≢ spelled ns) → (l : JournalLine) → LineFits l → text ≢ line_text l
+pub no_numbers : (text word rest : List ℕ) (len : ℕ) (k : JournalWord) → len ≡ prefix_len (is_not 32) text → word ≡ take len text → rest ≡ drop len text → word ≡ word_of k → (k ≡ keyword.Instance → ⊥) → ((ns : Numbers) → AreSmall ns → rest ≢ spelled ns) → (l : JournalLine) → LineFits l → text ≢ line_text l
 no_numbers text word rest len k run front back here other none l fits is =
     let p = parts text word rest len l run front back is in
     let same = same_keyword (keyword_in l) k (sym p.word_is ∙ here) in
@@ -306,32 +306,32 @@ no_numbers text word rest len k run front back here other none l fits is =
     none (numbers_in l) (are_small l fits) (p.rest_is ∙ plain_arguments l plain)
 
 -- where no line is of the word and numbers, none stands
-pub no_line : (text word rest : List ℕ) (len : ℕ) (k : Keyword) (ns : Numbers) → len ≡ prefix_len (is_not 32) text → word ≡ take len text → rest ≡ drop len text → word ≡ word_of k → (k ≡ keyword.Instance → ⊥) → rest ≡ spelled ns → AreSmall ns → numbered_line k ns ≡ None → (l : JournalLine) → LineFits l → text ≢ line_text l
+pub no_line : (text word rest : List ℕ) (len : ℕ) (k : JournalWord) (ns : Numbers) → len ≡ prefix_len (is_not 32) text → word ≡ take len text → rest ≡ drop len text → word ≡ word_of k → (k ≡ keyword.Instance → ⊥) → rest ≡ spelled ns → AreSmall ns → numbered_line k ns ≡ None → (l : JournalLine) → LineFits l → text ≢ line_text l
 no_line text word rest len k ns run front back here other spells small none l fits is =
     let p = parts text word rest len l run front back is in
     let same = same_keyword (keyword_in l) k (sym p.word_is ∙ here) in
     let plain = not_instance l (λ e. other (sym same ∙ e)) in
     let numbers_are : numbers_in l ≡ ns = same_numbers (numbers_in l) ns (are_small l fits) small (sym (plain_arguments l plain) ∙ sym p.rest_is ∙ spells) in
     let again : numbered_line (keyword_in l) (numbers_in l) ≡ Some l = line_again l fits plain in
-    let there : numbered_line k ns ≡ Some l = ap (λ (j : Keyword). numbered_line j ns) (sym same) ∙ ap (λ (m : Numbers). numbered_line (keyword_in l) m) (sym numbers_are) ∙ again in
+    let there : numbered_line k ns ≡ Some l = ap (λ (j : JournalWord). numbered_line j ns) (sym same) ∙ ap (λ (m : Numbers). numbered_line (keyword_in l) m) (sym numbers_are) ∙ again in
     let clash : None ≡ Some l = sym none ∙ there in
     absurd (cc)
 
 pub heading_is : line_text Heading ≡ word_of keyword.Journal ++ spelled (numbers.One 1)
 heading_is = text_is Heading
 
-pub whole : (text word rest behind : List ℕ) (len : ℕ) (k : Keyword) → word ≡ take len text → rest ≡ drop len text → word ≡ word_of k → rest ≡ behind → text ≡ word_of k ++ behind
+pub whole : (text word rest behind : List ℕ) (len : ℕ) (k : JournalWord) → word ≡ take len text → rest ≡ drop len text → word ≡ word_of k → rest ≡ behind → text ≡ word_of k ++ behind
 whole text word rest behind len k front back here there =
     sym (take-append-drop len text) ∙ ap (λ (w : List ℕ). w ++ drop len text) (sym front ∙ here) ∙ ap (λ (r : List ℕ). word_of k ++ r) (sym back ∙ there)
 
 -- what a word and numbers are read as
-pub line_is : (text word rest : List ℕ) (len : ℕ) (k : Keyword) (ns : Numbers) (r : Option Line) → len ≡ prefix_len (is_not 32) text → word ≡ take len text → rest ≡ drop len text → word ≡ word_of k → (k ≡ keyword.Instance → ⊥) → rest ≡ spelled ns → AreSmall ns
+pub line_is : (text word rest : List ℕ) (len : ℕ) (k : JournalWord) (ns : Numbers) (r : Option ParsedLine) → len ≡ prefix_len (is_not 32) text → word ≡ take len text → rest ≡ drop len text → word ≡ word_of k → (k ≡ keyword.Instance → ⊥) → rest ≡ spelled ns → AreSmall ns
     → option_map seen r ≡ numbered_line k ns → IfSome r (λ l. LineFits (seen l) × (line_text (seen l) ≡ word_of k ++ spelled ns))
     → MatchOption r ((l : JournalLine) → LineFits l → text ≢ line_text l) (λ l. (text ≡ line_text (seen l)) × LineFits (seen l))
 line_is text word rest len k ns None run front back here other spells small known read = no_line text word rest len k ns run front back here other spells small (sym known)
 line_is text word rest len k ns (Some l) run front back here other spells small known read = (whole text word rest (spelled ns) len k front back here spells ∙ sym read.1, read.0)
 
-word_in_line : (k : Keyword) → Lacks 10 (word_of k)
+word_in_line : (k : JournalWord) → Lacks 10 (word_of k)
 word_in_line keyword.Journal = lacks_all (is_not 10) 10 (word_of keyword.Journal) refl refl
 word_in_line keyword.Instance = lacks_all (is_not 10) 10 (word_of keyword.Instance) refl refl
 word_in_line keyword.Turn = lacks_all (is_not 10) 10 (word_of keyword.Turn) refl refl
@@ -459,5 +459,5 @@ same_line l m fits_l fits_m e =
     by_numbers l m fits_l fits_m other_l other_m same args =
         let spells : spelled (numbers_in l) ≡ spelled (numbers_in m) = sym (plain_arguments l other_l) ∙ args ∙ plain_arguments m other_m in
         let ns : numbers_in l ≡ numbers_in m = same_numbers (numbers_in l) (numbers_in m) (are_small l fits_l) (are_small m fits_m) spells in
-        let found : Some l ≡ Some m = sym (line_again l fits_l other_l) ∙ ap (λ (k : Keyword). numbered_line k (numbers_in l)) same ∙ ap (λ (n : Numbers). numbered_line (keyword_in m) n) ns ∙ line_again m fits_m other_m in
+        let found : Some l ≡ Some m = sym (line_again l fits_l other_l) ∙ ap (λ (k : JournalWord). numbered_line k (numbers_in l)) same ∙ ap (λ (n : Numbers). numbered_line (keyword_in m) n) ns ∙ line_again m fits_m other_m in
         cc

@@ -6,8 +6,8 @@ use Rattle.std.specs.Fmt.{decimal}
 use Rattle.std.specs.Str.Parse.{digits_value}
 use Rattle.run_replay.specs.declared.lock_move.LockMove.{LockMove}
 use Rattle.run_replay.specs.declared.lock_move.LockMove.TheVariants as moves
-use Rattle.run_replay.specs.declared.reader.Keyword.{Keyword}
-use Rattle.run_replay.specs.declared.reader.Keyword.TheVariants as keyword
+use Rattle.run_replay.specs.declared.reader.JournalWord.{JournalWord}
+use Rattle.run_replay.specs.declared.reader.JournalWord.TheVariants as keyword
 use Rattle.run_replay.specs.declared.reader.Numbers.{Numbers}
 use Rattle.run_replay.specs.declared.reader.Numbers.TheVariants as numbers
 
@@ -74,7 +74,7 @@ LineFits (Turn turn) = turn < 1000001
 LineFits (End turns) = turns < 1000001
 LineFits (Moved move) = MoveFits move
 
-abbrev pub word_of : Keyword → List ℕ
+abbrev pub word_of : JournalWord → List ℕ
 word_of keyword.Journal = codes "journal"
 word_of keyword.Instance = codes "instance"
 word_of keyword.Turn = codes "turn"

@@ -6,7 +6,7 @@ ghost use Rattle.run_replay.specs.Lines.{LineFits};
 ghost use Rattle.run_replay.specs.Book.{Standing, start, place_of, is_due, is_between, is_free, holds, waits, is_first, is_other, since_of, without_stack, nobody_due, nobody_holds, is_ready, before_run, after_run, between_turns, in_turn, just_ran, acts, begins, wakes, arrives, is_settled, stage_after, may_stand, move_may_stand, is_allowed, move_is_allowed, joined, settled_at, moved, after};
 
 use crate::lock_move::LockMove;
-use crate::reader::Line;
+use crate::reader::ParsedLine;
 use crate::waits::{Waits, add_to};
 use papy_base::{Made, Text};
 use std::alloc::Global;
@@ -289,17 +289,17 @@ impl Book {
     }
 
     /// Whether the form of the line may stand here.
-    pub(crate) fn may_stand(&self, line: Line) -> bool
+    pub(crate) fn may_stand(&self, line: ParsedLine) -> bool
         ensures { result ≡ may_stand self.now (seen line.entry) }
     {
         match line {
-            Line::Heading => matches!(self.stage, Stage::Start),
-            Line::Instance(_) => {
+            ParsedLine::Heading => matches!(self.stage, Stage::Start),
+            ParsedLine::Instance(_) => {
                 matches!(self.stage, Stage::Instances if self.instances.len() < INSTANCE_LIMIT)
             }
-            Line::Turn(turn) => between_turns(self.stage) && turn == self.turns,
-            Line::End(turns) => between_turns(self.stage) && turns == self.turns,
-            Line::Move(moved) => self.move_may_stand(moved),
+            ParsedLine::Turn(turn) => between_turns(self.stage) && turn == self.turns,
+            ParsedLine::End(turns) => between_turns(self.stage) && turns == self.turns,
+            ParsedLine::Move(moved) => self.move_may_stand(moved),
         }
     }
 
@@ -364,13 +364,13 @@ impl Book {
     }
 
     /// Whether a line that may stand here is allowed.
-    pub(crate) fn is_allowed(&self, line: Line) -> bool
+    pub(crate) fn is_allowed(&self, line: ParsedLine) -> bool
         ensures { result ≡ is_allowed self.now (seen line.entry) }
     {
         match line {
-            Line::Heading | Line::Instance(_) => true,
-            Line::Turn(_) | Line::End(_) => self.is_settled(),
-            Line::Move(moved) => self.move_is_allowed(moved),
+            ParsedLine::Heading | ParsedLine::Instance(_) => true,
+            ParsedLine::Turn(_) | ParsedLine::End(_) => self.is_settled(),
+            ParsedLine::Move(moved) => self.move_is_allowed(moved),
         }
     }
 
@@ -434,25 +434,25 @@ impl Book {
     }
 
     /// Goes past a line that is allowed.
-    pub(crate) fn apply(&mut self, alloc: Global, line: Line) -> Made<()>
+    pub(crate) fn apply(&mut self, alloc: Global, line: ParsedLine) -> Made<()>
         requires fits { LineFits (seen line) }
         requires stands { may_stand self.old (seen line) ≡ true }
         requires room { (i : ℕ) → slice_index self.old.waited i < 2 ^ 63 }
         ensures { OnOk result (self.new ≡ after self.old (seen line.entry)) }
     {
         match line {
-            Line::Heading => self.stage = Stage::Instances,
-            Line::Instance(name) => {
+            ParsedLine::Heading => self.stage = Stage::Instances,
+            ParsedLine::Instance(name) => {
                 self.instances
                     .push((Text::try_from_bytes(alloc, name)?, 0))?;
             }
-            Line::Turn(turn) => {
+            ParsedLine::Turn(turn) => {
                 self.stage = Stage::Begun;
                 self.turns += 1;
                 self.turn = turn;
             }
-            Line::End(_) => self.stage = Stage::Ended,
-            Line::Move(moved) => self.apply_move(moved)?,
+            ParsedLine::End(_) => self.stage = Stage::Ended,
+            ParsedLine::Move(moved) => self.apply_move(moved)?,
         }
         Ok(())
     }

@@ -3,7 +3,7 @@
 ghost use Rattle.std.specs.Prelude.{◌≡◌, ◌≢◌, ◌<◌, ◌≤◌, ◌^◌, ℕ, List, ◌++◌, ◌∷◌, true, length, IfSome, MatchOption, option_map};
 ghost use Rattle.std.specs.Fmt.{decimal};
 ghost use Rattle.std.specs.List.{list_all, prefix_len};
-ghost use Rattle.run_replay.specs.declared.reader.Keyword.{Keyword};
+ghost use Rattle.run_replay.specs.declared.reader.JournalWord.{JournalWord};
 ghost use Rattle.run_replay.specs.declared.reader.Numbers.{Numbers};
 ghost use Rattle.run_replay.specs.declared.reader.Numbers.TheVariants as numbers;
 ghost use Rattle.run_replay.specs.Lines.{JournalLine, line_text, LineFits, is_instance_name, is_name_byte, word_of, spelled, AreSmall, Ends, has_leading_zero, decimal_number, is_not};
@@ -25,7 +25,7 @@ const LAST_INSTANCE: u32 = 255;
 
 /// A line of a journal, whose form is good.
 #[derive(Clone, Copy)]
-pub(crate) enum Line<'a> {
+pub(crate) enum ParsedLine<'a> {
     /// The first line.
     Heading,
     /// An instance, by its name.
@@ -40,7 +40,7 @@ pub(crate) enum Line<'a> {
 
 /// The first word of a line.
 #[derive(Clone, Copy, PartialEq, Eq)]
-pub(crate) enum Keyword {
+pub(crate) enum JournalWord {
     Journal,
     Instance,
     Turn,
@@ -57,23 +57,23 @@ pub(crate) enum Keyword {
 }
 
 /// The keyword that a word spells.
-fn keyword_of(word: &[u8]) -> Option<Keyword>
-    ensures { MatchOption result ((k : Keyword) → word.now ≢ word_of k) (λ k. word.now ≡ word_of k) }
+fn keyword_of(word: &[u8]) -> Option<JournalWord>
+    ensures { MatchOption result ((k : JournalWord) → word.now ≢ word_of k) (λ k. word.now ≡ word_of k) }
 {
     match word {
-        b"join" => Some(Keyword::Join),
-        b"take" => Some(Keyword::Take),
-        b"release" => Some(Keyword::Release),
-        b"run" => Some(Keyword::Run),
-        b"turn" => Some(Keyword::Turn),
-        b"sleep" => Some(Keyword::Sleep),
-        b"free" => Some(Keyword::Free),
-        b"leave" => Some(Keyword::Leave),
-        b"done" => Some(Keyword::Done),
-        b"idle" => Some(Keyword::Idle),
-        b"end" => Some(Keyword::End),
-        b"instance" => Some(Keyword::Instance),
-        b"journal" => Some(Keyword::Journal),
+        b"join" => Some(JournalWord::Join),
+        b"take" => Some(JournalWord::Take),
+        b"release" => Some(JournalWord::Release),
+        b"run" => Some(JournalWord::Run),
+        b"turn" => Some(JournalWord::Turn),
+        b"sleep" => Some(JournalWord::Sleep),
+        b"free" => Some(JournalWord::Free),
+        b"leave" => Some(JournalWord::Leave),
+        b"done" => Some(JournalWord::Done),
+        b"idle" => Some(JournalWord::Idle),
+        b"end" => Some(JournalWord::End),
+        b"instance" => Some(JournalWord::Instance),
+        b"journal" => Some(JournalWord::Journal),
         _ => None,
     }
 }
@@ -208,24 +208,24 @@ fn name_at(bytes: &[u8]) -> Option<&[u8]>
 }
 
 // The line of this word and a number.
-fn line_with_one<'a>(keyword: Keyword, number: u32) -> Option<Line<'a>>
+fn line_with_one<'a>(keyword: JournalWord, number: u32) -> Option<ParsedLine<'a>>
     ensures known { option_map seen result ≡ line_with_one keyword number }
     ensures read { IfSome result (λ l. LineFits (seen l) × (line_text (seen l) ≡ word_of keyword ++ spelled (numbers.One number))) }
 {
     match keyword {
-        Keyword::Journal if number == 1 => Some(Line::Heading),
-        Keyword::Turn if number <= LAST_TURN => Some(Line::Turn(number)),
-        Keyword::End if number <= LAST_TURN => Some(Line::End(number)),
-        Keyword::Free if number <= LAST_STACK => Some(Line::Move(LockMove::Free(number as u16))),
-        Keyword::Leave if number <= LAST_STACK => Some(Line::Move(LockMove::Leave(number as u16))),
-        Keyword::Done if number <= LAST_STACK => Some(Line::Move(LockMove::Done(number as u16))),
-        Keyword::Run if number <= LAST_STACK => Some(Line::Move(LockMove::Run(number as u16))),
+        JournalWord::Journal if number == 1 => Some(ParsedLine::Heading),
+        JournalWord::Turn if number <= LAST_TURN => Some(ParsedLine::Turn(number)),
+        JournalWord::End if number <= LAST_TURN => Some(ParsedLine::End(number)),
+        JournalWord::Free if number <= LAST_STACK => Some(ParsedLine::Move(LockMove::Free(number as u16))),
+        JournalWord::Leave if number <= LAST_STACK => Some(ParsedLine::Move(LockMove::Leave(number as u16))),
+        JournalWord::Done if number <= LAST_STACK => Some(ParsedLine::Move(LockMove::Done(number as u16))),
+        JournalWord::Run if number <= LAST_STACK => Some(ParsedLine::Move(LockMove::Run(number as u16))),
         _ => None,
     }
 }
 
 // The line of this word and two numbers.
-fn line_with_two<'a>(keyword: Keyword, first: u32, second: u32) -> Option<Line<'a>>
+fn line_with_two<'a>(keyword: JournalWord, first: u32, second: u32) -> Option<ParsedLine<'a>>
     ensures known { option_map seen result ≡ line_with_two keyword first second }
     ensures read { IfSome result (λ l. LineFits (seen l) × (line_text (seen l) ≡ word_of keyword ++ spelled (numbers.Two first second))) }
 {
@@ -233,28 +233,28 @@ fn line_with_two<'a>(keyword: Keyword, first: u32, second: u32) -> Option<Line<'
         return None;
     }
     match keyword {
-        Keyword::Sleep => Some(Line::Move(LockMove::Sleep(first as u16, second))),
-        Keyword::Join if second <= LAST_INSTANCE => {
-            Some(Line::Move(LockMove::Join(first as u16, second as u16)))
+        JournalWord::Sleep => Some(ParsedLine::Move(LockMove::Sleep(first as u16, second))),
+        JournalWord::Join if second <= LAST_INSTANCE => {
+            Some(ParsedLine::Move(LockMove::Join(first as u16, second as u16)))
         }
-        Keyword::Take if second <= LAST_INSTANCE => {
-            Some(Line::Move(LockMove::Take(first as u16, second as u16)))
+        JournalWord::Take if second <= LAST_INSTANCE => {
+            Some(ParsedLine::Move(LockMove::Take(first as u16, second as u16)))
         }
-        Keyword::Release if second <= LAST_INSTANCE => {
-            Some(Line::Move(LockMove::Release(first as u16, second as u16)))
+        JournalWord::Release if second <= LAST_INSTANCE => {
+            Some(ParsedLine::Move(LockMove::Release(first as u16, second as u16)))
         }
         _ => None,
     }
 }
 
 // The line of this word and these numbers.
-fn numbered_line<'a>(keyword: Keyword, values: Numbers) -> Option<Line<'a>>
+fn numbered_line<'a>(keyword: JournalWord, values: Numbers) -> Option<ParsedLine<'a>>
     ensures known { option_map seen result ≡ numbered_line keyword values }
     ensures read { IfSome result (λ l. LineFits (seen l) × (line_text (seen l) ≡ word_of keyword ++ spelled values)) }
 {
     match values {
         Numbers::Nothing => match keyword {
-            Keyword::Idle => Some(Line::Move(LockMove::Idle)),
+            JournalWord::Idle => Some(ParsedLine::Move(LockMove::Idle)),
             _ => None,
         },
         Numbers::One(number) => line_with_one(keyword, number),
@@ -263,16 +263,16 @@ fn numbered_line<'a>(keyword: Keyword, values: Numbers) -> Option<Line<'a>>
 }
 
 /// The line that the text is, without its end.
-pub(crate) fn line_of(text: &[u8]) -> Option<Line<'_>>
+pub(crate) fn line_of(text: &[u8]) -> Option<ParsedLine<'_>>
     ensures { MatchOption result
         ((l : JournalLine) → LineFits l → text.now ≢ line_text l)
         (λ l. (text.now ≡ line_text (seen l)) × LineFits (seen l)) }
 {
     let (word, rest) = text.split_at(len_before(b' ', text));
     let keyword = keyword_of(word)?;
-    if keyword == Keyword::Instance {
+    if keyword == JournalWord::Instance {
         let name = name_at(rest)?;
-        return Some(Line::Instance(name));
+        return Some(ParsedLine::Instance(name));
     }
     let numbers = numbers_of(rest)?;
     numbered_line(keyword, numbers)

@@ -10,30 +10,30 @@ use Rattle.core_tree.specs.declared.scene_tree.SceneInstance.{SceneInstance}
 use Rattle.core_tree.specs.declared.scene_tree.SceneValue.{SceneValue}
 use Rattle.core_tree.specs.declared.scene_tree.SceneValue.TheVariants as written
 use Rattle.core_tree.specs.declared.value.Value.{Value}
-use Rattle.scene_binder.specs.declared.binder.Instances.{Instances}
+use Rattle.scene_binder.specs.declared.binder.NamedInstances.{NamedInstances}
 use Rattle.scene_binder.specs.Instances.{tree_name}
 use Rattle.scene_binder.specs.Meant.{IsCallMeant, IsEntryMeant, IsValueMeant}
 
 -- these are the instances that the table names
-abbrev pub AreNamed : Instances → List SceneInstance → Type 0
+abbrev pub AreNamed : NamedInstances → List SceneInstance → Type 0
 AreNamed known instances = IsPlaceTable tree_name instances known.names
 
-abbrev pub ValueIs : Instances → SceneValue → Value → Type 0
+abbrev pub ValueIs : NamedInstances → SceneValue → Value → Type 0
 ValueIs known value bound = (instances : List SceneInstance) → AreNamed known instances → IsValueMeant instances value bound
 
 -- the same of the instance of this name
-abbrev pub InstanceIs : Instances → List ℕ → Value → Type 0
+abbrev pub InstanceIs : NamedInstances → List ℕ → Value → Type 0
 InstanceIs known name bound = ValueIs known (written.Instance name) bound
 
-abbrev pub ValuesAre : Instances → List SceneValue → List Value → Type 0
+abbrev pub ValuesAre : NamedInstances → List SceneValue → List Value → Type 0
 ValuesAre known listed bound =
     (instances : List SceneInstance) → AreNamed known instances → AllZip (IsValueMeant instances) listed bound
 
-abbrev pub EntryIs : List OutlineScript → Instances → ℕ → List ℕ × SceneValue → ℕ × ℕ × Value → Type 0
+abbrev pub EntryIs : List OutlineScript → NamedInstances → ℕ → List ℕ × SceneValue → ℕ × ℕ × Value → Type 0
 EntryIs scripts known script entry bound =
     (instances : List SceneInstance) → AreNamed known instances → IsEntryMeant scripts instances script entry bound
 
-abbrev pub EntriesAre : List OutlineScript → Instances → ℕ → List (List ℕ × SceneValue) → List (ℕ × ℕ × Value) → Type 0
+abbrev pub EntriesAre : List OutlineScript → NamedInstances → ℕ → List (List ℕ × SceneValue) → List (ℕ × ℕ × Value) → Type 0
 EntriesAre scripts known script listed bound =
     (instances : List SceneInstance) → AreNamed known instances → AllZip (IsEntryMeant scripts instances script) listed bound
 
@@ -41,17 +41,17 @@ abbrev pub IsSetOf : List OutlineScript → List SceneInstance → SceneInstance
 IsSetOf scripts instances instance bound =
     AllZip (IsEntryMeant scripts instances bound.script) instance.set.items bound.set.items
 
-abbrev pub SetIs : List OutlineScript → Instances → SceneInstance → BoundInstance → Type 0
+abbrev pub SetIs : List OutlineScript → NamedInstances → SceneInstance → BoundInstance → Type 0
 SetIs scripts known instance bound =
     (instances : List SceneInstance) → AreNamed known instances → IsSetOf scripts instances instance bound
 
-abbrev pub SetsAre : List OutlineScript → Instances → List SceneInstance → List BoundInstance → Type 0
+abbrev pub SetsAre : List OutlineScript → NamedInstances → List SceneInstance → List BoundInstance → Type 0
 SetsAre scripts known listed bound =
     (instances : List SceneInstance) → AreNamed known instances → AllZip (IsSetOf scripts instances) listed bound
 
-abbrev pub CallIs : Instances → SceneCall → BoundCall → Type 0
+abbrev pub CallIs : NamedInstances → SceneCall → BoundCall → Type 0
 CallIs known call bound = (instances : List SceneInstance) → AreNamed known instances → IsCallMeant instances call bound
 
-abbrev pub CallsAre : Instances → List SceneCall → List BoundCall → Type 0
+abbrev pub CallsAre : NamedInstances → List SceneCall → List BoundCall → Type 0
 CallsAre known listed bound =
     (instances : List SceneInstance) → AreNamed known instances → AllZip (IsCallMeant instances) listed bound

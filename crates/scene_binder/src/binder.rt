@@ -46,7 +46,7 @@ pub fn bind(
     ensures limits { IfOk result (λ scene. KeepsLimits tree → SceneKeepsLimits scene) }
 {
     let scripts = OutlineScripts::new(alloc, outline)?;
-    let instances = Instances::new(alloc, &scripts, &tree.instances)?;
+    let instances = NamedInstances::new(alloc, &scripts, &tree.instances)?;
     let scope = Known {
         alloc,
         scripts: &scripts,
@@ -89,12 +89,12 @@ fn bind_natives(
 
 /// The instances that values and calls may name.
 #[derive(Drop)]
-struct Instances {
+struct NamedInstances {
     names: NameTable,
     scripts: Vec<u16>,
 }
 
-impl Instances {
+impl NamedInstances {
     /// The instances of a scene. `DuplicateName` and `NoScript` come by the first instance that breaks
     /// one of them.
     fn new(alloc: Global, outline: &OutlineScripts<'_>, instances: &[SceneInstance]) -> Bound<Self>
@@ -109,7 +109,7 @@ impl Instances {
             note_new(alloc, &mut names, &instance.name, number)?;
             scripts.push(outline.find_instantiable(alloc, instance.script.as_bytes())?)?;
         }
-        Ok(Instances { names, scripts })
+        Ok(NamedInstances { names, scripts })
     }
 
     /// The number of the instance of this name.
@@ -147,7 +147,7 @@ fn note_new(alloc: Global, names: &mut NameTable, name: &Text, number: usize) ->
 struct Known<'s, 'a> {
     alloc: Global,
     scripts: &'s OutlineScripts<'a>,
-    instances: &'s Instances,
+    instances: &'s NamedInstances,
 }
 
 impl<'s, 'a> Known<'s, 'a> {

@@ -59,7 +59,7 @@ pub(crate) enum Version {
 
 /// Reads the parts of a scene of a version, and notes whether one of them breaks a limit.
 #[derive(Clone, Copy)]
-pub(crate) struct Reader {
+pub(crate) struct SceneReader {
     pub(crate) alloc: Global,
     pub(crate) version: Version,
     pub(crate) broken: bool,
@@ -70,11 +70,11 @@ pub(crate) trait Item: Drop {
     /// Whether it keeps its limits.
     ghost keeps: { Self → Type 0 };
 
-    fn read(reader: &mut Reader, value: &Value) -> Result<Self, SceneFault>
+    fn read(reader: &mut SceneReader, value: &Value) -> Result<Self, SceneFault>
         ensures { IfOk result (λ item. Keeps reader.old.broken reader.new.broken (keeps item)) };
 }
 
-impl Reader {
+impl SceneReader {
     /// Notes that a limit is broken where there are more than it allows.
     fn require_at_most(&mut self, count: usize, most: usize)
         ensures { Keeps self.old.broken self.new.broken (count ≤ most) }
@@ -170,7 +170,7 @@ impl Reader {
 impl Item for i32 {
     ghost keeps = { λ _. Unit {0} };
 
-    fn read(reader: &mut Reader, value: &Value) -> Result<i32, SceneFault> {
+    fn read(reader: &mut SceneReader, value: &Value) -> Result<i32, SceneFault> {
         Ok(reader.number(value, i64::from(i32::MIN), i64::from(i32::MAX))? as i32)
     }
 }
@@ -179,7 +179,7 @@ impl Item for i32 {
 impl Item for u16 {
     ghost keeps = { λ _. Unit {0} };
 
-    fn read(reader: &mut Reader, value: &Value) -> Result<u16, SceneFault> {
+    fn read(reader: &mut SceneReader, value: &Value) -> Result<u16, SceneFault> {
         Ok(reader.number(value, 0, i64::from(u16::MAX))? as u16)
     }
 }
@@ -188,7 +188,7 @@ impl Item for u16 {
 impl Item for Vec<i32> {
     ghost keeps = { TapeKeeps };
 
-    fn read(reader: &mut Reader, value: &Value) -> Result<Vec<i32>, SceneFault> {
+    fn read(reader: &mut SceneReader, value: &Value) -> Result<Vec<i32>, SceneFault> {
         reader.list::<i32>(Some(value), TAPE_LIMIT)
     }
 }
@@ -196,7 +196,7 @@ impl Item for Vec<i32> {
 impl Item for SceneCall {
     ghost keeps = { CallKeeps };
 
-    fn read(reader: &mut Reader, value: &Value) -> Result<SceneCall, SceneFault> {
+    fn read(reader: &mut SceneReader, value: &Value) -> Result<SceneCall, SceneFault> {
         check_keys(value, &["turn", "instance", "function", "arguments"])?;
         Ok(SceneCall {
             turn: reader.count(needed(value, "turn")?, 0, TURN_LIMIT)?,
@@ -210,7 +210,7 @@ impl Item for SceneCall {
 impl Item for SceneInstance {
     ghost keeps = { InstanceKeeps };
 
-    fn read(reader: &mut Reader, value: &Value) -> Result<SceneInstance, SceneFault> {
+    fn read(reader: &mut SceneReader, value: &Value) -> Result<SceneInstance, SceneFault> {
         check_keys(value, &["name", "script", "set"])?;
         let name = instance_name(reader.alloc, needed(value, "name")?)?;
         let script = reader.text(needed(value, "script")?)?;
@@ -245,7 +245,7 @@ fn is_name_byte(byte: u8) -> bool
 impl Item for SceneValue {
     ghost keeps = { ValueKeeps };
 
-    fn read(reader: &mut Reader, value: &Value) -> Result<SceneValue, SceneFault> {
+    fn read(reader: &mut SceneReader, value: &Value) -> Result<SceneValue, SceneFault> {
         match value {
             Value::Null => Ok(SceneValue::NoneValue),
             Value::Bool(truth) => Ok(SceneValue::Bool(*truth)),
@@ -263,7 +263,7 @@ impl Item for SceneValue {
 impl Item for Binding {
     ghost keeps = { BindingKeeps };
 
-    fn read(reader: &mut Reader, value: &Value) -> Result<Binding, SceneFault> {
+    fn read(reader: &mut SceneReader, value: &Value) -> Result<Binding, SceneFault> {
         match needed(value, "kind")?.as_str() {
             Some("sleep") => {
                 check_keys(value, &["kind"])?;
@@ -290,7 +290,7 @@ impl Item for Binding {
 }
 
 // How many turns later a native's effect lets its caller go on, or none where it does in the same turn.
-fn latency_of(reader: &mut Reader, value: &Value) -> Result<Option<u32>, SceneFault>
+fn latency_of(reader: &mut SceneReader, value: &Value) -> Result<Option<u32>, SceneFault>
     ensures { IfOk result (λ latency. Keeps reader.old.broken reader.new.broken (ForSome latency IsTurns)) }
 {
     // The key belongs to version 2.

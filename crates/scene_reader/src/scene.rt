@@ -5,7 +5,7 @@ ghost use Rattle.scene_reader.specs.Limits.{Keeps, KeepsLimits, IsQuantum, Order
 
 use crate::fault::{SceneFault, SceneRule};
 use crate::parts::{
-    CALL_LIMIT, FILE_LIMIT, INSTANCE_LIMIT, ORDER_LIMIT, QUANTUM_LIMIT, Reader, SHAPE_FAULT,
+    CALL_LIMIT, FILE_LIMIT, INSTANCE_LIMIT, ORDER_LIMIT, QUANTUM_LIMIT, SceneReader, SHAPE_FAULT,
     TURN_LIMIT, Version, check_keys, needed,
 };
 use core_tree::{SceneCall, SceneInstance, SceneTree, TurnOrder};
@@ -63,7 +63,7 @@ fn scene_of(alloc: Global, value: &Value) -> Result<SceneTree, SceneFault>
     ensures { IfOk result KeepsLimits }
 {
     check_keys(value, &KEYS)?;
-    let mut reader = Reader {
+    let mut reader = SceneReader {
         alloc,
         version: version_of(needed(value, "version")?)?,
         broken: false,
@@ -75,7 +75,7 @@ fn scene_of(alloc: Global, value: &Value) -> Result<SceneTree, SceneFault>
     Ok(scene)
 }
 
-fn parts_of(reader: &mut Reader, value: &Value) -> Result<SceneTree, SceneFault>
+fn parts_of(reader: &mut SceneReader, value: &Value) -> Result<SceneTree, SceneFault>
     ensures { IfOk result (λ scene. Keeps reader.old.broken reader.new.broken (KeepsLimits scene)) }
 {
     Ok(SceneTree {
@@ -98,7 +98,7 @@ fn version_of(value: &Value) -> Result<Version, SceneFault> {
 }
 
 // The key belongs to version 2.
-fn quantum_of(reader: &mut Reader, value: Option<&Value>) -> Result<u32, SceneFault>
+fn quantum_of(reader: &mut SceneReader, value: Option<&Value>) -> Result<u32, SceneFault>
     ensures { IfOk result (λ quantum. Keeps reader.old.broken reader.new.broken (IsQuantum quantum)) }
 {
     match value {
@@ -109,7 +109,7 @@ fn quantum_of(reader: &mut Reader, value: Option<&Value>) -> Result<u32, SceneFa
 }
 
 // Which stack gets a turn: `"round"`, or an array of stacks.
-fn order_of(reader: &mut Reader, value: &Value) -> Result<TurnOrder, SceneFault>
+fn order_of(reader: &mut SceneReader, value: &Value) -> Result<TurnOrder, SceneFault>
     ensures { IfOk result (λ order. Keeps reader.old.broken reader.new.broken (OrderKeeps order)) }
 {
     match value.as_str() {

@@ -12,7 +12,7 @@ ghost use Rattle.script_lexer.specs.Answers.{Opens, Answers, is_hexadecimal_at, 
 use crate::fault::LexRule;
 use crate::keyword::Keyword;
 use crate::opening::{ByteClass, is_word_start};
-use crate::piece::{Found, Piece, PieceFault};
+use crate::piece::{MeasuredPiece, Piece, PieceFault};
 use crate::sign::Sign;
 use crate::token::Token;
 use papy_base::NamePool;
@@ -21,7 +21,7 @@ use papy_base::NamePool;
 pub const NAME_LIMIT: usize = 255;
 
 /// A word.
-pub fn word(names: &mut NamePool, rest: &[u8]) -> Result<Found, PieceFault>
+pub fn word(names: &mut NamePool, rest: &[u8]) -> Result<MeasuredPiece, PieceFault>
     requires nonempty { 0 < length rest.now }
     requires opens { Opens opening.Word rest.now }
     ensures { Answers rest.now result }
@@ -95,7 +95,7 @@ fn begins_word(after: &[u8]) -> bool
 }
 
 // `0x` and hexadecimal digits, which are read as two's complement.
-fn hexadecimal(rest: &[u8]) -> Result<Found, PieceFault>
+fn hexadecimal(rest: &[u8]) -> Result<MeasuredPiece, PieceFault>
     requires prefix { is_hexadecimal_at rest.now ≡ true }
     requires long { 2 ≤ length rest.now }
     requires opens { Opens opening.Number rest.now }
@@ -113,7 +113,7 @@ fn hexadecimal(rest: &[u8]) -> Result<Found, PieceFault>
     Ok((Piece::Token(Token::Int(number.cast_signed())), len + 2))
 }
 
-fn decimal(rest: &[u8]) -> Result<Found, PieceFault>
+fn decimal(rest: &[u8]) -> Result<MeasuredPiece, PieceFault>
     requires prefix { is_hexadecimal_at rest.now ≡ false }
     requires nonempty { 0 < length rest.now }
     requires opens { Opens opening.Number rest.now }
@@ -135,7 +135,7 @@ fn decimal(rest: &[u8]) -> Result<Found, PieceFault>
 }
 
 /// A number.
-pub fn number(rest: &[u8]) -> Result<Found, PieceFault>
+pub fn number(rest: &[u8]) -> Result<MeasuredPiece, PieceFault>
     requires nonempty { 0 < length rest.now }
     requires opens { Opens opening.Number rest.now }
     ensures { Answers rest.now result }
@@ -158,7 +158,7 @@ fn pair(rest: &[u8]) -> Option<Sign>
 }
 
 /// A sign, the longest that stands here.
-pub fn sign(rest: &[u8]) -> Result<Found, PieceFault>
+pub fn sign(rest: &[u8]) -> Result<MeasuredPiece, PieceFault>
     requires nonempty { 0 < length rest.now }
     requires opens { Opens opening.Sign rest.now }
     ensures { Answers rest.now result }

@@ -12,7 +12,7 @@ use crate::fault::{LexFault, LexRule};
 use crate::in_line::{number, sign, word};
 use crate::line::{Lines, Progress};
 use crate::opening::{ByteClass, Opening};
-use crate::piece::{Found, Piece, PieceFault, at_line};
+use crate::piece::{MeasuredPiece, Piece, PieceFault, at_line};
 use crate::quoted::text;
 use crate::trivia::{comment, documentation, join};
 use papy_base::NamePool;
@@ -73,7 +73,7 @@ fn next_piece(
     names: &mut NamePool,
     opening: Opening,
     rest: &[u8],
-) -> Result<Found, PieceFault>
+) -> Result<MeasuredPiece, PieceFault>
     requires nonempty { 0 < length rest.now }
     requires opens { Opens opening rest.now }
     ensures { Answers rest.now result }

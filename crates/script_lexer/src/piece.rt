@@ -17,7 +17,7 @@ pub enum Piece {
 }
 
 /// A piece and how many bytes it takes.
-pub type Found = (Piece, usize);
+pub type MeasuredPiece = (Piece, usize);
 
 /// Why no piece stands at a place, with the lowest rule that is broken there.
 pub type PieceFault = Fault<LexRule>;

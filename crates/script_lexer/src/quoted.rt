@@ -6,7 +6,7 @@ ghost use Rattle.script_lexer.specs.Pieces.{item_bytes, item_value, is_good_item
 ghost use Rattle.script_lexer.specs.Answers.{Opens, Answers, BeginsItem, Stops, ReadsItems};
 
 use crate::fault::LexRule;
-use crate::piece::{Found, Piece, PieceFault};
+use crate::piece::{MeasuredPiece, Piece, PieceFault};
 use crate::token::Token;
 use papy_base::{Made, Text};
 use std::alloc::Global;
@@ -87,7 +87,7 @@ fn read_items(alloc: Global, bytes: &[u8]) -> Made<(Vec<u8>, bool, usize)>
 }
 
 /// A text, up to its closing quote.
-pub fn text(alloc: Global, rest: &[u8]) -> Result<Found, PieceFault>
+pub fn text(alloc: Global, rest: &[u8]) -> Result<MeasuredPiece, PieceFault>
     requires nonempty { 0 < length rest.now }
     requires opens { Opens opening.Quote rest.now }
     ensures { Answers rest.now result }

@@ -7,7 +7,7 @@ ghost use Rattle.script_lexer.specs.Answers.{Opens, Answers, Stands, begins_bloc
 
 use crate::fault::LexRule;
 use crate::opening::ByteClass;
-use crate::piece::{Found, Piece, PieceFault};
+use crate::piece::{MeasuredPiece, Piece, PieceFault};
 use crate::token::Token;
 use papy_base::Text;
 use std::alloc::Global;
@@ -16,7 +16,7 @@ use std::alloc::Global;
 pub const DOCUMENTATION_LIMIT: usize = 65535;
 
 /// A join: a backslash, blanks and a line end.
-pub fn join(rest: &[u8]) -> Result<Found, PieceFault>
+pub fn join(rest: &[u8]) -> Result<MeasuredPiece, PieceFault>
     requires nonempty { 0 < length rest.now }
     requires opens { Opens opening.Join rest.now }
     ensures { Answers rest.now result }
@@ -51,7 +51,7 @@ fn begins_block(behind: &[u8]) -> bool
 }
 
 /// A comment, up to the line's end or from `;/` to the first `/;`.
-pub fn comment(rest: &[u8]) -> Result<Found, PieceFault>
+pub fn comment(rest: &[u8]) -> Result<MeasuredPiece, PieceFault>
     requires nonempty { 0 < length rest.now }
     requires opens { Opens opening.Comment rest.now }
     ensures { Answers rest.now result }
@@ -69,7 +69,7 @@ pub fn comment(rest: &[u8]) -> Result<Found, PieceFault>
 }
 
 /// A documentation, up to the first closing brace.
-pub fn documentation(alloc: Global, rest: &[u8]) -> Result<Found, PieceFault>
+pub fn documentation(alloc: Global, rest: &[u8]) -> Result<MeasuredPiece, PieceFault>
     requires nonempty { 0 < length rest.now }
     requires opens { Opens opening.Documentation rest.now }
     ensures { Answers rest.now result }

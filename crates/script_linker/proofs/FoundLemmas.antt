@@ -6,7 +6,7 @@ use Rattle.std.proofs.lemmas.List.Elements.{Contains-append_left, Contains-appen
 use Rattle.script_parser.specs.declared.script.Function.{Function}
 use Rattle.script_parser.specs.declared.script.Script.{Script}
 use Rattle.script_linker.specs.declared.rules.Earliest.{Earliest}
-use Rattle.script_linker.specs.declared.rules.Found.{Found}
+use Rattle.script_linker.specs.declared.rules.BrokenRule.{BrokenRule}
 use Rattle.script_linker.specs.Found.{FindsAmong}
 use Rattle.script_parser.specs.Lines.{function_line, heading_lines, lines_with, property_line, property_lines, state_lines, variable_line}
 
@@ -133,18 +133,18 @@ module _ (functions : List Function) (script : Script) where
   of_states = AreAmong-right (heading ++ variables ++ properties ++ own) states (AreAmong-all states)
 
 -- all that was found is on these lines, where nothing was found before
-pub found_on : {lines : List ℕ} {a b : Earliest} → a.found ≡ None → FindsAmong lines a b → (one : Found) → b.found ≡ Some one → Contains lines one.line
+pub found_on : {lines : List ℕ} {a b : Earliest} → a.found ≡ None → FindsAmong lines a b → (one : BrokenRule) → b.found ≡ Some one → Contains lines one.line
 found_on nothing finds one is = ⊎_elim (λ before. cc) (λ here. here) (finds.each one is)
 
 pub IfSome-found_on : {lines : List ℕ} {a b : Earliest} → a.found ≡ None → FindsAmong lines a b → IfSome b.found (λ one. Contains lines one.line)
 IfSome-found_on {lines} {a} {b} nothing finds = go b.found refl
   where
-    go : (found : Option Found) → b.found ≡ found → IfSome found (λ one. Contains lines one.line)
+    go : (found : Option BrokenRule) → b.found ≡ found → IfSome found (λ one. Contains lines one.line)
     go None is = tt
     go (Some one) is = found_on nothing finds one is
 
 -- the same of a fault at the line of the script in their place
-pub limit_on : (functions : List Function) (script : Script) {a b : Earliest} → a.found ≡ None → FindsAmong (lines_with functions script) a b → (found : Option Found) → IfSome found (λ one. (b.found ≡ Some one) ⊎ (one.line ≡ script.line)) → IfSome found (λ one. Contains (lines_with functions script) one.line)
+pub limit_on : (functions : List Function) (script : Script) {a b : Earliest} → a.found ≡ None → FindsAmong (lines_with functions script) a b → (found : Option BrokenRule) → IfSome found (λ one. (b.found ≡ Some one) ⊎ (one.line ≡ script.line)) → IfSome found (λ one. Contains (lines_with functions script) one.line)
 limit_on functions script nothing finds None is = tt
 limit_on functions script nothing finds (Some one) is =
     ⊎_elim
@@ -153,7 +153,7 @@ limit_on functions script nothing finds (Some one) is =
     is
 
 -- where nothing is found, a thing that would have been noted breaks no rule
-pub unbroken : (is_broken : Bool) (found : Option Found) → (IsTrue is_broken → IsSome found) → found ≡ None → ¬ IsTrue is_broken
+pub unbroken : (is_broken : Bool) (found : Option BrokenRule) → (IsTrue is_broken → IsSome found) → found ≡ None → ¬ IsTrue is_broken
 unbroken is_broken (Some one) noted none = cc
 unbroken is_broken None noted none = λ broken. true≢false (sym (noted broken))
 

@@ -11,7 +11,7 @@ ghost use Rattle.script_linker.specs.Link.{AreFilesOf, AreResolved, IsFaultOf, I
 use crate::fault::LinkFault;
 use crate::parents::parent_numbers;
 use crate::prelude::{add_generated, prelude_files};
-use crate::rules::{Found, member_fault, script_fault};
+use crate::rules::{BrokenRule, member_fault, script_fault};
 use crate::scripts::Scripts;
 use crate::set::{ScriptSet, SourceFile};
 use papy_base::{Made, NameTable, PRELUDE_COUNT, on_circles};
@@ -128,7 +128,7 @@ fn judge_members(alloc: Global, scripts: &Scripts, declared: &[usize]) -> Result
     Ok(())
 }
 
-fn fault(number: usize, found: Found) -> LinkFault
+fn fault(number: usize, found: BrokenRule) -> LinkFault
     requires file { 6 ≤ number }
     requires count { number < 65536 }
     ensures { result ≡ Broken (number - 6) found.line found.rule }

@@ -33,7 +33,7 @@ const WORD_LIMIT: u32 = 20_000;
 
 /// A broken rule, and the line of the thing that breaks it.
 #[derive(Clone, Copy, PartialEq, Eq)]
-pub(crate) struct Found {
+pub(crate) struct BrokenRule {
     pub(crate) line: u16,
     pub(crate) rule: LinkRule,
 }
@@ -42,7 +42,7 @@ pub(crate) struct Found {
 /// the one with the least number.
 #[derive(Clone, Copy)]
 pub(crate) struct Earliest {
-    pub(crate) found: Option<Found>,
+    pub(crate) found: Option<BrokenRule>,
 }
 
 impl Earliest {
@@ -59,16 +59,16 @@ impl Earliest {
     }
 }
 
-fn first_of(found: Option<Found>, line: u16, rule: LinkRule) -> Found
+fn first_of(found: Option<BrokenRule>, line: u16, rule: LinkRule) -> BrokenRule
     ensures { IsFirst found line rule result }
 {
     match found {
         Some(known) if !comes_before(line, rule, known) => known,
-        _ => Found { line, rule },
+        _ => BrokenRule { line, rule },
     }
 }
 
-fn comes_before(line: u16, rule: LinkRule, other: Found) -> bool
+fn comes_before(line: u16, rule: LinkRule, other: BrokenRule) -> bool
     ensures { IsTrue result ↔ Before line rule other }
 {
     line < other.line || (line == other.line && rule.number() < other.rule.number())
@@ -84,7 +84,7 @@ pub(crate) fn script_fault(
     parents: &[Option<usize>],
     circles: &[bool],
     number: usize,
-) -> Option<Found>
+) -> Option<BrokenRule>
     requires start { 6 ≤ number }
     requires file { number < length files.now }
     requires parents { length parents.now ≡ length files.now }
@@ -141,7 +141,7 @@ pub(crate) fn member_fault(
     scripts: &Scripts,
     number: usize,
     declared: usize,
-) -> Made<Option<Found>>
+) -> Made<Option<BrokenRule>>
     requires start { 6 ≤ number }
     requires script { number < length scripts.now }
     ensures line { IfOk result (λ fault. IfSome fault
@@ -174,12 +174,12 @@ fn first_functions(functions: &[Function], count: usize) -> &[Function]
 
 // N12, where the script breaks no other rule: so many functions or properties have too many names, or
 // a name twice. No file has them.
-fn found_or_limit(found: Option<Found>, script: &Script) -> Option<Found>
+fn found_or_limit(found: Option<BrokenRule>, script: &Script) -> Option<BrokenRule>
     ensures found { IfSome result (λ one. (found ≡ Some one) ⊎ (one.line ≡ script.now.line)) }
     ensures few { IfNone result (HasFewMembers script.now) }
 {
     if found.is_none() && !has_few_members(script) {
-        return Some(Found {
+        return Some(BrokenRule {
             line: script.line,
             rule: LinkRule::Limit,
         });

@@ -10,7 +10,7 @@ use Rattle.script_lexer.specs.declared.line.Line.{Line}
 use Rattle.script_parser.specs.Faults.{BreaksRule, blocks_in}
 use Rattle.script_parser.specs.Reader.{BlockAt, BreaksAt, Found, GoesOn, blocks_before}
 use Rattle.script_parser.specs.declared.reader.LineAt.{LineAt}
-use Rattle.script_parser.specs.declared.reader.Reader.{Reader}
+use Rattle.script_parser.specs.declared.reader.LineReader.{LineReader}
 
 take-shorter : {X : Type 0} (xs : List X) (a b : ℕ) → a ≤ b → take a (take b xs) ≡ take a xs
 take-shorter xs zero b le = refl
@@ -27,16 +27,16 @@ count-more p xs a b le =
 blocks-more : (lines : List Line) (a b : ℕ) → a ≤ b → blocks_in (take a lines) ≤ blocks_in (take b lines)
 blocks-more lines a b le = count-more (λ l. begins_block l.tokens.items) lines a b le
 
-pub goes-further : (a b c : Reader) → GoesOn a b → GoesOn b c → GoesOn a c
+pub goes-further : (a b c : LineReader) → GoesOn a b → GoesOn b c → GoesOn a c
 goes-further a b c first second = record { lines = cc; onward = omega (arith, first.onward, second.onward) }
 
-pub blocks-onward : (old new : Reader) (depth : ℕ) → GoesOn old new → 64 ≤ blocks_before old + depth → 64 ≤ blocks_before new + depth
+pub blocks-onward : (old new : LineReader) (depth : ℕ) → GoesOn old new → 64 ≤ blocks_before old + depth → 64 ≤ blocks_before new + depth
 blocks-onward old new depth on many =
     let more : blocks_in (take old.at old.lines.now) ≤ blocks_in (take new.at old.lines.now) = blocks-more old.lines.now old.at new.at on.onward in
     rw on.lines (omega (arith, more, many))
 
 -- the line that was found begins a block
-pub block-found : (old new : Reader) (found : LineAt) (depth : ℕ) → Found old new found → IsTrue (begins_block found.line.now.tokens.items) → 64 ≤ blocks_before old + depth → BlockAt old.lines.now found.at depth
+pub block-found : (old new : LineReader) (found : LineAt) (depth : ℕ) → Found old new found → IsTrue (begins_block found.line.now.tokens.items) → 64 ≤ blocks_before old + depth → BlockAt old.lines.now found.at depth
 block-found old new found depth f begins many = record {
   line = found.line.now;
   found = f.stands;
@@ -45,7 +45,7 @@ block-found old new found depth f begins many = record {
 }
 
 -- behind it one block fewer may be open
-pub block-inside : (old new : Reader) (found : LineAt) (depth inner : ℕ) → GoesOn old new → Found old new found → IsTrue (begins_block found.line.now.tokens.items) → 64 ≤ blocks_before old + depth → inner + 1 ≡ depth →
+pub block-inside : (old new : LineReader) (found : LineAt) (depth inner : ℕ) → GoesOn old new → Found old new found → IsTrue (begins_block found.line.now.tokens.items) → 64 ≤ blocks_before old + depth → inner + 1 ≡ depth →
     64 ≤ blocks_before new + inner
 block-inside old new found depth inner on f begins many is =
     let within : found.at < length old.lines.now = slice_get_within old.lines.now found.at found.line.now f.stands in

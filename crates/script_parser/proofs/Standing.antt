@@ -11,7 +11,7 @@ use Rattle.script_parser.specs.Lines.{accessors, function_line, heading_lines, i
 use Rattle.script_parser.specs.Reader.{Found, GoesOn}
 use Rattle.script_parser.specs.Stands.{FunctionStands, FunctionsStand, PropertyStands, ScriptStands, StateStands}
 use Rattle.script_parser.specs.declared.reader.LineAt.{LineAt}
-use Rattle.script_parser.specs.declared.reader.Reader.{Reader}
+use Rattle.script_parser.specs.declared.reader.LineReader.{LineReader}
 use Rattle.script_parser.specs.declared.script.Function.{Function}
 use Rattle.script_parser.specs.declared.script.Property.{Property}
 use Rattle.script_parser.specs.declared.script.Script.{Script}
@@ -26,7 +26,7 @@ number-stands lines at line is =
     (at, omega (arith, length-map lines number), get_or-map number lines at line line.number within ∙ ap number found)
 
 -- a line that is found further on is one of the file's
-pub found-number : (entry old new : Reader) (found : LineAt) → GoesOn entry old → Found old new found → IsNumberOf entry.lines.now found.line.now.number
+pub found-number : (entry old new : LineReader) (found : LineAt) → GoesOn entry old → Found old new found → IsNumberOf entry.lines.now found.line.now.number
 found-number entry old new found on f =
     rw on.lines at (number-stands old.lines.now found.at found.line.now f.stands)
 

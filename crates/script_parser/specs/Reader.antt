@@ -9,14 +9,14 @@ use Rattle.papy_base.specs.declared.faults.Fault.{Fault}
 use Rattle.papy_base.specs.declared.faults.Fault.TheVariants.{Broken, OutOfMemory}
 use Rattle.script_parser.specs.declared.fault.BrokenLine.{BrokenLine}
 use Rattle.script_parser.specs.declared.reader.LineAt.{LineAt}
-use Rattle.script_parser.specs.declared.reader.Reader.{Reader}
+use Rattle.script_parser.specs.declared.reader.LineReader.{LineReader}
 
 -- how many lines are still to be read
-abbrev pub left : Reader → ℕ
+abbrev pub left : LineReader → ℕ
 left reader = length reader.lines.now - reader.at
 
 -- the same lines, read as far or further
-pub record GoesOn (old new : Reader) : Type 0 where
+pub record GoesOn (old new : LineReader) : Type 0 where
   pub lines : new.lines ≡ old.lines
   pub onward : old.at ≤ new.at
 
@@ -25,13 +25,13 @@ abbrev pub StandsAt : List Line → LineAt → Type 0
 StandsAt lines found = slice_get lines found.at ≡ Some found.line.now
 
 -- the line is one of those that were read
-pub record Found (old new : Reader) (found : LineAt) : Type 0 where
+pub record Found (old new : LineReader) (found : LineAt) : Type 0 where
   pub stands : StandsAt old.lines.now found
   pub onward : old.at ≤ found.at
   pub behind : found.at < new.at
 
 -- how many lines that begin with `If` or `While` were read
-abbrev pub blocks_before : Reader → ℕ
+abbrev pub blocks_before : LineReader → ℕ
 blocks_before reader = blocks_in (take reader.at reader.lines.now)
 
 -- the line at this place begins with `If` or `While`, and with so many that may still be open in the present block the lines before it that do are at least 64

@@ -4,7 +4,7 @@ ghost use Rattle.script_lexer.specs.declared.line.Line.{Line};
 ghost use Rattle.script_parser.specs.Reader.{BlockAt, GoesOn, IsBlockFault, blocks_before, left};
 
 use crate::fault::{BlockFault, BrokenLine, bad_block};
-use crate::reader::Reader;
+use crate::reader::LineReader;
 use crate::script::{Statement, StatementForm};
 use line_parser::{Expr, LineForm, LineRule, LineTree};
 use script_lexer::Keyword;
@@ -17,7 +17,7 @@ type Block = (Vec<Statement>, LineForm, usize, u16);
 
 // The statements up to the line that ends them. At most `depth` blocks may be open in them.
 #[cycle(statements)]
-fn statements(reader: &mut Reader<'_>, depth: u8) -> Result<Block, BlockFault>
+fn statements(reader: &mut LineReader<'_>, depth: u8) -> Result<Block, BlockFault>
     requires { 64 ≤ blocks_before reader.old + depth }
     ensures nearer { OnOk result (left reader.new < left reader.old) }
     ensures onward { OnOk result (GoesOn reader.old reader.new) }
@@ -73,7 +73,7 @@ fn inner_depth(at: usize, depth: u8) -> Result<u8, BlockFault>
 // The parts of an `If` behind its first line.
 #[cycle(statements)]
 fn if_block(
-    reader: &mut Reader<'_>,
+    reader: &mut LineReader<'_>,
     line: u16,
     test: Expr,
     depth: u8,
@@ -91,7 +91,7 @@ fn if_block(
 // Adds each test of an `If` with its body, and gives the body behind `Else`. The list is lent, as its end on each way out would be proved anew.
 #[cycle(statements)]
 fn if_parts(
-    reader: &mut Reader<'_>,
+    reader: &mut LineReader<'_>,
     tests: &mut Vec<(u16, Expr, Vec<Statement>)>,
     line: u16,
     test: Expr,
@@ -123,7 +123,7 @@ fn if_parts(
 // Adds a test with its body, and gives the line that ends this: its form, its place and its number.
 #[cycle(statements)]
 fn if_part(
-    reader: &mut Reader<'_>,
+    reader: &mut LineReader<'_>,
     tests: &mut Vec<(u16, Expr, Vec<Statement>)>,
     line: u16,
     test: Expr,
@@ -147,7 +147,7 @@ fn if_part(
 /// The statements up to the line that ends them, which has to be this keyword, and its number.
 #[cycle(statements)]
 pub(crate) fn closed_block(
-    reader: &mut Reader<'_>,
+    reader: &mut LineReader<'_>,
     keyword: Keyword,
     depth: u8,
 ) -> Result<(Vec<Statement>, u16), BlockFault>
@@ -169,7 +169,7 @@ pub(crate) fn closed_block(
 
 // The body of a `While` behind its first line, up to `EndWhile`.
 #[cycle(statements)]
-fn while_block(reader: &mut Reader<'_>, test: Expr, depth: u8) -> Result<StatementForm, BlockFault>
+fn while_block(reader: &mut LineReader<'_>, test: Expr, depth: u8) -> Result<StatementForm, BlockFault>
     requires { 64 ≤ blocks_before reader.old + depth }
     ensures nearer { OnOk result (left reader.new < left reader.old) }
     ensures onward { OnOk result (GoesOn reader.old reader.new) }

@@ -9,7 +9,7 @@ ghost use Rattle.script_parser.specs.Words.{words_of, CountsDifferent};
 
 use crate::block::{OPEN_LIMIT, closed_block};
 use crate::fault::{BlockFault, BrokenLine, ParseFault, bad_block};
-use crate::reader::{LineAt, Reader};
+use crate::reader::{LineAt, LineReader};
 use crate::script::{Body, Function, Property, PropertyForm, Script, State, Variable};
 use crate::words::count_words;
 use line_parser::{Access, Constant, Expr, Heading, LineForm, LineTree, TypeName};
@@ -62,7 +62,7 @@ fn script(alloc: Global, lines: &[Line]) -> Result<Script, BlockFault>
     ensures fault { IfErr result (IsBlockFault lines.now) }
 {
     let words = count_words(alloc, lines)?;
-    let mut reader = Reader::new(alloc, lines)?;
+    let mut reader = LineReader::new(alloc, lines)?;
     let mut script = heading(&mut reader)?;
     'members: while let Some(first) = reader.next_form() {
         member(&mut reader, &mut script, first)?;
@@ -72,7 +72,7 @@ fn script(alloc: Global, lines: &[Line]) -> Result<Script, BlockFault>
 }
 
 // The script of the first line, without members yet and with no words counted.
-fn heading(reader: &mut Reader<'_>) -> Result<Script, BlockFault>
+fn heading(reader: &mut LineReader<'_>) -> Result<Script, BlockFault>
     ensures onward { GoesOn reader.old reader.new }
     ensures stands { IfOk result (ScriptStands reader.old.lines.now) }
     ensures fault { IfErr result (IsBlockFault reader.old.lines.now) }
@@ -109,7 +109,7 @@ fn heading(reader: &mut Reader<'_>) -> Result<Script, BlockFault>
 }
 
 // Puts the member that begins with this line into the script.
-fn member(reader: &mut Reader<'_>, script: &mut Script, first: LineAt<'_>) -> Result<(), BlockFault>
+fn member(reader: &mut LineReader<'_>, script: &mut Script, first: LineAt<'_>) -> Result<(), BlockFault>
     requires { StandsAt reader.old.lines.now first }
     ensures bound { OnOk result (left reader.new ≤ left reader.old) }
     ensures onward { OnOk result (GoesOn reader.old reader.new) }
@@ -156,7 +156,7 @@ fn member(reader: &mut Reader<'_>, script: &mut Script, first: LineAt<'_>) -> Re
 
 // The property that begins with a line of this form, which has to be that of one.
 fn property(
-    reader: &mut Reader<'_>,
+    reader: &mut LineReader<'_>,
     first: &LineAt<'_>,
     form: LineForm,
     doc: Option<Text>,
@@ -191,7 +191,7 @@ fn property(
     }
 }
 
-fn property_form(reader: &mut Reader<'_>, access: Access) -> Result<PropertyForm, BlockFault>
+fn property_form(reader: &mut LineReader<'_>, access: Access) -> Result<PropertyForm, BlockFault>
     ensures bound { OnOk result (left reader.new ≤ left reader.old) }
     ensures onward { OnOk result (GoesOn reader.old reader.new) }
     ensures fault { IfErr result (IsBlockFault reader.old.lines.now) }
@@ -249,7 +249,7 @@ fn negated(tree: Expr) -> Option<Constant> {
 
 // A function with its body and its end, behind its heading.
 fn function(
-    reader: &mut Reader<'_>,
+    reader: &mut LineReader<'_>,
     line: u16,
     heading: Heading,
     doc: Option<Text>,
@@ -286,7 +286,7 @@ fn function(
 
 // The functions of a state or of a property up to the keyword that ends it. A property has at least
 // one.
-fn functions_until(reader: &mut Reader<'_>, end: Keyword) -> Result<Vec<Function>, BlockFault>
+fn functions_until(reader: &mut LineReader<'_>, end: Keyword) -> Result<Vec<Function>, BlockFault>
     ensures bound { OnOk result (left reader.new ≤ left reader.old) }
     ensures onward { OnOk result (GoesOn reader.old reader.new) }
     ensures fault { IfErr result (IsBlockFault reader.old.lines.now) }

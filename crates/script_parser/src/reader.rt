@@ -10,7 +10,7 @@ use std::alloc::Global;
 
 /// The lines that are still to be read.
 #[derive(Drop)]
-pub(crate) struct Reader<'a> {
+pub(crate) struct LineReader<'a> {
     pub(crate) alloc: Global,
     types: TypeWords,
     lines: &'a [Line],
@@ -25,13 +25,13 @@ pub(crate) struct LineAt<'a> {
     pub(crate) line: &'a Line,
 }
 
-impl<'a> Reader<'a> {
+impl<'a> LineReader<'a> {
     ghost use Rattle.script_parser.specs.Reader.{Found, GoesOn, IsBlockFault, StandsAt, left};
 
     pub(crate) fn new(alloc: Global, lines: &'a [Line]) -> Made<Self>
         ensures { IfOk result (λ reader. reader.lines.now ≡ lines.now) }
     {
-        Ok(Reader {
+        Ok(LineReader {
             alloc,
             types: TypeWords::new(alloc)?,
             lines,

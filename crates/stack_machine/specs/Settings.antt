@@ -11,8 +11,8 @@ use Rattle.pex_verify.specs.declared.loaded.MethodPlace.{MethodPlace}
 use Rattle.pex_verify.specs.declared.loaded.Operand.{Operand}
 use Rattle.pex_verify.specs.declared.loaded.Operand.TheVariants as operands
 use Rattle.pex_verify.specs.declared.loaded.PropertyPlace.{PropertyPlace}
-use Rattle.stack_machine.specs.declared.frame.FunctionPlace.{FunctionPlace}
-use Rattle.stack_machine.specs.declared.frame.FunctionPlace.TheVariants as bodies
+use Rattle.stack_machine.specs.declared.frame.LoadedBody.{LoadedBody}
+use Rattle.stack_machine.specs.declared.frame.LoadedBody.TheVariants as bodies
 
 -- ---- functions and properties by their places
 abbrev pub method_at : List LoadedScript → MethodPlace → Option LoadedFunction
@@ -23,7 +23,7 @@ abbrev pub property_at : List LoadedScript → PropertyPlace → Option LoadedPr
 property_at scripts at =
     option_and_then (λ script. slice_get script.properties.items at.place) (slice_get scripts at.script)
 
-abbrev pub function_of : List LoadedScript → FunctionPlace → Option LoadedFunction
+abbrev pub function_of : List LoadedScript → LoadedBody → Option LoadedFunction
 function_of scripts (bodies.Method at) = method_at scripts at
 function_of scripts (bodies.Reader at) = option_and_then (λ property. property.read) (property_at scripts at)
 function_of scripts (bodies.Writer at) = option_and_then (λ property. property.write) (property_at scripts at)

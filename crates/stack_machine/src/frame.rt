@@ -39,7 +39,7 @@ pub struct Call {
 
 /// Which body runs.
 #[derive(Clone, Copy, PartialEq, Eq)]
-pub enum FunctionPlace {
+pub enum LoadedBody {
     /// A function of a state.
     Method(MethodPlace),
     /// The function that reads a property.
@@ -48,12 +48,12 @@ pub enum FunctionPlace {
     Writer(PropertyPlace),
 }
 
-impl FunctionPlace {
+impl LoadedBody {
     /// The number of the script in which the body stands.
     pub fn script(self) -> u16 {
         match self {
-            FunctionPlace::Method(method) => method.script,
-            FunctionPlace::Reader(property) | FunctionPlace::Writer(property) => property.script,
+            LoadedBody::Method(method) => method.script,
+            LoadedBody::Reader(property) | LoadedBody::Writer(property) => property.script,
         }
     }
 
@@ -62,9 +62,9 @@ impl FunctionPlace {
         ensures { result ≤ 2 }
     {
         match self {
-            FunctionPlace::Method(_) => 0,
-            FunctionPlace::Reader(_) => 1,
-            FunctionPlace::Writer(_) => 2,
+            LoadedBody::Method(_) => 0,
+            LoadedBody::Reader(_) => 1,
+            LoadedBody::Writer(_) => 2,
         }
     }
 }
@@ -74,7 +74,7 @@ impl FunctionPlace {
 pub struct Running {
     /// None in a global function.
     pub instance: Option<u16>,
-    pub body: FunctionPlace,
+    pub body: LoadedBody,
     /// The place of the instruction that comes next, or of the act whose reply is awaited.
     pub place: usize,
     /// The parameters, and the locals behind them.

@@ -10,7 +10,7 @@ ghost use Rattle.stack_machine.specs.Plans.{ArePlanned, HasBegun, calls_before};
 ghost use Rattle.stack_machine.specs.Written.{WritesLines};
 
 use crate::casts::text_of;
-use crate::moves::{NoNotes, Notes};
+use crate::moves::{NoNotes, MoveSink};
 use crate::plan::Plan;
 use crate::setting::Setting;
 use crate::status::{Status, TurnEnd, TurnFault};
@@ -161,7 +161,7 @@ impl Machine {
     }
 
     // One turn, whose moves are noted.
-    fn turn_with<S: Sink, N: Notes>(
+    fn turn_with<S: Sink, N: MoveSink>(
         &mut self,
         sink: &mut S,
         devices: &mut Vec<Box<dyn Device>>,

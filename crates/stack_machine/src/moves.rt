@@ -9,7 +9,7 @@ use papy_base::Made;
 use run_replay::LockMove;
 
 /// What is told the moves of a turn, in order.
-pub trait Notes {
+pub trait MoveSink {
     ghost noted: { Self → Option (List LockMove) };
 
     /// Notes one more move.
@@ -22,7 +22,7 @@ pub trait Notes {
 #[derive(Drop)]
 pub struct NoNotes;
 
-impl Notes for NoNotes {
+impl MoveSink for NoNotes {
     ghost noted = { λ _. None };
 
     fn note(&mut self, _moved: LockMove) -> Made<()> {
@@ -30,7 +30,7 @@ impl Notes for NoNotes {
     }
 }
 
-impl Notes for Vec<LockMove> {
+impl MoveSink for Vec<LockMove> {
     ghost noted = { λ moves. Some moves.items };
 
     fn note(&mut self, moved: LockMove) -> Made<()> {
@@ -40,7 +40,7 @@ impl Notes for Vec<LockMove> {
 }
 
 /// Notes a move where there is one.
-pub fn note_any<N: Notes>(moved: Option<LockMove>, notes: &mut N) -> Made<()>
+pub fn note_any<N: MoveSink>(moved: Option<LockMove>, notes: &mut N) -> Made<()>
     ensures added { OnOk result (Adds (option_to_list moved) (N.noted notes.old) (N.noted notes.new)) }
     ensures kept { OnErr result (N.noted notes.new ≡ N.noted notes.old) }
 {

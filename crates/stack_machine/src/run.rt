@@ -6,7 +6,7 @@ ghost use Rattle.latent_natives.specs.Devices.{SameKinds};
 ghost use Rattle.stack_machine.specs.Machine.{CountsTurn};
 ghost use Rattle.stack_machine.specs.Written.{WritesLines};
 
-use crate::frame::{Call, Frame, FunctionPlace, Running, Stack};
+use crate::frame::{Call, Frame, LoadedBody, Running, Stack};
 use crate::instructions::{Event, Step};
 use crate::lines::fault_line;
 use crate::natives::{Performed, perform};
@@ -103,7 +103,7 @@ fn enter<S: Sink>(
 }
 
 // The frame of a body: its parameters are the call's arguments, which are taken, and its locals have their defaults.
-fn open(turn: &Turn<'_>, call: &mut Call, body: FunctionPlace) -> Made<Running> {
+fn open(turn: &Turn<'_>, call: &mut Call, body: LoadedBody) -> Made<Running> {
     let mut slots = mem::replace(&mut call.arguments, Vec::new(turn.alloc));
     if let Some(function) = turn.setting.function(body) {
         for (_, kind) in &function.locals {

@@ -7,7 +7,7 @@ ghost use Rattle.core_tree.specs.Outlines.{parents_of};
 ghost use Rattle.machine_state.specs.Savable.{name_of};
 ghost use Rattle.stack_machine.specs.Settings.{function_of, method_at, property_at, slot_type, type_of};
 
-use crate::frame::{CallWay, FunctionPlace};
+use crate::frame::{CallWay, LoadedBody};
 use crate::plan::Plan;
 use core_tree::{CoreType, Scene};
 use machine_state::{BodyPlace, Way};
@@ -18,7 +18,7 @@ use std::alloc::Global;
 /// What a look-up finds.
 #[derive(Clone, Copy, PartialEq, Eq)]
 pub enum Found {
-    Body(FunctionPlace),
+    Body(LoadedBody),
     Native(MethodPlace),
     /// An Auto property: a variable of the property's script.
     Variable(PropertyPlace, u16),
@@ -34,13 +34,13 @@ pub struct Setting {
 
 impl Setting {
     /// The function of a body.
-    pub fn function(&self, body: FunctionPlace) -> Option<&LoadedFunction>
+    pub fn function(&self, body: LoadedBody) -> Option<&LoadedFunction>
         ensures { option_copied result ≡ function_of self.now.loaded.scripts body }
     {
         match body {
-            FunctionPlace::Method(place) => self.method(place),
-            FunctionPlace::Reader(place) => self.property(place)?.read.as_ref(),
-            FunctionPlace::Writer(place) => self.property(place)?.write.as_ref(),
+            LoadedBody::Method(place) => self.method(place),
+            LoadedBody::Reader(place) => self.property(place)?.read.as_ref(),
+            LoadedBody::Writer(place) => self.property(place)?.write.as_ref(),
         }
     }
 
@@ -56,8 +56,8 @@ impl Setting {
     }
 
     /// The name of the state that declares a body. A property stands in none.
-    pub fn state_name(&self, body: FunctionPlace) -> &[u8] {
-        let FunctionPlace::Method(at) = body else {
+    pub fn state_name(&self, body: LoadedBody) -> &[u8] {
+        let LoadedBody::Method(at) = body else {
             return &[];
         };
         if usize::from(at.script) >= self.loaded.outline().scripts.len() {
@@ -134,7 +134,7 @@ impl Setting {
         way: CallWay,
     ) -> Option<Found> {
         match way {
-            CallWay::Global(at) => Some(Found::Body(FunctionPlace::Method(at))),
+            CallWay::Global(at) => Some(Found::Body(LoadedBody::Method(at))),
             CallWay::Method(name) => self.find_method(state, self.script_of(instance?)?, name),
             CallWay::Parent { script, name } => {
                 instance?;
@@ -144,10 +144,10 @@ impl Setting {
                 let at = self.loaded.find_property(self.script_of(instance?)?, name)?;
                 Some(match self.property(at)?.variable {
                     Some(variable) => Found::Variable(at, variable),
-                    None if matches!(way, CallWay::Get(_)) => Found::Body(FunctionPlace::Reader(
+                    None if matches!(way, CallWay::Get(_)) => Found::Body(LoadedBody::Reader(
                         at,
                     )),
-                    None => Found::Body(FunctionPlace::Writer(at)),
+                    None => Found::Body(LoadedBody::Writer(at)),
                 })
             }
         }
@@ -159,11 +159,11 @@ impl Setting {
         if self.method(at)?.is_native {
             return Some(Found::Native(at));
         }
-        Some(Found::Body(FunctionPlace::Method(at)))
+        Some(Found::Body(LoadedBody::Method(at)))
     }
 
     /// The body that a place names, none where it isn't spelled as one is declared.
-    pub fn body_named(&self, alloc: Global, at: &BodyPlace) -> Made<Option<FunctionPlace>> {
+    pub fn body_named(&self, alloc: Global, at: &BodyPlace) -> Made<Option<LoadedBody>> {
         let state = self.loaded.name_number(alloc, at.state.as_bytes())?;
         let name = self.loaded.name_number(alloc, at.function.as_bytes())?;
         let (Some(state), Some(name)) = (state, name) else {
@@ -173,11 +173,11 @@ impl Setting {
     }
 
     // The body that look-ups find, where it is spelled as the place.
-    fn body_found(&self, at: &BodyPlace, state: usize, name: usize) -> Option<FunctionPlace> {
+    fn body_found(&self, at: &BodyPlace, state: usize, name: usize) -> Option<LoadedBody> {
         let body = match at.kind {
-            0 => FunctionPlace::Method(self.loaded.find_method(at.script, Some(state), name)?),
-            1 => FunctionPlace::Reader(self.loaded.find_property(at.script, name)?),
-            2 => FunctionPlace::Writer(self.loaded.find_property(at.script, name)?),
+            0 => LoadedBody::Method(self.loaded.find_method(at.script, Some(state), name)?),
+            1 => LoadedBody::Reader(self.loaded.find_property(at.script, name)?),
+            2 => LoadedBody::Writer(self.loaded.find_property(at.script, name)?),
             _ => return None,
         };
         let function = self.function(body)?;

@@ -22,7 +22,7 @@ const CELL_LIMIT: usize = 100_000;
 
 /// A state that is judged for a scene of loaded scripts.
 #[derive(Drop)]
-pub struct Judged<'a> {
+pub struct JudgedState<'a> {
     pub alloc: Global,
     pub setting: &'a Setting,
     pub state: &'a MachineState,
@@ -39,7 +39,7 @@ pub fn is_sound(alloc: Global, setting: &Setting, state: &MachineState) -> Made<
     if !has_sound_numbers(&setting.scene, state) {
         return Ok(false);
     }
-    let judged = Judged {
+    let judged = JudgedState {
         alloc,
         setting,
         state,
@@ -57,7 +57,7 @@ fn descent_of(alloc: Global, setting: &Setting) -> Made<Descent> {
     Descent::of(alloc, parents.as_slice())
 }
 
-impl Judged<'_> {
+impl JudgedState<'_> {
     // What is sound beside the numbers of turns, stacks and instances.
     fn is_sound(&self) -> Made<bool> {
         if !self.has_sound_values()
@@ -296,14 +296,14 @@ impl Judged<'_> {
             return Ok(false);
         }
         Ok(match self.callee_of(*instance, way)? {
-            Some(Callee::Function(function)) => {
+            Some(CallTarget::Function(function)) => {
                 function.is_global == is_global
                     && (!function.is_native || (!is_global && !is_first))
                     && arguments.len() == function.parameters.len()
                     && self.fit_slots(arguments, function)
             }
-            Some(Callee::AutoGet(_)) => arguments.is_empty(),
-            Some(Callee::AutoSet(kind)) => match arguments.as_slice() {
+            Some(CallTarget::AutoGet(_)) => arguments.is_empty(),
+            Some(CallTarget::AutoSet(kind)) => match arguments.as_slice() {
                 [value] => self.fits(value, Some(kind)),
                 _ => false,
             },
@@ -312,7 +312,7 @@ impl Judged<'_> {
     }
 
     // What a call finds, none where nothing has its name.
-    fn callee_of(&self, instance: Option<u16>, way: &Way) -> Made<Option<Callee<'_>>> {
+    fn callee_of(&self, instance: Option<u16>, way: &Way) -> Made<Option<CallTarget<'_>>> {
         let Some(way) = self.setting.way_named(self.alloc, way)? else {
             return Ok(None);
         };
@@ -332,15 +332,15 @@ impl Judged<'_> {
         state: Option<usize>,
         instance: Option<u16>,
         way: CallWay,
-    ) -> Option<Callee<'_>> {
+    ) -> Option<CallTarget<'_>> {
         Some(match self.setting.look_up(state, instance, way)? {
-            Found::Body(body) => Callee::Function(self.setting.function(body)?),
-            Found::Native(at) => Callee::Function(self.setting.method(at)?),
+            Found::Body(body) => CallTarget::Function(self.setting.function(body)?),
+            Found::Native(at) => CallTarget::Function(self.setting.method(at)?),
             Found::Variable(property, _) => {
                 let found = self.setting.property(property)?;
                 match way {
-                    CallWay::Get(_) if found.bits & READ != 0 => Callee::AutoGet(found.kind),
-                    CallWay::Set(_) if found.bits & WRITE != 0 => Callee::AutoSet(found.kind),
+                    CallWay::Get(_) if found.bits & READ != 0 => CallTarget::AutoGet(found.kind),
+                    CallWay::Set(_) if found.bits & WRITE != 0 => CallTarget::AutoSet(found.kind),
                     _ => return None,
                 }
             }
@@ -370,7 +370,7 @@ fn calls(instruction: Option<&LoadedInstruction>) -> bool {
 
 // What a call finds.
 #[derive(Clone, Copy)]
-enum Callee<'a> {
+enum CallTarget<'a> {
     /// A function, or one that reads or writes a property.
     Function(&'a LoadedFunction),
     /// The reading of an Auto property of this type.
@@ -379,13 +379,13 @@ enum Callee<'a> {
     AutoSet(CoreType),
 }
 
-impl Callee<'_> {
+impl CallTarget<'_> {
     // The type of what it gives, if it gives anything.
     fn result(self) -> Option<CoreType> {
         match self {
-            Callee::Function(function) => function.result,
-            Callee::AutoGet(kind) => Some(kind),
-            Callee::AutoSet(_) => None,
+            CallTarget::Function(function) => function.result,
+            CallTarget::AutoGet(kind) => Some(kind),
+            CallTarget::AutoSet(_) => None,
         }
     }
 }

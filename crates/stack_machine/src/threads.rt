@@ -9,7 +9,7 @@ ghost use Rattle.stack_machine.specs.Moves.{AddsSome, AreWakes, Begins, Noted, T
 ghost use Rattle.stack_machine.specs.Threads.{GoesToWait, HasGrown, IsOn, IsSameSize, due_after, let_go, put_to_sleep, taken};
 
 use crate::frame::{Call, CallWay, FRAME_LIMIT, Frame, Stack};
-use crate::moves::{Notes, StackPlace, note_any};
+use crate::moves::{MoveSink, StackPlace, note_any};
 use crate::natives::Performed;
 use crate::run::RunEnd;
 use crate::status::Status;
@@ -323,7 +323,7 @@ impl Threads {
     }
 
     /// Lets the sleepers that are due at a turn wait, in order of stack number.
-    pub fn wake<N: Notes>(&mut self, turn: u32, notes: &mut N) -> Made<()>
+    pub fn wake<N: MoveSink>(&mut self, turn: u32, notes: &mut N) -> Made<()>
         ensures size { IsSameSize self.old self.new }
         ensures noted { MatchResult result (λ _. Noted (AreWakes 0 self.old.started) (N.noted notes.old) (N.noted notes.new)) (λ _. AddsSome (N.noted notes.old) (N.noted notes.new)) }
     {

@@ -12,7 +12,7 @@ ghost use Rattle.stack_machine.specs.Threads.{HasGrown, IsSameSize};
 ghost use Rattle.stack_machine.specs.Written.{WritesLines};
 
 use crate::frame::{Call, CallWay, Frame};
-use crate::moves::{Notes, StackPlace, moves_between, note_any};
+use crate::moves::{MoveSink, StackPlace, moves_between, note_any};
 use crate::operands::Turn;
 use crate::plan::PlannedCall;
 use crate::run::run_innermost;
@@ -40,7 +40,7 @@ pub struct World {
 impl World {
     /// Does the turn of this number: starts the stacks and wakes the sleepers of the turn, chooses a stack, and
     /// runs it to the act that ends its turn. The moves of the turn are noted.
-    pub fn do_turn<S: Sink, N: Notes>(
+    pub fn do_turn<S: Sink, N: MoveSink>(
         &mut self,
         setting: &Setting,
         number: u32,
@@ -76,7 +76,7 @@ impl World {
     }
 
     // The turn of the chosen stack: takes its instance where it waits, and runs it.
-    fn take_turn<S: Sink, N: Notes>(
+    fn take_turn<S: Sink, N: MoveSink>(
         &mut self,
         turn: &Turn<'_>,
         sink: &mut S,
@@ -98,7 +98,7 @@ impl World {
     }
 
     // Notes the moves of a stack's act, which began at a place.
-    fn note_act<N: Notes>(&self, stack: u16, from: StackPlace, notes: &mut N) -> Made<()>
+    fn note_act<N: MoveSink>(&self, stack: u16, from: StackPlace, notes: &mut N) -> Made<()>
         ensures { MatchResult result (λ _. Noted (IsAct stack) (N.noted notes.old) (N.noted notes.new)) (λ _. AddsSome (N.noted notes.old) (N.noted notes.new)) }
     {
         let to = self.threads.place_of(stack);
@@ -132,7 +132,7 @@ impl World {
 }
 
 // Starts the stacks of the scene calls of this turn, then wakes the sleepers that are due.
-fn begin<N: Notes>(
+fn begin<N: MoveSink>(
     alloc: Global,
     setting: &Setting,
     threads: &mut Threads,
@@ -149,7 +149,7 @@ fn begin<N: Notes>(
 }
 
 // Starts the stacks of the scene calls of this turn.
-fn start_stacks<N: Notes>(
+fn start_stacks<N: MoveSink>(
     alloc: Global,
     setting: &Setting,
     threads: &mut Threads,

@@ -12,7 +12,7 @@ use Rattle.stack_save.specs.Reading.{Found, PlainHeld, held_at}
 use Rattle.stack_save.specs.Spelling.{heading, spelling}
 use Rattle.stack_save.specs.declared.fault.HeldFault.{HeldFault}
 use Rattle.stack_save.specs.declared.fault.HeldFault.TheVariants.{Broken, OutOfMemory}
-use Rattle.stack_save.specs.declared.loading.Layout.{Layout}
+use Rattle.stack_save.specs.declared.loading.HeldParts.{HeldParts}
 
 abbrev held : List (List ℕ) → List ℕ → PlainState → PlainHeld
 held files scene state = record { files = files; scene = scene; state = state }
@@ -80,9 +80,9 @@ empty_from (x ∷ xs) none =
     cc
 
 -- the fault of a layout that isn't there
-pub reads_fault : (fault y : HeldFault) (r : Result Layout HeldFault) (behind new : List ℕ)
+pub reads_fault : (fault y : HeldFault) (r : Result HeldParts HeldFault) (behind new : List ℕ)
     → r ≡ Err y → y ≡ fault → Takes plain_layout IsLayout held_fields held_at (Err fault) behind new → ReadsLayout behind r
 reads_fault (Broken rule) y r behind new is same missing =
-    subst (λ (z : Result Layout HeldFault). ReadsLayout behind z) (sym (is ∙ ap Err same)) (missing.0, no_layout behind missing.1)
+    subst (λ (z : Result HeldParts HeldFault). ReadsLayout behind z) (sym (is ∙ ap Err same)) (missing.0, no_layout behind missing.1)
 reads_fault OutOfMemory y r behind new is same missing =
-    subst (λ (z : Result Layout HeldFault). ReadsLayout behind z) (sym (is ∙ ap Err same)) tt
+    subst (λ (z : Result HeldParts HeldFault). ReadsLayout behind z) (sym (is ∙ ap Err same)) tt

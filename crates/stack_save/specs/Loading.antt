@@ -14,14 +14,14 @@ use Rattle.stack_save.specs.Spelling.{heading, long_string, state}
 use Rattle.stack_save.specs.declared.fault.HeldFault.{HeldFault}
 use Rattle.stack_save.specs.declared.fault.HeldFault.TheVariants.{Broken, OutOfMemory}
 use Rattle.stack_save.specs.declared.fault.HeldRule.TheVariants as rules
-use Rattle.stack_save.specs.declared.loading.Layout.{Layout}
+use Rattle.stack_save.specs.declared.loading.HeldParts.{HeldParts}
 
 -- ---- the layout
 
 abbrev pub lent : Bor (List ℕ) → List ℕ
 lent bytes = bytes.now
 
-abbrev pub plain_layout : Layout → PlainHeld
+abbrev pub plain_layout : HeldParts → PlainHeld
 plain_layout layout = record { files = map lent layout.files.items; scene = layout.scene.now; state = plain layout.state }
 
 pub record IsLayout (held : PlainHeld) : Type 0 where
@@ -34,7 +34,7 @@ abbrev pub held_fields : PlainHeld → List ℕ
 held_fields held = list long_string held.files ++ long_string held.scene ++ state held.state
 
 -- these bytes stand behind the heading
-abbrev pub ReadsLayout : List ℕ → Result Layout HeldFault → Type 0
+abbrev pub ReadsLayout : List ℕ → Result HeldParts HeldFault → Type 0
 ReadsLayout bytes (Ok layout) =
     Spells (map lent layout.files.items) layout.scene.now (plain layout.state) (heading ++ bytes)
 ReadsLayout bytes (Err (Broken rule)) = (rule ≡ rules.BadLayout) × ¬ HasLayout (heading ++ bytes)

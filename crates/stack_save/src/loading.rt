@@ -85,7 +85,7 @@ pub struct Held {
 
 /// A held file with its PEX files and its scene as they stand in its bytes.
 #[derive(Drop)]
-pub(crate) struct Layout<'a> {
+pub(crate) struct HeldParts<'a> {
     pub(crate) files: Vec<&'a [u8]>,
     pub(crate) scene: &'a [u8],
     pub(crate) state: MachineState,
@@ -113,10 +113,10 @@ fn take_files<'a>(cursor: &mut Cursor<'a>) -> Taken<Vec<&'a [u8]>>
 
 /// What stands behind the heading.
 #[tactic(auto, unfolding(crate::specs::Reading::held_at))]
-fn take_layout<'a>(cursor: &mut Cursor<'a>) -> Taken<Layout<'a>>
+fn take_layout<'a>(cursor: &mut Cursor<'a>) -> Taken<HeldParts<'a>>
     ensures { Takes plain_layout IsLayout held_fields reading.held_at result cursor.old.rest.now cursor.new.rest.now }
 {
-    Ok(Layout {
+    Ok(HeldParts {
         files: take_files(cursor)?,
         scene: cursor.take_long_string()?,
         state: take_state(cursor)?,
@@ -124,7 +124,7 @@ fn take_layout<'a>(cursor: &mut Cursor<'a>) -> Taken<Layout<'a>>
 }
 
 /// The layout of a file with these bytes behind its heading.
-fn read_layout<'a>(alloc: Global, bytes: &'a [u8]) -> Taken<Layout<'a>>
+fn read_layout<'a>(alloc: Global, bytes: &'a [u8]) -> Taken<HeldParts<'a>>
     ensures { ReadsLayout bytes.now result }
 {
     let mut cursor = Cursor { rest: bytes, alloc };

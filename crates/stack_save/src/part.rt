@@ -19,7 +19,7 @@ use std::alloc::AllocError;
 const MOST_RESERVED: usize = 65_536;
 
 /// An item of a list of a held file.
-pub(crate) trait Part: Drop {
+pub(crate) trait Item: Drop {
     /// The same with lists in place of vectors.
     ghost Plain: { Type 0 };
 
@@ -52,7 +52,7 @@ pub(crate) trait Part: Drop {
 }
 
 /// The items in a row.
-pub(crate) fn put_items<T: Part>(out: &mut Vec<u8>, items: &[T]) -> Result<(), AllocError>
+pub(crate) fn put_items<T: Item>(out: &mut Vec<u8>, items: &[T]) -> Result<(), AllocError>
     requires { AllByRecursion T.savable (T.plain_each items.now) }
     ensures { OnOk result (HasPut (AllByRecursion T.in_range (T.plain_each items.now)) (flat_map T.spelling (T.plain_each items.now)) out.old.items out.new.items) }
 {
@@ -63,7 +63,7 @@ pub(crate) fn put_items<T: Part>(out: &mut Vec<u8>, items: &[T]) -> Result<(), A
 }
 
 /// The number of items in two bytes, and the items.
-pub(crate) fn put_list<T: Part>(out: &mut Vec<u8>, items: &[T]) -> Result<(), AllocError>
+pub(crate) fn put_list<T: Item>(out: &mut Vec<u8>, items: &[T]) -> Result<(), AllocError>
     requires count { length items.now < 2 ^ 16 }
     requires each { AllByRecursion T.savable (T.plain_each items.now) }
     ensures { OnOk result (HasPut (AllByRecursion T.in_range (T.plain_each items.now)) (pex.list T.spelling (T.plain_each items.now)) out.old.items out.new.items) }
@@ -73,7 +73,7 @@ pub(crate) fn put_list<T: Part>(out: &mut Vec<u8>, items: &[T]) -> Result<(), Al
 }
 
 /// The same with four bytes for the number.
-pub(crate) fn put_long_list<T: Part>(out: &mut Vec<u8>, items: &[T]) -> Result<(), AllocError>
+pub(crate) fn put_long_list<T: Item>(out: &mut Vec<u8>, items: &[T]) -> Result<(), AllocError>
     requires count { length items.now < 2 ^ 32 }
     requires each { AllByRecursion T.savable (T.plain_each items.now) }
     ensures { OnOk result (HasPut (AllByRecursion T.in_range (T.plain_each items.now)) (spell.long_list T.spelling (T.plain_each items.now)) out.old.items out.new.items) }
@@ -83,7 +83,7 @@ pub(crate) fn put_long_list<T: Part>(out: &mut Vec<u8>, items: &[T]) -> Result<(
 }
 
 /// So many items.
-pub(crate) fn take_items<T: Part>(cursor: &mut Cursor<'_>, count: usize) -> Taken<Vec<T>>
+pub(crate) fn take_items<T: Item>(cursor: &mut Cursor<'_>, count: usize) -> Taken<Vec<T>>
     ensures { Takes (λ items. T.plain_each items.items) (AreItems count T.savable T.in_range) (flat_map T.spelling) (reading.items_at T.at count) result cursor.old.rest.now cursor.new.rest.now }
 {
     let room = count.min(cursor.rest.len()).min(MOST_RESERVED);
@@ -97,7 +97,7 @@ pub(crate) fn take_items<T: Part>(cursor: &mut Cursor<'_>, count: usize) -> Take
 
 /// The number of items in two bytes, and the items.
 #[tactic(auto, unfolding(crate::specs::Reading::list_at))]
-pub(crate) fn take_list<T: Part>(cursor: &mut Cursor<'_>) -> Taken<Vec<T>>
+pub(crate) fn take_list<T: Item>(cursor: &mut Cursor<'_>) -> Taken<Vec<T>>
     ensures { Takes (λ items. T.plain_each items.items) (AreParts (2 ^ 16) T.savable T.in_range) (pex.list T.spelling) (reading.list_at T.at) result cursor.old.rest.now cursor.new.rest.now }
 {
     let count = cursor.take_u16()?;
@@ -106,7 +106,7 @@ pub(crate) fn take_list<T: Part>(cursor: &mut Cursor<'_>) -> Taken<Vec<T>>
 
 /// The same with four bytes for the number.
 #[tactic(auto, unfolding(crate::specs::Reading::long_list_at))]
-pub(crate) fn take_long_list<T: Part>(cursor: &mut Cursor<'_>) -> Taken<Vec<T>>
+pub(crate) fn take_long_list<T: Item>(cursor: &mut Cursor<'_>) -> Taken<Vec<T>>
     ensures { Takes (λ items. T.plain_each items.items) (AreParts (2 ^ 32) T.savable T.in_range) (spell.long_list T.spelling) (reading.long_list_at T.at) result cursor.old.rest.now cursor.new.rest.now }
 {
     let count = cursor.take_u32()?;
@@ -116,7 +116,7 @@ pub(crate) fn take_long_list<T: Part>(cursor: &mut Cursor<'_>) -> Taken<Vec<T>>
 // ---- numbers and pairs of numbers
 
 /// A free stack.
-impl Part for u16 {
+impl Item for u16 {
     ghost Plain = { ℕ };
 
     ghost plain = { λ n. n };
@@ -143,7 +143,7 @@ impl Part for u16 {
 }
 
 /// A cell of a device.
-impl Part for i32 {
+impl Item for i32 {
     ghost Plain = { ℤ };
 
     ghost plain = { λ n. n };
@@ -170,7 +170,7 @@ impl Part for i32 {
 }
 
 /// An instance and the stack that owns it or waits for it.
-impl Part for (u16, u16) {
+impl Item for (u16, u16) {
     ghost Plain = { ℕ × ℕ };
 
     ghost plain = { λ pair. pair };
@@ -199,7 +199,7 @@ impl Part for (u16, u16) {
 }
 
 /// A stack that sleeps and the turn at which it is due.
-impl Part for (u16, u32) {
+impl Item for (u16, u32) {
     ghost Plain = { ℕ × ℕ };
 
     ghost plain = { λ pair. pair };

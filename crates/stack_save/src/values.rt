@@ -15,7 +15,7 @@ ghost use Rattle.stack_save.specs.Spelling as spell;
 use crate::fault::Taken;
 use crate::fields::{Cursor, put_i32, put_number_or_none, put_string};
 use crate::part::{
-    Part, put_items, put_list, put_long_list, take_items, take_list, take_long_list,
+    Item, put_items, put_list, put_long_list, take_items, take_list, take_long_list,
 };
 use core_tree::{CoreType, DeviceKind, Value};
 use machine_state::{BodyPlace, FrameState, Way};
@@ -41,7 +41,7 @@ fn take_tagged(cursor: &mut Cursor<'_>, tag: u8) -> Taken<Value>
     }
 }
 
-impl Part for Value {
+impl Item for Value {
     ghost Plain = { Value };
 
     ghost plain = { λ value. value };
@@ -94,7 +94,7 @@ impl Part for Value {
 // ---- instances, arrays and devices
 
 /// An instance: the text of its state, and the values of its variables.
-impl Part for (Text, Vec<Value>) {
+impl Item for (Text, Vec<Value>) {
     ghost Plain = { PlainInstance };
 
     ghost plain = { plain_instance };
@@ -163,7 +163,7 @@ fn take_element_type(cursor: &mut Cursor<'_>) -> Taken<CoreType>
 }
 
 /// An array: the type of its elements, and the elements.
-impl Part for (CoreType, Vec<Value>) {
+impl Item for (CoreType, Vec<Value>) {
     ghost Plain = { PlainArray };
 
     ghost plain = { plain_array };
@@ -220,7 +220,7 @@ fn take_device_kind(cursor: &mut Cursor<'_>) -> Taken<DeviceKind>
 }
 
 /// A device: its kind, its cells and its place.
-impl Part for (DeviceKind, Vec<i32>, u64) {
+impl Item for (DeviceKind, Vec<i32>, u64) {
     ghost Plain = { DeviceState };
 
     ghost plain = { plain_device };
@@ -393,7 +393,7 @@ fn take_body(cursor: &mut Cursor<'_>) -> Taken<FrameState>
 
 // ---- frames and stacks
 
-impl Part for FrameState {
+impl Item for FrameState {
     ghost Plain = { PlainFrame };
 
     ghost plain = { plain_frame };
@@ -450,7 +450,7 @@ impl Part for FrameState {
 }
 
 /// A stack.
-impl Part for Vec<FrameState> {
+impl Item for Vec<FrameState> {
     ghost Plain = { List PlainFrame };
 
     ghost plain = { plain_stack };

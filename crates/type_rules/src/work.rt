@@ -8,7 +8,7 @@ ghost use Rattle.type_scope.specs.Types.{type_named};
 use crate::elaboration::ScriptFaults;
 use crate::sizes::Sizes;
 use core_tree::CoreType;
-use expression_rules::{Notes, Scope, TypeRule};
+use expression_rules::{ScriptNotes, Scope, TypeRule};
 use line_parser::TypeName;
 use std::mem;
 use type_scope::{Catalog, Layout};
@@ -20,7 +20,7 @@ pub(crate) struct ScriptRules<'a> {
     pub(crate) layout: &'a Layout<'a>,
     /// The script's number in the set.
     pub(crate) number: u16,
-    notes: Notes,
+    notes: ScriptNotes,
     sizes: Sizes,
 }
 
@@ -38,7 +38,7 @@ impl<'a> ScriptRules<'a> {
             catalog,
             layout,
             number,
-            notes: Notes::new(catalog.alloc),
+            notes: ScriptNotes::new(catalog.alloc),
             sizes: Sizes::none(),
         }
     }
@@ -75,7 +75,7 @@ impl<'a> ScriptRules<'a> {
         ensures locals { result.locals.kinds.items ≡ [] }
         ensures notes { result.notes ≡ self.old.notes }
     {
-        let notes = mem::replace(&mut self.notes, Notes::new(self.catalog.alloc));
+        let notes = mem::replace(&mut self.notes, ScriptNotes::new(self.catalog.alloc));
         Scope::new(
             self.catalog,
             self.layout,
@@ -87,7 +87,7 @@ impl<'a> ScriptRules<'a> {
     }
 
     /// Takes back what was noted, with a function's line and size.
-    pub(crate) fn close_scope(&mut self, notes: Notes, line: u16, size: u32)
+    pub(crate) fn close_scope(&mut self, notes: ScriptNotes, line: u16, size: u32)
         ensures kept { KeepsScript self.old self.new }
         ensures notes { self.new.notes ≡ notes }
     {

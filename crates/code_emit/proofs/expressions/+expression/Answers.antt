@@ -1,6 +1,6 @@
 use Rattle.std.proofs.Common.{ℕ, suc, ◌≤◌, List, length, Bool, Option, refl, sym, subst, arith}
 use Rattle.pex_values.specs.Shape.{AgreesWith}
-use Rattle.code_emit.specs.declared.operand.Operand.{Operand}
+use Rattle.code_emit.specs.declared.operand.ValuePlace.{ValuePlace}
 use Rattle.code_emit.specs.Operands.{needs}
 use Rattle.code_emit.specs.Writing.{AreThere, Written}
 use Rattle.code_emit.proofs.Data.{one_datum, there_later, there_added}
@@ -34,7 +34,7 @@ argument_values-loop-place-preserved t c =
     let before = c.loop-place.writer in
     let after = c.kept_value.new.writer in
     let kept = c.in_ok-kept_value.ensures.goes in
-    let P : List Operand → Type 0 = λ os. AreThere after.strings os in
+    let P : List ValuePlace → Type 0 = λ os. AreThere after.strings os in
     record {
       goes = goes_further c.args.writer.now before after c.loop-place.invariant.goes kept;
       there = subst P (sym c.in_ok-push.ensures.items) (there_added after.strings c.loop-place.values.items c.in_ok-kept_value.field-0 (there_later before.strings after.strings kept.strings c.loop-place.values.items c.loop-place.invariant.there) c.in_ok-kept_value.ensures.operand);

@@ -1,5 +1,5 @@
 use Rattle.std.proofs.Common.{◌≡◌, rules}
-use Rattle.run_replay.specs.declared.reader.Keyword.TheVariants as keyword
+use Rattle.run_replay.specs.declared.reader.JournalWord.TheVariants as keyword
 use Rattle.run_replay.proofs.LineLemmas.{no_word, no_numbers, line_is}
 use Rattle.run_replay.proofs.reader.line_of.Goals as goal
 

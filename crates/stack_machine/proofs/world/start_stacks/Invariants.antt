@@ -6,7 +6,7 @@ use Rattle.stack_machine.proofs.world.start_stacks.Given as goal
 
 abbrev pub invariant-loop-planned : goal.invariant-loop-planned
 invariant-loop-planned g l =
-    let notes = g.N.Notes in
+    let notes = g.N.MoveSink in
     record {
       grown : HasGrown l.fn.threads l.threads;
       started : l.threads.started ≡ l.fn.threads.started + l.planned-index;

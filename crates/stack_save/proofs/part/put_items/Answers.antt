@@ -5,5 +5,5 @@ use Rattle.stack_save.proofs.part.put_items.Goals as goal
 
 pub put-requires : goal.put-requires
 put-requires g c =
-    let each = subst (λ (xs : List g.T.Part.Plain). AllByRecursion g.T.Part.savable xs) (g.met.T.Part.each c.args.items.now) c.requires in
-    each_at g.T.Part.savable g.T.Part.plain c.args.items.now c.loop-item.item-index c.item-item.result each c.loop-item-test.true c.item-item.is
+    let each = subst (λ (xs : List g.T.Item.Plain). AllByRecursion g.T.Item.savable xs) (g.met.T.Item.each c.args.items.now) c.requires in
+    each_at g.T.Item.savable g.T.Item.plain c.args.items.now c.loop-item.item-index c.item-item.result each c.loop-item-test.true c.item-item.is

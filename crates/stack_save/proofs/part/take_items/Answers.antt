@@ -10,7 +10,7 @@ use Rattle.stack_save.specs.Reading.{items_at}
 
 pub returns-in_err-item : goal.returns-in_err-item
 returns-in_err-item g c =
-    let part = g.T.Part in
+    let part = g.T.Item in
     let old = c.args.cursor.now.rest.now in
     let rest = c.items.cursor.rest.now in
     let new = c.take.new.cursor.rest.now in
@@ -22,7 +22,7 @@ returns-in_err-item g c =
 
 pub items-preserved : goal.items-preserved
 items-preserved g c =
-    let part = g.T.Part in
+    let part = g.T.Item in
     let old = c.args.cursor.now.rest.now in
     let new = c.take.new.cursor.rest.now in
     subst (λ (items : List g.row.T.Denot). TookFirst part.savable part.in_range part.spelling part.at part.plain old c.args.count (c.items.counter + 1) items new) (sym c.in_ok-push.ensures.items)

@@ -3,7 +3,7 @@ use Rattle.pex_set.specs.Names.{empty_name}
 use Rattle.papy_base.specs.declared.descent.Span.{Span}
 use Rattle.pex_set.specs.declared.inherited.OwnMember.{OwnMember}
 use Rattle.pex_verify.specs.declared.members.MemberLists.{MemberLists}
-use Rattle.pex_verify.specs.declared.scripts.PropertyHead.{PropertyHead}
+use Rattle.pex_verify.specs.declared.scripts.PropertySignature.{PropertySignature}
 use Rattle.pex_verify.specs.Members.{Owner, owner_in, member_of, with_places, with_properties}
 use Rattle.pex_verify.proofs.MemberLists.{properties_more, with_places-next}
 use Rattle.pex_verify.proofs.members.MemberLists.add_properties.Goals as goal
@@ -14,10 +14,10 @@ loop-place-preserved c =
     let object = c.args.object in
     let owner = owner_in start object in
     let properties = c.args.properties.now in
-    let member : ℕ → PropertyHead → OwnMember = λ place property. member_of owner 0 (empty_name, property.name) place in
+    let member : ℕ → PropertySignature → OwnMember = λ place property. member_of owner 0 (empty_name, property.name) place in
     let i = c.loop-place.place in
-    let none : PropertyHead = record { name = 0; kind = 0; bits = 0 } in
-    let property : PropertyHead = get_or properties i none in
+    let none : PropertySignature = record { name = 0; kind = 0; bits = 0 } in
+    let property : PropertySignature = get_or properties i none in
     let within : i < length properties = omega arith in
     let lists = c.loop-place.self in
     let later : MemberLists = record lists { properties = c.add.new.self } in
