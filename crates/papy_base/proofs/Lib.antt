@@ -1,4 +1,5 @@
 pub mod TableLemmas
+pub mod DigitLemmas
 pub mod LineageLemmas
 pub mod LinkLemmas
 pub mod Lists

@@ -1,7 +1,12 @@
+pub mod Bytes
 pub mod Case
 pub mod Decimal
+pub mod Digits
+pub mod InstanceName
 pub mod Table
 pub mod Ranks
+pub mod ReportWords
 pub mod Lineage
 pub mod Orders
 pub mod Circles
+pub mod Earliest

@@ -1,5 +1,5 @@
 // Which objects stand above themselves, and which stand below which.
-ghost use Rattle.std.specs.Prelude.{◌≡◌, ◌⊎◌, ◌+◌, ◌<◌, ◌++◌, ℕ, true, length, vec_len, IfOk, OnOk, slice_get, set, option_to_list};
+ghost use Rattle.std.specs.Prelude.{◌≡◌, ◌⊎◌, ◌+◌, ◌<◌, ◌++◌, ℕ, true, length, vec_len, IfOk, OnOk, slice_get, option_to_list};
 ghost use Rattle.std.specs.Option.{option_and_then};
 ghost use Rattle.papy_base.specs.Circles.{is_marked, CanStart, Walked, IsOnCircle, IsMarked, AreSearched, MarksCircles, NoneMarked};
 ghost use Rattle.papy_base.specs.Lineage.{AreAmong, AreRooted};

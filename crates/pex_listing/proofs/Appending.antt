@@ -1,36 +1,16 @@
 -- Bytes that are appended in one call after another.
-use Rattle.std.proofs.Common.{◌≡◌, ℕ, List, [], ◌∷◌, ◌++◌, append_assoc, append-nil, refl, sym, subst, ap, ◌∙◌, take}
+use Rattle.std.proofs.Common.{ℕ, List, [], ◌∷◌, ◌++◌, subst}
 use Rattle.std.specs.List.{flat_map}
 use Rattle.std.proofs.lemmas.List.{flat_map_more}
-use Rattle.std.specs.Prelude.{Option, None, Some, Result, Ok, Err, IfOk}
-use Rattle.papy_io.specs.declared.fault.IoFault.{IoFault}
-use Rattle.papy_io.specs.declared.fault.IoFault.TheVariants.{Failed, OutOfMemory}
-use Rattle.papy_io.specs.Sink.{Appended, SinkWrites, AppendsSome}
+use Rattle.std.specs.Prelude.{Option, Result, Ok, Err, IfOk}
+use Rattle.papy_io.proofs.Appending.{both_appended}
+use Rattle.papy_io.specs.Sink.{Appended, AppendsSome}
 use Rattle.pex_values.specs.Plain.{PlainPex}
 use Rattle.pex_listing.specs.Lines.{first_line, header_lines, table_lines, head_lines}
 use Rattle.pex_listing.specs.Showing.{Begins}
 
-pub appends_nothing : (before now : Option (List ℕ)) → now ≡ before → AppendsSome before now
-appends_nothing None now same = record { bytes = []; appended = same }
-appends_nothing (Some written) now same = record { bytes = []; appended = same ∙ ap Some (sym (append-nil written)) }
-
-pub both-appended : (first second : List ℕ) (before between now : Option (List ℕ)) → Appended first before between → Appended second between now → Appended (first ++ second) before now
-both-appended first second None None now a b = b
-both-appended first second None (Some w) now a b = absurd (cc)
-both-appended first second (Some v) None now a b = absurd (cc)
-both-appended first second (Some v) (Some w) now a b =
-    let is : w ≡ v ++ first = cc in b ∙ ap Some (ap (λ x. x ++ second) is ∙ append_assoc v first second)
-
-pub appends_more : (before between now : Option (List ℕ)) → AppendsSome before between → AppendsSome between now → AppendsSome before now
-appends_more before between now a b = record { bytes = a.bytes ++ b.bytes; appended = both-appended a.bytes b.bytes before between now a.appended b.appended }
-
-pub appends_written : {T : Type 0} (result : Result T IoFault) (bytes : List ℕ) (before now : Option (List ℕ)) → SinkWrites result bytes before now → AppendsSome before now
-appends_written (Ok _) bytes before now wrote = record { bytes = bytes; appended = wrote }
-appends_written (Err Failed) bytes before now (n, wrote) = record { bytes = take n bytes; appended = wrote }
-appends_written (Err OutOfMemory) bytes before now same = appends_nothing before now same
-
 pub begins : (lines : List ℕ) (before between now : Option (List ℕ)) → Appended lines before between → AppendsSome between now → Begins lines before now
-begins lines before between now a b = record { behind = b.bytes; appended = both-appended lines b.bytes before between now a b.appended }
+begins lines before between now a b = record { behind = b.bytes; appended = both_appended lines b.bytes before between now a b.appended }
 
 pub if_ok : {T E : Type 0} (result : Result T E) (Holds : Type 0) → Holds → IfOk result (λ _. Holds)
 if_ok (Ok _) Holds holds = holds
@@ -39,11 +19,7 @@ if_ok (Err _) Holds holds = tt
 -- the line of one more item was appended
 pub appended_more : {X : Type 0} (f : X → List ℕ) (xs : List X) (x : X) (before between now : Option (List ℕ)) → Appended (flat_map f xs) before between → Appended (f x) between now → Appended (flat_map f (xs ++ x ∷ [])) before now
 appended_more f xs x before between now a b =
-    subst (λ bytes. Appended bytes before now) (flat_map_more f [] xs x) (both-appended (flat_map f xs) (f x) before between now a b)
-
-pub appended_nothing : (before : Option (List ℕ)) → Appended [] before before
-appended_nothing None = refl
-appended_nothing (Some written) = ap Some (sym (append-nil written))
+    subst (λ bytes. Appended bytes before now) (flat_map_more f [] xs x) (both_appended (flat_map f xs) (f x) before between now a b)
 
 pub ok_then : {T E : Type 0} (result : Result T E) (P Q : Type 0) → (P → Q) → IfOk result (λ _. P) → IfOk result (λ _. Q)
 ok_then (Ok _) P Q f holds = f holds
@@ -52,5 +28,5 @@ ok_then (Err _) P Q f holds = tt
 -- the lines up to the end of the string table were appended
 pub head_appended : (v : PlainPex) (before first second now : Option (List ℕ)) → Appended (first_line v.minor v.time) before first → Appended (header_lines v.source v.user v.machine) first second → Appended (table_lines v.strings) second now → Appended (head_lines v) before now
 head_appended v before first second now a b c =
-    both-appended (first_line v.minor v.time) (header_lines v.source v.user v.machine ++ table_lines v.strings) before first now a
-    (both-appended (header_lines v.source v.user v.machine) (table_lines v.strings) first second now b c)
+    both_appended (first_line v.minor v.time) (header_lines v.source v.user v.machine ++ table_lines v.strings) before first now a
+    (both_appended (header_lines v.source v.user v.machine) (table_lines v.strings) first second now b c)

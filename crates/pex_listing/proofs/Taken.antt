@@ -1,16 +1,17 @@
 -- Lines that are read one after another.
-use Rattle.std.proofs.Common.{◌≡◌, ℕ, ◌&&◌, not, cond, Bool, true, List, [], ◌∷◌, ◌++◌, refl, sym, subst, ap, ◌∙◌, append_assoc, append-nil}
+use Rattle.std.proofs.Common.{◌≡◌, ◌<◌, ℕ, ◌&&◌, not, cond, Bool, true, List, [], ◌∷◌, ◌++◌, length, refl, sym, subst, ap, ◌∙◌, append_assoc, append-nil}
 use Rattle.std.specs.Prelude.{Option, Some, IfSome, IsTrue, codes}
 use Rattle.std.specs.List.{flat_map}
 use Rattle.std.specs.Fmt.{decimal}
 use Rattle.std.proofs.lemmas.List.{flat_map_more}
 use Rattle.pex_listing.specs.declared.listing.Listing.{Listing}
-use Rattle.std.proofs.lemmas.Bool.{and_parts, not-true, cond-false}
+use Rattle.std.proofs.lemmas.Bool.{and_parts, not-true, cond-false, ltb-true}
 use Rattle.pex_values.specs.Plain.{PlainPex}
 use Rattle.pex_listing.specs.Lines.{quoted, string_line, first_line, header_lines, table_lines, head_lines}
-use Rattle.pex_listing.specs.Numbers.{are_digits, decimal_number, has_leading_zero}
+use Rattle.pex_listing.specs.Numbers.{are_digits}
+use Rattle.papy_base.specs.Digits.{decimal_number, has_leading_zero}
 use Rattle.pex_listing.specs.Opened.{word_of, fields_left, Opens, TakesField, Remains, TakesLines, BeginsWith}
-use Rattle.pex_listing.proofs.Digits.{canonical_digits}
+use Rattle.papy_base.proofs.DigitLemmas.{canonical_digits}
 
 pub takes_nothing : (l : Listing) → TakesLines [] l l
 takes_nothing l text opens = record { behind = text; whole = refl; opened = opens }
@@ -66,7 +67,8 @@ takes_number field digits is_negative n old between new left first_word canonica
   taken = λ (is : IsTrue new.is_canonical).
       let parts = and_parts (not is_negative) (not (has_leading_zero digits)) (and_parts between.is_canonical (not is_negative && not (has_leading_zero digits)) (sym noted ∙ is)).1 in
       let same : field ≡ digits = signed ∙ cond-false is_negative _ _ (not-true _ parts.0) in
-      let spelled : field ≡ decimal n = same ∙ canonical_digits digits n are number (not-true _ parts.1) in
+      let some : 0 < length digits = ltb-true 0 (length digits) (and_parts _ _ are).0 in
+      let spelled : field ≡ decimal n = same ∙ canonical_digits digits n some number (not-true _ parts.1) in
       left ∙ (ap (λ f. 32 ∷ f ++ fields_left between) spelled ∙ ap (λ f. 32 ∷ decimal n ++ f) (sym left-2));
 }
 

@@ -1,5 +1,5 @@
 -- Which numbers digits spell.
-use Rattle.std.specs.Prelude.{ℕ, ◌^◌, Bool, List, length, Option, Some, None, ◌==◌, ◌&&◌, nat_lt, if◌then◌else◌, slice_index}
+use Rattle.std.specs.Prelude.{ℕ, Bool, List, length, Option, Some, None, ◌==◌, ◌&&◌, nat_lt, if◌then◌else◌}
 use Rattle.std.specs.Char.{is_ascii_digit, is_digit, digit_value}
 use Rattle.std.specs.List.{list_all}
 use Rattle.std.specs.Str.Parse.{digits_value}
@@ -7,14 +7,6 @@ use Rattle.std.specs.Str.Parse.{digits_value}
 -- one decimal digit or more, and nothing else
 abbrev pub are_digits : List ℕ → Bool
 are_digits bytes = nat_lt 0 (length bytes) && list_all is_ascii_digit bytes
-
--- the number of decimal digits, where it has at most 64 bits
-abbrev pub decimal_number : List ℕ → Option ℕ
-decimal_number digits = if list_all is_ascii_digit digits && nat_lt (digits_value 10 digits) (2 ^ 64) then Some (digits_value 10 digits) else None
-
--- a zero stands before another digit
-abbrev pub has_leading_zero : List ℕ → Bool
-has_leading_zero digits = nat_lt 1 (length digits) && (slice_index digits 0 == 48)
 
 abbrev pub is_hex_digit : ℕ → Bool
 is_hex_digit digit = is_digit digit 16

@@ -1,9 +1,9 @@
 //! Listings to values.
 
-ghost use Rattle.std.specs.Prelude.{◌≡◌, ℕ, List, ◌+◌, ◌<◌, ◌≤◌, ◌^◌, ◌⊎◌, length, vec_len, IfOk, IfSome, option_map};
-ghost use Rattle.pex_values.specs.Fit.{Fits, FitsDebug, IsCounted};
-ghost use Rattle.pex_values.specs.Plain.{plain, plain_lines, plain_debug};
-ghost use Rattle.pex_values.specs.Shape.{IsWellShaped, IsShapedDebug, IsShapedFlag};
+ghost use Rattle.std.specs.Prelude.{◌≡◌, ℕ, List, ◌+◌, ◌<◌, ◌^◌, ◌⊎◌, length, vec_len, IfOk, IfSome};
+ghost use Rattle.pex_values.specs.Fit.{Fits, IsCounted};
+ghost use Rattle.pex_values.specs.Plain.{plain, plain_lines};
+ghost use Rattle.pex_values.specs.Shape.{IsWellShaped, IsShapedFlag};
 ghost use Rattle.pex_values.specs.Spelling as spell;
 ghost use Rattle.pex_listing.specs.Lines.{first_line, string_line, table_lines, head_lines};
 ghost use Rattle.pex_listing.specs.Opened.{BeginsWith, Opens, TakesLines};

@@ -4,15 +4,16 @@ ghost use Rattle.std.specs.Prelude.{◌≡◌, ℕ, List, ◌+◌, ◌<◌, ◌�
 ghost use Rattle.std.specs.Char.{is_ascii_digit};
 ghost use Rattle.std.specs.Fmt.{decimal};
 ghost use Rattle.std.specs.List.{list_all};
+ghost use Rattle.papy_base.specs.Digits.{has_leading_zero};
 ghost use Rattle.pex_values.specs.Shape.{IsReference};
 ghost use Rattle.pex_listing.specs.Lines.{escaped, quoted};
-ghost use Rattle.pex_listing.specs.Numbers.{are_digits, decimal_number, has_leading_zero, hex_value, hex_number};
+ghost use Rattle.pex_listing.specs.Numbers.{are_digits, hex_value, hex_number};
 ghost use Rattle.pex_listing.specs.Opened.{Opens, TakesField, SameWord, fields_left, word_of};
 ghost use Rattle.pex_listing.specs.Reading.{Reads, ReadsAll};
 
 use crate::faults::{BAD_LINE, ListingRule, Read};
 use crate::strings::{StringWords, is_word};
-use papy_base::{Fault, Text};
+use papy_base::{Fault, Text, decimal_number, has_leading_zero};
 use pex_values::{FILE_LIMIT, OPCODES, SizeForm};
 use std::alloc::Global;
 
@@ -238,7 +239,7 @@ impl<'a> Listing<'a> {
         if !is_digits(digits) {
             return Err(BAD_LINE);
         }
-        let number = magnitude(digits).ok_or(BAD_LINE)?;
+        let number = decimal_number(digits).ok_or(BAD_LINE)?;
         if number > most || (is_negative && number != 0) {
             return Err(BAD_LINE);
         }
@@ -265,7 +266,7 @@ impl<'a> Listing<'a> {
         if !is_digits(digits) {
             return Err(BAD_LINE);
         }
-        let magnitude = magnitude(digits).ok_or(BAD_LINE)?;
+        let magnitude = decimal_number(digits).ok_or(BAD_LINE)?;
         self.note(!(is_negative && magnitude == 0) && !has_leading_zero(digits));
         with_sign(is_negative, magnitude).ok_or(BAD_LINE)
     }
@@ -285,7 +286,7 @@ impl<'a> Listing<'a> {
         let field = self.field()?;
         let (place, by_word, is_canonical) = match field {
             [b'#', digits @ ..] if is_digits(digits) => {
-                let number = magnitude(digits).unwrap_or(u64::MAX);
+                let number = decimal_number(digits).unwrap_or(u64::MAX);
                 (u16::try_from(number).ok(), false, !has_leading_zero(digits))
             }
             _ if is_word(field) => (names.place_of(field), true, true),
@@ -330,29 +331,6 @@ fn each_is_digit(bytes: &[u8]) -> bool
     ensures { result ≡ list_all is_ascii_digit bytes.now }
 {
     bytes.iter().all(|byte| byte.is_ascii_digit())
-}
-
-/// The number that decimal digits spell. None where it doesn't fit 64 bits, or where a byte is no digit.
-pub(crate) fn magnitude(digits: &[u8]) -> Option<u64>
-    ensures { result ≡ decimal_number digits.now }
-{
-    let mut number: u64 = 0;
-    for digit in digits {
-        if !digit.is_ascii_digit() {
-            return None;
-        }
-        number = number
-            .checked_mul(10)?
-            .checked_add(u64::from(*digit - b'0'))?;
-    }
-    Some(number)
-}
-
-/// Whether digits have a zero in front that they don't need.
-pub(crate) fn has_leading_zero(digits: &[u8]) -> bool
-    ensures { result ≡ has_leading_zero digits.now }
-{
-    digits.len() > 1 && digits.first() == Some(&b'0')
 }
 
 /// The value of a hexadecimal digit of either case.

@@ -294,7 +294,11 @@ fn show_table<S: Sink>(out: &mut String, strings: &[Text], sink: &mut S) -> Writ
 }
 
 /// The debug line, and the entries behind it.
-fn show_debug<S: Sink>(lines: &mut UnwrittenLines, debug: &Option<PexDebug>, sink: &mut S) -> Written
+fn show_debug<S: Sink>(
+    lines: &mut UnwrittenLines,
+    debug: &Option<PexDebug>,
+    sink: &mut S,
+) -> Written
     ensures faults { Shows S.faults result sink.old sink.new }
     ensures appended { AppendsSome (S.written sink.old) (S.written sink.new) }
 {

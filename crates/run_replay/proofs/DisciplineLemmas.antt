@@ -5,13 +5,13 @@ use Rattle.std.proofs.lemmas.Bool.{false≢true, cond_both, and_parts, or_cases,
 use Rattle.std.proofs.lemmas.Option.{slice_get_past, slice_get_within}
 use Rattle.run_replay.specs.declared.lock_move.LockMove.{LockMove}
 use Rattle.run_replay.specs.declared.lock_move.LockMove.TheVariants as moves
-use Rattle.run_replay.specs.declared.book.StackPlace.{StackPlace}
-use Rattle.run_replay.specs.declared.book.StackPlace.TheVariants as places
+use Rattle.run_replay.specs.declared.stack_place.StackPlace.{StackPlace}
+use Rattle.run_replay.specs.declared.stack_place.StackPlace.TheVariants as places
 use Rattle.run_replay.specs.declared.book.Stage.{Stage}
 use Rattle.run_replay.specs.declared.book.Stage.TheVariants as stages
 use Rattle.run_replay.specs.declared.book.Waiter.{Waiter}
 use Rattle.run_replay.specs.Lines.{JournalLine, Heading, Instance, Turn, End, Moved}
-use Rattle.run_replay.specs.Book.{Standing, start, place_of, is_due, is_between, is_free, holds, waits, nobody_holds, is_first, ready_at, wakes, begins, arrives, acts, just_ran, stage_after, move_is_allowed, is_allowed, is_other, without_stack, moved, after, Leave, AreLegal}
+use Rattle.run_replay.specs.Book.{Standing, start, place_of, is_due, is_between, is_free, holds, waits, nobody_holds, is_first, ready_at, wakes, begins, arrives, may_let_go, just_ran, stage_after, move_is_allowed, is_allowed, is_other, without_stack, moved, after, Leave, AreLegal}
 use Rattle.run_replay.specs.Discipline.{Stands, OneHolder, InOrder, LetsGo}
 
 -- places
@@ -174,7 +174,7 @@ holds_move s (moves.Release k n) j i allowed here = ⊎_elim
   where
     released : j ≡ k → moves.Release k n ≡ moves.Release j i
     released same =
-        let held : slice_get s.places k ≡ Some (places.Holds n) = holds_is n (place_of s k) (and_parts (acts s.stage k) (holds n (place_of s k)) allowed).1 in
+        let held : slice_get s.places k ≡ Some (places.Holds n) = holds_is n (place_of s k) (and_parts (may_let_go s.stage k) (holds n (place_of s k)) allowed).1 in
         let both : Some (places.Holds i) ≡ Some (places.Holds n) = sym here ∙ ap (slice_get s.places) same ∙ held in
         cc
 holds_move s (moves.Free k) j i allowed here = inr (stays away s.places j k (places.Holds i) places.Free here refl (was_away s k allowed).away)

@@ -12,7 +12,8 @@ use Rattle.run_replay.specs.declared.reader.JournalWord.{JournalWord}
 use Rattle.run_replay.specs.declared.reader.JournalWord.TheVariants as keyword
 use Rattle.run_replay.specs.declared.reader.Numbers.{Numbers}
 use Rattle.run_replay.specs.declared.reader.Numbers.TheVariants as numbers
-use Rattle.run_replay.specs.Lines.{JournalLine, Heading, Instance, Turn, End, Moved, line_text, LineFits, word_of, spelled, AreSmall, Ends, Lacks, is_not, is_name_byte, is_instance_name}
+use Rattle.run_replay.specs.Lines.{JournalLine, Heading, Instance, Turn, End, Moved, line_text, LineFits, word_of, spelled, AreSmall, Ends, Lacks, is_not}
+use Rattle.papy_base.specs.InstanceName.{is_instance_name, is_name_byte}
 use Rattle.run_replay.specs.Reading.{seen, numbered_line}
 use Rattle.run_replay.proofs.SplitLemmas.{one_split, cut_here, lacks_all, number_lacks, lacks_both}
 use Rattle.run_replay.proofs.NumbersLemmas.{same_numbers}

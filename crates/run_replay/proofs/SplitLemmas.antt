@@ -8,7 +8,7 @@ use Rattle.std.proofs.lemmas.Bool.{false≢true, cond-true, cond-false, and_part
 use Rattle.std.proofs.lemmas.Fmt.{digits_decimal}
 use Rattle.std.proofs.lemmas.List.{take-append-drop, take_all}
 use Rattle.run_replay.specs.Lines.{Ends, Lacks, is_not}
-use Rattle.run_replay.proofs.Digits.{own}
+use Rattle.papy_base.proofs.DigitLemmas.{digit_numerals}
 
 -- there is one place where a sign stands first
 pub one_split : (sign : ℕ) (p q a b : List ℕ) → Lacks sign p → Lacks sign q → Ends sign a → Ends sign b → p ++ a ≡ q ++ b → (p ≡ q) × (a ≡ b)
@@ -32,7 +32,7 @@ lacks_all test sign (d ∷ ds) other all =
     (λ same. false≢true (sym other ∙ ap test (sym same) ∙ parts.0), lacks_all test sign ds other parts.1)
 
 pub number_lacks : (sign n : ℕ) → is_ascii_digit sign ≡ false → n < 2 ^ 32 → Lacks sign (decimal n)
-number_lacks sign n other small = lacks_all is_ascii_digit sign (decimal n) other (digits_decimal own n (omega arith))
+number_lacks sign n other small = lacks_all is_ascii_digit sign (decimal n) other (digits_decimal digit_numerals n (omega arith))
 
 pub lacks_both : (sign : ℕ) (p q : List ℕ) → Lacks sign p → Lacks sign q → Lacks sign (p ++ q)
 lacks_both sign [] q lp lq = lq

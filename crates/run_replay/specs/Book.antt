@@ -3,8 +3,8 @@ use Rattle.std.specs.Prelude.{ℕ, ◌≡◌, ◌≢◌, ◌+◌, ◌-◌, ◌<�
 use Rattle.std.specs.List.{list_all}
 use Rattle.run_replay.specs.declared.lock_move.LockMove.{LockMove}
 use Rattle.run_replay.specs.declared.lock_move.LockMove.TheVariants as moves
-use Rattle.run_replay.specs.declared.book.StackPlace.{StackPlace}
-use Rattle.run_replay.specs.declared.book.StackPlace.TheVariants as places
+use Rattle.run_replay.specs.declared.stack_place.StackPlace.{StackPlace}
+use Rattle.run_replay.specs.declared.stack_place.StackPlace.TheVariants as places
 use Rattle.run_replay.specs.declared.book.Stage.{Stage}
 use Rattle.run_replay.specs.declared.book.Stage.TheVariants as stages
 use Rattle.run_replay.specs.declared.book.Waiter.{Waiter}
@@ -238,16 +238,16 @@ abbrev pub arrives : Standing → ℕ → Bool
 arrives s stack = after_run s.stage && is_between (place_of s stack)
 
 -- the turn is this stack's, and it hasn't let go of its place
-abbrev pub acts : Stage → ℕ → Bool
-acts (stages.Ran runner) stack = runner == stack
-acts (stages.Acting runner) stack = runner == stack
-acts (stages.Left runner) stack = false
-acts stages.Start stack = false
-acts stages.Instances stack = false
-acts stages.Begun stack = false
-acts (stages.Woken last) stack = false
-acts stages.Idle stack = false
-acts stages.Ended stack = false
+abbrev pub may_let_go : Stage → ℕ → Bool
+may_let_go (stages.Ran runner) stack = runner == stack
+may_let_go (stages.Acting runner) stack = runner == stack
+may_let_go (stages.Left runner) stack = false
+may_let_go stages.Start stack = false
+may_let_go stages.Instances stack = false
+may_let_go stages.Begun stack = false
+may_let_go (stages.Woken last) stack = false
+may_let_go stages.Idle stack = false
+may_let_go stages.Ended stack = false
 
 -- the line before says that the turn is this stack's
 abbrev pub just_ran : Stage → ℕ → Bool
@@ -264,9 +264,9 @@ just_ran stages.Ended stack = false
 abbrev pub move_is_allowed : Standing → LockMove → Bool
 move_is_allowed s (moves.Join k i) = begins s s.stage k || (wakes s s.stage k || arrives s k)
 move_is_allowed s (moves.Take k i) = just_ran s.stage k && waits i (place_of s k)
-move_is_allowed s (moves.Release k i) = acts s.stage k && holds i (place_of s k)
+move_is_allowed s (moves.Release k i) = may_let_go s.stage k && holds i (place_of s k)
 move_is_allowed s (moves.Free k) = wakes s s.stage k || arrives s k
-move_is_allowed s (moves.Leave k) = acts s.stage k && is_free (place_of s k)
+move_is_allowed s (moves.Leave k) = may_let_go s.stage k && is_free (place_of s k)
 move_is_allowed s (moves.Sleep k until) = arrives s k && not (nat_lt until s.turns)
 move_is_allowed s (moves.Done k) = arrives s k
 move_is_allowed s (moves.Run k) = nobody_due s.turns s.places && is_ready s k

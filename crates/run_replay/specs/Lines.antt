@@ -1,9 +1,8 @@
 -- The lines of a journal, and their text.
-use Rattle.std.specs.Prelude.{ℕ, ◌≡◌, ◌<◌, ◌^◌, ◌==◌, ◌&&◌, ◌||◌, Bool, true, not, List, [], ◌∷◌, ◌++◌, length, Option, Some, None, nat_lt, slice_index, codes, if◌then◌else◌}
-use Rattle.std.specs.Char.{is_ascii_digit, is_ascii_alphanumeric}
-use Rattle.std.specs.List.{flat_map, list_all}
+use Rattle.std.specs.Prelude.{ℕ, ◌≡◌, ◌<◌, ◌^◌, ◌==◌, Bool, true, not, List, [], ◌∷◌, ◌++◌, codes}
+use Rattle.std.specs.List.{flat_map}
 use Rattle.std.specs.Fmt.{decimal}
-use Rattle.std.specs.Str.Parse.{digits_value}
+use Rattle.papy_base.specs.InstanceName.{is_instance_name}
 use Rattle.run_replay.specs.declared.lock_move.LockMove.{LockMove}
 use Rattle.run_replay.specs.declared.lock_move.LockMove.TheVariants as moves
 use Rattle.run_replay.specs.declared.reader.JournalWord.{JournalWord}
@@ -45,14 +44,6 @@ ended_line line = line_text line ++ 10 ∷ []
 
 abbrev pub journal_text : List JournalLine → List ℕ
 journal_text lines = flat_map ended_line lines
-
--- a letter, a digit or `_`
-abbrev pub is_name_byte : ℕ → Bool
-is_name_byte byte = is_ascii_alphanumeric byte || (byte == 95)
-
--- the name of an instance
-abbrev pub is_instance_name : List ℕ → Bool
-is_instance_name name = nat_lt 0 (length name) && (nat_lt (length name) 65 && list_all is_name_byte name)
 
 -- a stack is at most 1,023, an instance at most 255, and any other number has 32 bits
 abbrev pub MoveFits : LockMove → Type 0
@@ -101,14 +92,6 @@ is_not sign byte = not (byte == sign)
 abbrev pub Lacks : ℕ → List ℕ → Type 0
 Lacks sign [] = Unit {0}
 Lacks sign (byte ∷ bytes) = (byte ≡ sign → ⊥) × Lacks sign bytes
-
--- a zero stands before another digit
-abbrev pub has_leading_zero : List ℕ → Bool
-has_leading_zero digits = nat_lt 1 (length digits) && (slice_index digits 0 == 48)
-
--- the number of decimal digits, where it has 32 bits
-abbrev pub decimal_number : List ℕ → Option ℕ
-decimal_number digits = if list_all is_ascii_digit digits && nat_lt (digits_value 10 digits) (2 ^ 32) then Some (digits_value 10 digits) else None
 
 -- numbers, each behind a blank
 abbrev pub spelled : Numbers → List ℕ

@@ -3,10 +3,11 @@
 ghost use Rattle.std.specs.Prelude.{◌≡◌, ◌≤◌, OnOk, true, length, slice_set};
 ghost use Rattle.std.specs.List.{prefix_len};
 ghost use Rattle.run_replay.specs.Lines.{LineFits};
-ghost use Rattle.run_replay.specs.Book.{Standing, start, place_of, is_due, is_between, is_free, holds, waits, is_first, is_other, since_of, without_stack, nobody_due, nobody_holds, is_ready, before_run, after_run, between_turns, in_turn, just_ran, acts, begins, wakes, arrives, is_settled, stage_after, may_stand, move_may_stand, is_allowed, move_is_allowed, joined, settled_at, moved, after};
+ghost use Rattle.run_replay.specs.Book.{Standing, start, place_of, is_due, is_between, is_free, holds, waits, is_first, is_other, since_of, without_stack, nobody_due, nobody_holds, is_ready, before_run, after_run, between_turns, in_turn, just_ran, may_let_go, begins, wakes, arrives, is_settled, stage_after, may_stand, move_may_stand, is_allowed, move_is_allowed, joined, settled_at, moved, after};
 
 use crate::lock_move::LockMove;
 use crate::reader::ParsedLine;
+use crate::stack_place::StackPlace;
 use crate::waits::{Waits, add_to};
 use papy_base::{Made, Text};
 use std::alloc::Global;
@@ -14,22 +15,6 @@ use std::marker::Model;
 
 /// The most instances of a journal.
 const INSTANCE_LIMIT: usize = 256;
-
-/// Where a stack is that has begun.
-#[derive(Clone, Copy)]
-pub(crate) enum StackPlace {
-    /// It runs without an instance.
-    Free,
-    /// It waits for this instance.
-    Waits(u16),
-    /// It holds this instance.
-    Holds(u16),
-    /// It sleeps until this turn.
-    Asleep(u32),
-    Done,
-    /// It let go of its place in this turn, and has no other yet.
-    Between,
-}
 
 /// Whether the stack sleeps and its turn has come, where this many turns have begun.
 fn is_due(place: Option<StackPlace>, turns: u32) -> bool
@@ -175,8 +160,8 @@ fn just_ran(stage: Stage, stack: u16) -> bool
 }
 
 // The turn is this stack's, and it hasn't let go of its place.
-fn acts(stage: Stage, stack: u16) -> bool
-    ensures { result ≡ acts stage stack }
+fn may_let_go(stage: Stage, stack: u16) -> bool
+    ensures { result ≡ may_let_go stage stack }
 {
     matches!(stage, Stage::Ran(runner) | Stage::Acting(runner) if runner == stack)
 }
@@ -350,10 +335,11 @@ impl Book {
                 just_ran(self.stage, stack) && waits(self.place_of(stack), instance)
             }
             LockMove::Release(stack, instance) => {
-                acts(self.stage, stack) && holds(self.place_of(stack), instance)
+                may_let_go(self.stage, stack) && holds(self.place_of(stack), instance)
             }
             LockMove::Free(stack) => self.wakes(stack) || self.arrives(stack),
-            LockMove::Leave(stack) => acts(self.stage, stack) && is_free(self.place_of(stack)),
+            LockMove::Leave(stack) => may_let_go(self.stage, stack)
+                && is_free(self.place_of(stack)),
             LockMove::Sleep(stack, until) => self.arrives(stack) && !(until < self.turns),
             LockMove::Done(stack) => self.arrives(stack),
             LockMove::Run(stack) => {

@@ -1,7 +1,7 @@
 //! Journals, checked.
 
 ghost use Rattle.std.specs.Prelude.{◌≡◌, ◌+◌, ◌<◌, ◌≤◌, ◌++◌, ◌∷◌, ◌^◌, ℕ, length, map, slice_index, List, MatchOption, OnOk, IfOk, IfErr};
-ghost use Rattle.run_replay.specs.Book.{Standing, start, FirstBreak, IsLegal};
+ghost use Rattle.run_replay.specs.Book.{start, FirstBreak, IsLegal};
 ghost use Rattle.run_replay.specs.Journal.{StepAnswer, ReadAnswer, JournalFaultIs, IsRefused};
 ghost use Rattle.run_replay.specs.Discipline.{OneHolder, InOrder, LetsGo};
 ghost use Rattle.run_replay.specs.Lines.{JournalLine, Lacks};

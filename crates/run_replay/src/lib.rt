@@ -6,11 +6,13 @@ mod fault;
 mod journal;
 mod lock_move;
 mod reader;
+mod stack_place;
 mod text;
 mod waits;
 
 pub use fault::{JournalFault, JournalRule};
 pub use journal::{check_journal, one_break};
 pub use lock_move::LockMove;
+pub use stack_place::StackPlace;
 pub use text::{ending, heading, turn_text};
 pub use waits::Waits;

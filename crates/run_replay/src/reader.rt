@@ -2,17 +2,16 @@
 
 ghost use Rattle.std.specs.Prelude.{◌≡◌, ◌≢◌, ◌<◌, ◌≤◌, ◌^◌, ℕ, List, ◌++◌, ◌∷◌, true, length, IfSome, MatchOption, option_map};
 ghost use Rattle.std.specs.Fmt.{decimal};
-ghost use Rattle.std.specs.List.{list_all, prefix_len};
+ghost use Rattle.std.specs.List.{prefix_len};
+ghost use Rattle.papy_base.specs.InstanceName.{is_instance_name};
 ghost use Rattle.run_replay.specs.declared.reader.JournalWord.{JournalWord};
 ghost use Rattle.run_replay.specs.declared.reader.Numbers.{Numbers};
 ghost use Rattle.run_replay.specs.declared.reader.Numbers.TheVariants as numbers;
-ghost use Rattle.run_replay.specs.Lines.{JournalLine, line_text, LineFits, is_instance_name, is_name_byte, word_of, spelled, AreSmall, Ends, has_leading_zero, decimal_number, is_not};
+ghost use Rattle.run_replay.specs.Lines.{JournalLine, line_text, LineFits, word_of, spelled, AreSmall, Ends, is_not};
 ghost use Rattle.run_replay.specs.Reading.{seen, line_with_one, line_with_two, numbered_line};
 
 use crate::lock_move::LockMove;
-
-/// The most bytes of an instance's name.
-const NAME_LIMIT: usize = 64;
+use papy_base::{decimal_number, has_leading_zero, is_instance_name};
 
 /// The greatest number of a turn.
 const LAST_TURN: u32 = 1000000;
@@ -99,29 +98,6 @@ pub(crate) fn len_before(sign: u8, bytes: &[u8]) -> usize
     bytes.len()
 }
 
-// The number of the digits. None where a byte is no digit, or where the number has more than 32 bits.
-fn value_of(digits: &[u8]) -> Option<u32>
-    ensures { result ≡ decimal_number digits.now }
-{
-    let mut number: u32 = 0;
-    for digit in digits {
-        if !digit.is_ascii_digit() {
-            return None;
-        }
-        number = number
-            .checked_mul(10)?
-            .checked_add(u32::from(*digit - b'0'))?;
-    }
-    Some(number)
-}
-
-// Whether a zero stands before another digit.
-fn has_leading_zero(digits: &[u8]) -> bool
-    ensures { result ≡ has_leading_zero digits.now }
-{
-    digits.len() > 1 && digits.first() == Some(&b'0')
-}
-
 // The number that a word writes, with no zero before another digit.
 fn magnitude(digits: &[u8]) -> Option<u32>
     ensures { MatchOption result ((n : ℕ) → n < 2 ^ 32 → digits.now ≢ decimal n) (λ n. (digits.now ≡ decimal n) × (n < 2 ^ 32)) }
@@ -132,7 +108,8 @@ fn magnitude(digits: &[u8]) -> Option<u32>
     if has_leading_zero(digits) {
         return None;
     }
-    value_of(digits)
+    let number = decimal_number(digits)?;
+    u32::try_from(number).ok()
 }
 
 /// What stands behind a blank.
@@ -175,25 +152,6 @@ fn numbers_of(bytes: &[u8]) -> Option<Numbers>
     None
 }
 
-fn is_name_byte(byte: u8) -> bool
-    ensures { result ≡ is_name_byte byte }
-{
-    byte.is_ascii_alphanumeric() || byte == b'_'
-}
-
-fn are_name_bytes(bytes: &[u8]) -> bool
-    ensures { result ≡ list_all is_name_byte bytes.now }
-{
-    bytes.iter().all(|byte| is_name_byte(*byte))
-}
-
-// 1 to 64 letters, digits or `_`.
-fn is_instance_name(name: &[u8]) -> bool
-    ensures { result ≡ is_instance_name name.now }
-{
-    !name.is_empty() && (name.len() <= NAME_LIMIT && are_name_bytes(name))
-}
-
 // The name behind a blank.
 fn name_at(bytes: &[u8]) -> Option<&[u8]>
     ensures { MatchOption result
@@ -216,10 +174,18 @@ fn line_with_one<'a>(keyword: JournalWord, number: u32) -> Option<ParsedLine<'a>
         JournalWord::Journal if number == 1 => Some(ParsedLine::Heading),
         JournalWord::Turn if number <= LAST_TURN => Some(ParsedLine::Turn(number)),
         JournalWord::End if number <= LAST_TURN => Some(ParsedLine::End(number)),
-        JournalWord::Free if number <= LAST_STACK => Some(ParsedLine::Move(LockMove::Free(number as u16))),
-        JournalWord::Leave if number <= LAST_STACK => Some(ParsedLine::Move(LockMove::Leave(number as u16))),
-        JournalWord::Done if number <= LAST_STACK => Some(ParsedLine::Move(LockMove::Done(number as u16))),
-        JournalWord::Run if number <= LAST_STACK => Some(ParsedLine::Move(LockMove::Run(number as u16))),
+        JournalWord::Free if number <= LAST_STACK => Some(ParsedLine::Move(LockMove::Free(
+            number as u16,
+        ))),
+        JournalWord::Leave if number <= LAST_STACK => Some(ParsedLine::Move(LockMove::Leave(
+            number as u16,
+        ))),
+        JournalWord::Done if number <= LAST_STACK => Some(ParsedLine::Move(LockMove::Done(
+            number as u16,
+        ))),
+        JournalWord::Run if number <= LAST_STACK => Some(ParsedLine::Move(LockMove::Run(
+            number as u16,
+        ))),
         _ => None,
     }
 }

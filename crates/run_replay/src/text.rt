@@ -1,7 +1,6 @@
 //! The text of a journal.
 
-ghost use Rattle.std.specs.Prelude.{◌≡◌, ◌∷◌, ◌++◌, [], IfOk, OnOk, map};
-ghost use Rattle.std.specs.List.{flat_map};
+ghost use Rattle.std.specs.Prelude.{◌≡◌, ◌∷◌, [], IfOk, map};
 ghost use Rattle.std.specs.String.{string_bytes};
 ghost use Rattle.run_replay.specs.Lines.{Heading, Instance, Turn, End, Moved, ended_line, journal_text};
 

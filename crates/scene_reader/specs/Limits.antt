@@ -1,9 +1,9 @@
 -- The limits that a scene keeps once it was read.
-use Rattle.std.specs.Prelude.{ℕ, ℤ, ◌≡◌, ◌<◌, ◌≤◌, Bool, false, ◌||◌, ◌==◌, IsTrue, List, length}
-use Rattle.std.specs.Char.{is_ascii_alphanumeric}
+use Rattle.std.specs.Prelude.{ℕ, ℤ, ◌≡◌, ◌≤◌, Bool, false, List, length}
 use Rattle.std.specs.List.{All}
 use Rattle.std.specs.declared.alloc.Global.{Global}
 use Rattle.std.specs.declared.vec.Vec.{Vec}
+use Rattle.papy_base.specs.InstanceName.{IsInstanceName}
 use Rattle.core_tree.specs.declared.scene_tree.Binding.{Binding}
 use Rattle.core_tree.specs.declared.scene_tree.Binding.TheVariants as bindings
 use Rattle.core_tree.specs.declared.scene_tree.SceneCall.{SceneCall}
@@ -13,18 +13,6 @@ use Rattle.core_tree.specs.declared.scene_tree.SceneValue.{SceneValue}
 use Rattle.core_tree.specs.declared.scene_tree.SceneValue.TheVariants as values
 use Rattle.core_tree.specs.declared.scene_tree.TurnOrder.{TurnOrder}
 use Rattle.core_tree.specs.declared.scene_tree.TurnOrder.TheVariants as orders
-
--- a letter, a digit or `_`
-abbrev pub is_name_byte : ℕ → Bool
-is_name_byte byte = is_ascii_alphanumeric byte || (byte == 95)
-
-abbrev pub IsNameByte : ℕ → Type 0
-IsNameByte byte = IsTrue (is_name_byte byte)
-
-pub record IsInstanceName (name : List ℕ) : Type 0 where
-  pub some : 0 < length name
-  pub few : length name ≤ 64
-  pub bytes : All IsNameByte name
 
 abbrev pub IsShort : List ℕ → Type 0
 IsShort text = length text ≤ 1024

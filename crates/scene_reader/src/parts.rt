@@ -1,12 +1,13 @@
 // The parts of a scene that JSON values are read as.
-ghost use Rattle.std.specs.Prelude.{◌≡◌, ◌≤◌, ◌≤ℤ◌, length, IfOk, OnOk};
-ghost use Rattle.std.specs.List.{All, list_all};
+ghost use Rattle.std.specs.Prelude.{◌≤◌, ◌≤ℤ◌, length, IfOk, OnOk};
+ghost use Rattle.std.specs.List.{All};
 ghost use Rattle.std.specs.Option.{ForSome};
-ghost use Rattle.scene_reader.specs.Limits.{BindingKeeps, CallKeeps, InstanceKeeps, IsInstanceName, IsShort, IsTurns, Keeps, NamedKeeps, TapeKeeps, ValueKeeps, is_name_byte};
+ghost use Rattle.papy_base.specs.InstanceName.{IsInstanceName};
+ghost use Rattle.scene_reader.specs.Limits.{BindingKeeps, CallKeeps, InstanceKeeps, IsShort, IsTurns, Keeps, NamedKeeps, TapeKeeps, ValueKeeps};
 
 use crate::fault::{SceneFault, SceneRule};
 use core_tree::{Binding, SceneCall, SceneInstance, SceneValue};
-use papy_base::Text;
+use papy_base::{Text, is_instance_name};
 use serde_json::Value;
 use std::alloc::Global;
 
@@ -17,8 +18,6 @@ use std::alloc::Global;
 pub const FILE_LIMIT: usize = 16 * 1024 * 1024;
 /// The most bytes of a text.
 const TEXT_LIMIT: usize = 1024;
-/// The most bytes of an instance's name.
-const NAME_LIMIT: usize = 64;
 /// The most instances.
 pub const INSTANCE_LIMIT: usize = 256;
 /// The most calls.
@@ -219,27 +218,15 @@ impl Item for SceneInstance {
     }
 }
 
-// 1 to 64 letters, digits or `_`.
+// The name of an instance.
 fn instance_name(alloc: Global, value: &Value) -> Result<Text, SceneFault>
     ensures { IfOk result IsInstanceName }
 {
     let name = value.as_str().ok_or(SHAPE_FAULT)?.as_bytes();
-    if name.is_empty() || name.len() > NAME_LIMIT || !are_name_bytes(name) {
+    if !is_instance_name(name) {
         return Err(SHAPE_FAULT);
     }
     Ok(Text::try_from_bytes(alloc, name)?)
-}
-
-fn are_name_bytes(bytes: &[u8]) -> bool
-    ensures { result ≡ list_all is_name_byte bytes.now }
-{
-    bytes.iter().all(|byte| is_name_byte(*byte))
-}
-
-fn is_name_byte(byte: u8) -> bool
-    ensures { result ≡ is_name_byte byte }
-{
-    byte.is_ascii_alphanumeric() || byte == b'_'
 }
 
 impl Item for SceneValue {

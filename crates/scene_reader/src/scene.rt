@@ -1,11 +1,11 @@
 // From the bytes of a scene file to its scene, and the scene of a script without a file.
-ghost use Rattle.std.specs.Prelude.{◌≡◌, IfOk};
+ghost use Rattle.std.specs.Prelude.{IfOk};
 ghost use Rattle.scene_reader.specs.Default.{IsDefaultScene};
 ghost use Rattle.scene_reader.specs.Limits.{Keeps, KeepsLimits, IsQuantum, OrderKeeps};
 
 use crate::fault::{SceneFault, SceneRule};
 use crate::parts::{
-    CALL_LIMIT, FILE_LIMIT, INSTANCE_LIMIT, ORDER_LIMIT, QUANTUM_LIMIT, SceneReader, SHAPE_FAULT,
+    CALL_LIMIT, FILE_LIMIT, INSTANCE_LIMIT, ORDER_LIMIT, QUANTUM_LIMIT, SHAPE_FAULT, SceneReader,
     TURN_LIMIT, Version, check_keys, needed,
 };
 use core_tree::{SceneCall, SceneInstance, SceneTree, TurnOrder};

@@ -5,19 +5,20 @@ use Rattle.std.proofs.lemmas.List.{get_or-map, length-map}
 use Rattle.std.proofs.lemmas.List.Elements.{Contains-append_left, Contains-append_right, Contains-append_cases}
 use Rattle.script_parser.specs.declared.script.Function.{Function}
 use Rattle.script_parser.specs.declared.script.Script.{Script}
-use Rattle.script_linker.specs.declared.rules.Earliest.{Earliest}
-use Rattle.script_linker.specs.declared.rules.BrokenRule.{BrokenRule}
-use Rattle.script_linker.specs.Found.{FindsAmong}
+use Rattle.papy_base.specs.declared.earliest.Earliest.{Earliest}
+use Rattle.papy_base.specs.declared.earliest.BrokenRule.{BrokenRule}
+use Rattle.script_linker.specs.declared.fault.LinkRule.{LinkRule}
+use Rattle.papy_base.specs.Earliest.{FindsAmong}
 use Rattle.script_parser.specs.Lines.{function_line, heading_lines, lines_with, property_line, property_lines, state_lines, variable_line}
 
 -- the lines of the first list are among those of the second
 pub record AreAmong (few many : List ℕ) : Type 0 where
   pub each : (n : ℕ) → Contains few n → Contains many n
 
-pub FindsAmong-nothing : (lines : List ℕ) (a : Earliest) → FindsAmong lines a a
+pub FindsAmong-nothing : (lines : List ℕ) (a : Earliest LinkRule) → FindsAmong lines a a
 FindsAmong-nothing lines a = record { each = λ found is. inl is; stays = λ none. none }
 
-pub FindsAmong-then : {few many : List ℕ} {a b c : Earliest} → AreAmong few many → FindsAmong many a b → FindsAmong few b c → FindsAmong many a c
+pub FindsAmong-then : {few many : List ℕ} {a b c : Earliest LinkRule} → AreAmong few many → FindsAmong many a b → FindsAmong few b c → FindsAmong many a c
 FindsAmong-then within first second = record {
   each = λ found is.
       ⊎_elim
@@ -133,18 +134,18 @@ module _ (functions : List Function) (script : Script) where
   of_states = AreAmong-right (heading ++ variables ++ properties ++ own) states (AreAmong-all states)
 
 -- all that was found is on these lines, where nothing was found before
-pub found_on : {lines : List ℕ} {a b : Earliest} → a.found ≡ None → FindsAmong lines a b → (one : BrokenRule) → b.found ≡ Some one → Contains lines one.line
+pub found_on : {lines : List ℕ} {a b : Earliest LinkRule} → a.found ≡ None → FindsAmong lines a b → (one : BrokenRule LinkRule) → b.found ≡ Some one → Contains lines one.line
 found_on nothing finds one is = ⊎_elim (λ before. cc) (λ here. here) (finds.each one is)
 
-pub IfSome-found_on : {lines : List ℕ} {a b : Earliest} → a.found ≡ None → FindsAmong lines a b → IfSome b.found (λ one. Contains lines one.line)
+pub IfSome-found_on : {lines : List ℕ} {a b : Earliest LinkRule} → a.found ≡ None → FindsAmong lines a b → IfSome b.found (λ one. Contains lines one.line)
 IfSome-found_on {lines} {a} {b} nothing finds = go b.found refl
   where
-    go : (found : Option BrokenRule) → b.found ≡ found → IfSome found (λ one. Contains lines one.line)
+    go : (found : Option (BrokenRule LinkRule)) → b.found ≡ found → IfSome found (λ one. Contains lines one.line)
     go None is = tt
     go (Some one) is = found_on nothing finds one is
 
 -- the same of a fault at the line of the script in their place
-pub limit_on : (functions : List Function) (script : Script) {a b : Earliest} → a.found ≡ None → FindsAmong (lines_with functions script) a b → (found : Option BrokenRule) → IfSome found (λ one. (b.found ≡ Some one) ⊎ (one.line ≡ script.line)) → IfSome found (λ one. Contains (lines_with functions script) one.line)
+pub limit_on : (functions : List Function) (script : Script) {a b : Earliest LinkRule} → a.found ≡ None → FindsAmong (lines_with functions script) a b → (found : Option (BrokenRule LinkRule)) → IfSome found (λ one. (b.found ≡ Some one) ⊎ (one.line ≡ script.line)) → IfSome found (λ one. Contains (lines_with functions script) one.line)
 limit_on functions script nothing finds None is = tt
 limit_on functions script nothing finds (Some one) is =
     ⊎_elim
@@ -153,7 +154,7 @@ limit_on functions script nothing finds (Some one) is =
     is
 
 -- where nothing is found, a thing that would have been noted breaks no rule
-pub unbroken : (is_broken : Bool) (found : Option BrokenRule) → (IsTrue is_broken → IsSome found) → found ≡ None → ¬ IsTrue is_broken
+pub unbroken : (is_broken : Bool) (found : Option (BrokenRule LinkRule)) → (IsTrue is_broken → IsSome found) → found ≡ None → ¬ IsTrue is_broken
 unbroken is_broken (Some one) noted none = cc
 unbroken is_broken None noted none = λ broken. true≢false (sym (noted broken))
 

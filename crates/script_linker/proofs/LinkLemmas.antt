@@ -4,7 +4,7 @@ use Rattle.std.proofs.lemmas.List.{get_or-drop, get_or-map, get_or_default, get_
 use Rattle.std.proofs.lemmas.Bool.{cases_eq, cases_lt}
 use Rattle.script_parser.specs.declared.script.Script.{Script}
 use Rattle.script_linker.specs.declared.set.SourceFile.{SourceFile}
-use Rattle.script_linker.specs.declared.rules.BrokenRule.{BrokenRule}
+use Rattle.papy_base.specs.declared.earliest.BrokenRule.{BrokenRule}
 use Rattle.script_linker.specs.declared.fault.LinkRule.{LinkRule}
 use Rattle.script_linker.specs.declared.fault.LinkFault.{LinkFault}
 use Rattle.script_linker.specs.declared.fault.LinkFault.TheVariants.{Broken, OutOfMemory}
@@ -62,7 +62,7 @@ IsFaultOn-at lines set number line rule fault is behind inside on =
 
 -- what is on the lines of a file that was read is on those of the file of its number
 pub IfSome-at : (lines : Script → List ℕ) (files : List SourceFile) (number : ℕ) (read : SourceFile) → number < length files → read ≡ get_or files number read
-    → (found : Option BrokenRule) → IfSome found (λ one. Contains (lines read.script) one.line) → IfSome found (λ one. (file : SourceFile) → Contains (lines (get_or files number file).script) one.line)
+    → (found : Option (BrokenRule LinkRule)) → IfSome found (λ one. Contains (lines read.script) one.line) → IfSome found (λ one. (file : SourceFile) → Contains (lines (get_or files number file).script) one.line)
 IfSome-at lines files number read inside is None on = tt
 IfSome-at lines files number read inside is (Some one) on = λ file.
     let at : read ≡ get_or files number file = is ∙ get_or_default files number read file inside in

@@ -1,4 +1,3 @@
-pub mod Found
 pub mod Generated
 pub mod Rows
 pub mod Index

@@ -2,7 +2,7 @@ ghost use Rattle.std.specs.Prelude.{◌≡◌};
 ghost use Rattle.script_linker.specs.Rules.{rule_number};
 ghost use Rattle.script_linker.specs.declared.fault.LinkFault.TheVariants.{OutOfMemory as LinkOutOfMemory};
 
-use papy_base::OutOfMemory;
+use papy_base::{NumberedRule, OutOfMemory};
 use thiserror::Error;
 
 /// The rules of a set of scripts, in the order of their numbers, N1 to N12.
@@ -34,11 +34,11 @@ pub enum LinkRule {
     Limit,
 }
 
-impl LinkRule {
+impl NumberedRule for LinkRule {
+    ghost number_of = { rule_number };
+
     /// The rule's number, from 1 to 12.
-    pub(crate) fn number(self) -> u8
-        ensures { result ≡ rule_number self }
-    {
+    fn number(self) -> u8 {
         self as u8
     }
 }

@@ -8,13 +8,13 @@ ghost use Rattle.papy_base.specs.Table.{IsPlaceTable};
 ghost use Rattle.script_parser.specs.Lines.{heading_lines};
 ghost use Rattle.script_linker.specs.Link.{AreFilesOf, AreResolved, IsFaultOf, IsFaultOn, declared_lines, function_count};
 
-use crate::fault::LinkFault;
+use crate::fault::{LinkFault, LinkRule};
 use crate::parents::parent_numbers;
 use crate::prelude::{add_generated, prelude_files};
-use crate::rules::{BrokenRule, member_fault, script_fault};
+use crate::rules::{member_fault, script_fault};
 use crate::scripts::Scripts;
 use crate::set::{ScriptSet, SourceFile};
-use papy_base::{Made, NameTable, PRELUDE_COUNT, on_circles};
+use papy_base::{BrokenRule, Made, NameTable, PRELUDE_COUNT, on_circles};
 use std::alloc::Global;
 
 /// The set of these files, of which there are fewer than 65,530.
@@ -128,7 +128,7 @@ fn judge_members(alloc: Global, scripts: &Scripts, declared: &[usize]) -> Result
     Ok(())
 }
 
-fn fault(number: usize, found: BrokenRule) -> LinkFault
+fn fault(number: usize, found: BrokenRule<LinkRule>) -> LinkFault
     requires file { 6 ≤ number }
     requires count { number < 65536 }
     ensures { result ≡ Broken (number - 6) found.line found.rule }

@@ -1,6 +1,6 @@
 // The six scripts that every set begins with, and the four members that every script without parent has, from the rows of
 // their table. Their lines and flags are 0.
-ghost use Rattle.std.specs.Prelude.{◌≡◌, ◌++◌, None, List, [], ◌∷◌, All, IfOk, OnOk, codes, filter, is_none, map, option_map, vec_len};
+ghost use Rattle.std.specs.Prelude.{◌≡◌, ◌++◌, None, [], ◌∷◌, All, IfOk, OnOk, codes, filter, is_none, map, option_map, vec_len};
 ghost use Rattle.papy_base.specs.Case.{folded};
 ghost use Rattle.papy_base.specs.Table.{place_of};
 ghost use Rattle.script_linker.specs.Generated.{AreMembers, AreStandard, Calls, Does, HasGiven, HaveGiven, IsBody, IsMember, IsStandard, IsStatement, Pairwise, Returns, Sets, acts_of_goto, is_lacking, lacking, plain_type, standard_scripts};

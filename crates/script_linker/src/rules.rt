@@ -1,12 +1,12 @@
 // The rules of a set: N1 to N5, which speak of scripts, parents and imports, and N6 to N12, which speak of the
 // members of scripts whose parents are known.
-ghost use Rattle.std.specs.Prelude.{◌≡◌, ℕ, ◌+◌, ◌-◌, ◌<◌, ◌≤◌, ◌↔◌, ◌⊎◌, [], ◌∷◌, ◌++◌, length, map, flat_map, take, drop, codes, All, Contains, IfNone, IfOk, IfSome, IsSome, OnOk, IsTrue, false, slice_index_or};
+ghost use Rattle.std.specs.Prelude.{◌≡◌, ◌+◌, ◌-◌, ◌<◌, ◌≤◌, ◌↔◌, ◌⊎◌, ◌++◌, length, map, flat_map, take, drop, codes, All, Contains, IfNone, IfOk, IfSome, IsSome, OnOk, IsTrue, false, slice_index_or};
 ghost use Rattle.papy_base.specs.Case.{folded, SameIgnoringCase};
-ghost use Rattle.script_linker.specs.Found.{Before, FindsAmong, IsFirst};
 ghost use Rattle.script_linker.specs.Link.{IsResolved};
 ghost use Rattle.script_linker.specs.Lookup.{HasFewMembers, HasSmallScript, own_function, parents_of, script_name};
 ghost use Rattle.script_linker.specs.Rules.{IsBelow, IsNoParent};
 ghost use Rattle.papy_base.specs.Circles.{is_marked};
+ghost use Rattle.papy_base.specs.Earliest.{FindsAmong};
 ghost use Rattle.papy_base.specs.Lineage.{Nearest};
 ghost use Rattle.papy_base.specs.Table.{IsPlaceTable, number_in};
 ghost use Rattle.script_linker.specs.declared.set.SourceFile.{SourceFile};
@@ -18,7 +18,7 @@ use crate::scripts::Scripts;
 use crate::set::SourceFile;
 use crate::signatures::{has_late_parameter, is_accessor, is_plain_event, is_word, same_signature};
 use line_parser::TypeName;
-use papy_base::{LIBRARY_COUNT, Made, Name, NameTable, PRELUDE_COUNT};
+use papy_base::{BrokenRule, Earliest, LIBRARY_COUNT, Made, Name, NameTable, PRELUDE_COUNT};
 use script_parser::{Function, Property, PropertyForm, Script, State};
 use std::alloc::Global;
 
@@ -31,49 +31,6 @@ const MEMBER_LIMIT: usize = 65_536;
 /// How many different words, texts and documentation texts a file has at most.
 const WORD_LIMIT: u32 = 20_000;
 
-/// A broken rule, and the line of the thing that breaks it.
-#[derive(Clone, Copy, PartialEq, Eq)]
-pub(crate) struct BrokenRule {
-    pub(crate) line: u16,
-    pub(crate) rule: LinkRule,
-}
-
-/// The first broken rule of a file among those that were noted: the one on the least line, and there
-/// the one with the least number.
-#[derive(Clone, Copy)]
-pub(crate) struct Earliest {
-    pub(crate) found: Option<BrokenRule>,
-}
-
-impl Earliest {
-    /// Notes whether the thing of this line breaks the rule.
-    pub(crate) fn note(&mut self, is_broken: bool, line: u16, rule: LinkRule)
-        ensures among { FindsAmong (line ∷ []) self.old self.new }
-        ensures noted { IsTrue is_broken → IsSome self.new.found }
-        ensures first { IsTrue is_broken → IfSome self.new.found (IsFirst self.old.found line rule) }
-        ensures kept { is_broken ≡ false → self.new ≡ self.old }
-    {
-        if is_broken {
-            self.found = Some(first_of(self.found, line, rule));
-        }
-    }
-}
-
-fn first_of(found: Option<BrokenRule>, line: u16, rule: LinkRule) -> BrokenRule
-    ensures { IsFirst found line rule result }
-{
-    match found {
-        Some(known) if !comes_before(line, rule, known) => known,
-        _ => BrokenRule { line, rule },
-    }
-}
-
-fn comes_before(line: u16, rule: LinkRule, other: BrokenRule) -> bool
-    ensures { IsTrue result ↔ Before line rule other }
-{
-    line < other.line || (line == other.line && rule.number() < other.rule.number())
-}
-
 /// The first broken rule of N1 to N5 in the script of this number. `names` has the first script of
 /// each name, and `file_names` the first that is none of the prelude's; `circles` says which scripts
 /// stand on a circle of parents.
@@ -84,7 +41,7 @@ pub(crate) fn script_fault(
     parents: &[Option<usize>],
     circles: &[bool],
     number: usize,
-) -> Option<BrokenRule>
+) -> Option<BrokenRule<LinkRule>>
     requires start { 6 ≤ number }
     requires file { number < length files.now }
     requires parents { length parents.now ≡ length files.now }
@@ -101,23 +58,23 @@ pub(crate) fn script_fault(
     let script = &files[number].script;
     let mut first = Earliest { found: None };
     let repeats = is_below(file_names.find(&script.name), number - PRELUDE_COUNT);
-    first.note(repeats, script.line, LinkRule::DuplicateScript);
+    first.note_if(repeats, script.line, LinkRule::DuplicateScript);
     let is_prelude = is_below(names.find(&script.name), PRELUDE_COUNT);
-    first.note(is_prelude, script.line, LinkRule::PreludeName);
+    first.note_if(is_prelude, script.line, LinkRule::PreludeName);
     let lacks_parent = lacks_parent(script, parents[number]);
-    first.note(lacks_parent, script.line, LinkRule::UnknownParent);
-    first.note(circles[number], script.line, LinkRule::ExtendsCycle);
+    first.note_if(lacks_parent, script.line, LinkRule::UnknownParent);
+    first.note_if(circles[number], script.line, LinkRule::ExtendsCycle);
     judge_imports(names, script.imports.as_slice(), &mut first);
     first.found
 }
 
-fn judge_imports(names: &NameTable, imports: &[(u16, Name)], first: &mut Earliest)
+fn judge_imports(names: &NameTable, imports: &[(u16, Name)], first: &mut Earliest<LinkRule>)
     ensures among { FindsAmong (map import_line imports.now) first.old first.new }
     ensures known { first.new.found ≡ None → All (λ import. IsSome (number_in names.now (folded import.1))) imports.now }
 {
     for import in imports {
         let is_unknown = names.find(&import.1).is_none();
-        first.note(is_unknown, import.0, LinkRule::UnknownImport);
+        first.note_if(is_unknown, import.0, LinkRule::UnknownImport);
     }
 }
 
@@ -141,7 +98,7 @@ pub(crate) fn member_fault(
     scripts: &Scripts,
     number: usize,
     declared: usize,
-) -> Made<Option<BrokenRule>>
+) -> Made<Option<BrokenRule<LinkRule>>>
     requires start { 6 ≤ number }
     requires script { number < length scripts.now }
     ensures line { IfOk result (λ fault. IfSome fault
@@ -153,7 +110,7 @@ pub(crate) fn member_fault(
     let own = first_functions(script.functions.as_slice(), declared);
     let mut first = Earliest { found: None };
     let passes_limit = passes_limit(number - PRELUDE_COUNT, script);
-    first.note(passes_limit, script.line, LinkRule::Limit);
+    first.note_if(passes_limit, script.line, LinkRule::Limit);
     judge_fields(alloc, script, &mut first)?;
     judge_functions(alloc, scripts, number, own, Holder::EmptyState, &mut first)?;
     judge_states(alloc, scripts, number, script.states.as_slice(), &mut first)?;
@@ -174,7 +131,10 @@ fn first_functions(functions: &[Function], count: usize) -> &[Function]
 
 // N12, where the script breaks no other rule: so many functions or properties have too many names, or
 // a name twice. No file has them.
-fn found_or_limit(found: Option<BrokenRule>, script: &Script) -> Option<BrokenRule>
+fn found_or_limit(
+    found: Option<BrokenRule<LinkRule>>,
+    script: &Script,
+) -> Option<BrokenRule<LinkRule>>
     ensures found { IfSome result (λ one. (found ≡ Some one) ⊎ (one.line ≡ script.now.line)) }
     ensures few { IfNone result (HasFewMembers script.now) }
 {
@@ -210,7 +170,7 @@ fn judge_functions(
     number: usize,
     functions: &[Function],
     holder: Holder<'_>,
-    first: &mut Earliest,
+    first: &mut Earliest<LinkRule>,
 ) -> Made<()>
     requires { number < length scripts.now }
     ensures { OnOk result (FindsAmong (map function_line functions.now) first.old first.new) }
@@ -219,19 +179,19 @@ fn judge_functions(
     note_lines(alloc, &mut lines, functions)?;
     for function in functions {
         let is_taken = repeats(&lines, function) || has_reserved_name(function);
-        first.note(is_taken, function.line, LinkRule::DuplicateMember);
+        first.note_if(is_taken, function.line, LinkRule::DuplicateMember);
         let is_late = has_late_parameter(function.heading.parameters.as_slice());
-        first.note(is_late, function.line, LinkRule::DefaultOrder);
+        first.note_if(is_late, function.line, LinkRule::DefaultOrder);
         let is_alone = matches!(holder, Holder::State) && stands_alone(scripts, number, function);
-        first.note(is_alone, function.line, LinkRule::StateFunctionAlone);
+        first.note_if(is_alone, function.line, LinkRule::StateFunctionAlone);
         let differs = differs(scripts, number, function, holder);
-        first.note(differs, function.line, LinkRule::SignatureDiffers);
+        first.note_if(differs, function.line, LinkRule::SignatureDiffers);
     }
     Ok(())
 }
 
 // The names of variables and properties, which share one name space.
-fn judge_fields(alloc: Global, script: &Script, first: &mut Earliest) -> Made<()>
+fn judge_fields(alloc: Global, script: &Script, first: &mut Earliest<LinkRule>) -> Made<()>
     ensures { OnOk result (FindsAmong (map variable_line script.now.variables.items ++ map property_line script.now.properties.items) first.old first.new) }
 {
     let mut lines = NameTable::new(alloc);
@@ -242,11 +202,11 @@ fn judge_fields(alloc: Global, script: &Script, first: &mut Earliest) -> Made<()
     Ok(())
 }
 
-fn judge_names<T: Declared>(lines: &NameTable, items: &[T], first: &mut Earliest)
+fn judge_names<T: Declared>(lines: &NameTable, items: &[T], first: &mut Earliest<LinkRule>)
     ensures { FindsAmong (map T.line_of items.now) first.old first.new }
 {
     for item in items {
-        first.note(repeats(lines, item), item.line(), LinkRule::DuplicateMember);
+        first.note_if(repeats(lines, item), item.line(), LinkRule::DuplicateMember);
     }
 }
 
@@ -255,7 +215,7 @@ fn judge_states(
     scripts: &Scripts,
     number: usize,
     states: &[State],
-    first: &mut Earliest,
+    first: &mut Earliest<LinkRule>,
 ) -> Made<()>
     requires { number < length scripts.now }
     ensures { OnOk result (FindsAmong (flat_map state_lines states.now) first.old first.new) }
@@ -265,9 +225,9 @@ fn judge_states(
     let mut has_auto = false;
     for state in states {
         let repeats = repeats(&lines, state);
-        first.note(repeats, state.line, LinkRule::DuplicateMember);
+        first.note_if(repeats, state.line, LinkRule::DuplicateMember);
         let is_second = has_auto && state.is_auto;
-        first.note(is_second, state.line, LinkRule::TwoAutoStates);
+        first.note_if(is_second, state.line, LinkRule::TwoAutoStates);
         has_auto = has_auto || state.is_auto;
         let functions = state.functions.as_slice();
         judge_functions(alloc, scripts, number, functions, Holder::State, first)?;
@@ -280,14 +240,14 @@ fn judge_properties(
     scripts: &Scripts,
     number: usize,
     properties: &[Property],
-    first: &mut Earliest,
+    first: &mut Earliest<LinkRule>,
 ) -> Made<()>
     requires { number < length scripts.now }
     ensures { OnOk result (FindsAmong (flat_map property_lines properties.now) first.old first.new) }
 {
     for property in properties {
         let repeats = repeats_inherited(scripts, number, property);
-        first.note(repeats, property.line, LinkRule::PropertyInParent);
+        first.note_if(repeats, property.line, LinkRule::PropertyInParent);
         judge_form(alloc, scripts, number, property, first)?;
     }
     Ok(())
@@ -298,7 +258,7 @@ fn judge_form(
     scripts: &Scripts,
     number: usize,
     property: &Property,
-    first: &mut Earliest,
+    first: &mut Earliest<LinkRule>,
 ) -> Made<()>
     requires { number < length scripts.now }
     ensures { OnOk result (FindsAmong (map function_line (accessors property.now.form)) first.old first.new) }

@@ -1,7 +1,7 @@
 -- The words of a file, and how many different ones there are.
-use Rattle.std.specs.Prelude.{◌≡◌, ℕ, Bool, List, [], ◌∷◌, nat_eq, length, flat_map}
+use Rattle.std.specs.Prelude.{◌≡◌, ℕ, List, [], ◌∷◌, length, flat_map}
 use Rattle.std.specs.List.{IsDistinct, list_any}
-use Rattle.std.specs.Cmp.Lexicographic.{pointwise}
+use Rattle.std.specs.Str.{bytes_eq}
 use Rattle.script_lexer.specs.declared.token.Token.{Token}
 use Rattle.script_lexer.specs.declared.token.Token.TheVariants as token
 use Rattle.script_lexer.specs.declared.token.Spanned.{Spanned}
@@ -22,12 +22,9 @@ words_in tokens = flat_map (λ s. word_of s.token) tokens
 abbrev pub words_of : List Line → List (List ℕ)
 words_of lines = flat_map (λ l. words_in l.tokens.items) lines
 
-abbrev pub same_bytes : List ℕ → List ℕ → Bool
-same_bytes = pointwise nat_eq
-
 -- n different byte lists are among these
 pub record CountsDifferent (words : List (List ℕ)) (n : ℕ) : Type 0 where
   pub all : List (List ℕ)
-  pub differ : IsDistinct same_bytes all
-  pub members : (word : List ℕ) → list_any (same_bytes word) all ≡ list_any (same_bytes word) words
+  pub differ : IsDistinct bytes_eq all
+  pub members : (word : List ℕ) → list_any (bytes_eq word) all ≡ list_any (bytes_eq word) words
   pub count : n ≡ length all

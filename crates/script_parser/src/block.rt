@@ -169,7 +169,11 @@ pub(crate) fn closed_block(
 
 // The body of a `While` behind its first line, up to `EndWhile`.
 #[cycle(statements)]
-fn while_block(reader: &mut LineReader<'_>, test: Expr, depth: u8) -> Result<StatementForm, BlockFault>
+fn while_block(
+    reader: &mut LineReader<'_>,
+    test: Expr,
+    depth: u8,
+) -> Result<StatementForm, BlockFault>
     requires { 64 ≤ blocks_before reader.old + depth }
     ensures nearer { OnOk result (left reader.new < left reader.old) }
     ensures onward { OnOk result (GoesOn reader.old reader.new) }

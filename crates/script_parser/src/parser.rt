@@ -109,7 +109,11 @@ fn heading(reader: &mut LineReader<'_>) -> Result<Script, BlockFault>
 }
 
 // Puts the member that begins with this line into the script.
-fn member(reader: &mut LineReader<'_>, script: &mut Script, first: LineAt<'_>) -> Result<(), BlockFault>
+fn member(
+    reader: &mut LineReader<'_>,
+    script: &mut Script,
+    first: LineAt<'_>,
+) -> Result<(), BlockFault>
     requires { StandsAt reader.old.lines.now first }
     ensures bound { OnOk result (left reader.new ≤ left reader.old) }
     ensures onward { OnOk result (GoesOn reader.old reader.new) }

@@ -1,5 +1,4 @@
 // A script as its lines give it.
-ghost use Rattle.std.specs.Prelude.{ℕ, List};
 
 use line_parser::{Constant, Expr, Heading, TypeName};
 use papy_base::{Name, Named, Text};

@@ -1,9 +1,10 @@
 // How many different words, texts and documentation texts a file has.
 ghost use Rattle.std.specs.Prelude.{◌≡◌, ◌↔◌, true, [], ◌∷◌, IfOk, OnOk, IsTrue};
 ghost use Rattle.std.specs.List.{list_any};
+ghost use Rattle.std.specs.Str.{bytes_eq};
 ghost use Rattle.indexmap.specs.IndexSet.{insert_all};
 ghost use Rattle.script_parser.specs.Held.{held};
-ghost use Rattle.script_parser.specs.Words.{word_of, words_in, words_of, same_bytes, CountsDifferent};
+ghost use Rattle.script_parser.specs.Words.{word_of, words_in, words_of, CountsDifferent};
 
 use indexmap::IndexSet;
 use papy_base::{Made, OutOfMemory};
@@ -43,7 +44,7 @@ pub(crate) fn count_words(alloc: Global, lines: &[Line]) -> Made<u32>
 
 fn add_words<'a>(words: &mut Words<'a>, tokens: &'a [Spanned]) -> Made<()>
     ensures { OnOk result
-        (held words.new.all ≡ insert_all same_bytes (held words.old.all) (words_in tokens.now)) }
+        (held words.new.all ≡ insert_all bytes_eq (held words.old.all) (words_in tokens.now)) }
 {
     for spanned in tokens {
         add_word(words, &spanned.token)?;
@@ -53,7 +54,7 @@ fn add_words<'a>(words: &mut Words<'a>, tokens: &'a [Spanned]) -> Made<()>
 
 fn add_word<'a>(words: &mut Words<'a>, token: &'a Token) -> Made<()>
     ensures { OnOk result
-        (held words.new.all ≡ insert_all same_bytes (held words.old.all) (word_of token.now)) }
+        (held words.new.all ≡ insert_all bytes_eq (held words.old.all) (word_of token.now)) }
 {
     match token {
         Token::Word(name) => add_bytes(words, name.as_bytes()),
@@ -65,7 +66,7 @@ fn add_word<'a>(words: &mut Words<'a>, token: &'a Token) -> Made<()>
 
 fn add_bytes<'a>(words: &mut Words<'a>, bytes: &'a [u8]) -> Made<()>
     ensures { OnOk result
-        (held words.new.all ≡ insert_all same_bytes (held words.old.all) (bytes.now ∷ [])) }
+        (held words.new.all ≡ insert_all bytes_eq (held words.old.all) (bytes.now ∷ [])) }
 {
     let place = place_of(bytes);
     if came_lately(words, place, bytes) {
@@ -76,7 +77,7 @@ fn add_bytes<'a>(words: &mut Words<'a>, bytes: &'a [u8]) -> Made<()>
 
 // Whether the byte list at this place is this one.
 fn came_lately(words: &Words<'_>, place: usize, bytes: &[u8]) -> bool
-    ensures { IsTrue result → list_any (same_bytes bytes.now) (held words.now.all) ≡ true }
+    ensures { IsTrue result → list_any (bytes_eq bytes.now) (held words.now.all) ≡ true }
 {
     let Some(index) = words.lately.get(place) else {
         return false;
@@ -98,7 +99,7 @@ fn are_same(left: &[u8], right: &[u8]) -> bool
 #[inline(never)]
 fn insert<'a>(words: &mut Words<'a>, place: usize, bytes: &'a [u8]) -> Made<()>
     ensures { OnOk result
-        (held words.new.all ≡ insert_all same_bytes (held words.old.all) (bytes.now ∷ [])) }
+        (held words.new.all ≡ insert_all bytes_eq (held words.old.all) (bytes.now ∷ [])) }
 {
     let (index, _) = words.all.insert_full(bytes)?;
     note(&mut words.lately, place, index);

@@ -2,7 +2,8 @@ use Rattle.std.proofs.Common.{◌≡◌, ◌+◌, true, get_or, take, length-tak
 use Rattle.std.specs.List.{list_all}
 use Rattle.std.proofs.lemmas.Int.Digits.{digits_value_more}
 use Rattle.pex_listing.specs.Numbers.{is_hex_digit}
-use Rattle.pex_listing.proofs.Digits.{list_all_step, hex_below_eight, hex_digit}
+use Rattle.papy_base.proofs.DigitLemmas.{list_all_step}
+use Rattle.pex_listing.proofs.Digits.{hex_below_eight, hex_digit}
 use Rattle.pex_listing.proofs.listing.hex_number.Goals as goal
 
 pub loop-digit-preserved : goal.loop-digit-preserved

@@ -1,4 +1,5 @@
-use Rattle.pex_listing.proofs.Appending.{appends_more, begins, if_ok}
+use Rattle.pex_listing.proofs.Appending.{begins, if_ok}
+use Rattle.papy_io.proofs.Appending.{appends_more}
 use Rattle.pex_listing.proofs.showing.show.Goals as goal
 
 pub returns-in_err-show_debug-clause-appended : goal.returns-in_err-show_debug-clause-appended

@@ -1,5 +1,5 @@
 use Rattle.std.proofs.Common.{◌∙◌}
-use Rattle.pex_listing.proofs.Appending.{appends_more}
+use Rattle.papy_io.proofs.Appending.{appends_more}
 use Rattle.pex_listing.proofs.showing.show_all.Goals as goal
 
 pub returns-in_err-flush_part-clause-appended : goal.returns-in_err-flush_part-clause-appended

@@ -2,7 +2,8 @@ use Rattle.std.proofs.Common.{subst}
 use Rattle.papy_io.specs.Sink.{Appended}
 use Rattle.pex_values.specs.Plain.{plain}
 use Rattle.pex_listing.specs.Lines.{table_lines, head_lines}
-use Rattle.pex_listing.proofs.Appending.{appends_more, ok_then, head_appended}
+use Rattle.pex_listing.proofs.Appending.{ok_then, head_appended}
+use Rattle.papy_io.proofs.Appending.{appends_more}
 use Rattle.pex_listing.proofs.showing.show_strings.Goals as goal
 
 pub returns-in_err-flush-2-clause-appended : goal.returns-in_err-flush-2-clause-appended

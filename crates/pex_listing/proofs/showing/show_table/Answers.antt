@@ -4,11 +4,12 @@ use Rattle.std.specs.String.{string_bytes}
 use Rattle.std.proofs.lemmas.List.{take_more}
 use Rattle.papy_io.specs.Sink.{Appended}
 use Rattle.pex_listing.specs.Lines.{string_line, table_lines}
-use Rattle.pex_listing.proofs.Appending.{appends_nothing, appends_more, appended_more, appended_nothing}
+use Rattle.pex_listing.proofs.Appending.{appended_more}
+use Rattle.papy_io.proofs.Appending.{appended_none, appends_more, appends_nothing}
 use Rattle.pex_listing.proofs.showing.show_table.Goals as goal
 
 pub loop-text-init : goal.loop-text-init
-loop-text-init g c = record { faults = refl; appended = appends_nothing _ _ refl; emptied = c.requires; all = appended_nothing _ }
+loop-text-init g c = record { faults = refl; appended = appends_nothing _ _ refl; emptied = c.requires; all = appended_none _ }
 
 pub returns-in_err-flush-clause-appended : goal.returns-in_err-flush-clause-appended
 returns-in_err-flush-clause-appended g c = appends_more _ _ _ c.loop-text.invariant.appended c.flush.ensures.appended

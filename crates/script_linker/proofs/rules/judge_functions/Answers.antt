@@ -8,5 +8,5 @@ loop-function-init c = FindsAmong-nothing _ _
 pub loop-function-preserved : goal.loop-function-preserved
 loop-function-preserved c =
     let one = AreAmong-item function_line c.args.functions.now c.loop-function.function-index c.function-item.result c.loop-function-test.true c.function-item.is in
-    let named = FindsAmong-then one (FindsAmong-then one c.loop-function.invariant c.note.ensures.among) c.note-in-loop-function.ensures.among in
-    FindsAmong-then one (FindsAmong-then one named c.note-in-loop-function-2.ensures.among) c.note-in-loop-function-3.ensures.among
+    let named = FindsAmong-then one (FindsAmong-then one c.loop-function.invariant c.note_if.ensures.among) c.note_if-in-loop-function.ensures.among in
+    FindsAmong-then one (FindsAmong-then one named c.note_if-in-loop-function-2.ensures.among) c.note_if-in-loop-function-3.ensures.among

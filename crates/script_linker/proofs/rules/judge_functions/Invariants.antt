@@ -1,5 +1,5 @@
 use Rattle.std.proofs.Common.{map}
-use Rattle.script_linker.specs.Found.{FindsAmong}
+use Rattle.papy_base.specs.Earliest.{FindsAmong}
 use Rattle.script_parser.specs.Lines.{function_line}
 use Rattle.script_linker.proofs.rules.judge_functions.Given as goal
 

@@ -18,12 +18,12 @@ loop-import-preserved c =
     let import = c.import-item.result in
     let one = AreAmong-item import_line imports index import c.loop-import-test.true c.import-item.is in
     record {
-      among = FindsAmong-then one c.loop-import.invariant.among c.note.ensures.among;
+      among = FindsAmong-then one c.loop-import.invariant.among c.note_if.ensures.among;
       known = λ none k d below.
           ⊎_elim
-          (λ (l : k < index). c.loop-import.invariant.known (c.note.ensures.among.stays none) k d l)
+          (λ (l : k < index). c.loop-import.invariant.known (c.note_if.ensures.among.stays none) k d l)
           (λ (g : index ≤ k).
-          let is_known = unbroken c.is_none-is_unknown.result c.note.new.self.found c.note.ensures.noted none in
+          let is_known = unbroken c.is_none-is_unknown.result c.note_if.new.self.found c.note_if.ensures.noted none in
           let here = IsSome-unless (number_in names (folded import.1)) c.is_none-is_unknown.result c.is_none-is_unknown.ensures c.find.ensures is_known in
           let same : index ≡ k = omega arith in
           let at : import ≡ get_or imports k d = c.import-item.is ∙ get_or_default imports index import d c.loop-import-test.true ∙ ap (λ n. get_or imports n d) same in

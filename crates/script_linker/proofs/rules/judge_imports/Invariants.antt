@@ -1,7 +1,7 @@
 -- What is found stands on a line of an import, and where nothing is found the imports so far are known.
 use Rattle.std.proofs.Common.{ℕ, ◌≡◌, ◌<◌, List, IsSome, None, map, slice_index_or}
 use Rattle.papy_base.specs.Case.{folded}
-use Rattle.script_linker.specs.Found.{FindsAmong}
+use Rattle.papy_base.specs.Earliest.{FindsAmong}
 use Rattle.script_parser.specs.Lines.{import_line}
 use Rattle.papy_base.specs.Table.{number_in}
 use Rattle.script_linker.proofs.rules.judge_imports.Given as goal

@@ -7,4 +7,4 @@ loop-item-init g c = FindsAmong-nothing _ _
 pub loop-item-preserved : goal.loop-item-preserved
 loop-item-preserved g c =
     let one = AreAmong-item g.T.Declared.line_of c.args.items.now c.loop-item.item-index c.item-item.result c.loop-item-test.true c.item-item.is in
-    FindsAmong-then one c.loop-item.invariant (rw c.line.ensures at c.note.ensures.among)
+    FindsAmong-then one c.loop-item.invariant (rw c.line.ensures at c.note_if.ensures.among)

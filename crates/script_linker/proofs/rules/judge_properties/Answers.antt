@@ -11,4 +11,4 @@ loop-property-preserved c =
     let all = AreAmong-items property_lines c.args.properties.now c.loop-property.property-index property c.loop-property-test.true c.property-item.is in
     let line = AreAmong-trans (AreAmong-first property.line _) all in
     let functions = AreAmong-trans (AreAmong-rest property.line _) all in
-    FindsAmong-then functions (FindsAmong-then line c.loop-property.invariant c.note.ensures.among) c.in_ok-judge_form.ensures
+    FindsAmong-then functions (FindsAmong-then line c.loop-property.invariant c.note_if.ensures.among) c.in_ok-judge_form.ensures

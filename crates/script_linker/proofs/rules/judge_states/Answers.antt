@@ -12,4 +12,4 @@ loop-state-preserved c =
     let line = AreAmong-trans (AreAmong-first state.line _) all in
     let functions = AreAmong-trans (AreAmong-rest state.line _) all in
     let judged = rw c.as_slice-functions.ensures.value at c.in_ok-judge_functions.ensures in
-    FindsAmong-then functions (FindsAmong-then line (FindsAmong-then line c.loop-state.invariant c.note.ensures.among) c.note-in-loop-state.ensures.among) judged
+    FindsAmong-then functions (FindsAmong-then line (FindsAmong-then line c.loop-state.invariant c.note_if.ensures.among) c.note_if-in-loop-state.ensures.among) judged

@@ -1,5 +1,5 @@
 use Rattle.std.specs.List.{flat_map}
-use Rattle.script_linker.specs.Found.{FindsAmong}
+use Rattle.papy_base.specs.Earliest.{FindsAmong}
 use Rattle.script_parser.specs.Lines.{state_lines}
 use Rattle.script_linker.proofs.rules.judge_states.Given as goal
 

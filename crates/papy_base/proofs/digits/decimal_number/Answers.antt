@@ -7,14 +7,14 @@ use Rattle.std.proofs.lemmas.Bool.{and_left, and_right, and_from, le-ltb, lt-ltb
 use Rattle.std.proofs.lemmas.Bool.Decides.{nat_tests}
 use Rattle.std.proofs.lemmas.Int.Digits.{digits_value_more}
 use Rattle.std.proofs.lemmas.Str.Parse.{digits_value-take-le}
-use Rattle.run_replay.specs.Lines.{decimal_number}
-use Rattle.run_replay.proofs.Digits.{list_all_step, list_all_fails}
-use Rattle.run_replay.proofs.reader.value_of.Goals as goal
+use Rattle.papy_base.specs.Digits.{decimal_number}
+use Rattle.papy_base.proofs.DigitLemmas.{list_all_step, list_all_fails}
+use Rattle.papy_base.proofs.digits.decimal_number.Goals as goal
 
 -- where the first digits don't fit, the whole doesn't
-too_large : (ds : List ℕ) (i : ℕ) → i < length ds → 2 ^ 32 ≤ digits_value 10 (take i ds) * 10 + digit_value (get_or ds i 0) → None ≡ decimal_number ds
+too_large : (ds : List ℕ) (i : ℕ) → i < length ds → 2 ^ 64 ≤ digits_value 10 (take i ds) * 10 + digit_value (get_or ds i 0) → None ≡ decimal_number ds
 too_large ds i inside large =
-    sym (cond-false _ _ _ (and_right _ _ (le-ltb (digits_value 10 ds) (2 ^ 32) (omega (arith, digits_value_more 10 ds i inside, digits_value-take-le 10 ds (i + 1) (omega arith))))))
+    sym (cond-false _ _ _ (and_right _ _ (le-ltb (digits_value 10 ds) (2 ^ 64) (omega (arith, digits_value_more 10 ds i inside, digits_value-take-le 10 ds (i + 1) (omega arith))))))
 
 pub returns-then-not-is_ascii_digit : goal.returns-then-not-is_ascii_digit
 returns-then-not-is_ascii_digit c =
@@ -44,4 +44,4 @@ returns c =
     let all = take_all c.loop-digit.digit-index ds c.loop-digit-test.false in
     let value : c.loop-digit.number ≡ digits_value 10 ds = c.loop-digit.invariant.0 ∙ ap (digits_value 10) all in
     let digits : list_all is_ascii_digit ds ≡ true = sym (ap (list_all is_ascii_digit) all) ∙ c.loop-digit.invariant.1 in
-    ap Some value ∙ sym (cond-true _ _ _ (and_from _ _ digits (lt-ltb (digits_value 10 ds) (2 ^ 32) (omega arith))))
+    ap Some value ∙ sym (cond-true _ _ _ (and_from _ _ digits (lt-ltb (digits_value 10 ds) (2 ^ 64) (omega arith))))
