@@ -13,7 +13,8 @@ use Rattle.script_meaning.specs.Fits.{Known, known, HaveTypes, typed, Extends, s
 use Rattle.script_meaning.specs.Keeps.{seen, IsOn, IsVariable, IsOfOwn, StopFits, FoundFits, KeepsFit}
 use Rattle.script_meaning.specs.Requests.{Sight, Setting}
 use Rattle.script_meaning.specs.Stacks.{Way, ByMethod, ByParent, ByGlobal, ByGet, BySet, Entered, Opened, NativeThere, ReadThere, WriteThere, NothingThere}
-use Rattle.script_meaning.specs.Values.{default_result, lineage, parent_in}
+use Rattle.script_meaning.specs.Values.{lineage, parent_in}
+use Rattle.core_tree.specs.Values.{default_result}
 use Rattle.script_meaning.proofs.Operating.{nothing_up, has_above, parent_above}
 use Rattle.script_meaning.proofs.TreesEnter.{same_length}
 use Rattle.script_meaning.proofs.Typing.{types_moved, types_joined, default_result_fits}

@@ -19,7 +19,8 @@ use Rattle.script_meaning.specs.Fits.{Known, known, IsOfScript, HasType, IsResul
 use Rattle.script_meaning.specs.Keeps.{IsOn, RequestFits, StopFits}
 use Rattle.script_meaning.specs.Requests.{Sight, Setting, Request, ParentMethod, GlobalFunction, GlobalNative, LoopPass, Asks, Answer, Reply, Act, answer}
 use Rattle.script_meaning.specs.Stacks.{Way, ByMethod, ByParent, ByGlobal, ByGet, BySet}
-use Rattle.script_meaning.specs.Values.{Result, number_of, instance_of, array_of, default_result, is_true, calculated, element_kind, is_child, lineage}
+use Rattle.script_meaning.specs.Values.{Result, number_of, instance_of, array_of, is_true, calculated, is_child, lineage}
+use Rattle.core_tree.specs.Values.{default_result, element_kind}
 use Rattle.script_meaning.specs.World.{ArrayState}
 use Rattle.script_meaning.proofs.Kept.{SameSight}
 use Rattle.script_meaning.proofs.Operating.{own_line, self_has, literal_has, calculated_fits, target_is, instance_cast, child_above, ArrayIs, array_is, length_fits, found_fits, found_back_fits, element_fits, Rewritten, element_written, array_made, sight_as, AnswerIs, framed_is, method_is, get_is, set_is, native_is, request_so}

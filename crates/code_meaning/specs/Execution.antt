@@ -14,7 +14,8 @@ use Rattle.core_tree.specs.declared.value.Value.TheVariants as values
 use Rattle.script_meaning.specs.Arrays.{with_array, new_array, length_of, element_of, write_fault, with_element, found, found_back}
 use Rattle.script_meaning.specs.Requests.{Sight, Setting, Request, ParentMethod, GlobalFunction, GlobalNative, LoopPass, Return, Question, Asks, method_of, get_of, set_of, Answer, Reply, Act, answer}
 use Rattle.script_meaning.specs.Stacks.{Stop}
-use Rattle.script_meaning.specs.Values.{Result, number_of, instance_of, array_of, element_kind, default_result, is_true, cast_to, equal, in_order, calculated, lineage}
+use Rattle.script_meaning.specs.Values.{Result, number_of, instance_of, array_of, is_true, cast_to, equal, in_order, calculated, lineage}
+use Rattle.core_tree.specs.Values.{default_result, element_kind}
 use Rattle.code_meaning.specs.Code.{Operand, Instruction, Function, Script}
 use Rattle.code_meaning.specs.Code as op
 use Rattle.code_meaning.specs.LookUp.{BodyPlace, Body, script_of, function_at, FoundMethod, first_method, native_at}

@@ -6,7 +6,8 @@ use Rattle.core_tree.specs.declared.expression.FunctionPlace.{FunctionPlace}
 use Rattle.core_tree.specs.declared.value.Value.{Value}
 use Rattle.core_tree.specs.Outlines.{ScriptShape}
 use Rattle.script_meaning.specs.Stacks.{Way, ByMethod, ByParent, ByGlobal, ByGet, BySet, Entered, Opened, NativeThere, ReadThere, WriteThere, NothingThere}
-use Rattle.script_meaning.specs.Values.{default_result, lineage, parent_in}
+use Rattle.script_meaning.specs.Values.{lineage, parent_in}
+use Rattle.core_tree.specs.Values.{default_result}
 use Rattle.code_meaning.specs.Code.{Function, Access, Auto, Full, Property, State, Script}
 
 -- ---- bodies

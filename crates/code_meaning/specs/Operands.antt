@@ -9,7 +9,8 @@ use Rattle.core_tree.specs.Outlines.{ScriptShape}
 use Rattle.papy_base.specs.declared.faults.StackFault.{StackFault}
 use Rattle.script_meaning.specs.Evaluation.{self_value}
 use Rattle.script_meaning.specs.Requests.{Sight, Setting, faulted_where}
-use Rattle.script_meaning.specs.Values.{text_of, default_result, script_name}
+use Rattle.script_meaning.specs.Values.{text_of, script_name}
+use Rattle.core_tree.specs.Values.{default_result}
 use Rattle.script_meaning.specs.World.{Place, variable_of, with_variable}
 use Rattle.code_meaning.specs.Code.{Operand, Literal, Slot, Variable, Itself, StateText, Function, Script}
 

@@ -5,11 +5,13 @@ use Rattle.core_tree.specs.declared.core_type.CoreType.{CoreType}
 use Rattle.core_tree.specs.declared.core_type.CoreType.TheVariants as kinds
 use Rattle.core_tree.specs.declared.value.Value.TheVariants as values
 use Rattle.core_tree.specs.Outlines.{ScriptShape}
-use Rattle.script_meaning.specs.Fits.{Known, known, holds_none, HasType, HaveTypes, is_native_at, Types}
+use Rattle.script_meaning.specs.Fits.{Known, known, HasType, HaveTypes, is_native_at, Types}
+use Rattle.core_tree.specs.Values.{holds_none}
 use Rattle.script_meaning.specs.Keeps.{IsVariable, IsOn}
 use Rattle.script_meaning.specs.Requests.{result_of}
 use Rattle.script_meaning.specs.Stacks.{Way, ByMethod, ByParent, ByGlobal, ByGet, BySet}
-use Rattle.script_meaning.specs.Values.{element_kind, is_child, lineage, parent_in}
+use Rattle.script_meaning.specs.Values.{is_child, lineage, parent_in}
+use Rattle.core_tree.specs.Values.{element_kind}
 use Rattle.code_meaning.specs.Code.{Operand, Literal, Slot, Variable, Itself, StateText, Instruction, Function, Access, Auto, Full, Script}
 use Rattle.code_meaning.specs.Code as op
 use Rattle.code_meaning.specs.Execution.{reply_result}

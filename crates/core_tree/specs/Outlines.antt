@@ -1,5 +1,5 @@
 -- What the outline of a set of scripts is, with lists in place of vectors.
-use Rattle.std.specs.Prelude.{ℕ, Bool, List, [], ◌∷◌, map, flat_map, Option}
+use Rattle.std.specs.Prelude.{ℕ, Bool, List, [], ◌∷◌, map, flat_map, Option, None, Some}
 use Rattle.core_tree.specs.declared.core_type.CoreType.{CoreType}
 use Rattle.core_tree.specs.declared.outline.OutlineFunction.{OutlineFunction}
 use Rattle.core_tree.specs.declared.outline.OutlineProperty.{OutlineProperty}
@@ -37,6 +37,15 @@ function_shape f =
 abbrev pub script_shape : OutlineScript → ScriptShape
 script_shape s =
     record { name = s.name; parent = s.parent; auto_state = s.auto_state; variables = s.variables.items; properties = s.properties.items; functions = map function_shape s.functions.items }
+
+abbrev pub name_in : Option OutlineScript → List ℕ
+name_in None = []
+name_in (Some script) = script.name
+
+-- a name, and another one where there is none
+abbrev pub name_or : Option (List ℕ) → List ℕ → List ℕ
+name_or None other = other
+name_or (Some name) other = name
 
 -- what an outline keeps of a function
 abbrev pub function_outline : CoreFunction → FunctionShape

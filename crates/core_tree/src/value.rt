@@ -1,6 +1,8 @@
 ghost use Rattle.std.specs.Prelude.{◌≡◌, IfOk, IsTrue, OnErr};
-ghost use Rattle.core_tree.specs.Values.{is_text};
+ghost use Rattle.core_tree.specs.InRange.{LiteralInRange};
+ghost use Rattle.core_tree.specs.Values.{default_result, is_text};
 
+use crate::core_type::CoreType;
 use papy_base::{Made, Text};
 use std::alloc::Global;
 
@@ -19,6 +21,20 @@ pub enum Value {
 }
 
 impl Value {
+    /// What a place of a type holds before anything is stored in it: 0, False, the empty text or None. It is None too
+    /// where there is no type. `OutOfMemory` comes only of a text.
+    pub fn default_of(alloc: Global, kind: Option<CoreType>) -> Made<Value>
+        ensures value { IfOk result (λ value. value ≡ default_result kind) }
+        ensures in_range { IfOk result LiteralInRange }
+    {
+        Ok(match kind {
+            Some(CoreType::Int) => Value::Int(0),
+            Some(CoreType::Bool) => Value::Bool(false),
+            Some(CoreType::Text) => Value::Text(Text::try_from_bytes(alloc, b"")?),
+            _ => Value::NoneValue,
+        })
+    }
+
     /// An equal value. `OutOfMemory` comes only of a text.
     pub fn try_clone(&self, alloc: Global) -> Made<Value>
         ensures copy { IfOk result (λ value. value ≡ self.now) }

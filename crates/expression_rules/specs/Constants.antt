@@ -1,5 +1,4 @@
 -- What constants are worth.
-use Rattle.std.specs.Prelude.{pos, false, []}
 use Rattle.core_tree.specs.declared.core_type.CoreType.{CoreType}
 use Rattle.core_tree.specs.declared.core_type.CoreType.TheVariants as types
 use Rattle.core_tree.specs.declared.value.Value.{Value}
@@ -8,13 +7,6 @@ use Rattle.line_parser.specs.declared.tree.Constant.{Constant}
 use Rattle.line_parser.specs.declared.tree.Constant.TheVariants as constants
 use Rattle.type_scope.specs.declared.catalog.Kind.{Kind}
 use Rattle.type_scope.specs.declared.catalog.Kind.TheVariants as kinds
-
--- the value of a variable that has none written
-abbrev pub default_value : CoreType → Value
-default_value types.Int = values.Int (pos 0)
-default_value types.Bool = values.Bool false
-default_value types.Text = values.Text []
-default_value _ = values.NoneValue
 
 abbrev pub constant_value : Constant → Value
 constant_value (constants.Int number) = values.Int number

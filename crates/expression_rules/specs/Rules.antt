@@ -1,5 +1,5 @@
--- The numbers of the rules, and which broken rule is the first.
-use Rattle.std.specs.Prelude.{◌≡◌, ◌<◌, ◌⊎◌, ℕ, Option, Some, None}
+-- The numbers of the rules.
+use Rattle.std.specs.Prelude.{ℕ}
 use Rattle.expression_rules.specs.declared.rule.TypeRule.{TypeRule}
 use Rattle.expression_rules.specs.declared.rule.TypeRule.TheVariants as rules
 
@@ -20,13 +20,3 @@ rule_number rules.NoParent = 13
 rule_number rules.DuplicateLocal = 14
 rule_number rules.FunctionTooLarge = 15
 rule_number rules.NoValue = 16
-
--- one broken rule stands before another: on an earlier line, or on the same with a lower number
-abbrev pub Before : (line : ℕ) → TypeRule → (other : ℕ) → TypeRule → Type 0
-Before line rule other known = (line < other) ⊎ ((line ≡ other) × (rule_number rule < rule_number known))
-
--- what is kept of a first broken rule and a further one
-abbrev pub IsFirst : Option (ℕ × TypeRule) → ℕ → TypeRule → ℕ × TypeRule → Type 0
-IsFirst None line rule kept = kept ≡ (line, rule)
-IsFirst (Some known) line rule kept =
-    (Before line rule known.0 known.1 × (kept ≡ (line, rule))) ⊎ ((Before line rule known.0 known.1 → ⊥) × (kept ≡ known))

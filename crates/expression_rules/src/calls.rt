@@ -197,7 +197,12 @@ impl<'s> Context<'s> {
 
     /// `word.name(arguments)` where the word names no value: a Global function of the script of that name, or
     /// of a parent of it.
-    pub fn script_call(&self, notes: &mut ScriptNotes, word: &Name, call: WrittenCall<'_>) -> Made<Typed>
+    pub fn script_call(
+        &self,
+        notes: &mut ScriptNotes,
+        word: &Name,
+        call: WrittenCall<'_>,
+    ) -> Made<Typed>
         ensures { GivenInRange (bounds_of self.now) call.entry.given.items → IfOk result (TypedInRange (bounds_of self.now)) }
     {
         let Some(script) = self.catalog.find_script(word) else {
@@ -227,7 +232,12 @@ impl<'s> Context<'s> {
     }
 
     /// `of.name(arguments)`: a search in an array, or a function of the value's script or of a parent.
-    pub fn member_call(&self, notes: &mut ScriptNotes, of: Typed, call: WrittenCall<'_>) -> Made<Typed>
+    pub fn member_call(
+        &self,
+        notes: &mut ScriptNotes,
+        of: Typed,
+        call: WrittenCall<'_>,
+    ) -> Made<Typed>
         ensures { TypedInRange (bounds_of self.now) of → GivenInRange (bounds_of self.now) call.entry.given.items → IfOk result (TypedInRange (bounds_of self.now)) }
     {
         if of.kind == Kind::Unknown {

@@ -2,7 +2,7 @@
 ghost use Rattle.std.specs.Prelude.{◌≡◌, IfOk};
 ghost use Rattle.core_tree.specs.InRange.{Bounds, LiteralInRange, Signatures, ResultInRange};
 ghost use Rattle.type_scope.specs.Scope.{KindInRange};
-ghost use Rattle.expression_rules.specs.Constants.{default_value, constant_value, constant_kind};
+ghost use Rattle.expression_rules.specs.Constants.{constant_value, constant_kind};
 ghost use Rattle.expression_rules.specs.Conversions.{prints};
 ghost use Rattle.expression_rules.specs.Ranges.{CoreInRange, TypedInRange, bounds_of};
 
@@ -13,18 +13,6 @@ use line_parser::{Constant, TypeName};
 use papy_base::{Made, Text};
 use std::alloc::Global;
 use type_scope::{Catalog, Kind};
-
-/// The value at the start of a variable of this type: 0, False, the empty text or None.
-pub fn default_of(alloc: Global, kind: CoreType) -> Made<Value>
-    ensures { IfOk result (λ value. value ≡ default_value kind) }
-{
-    Ok(match kind {
-        CoreType::Int => Value::Int(0),
-        CoreType::Bool => Value::Bool(false),
-        CoreType::Text => Value::Text(Text::try_from_bytes(alloc, b"")?),
-        _ => Value::NoneValue,
-    })
-}
 
 /// A constant's value.
 pub fn value_of(alloc: Global, constant: &Constant) -> Made<Value>
@@ -63,7 +51,12 @@ pub fn default_fits(catalog: &Catalog<'_>, constant: &Constant, kind: Option<Cor
 
 impl Context<'_> {
     /// The tree of a value as this type: the value's own where it has the type, else with a `Cast`.
-    pub fn convert(&self, notes: &mut ScriptNotes, of: Typed, to: Option<CoreType>) -> Made<Box<Core>>
+    pub fn convert(
+        &self,
+        notes: &mut ScriptNotes,
+        of: Typed,
+        to: Option<CoreType>,
+    ) -> Made<Box<Core>>
         ensures { (b : Bounds) → ResultInRange b.functions to → TypedInRange b of → IfOk result (λ core. CoreInRange b core.value) }
     {
         let Some(to) = to else {

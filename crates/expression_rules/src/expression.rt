@@ -3,7 +3,7 @@ ghost use Rattle.std.specs.Prelude.{◌<◌, IfOk, IfSome};
 ghost use Rattle.line_parser.specs.declared.tree.Expr.{size-Expr as size_of};
 ghost use Rattle.expression_rules.specs.Ranges.{TypedInRange, GivenInRange, ContextInRange, bounds_of};
 
-use crate::calls::{WrittenCall, Given};
+use crate::calls::{Given, WrittenCall};
 use crate::rule::{ScriptNotes, TypeRule};
 use crate::scope::{Context, Typed};
 use core_tree::{CoreType, Value};

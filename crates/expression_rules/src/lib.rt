@@ -11,6 +11,6 @@ mod operators;
 mod rule;
 mod scope;
 
-pub use conversions::{default_fits, default_of, kind_of, value_of};
+pub use conversions::{default_fits, kind_of, value_of};
 pub use rule::{ScriptNotes, TypeRule};
 pub use scope::Scope;

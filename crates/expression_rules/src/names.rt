@@ -11,7 +11,7 @@ use core_tree::{Core, CoreType};
 use papy_base::{Made, Name};
 use script_linker::PropertyRef;
 use script_parser::{Function, Property, PropertyForm};
-use type_scope::{Kind, array_of, element_of};
+use type_scope::{Kind, array_of};
 
 // A word of no script: generated functions read and write the state by it.
 const STATE_WORD: &[u8] = b"::State";
@@ -100,7 +100,12 @@ impl Context<'_> {
     }
 
     /// The property of this name that values of the type have.
-    pub fn property_of(&self, notes: &mut ScriptNotes, kind: Kind, name: &Name) -> Option<PropertyRef> {
+    pub fn property_of(
+        &self,
+        notes: &mut ScriptNotes,
+        kind: Kind,
+        name: &Name,
+    ) -> Option<PropertyRef> {
         let found = match kind {
             Kind::Unknown => return None,
             Kind::Of(CoreType::Script(script)) => self.catalog.find_property(script, name),
@@ -138,7 +143,12 @@ impl Context<'_> {
     }
 
     /// A property's type. `PropertyDirection` is broken where it can't be used so.
-    pub fn kind_for(&self, notes: &mut ScriptNotes, at: PropertyRef, access: PropertyUse) -> Option<CoreType>
+    pub fn kind_for(
+        &self,
+        notes: &mut ScriptNotes,
+        at: PropertyRef,
+        access: PropertyUse,
+    ) -> Option<CoreType>
         ensures { ResultInRange (signatures self.now.catalog.now.set.now) result }
     {
         let property = self.catalog.property(at)?;
@@ -228,7 +238,7 @@ pub(crate) fn element_kind(kind: Kind) -> Option<CoreType>
     ensures { (functions : Signatures) → KindInRange functions kind → ResultInRange functions result }
 {
     match kind {
-        Kind::Of(array) => element_of(array),
+        Kind::Of(array) => array.element(),
         _ => None,
     }
 }

@@ -32,7 +32,13 @@ impl Context<'_> {
     }
 
     /// A sign between two values.
-    pub fn binary(&self, notes: &mut ScriptNotes, sign: Sign, left: Typed, right: Typed) -> Made<Typed>
+    pub fn binary(
+        &self,
+        notes: &mut ScriptNotes,
+        sign: Sign,
+        left: Typed,
+        right: Typed,
+    ) -> Made<Typed>
         ensures { TypedInRange (bounds_of self.now) left → TypedInRange (bounds_of self.now) right → IfOk result (TypedInRange (bounds_of self.now)) }
     {
         if left.kind == Kind::Unknown || right.kind == Kind::Unknown {
@@ -78,7 +84,13 @@ impl Context<'_> {
         self.known(Core::Equal(left, right), CoreType::Bool)
     }
 
-    fn compare(&self, notes: &mut ScriptNotes, order: Order, left: Typed, right: Typed) -> Made<Typed>
+    fn compare(
+        &self,
+        notes: &mut ScriptNotes,
+        order: Order,
+        left: Typed,
+        right: Typed,
+    ) -> Made<Typed>
         ensures { TypedInRange (bounds_of self.now) left → TypedInRange (bounds_of self.now) right → IfOk result (TypedInRange (bounds_of self.now)) }
     {
         if left.kind != INT || right.kind != INT {
@@ -88,7 +100,13 @@ impl Context<'_> {
     }
 
     // Arithmetic on whole numbers, or two texts joined.
-    fn arithmetic(&self, notes: &mut ScriptNotes, sign: Sign, left: Typed, right: Typed) -> Made<Typed>
+    fn arithmetic(
+        &self,
+        notes: &mut ScriptNotes,
+        sign: Sign,
+        left: Typed,
+        right: Typed,
+    ) -> Made<Typed>
         ensures { TypedInRange (bounds_of self.now) left → TypedInRange (bounds_of self.now) right → IfOk result (TypedInRange (bounds_of self.now)) }
     {
         match self.operation(notes, sign, left.kind, right.kind) {
@@ -109,7 +127,13 @@ impl Context<'_> {
     }
 
     /// What a sign does with values of these types. `Operand` is broken where it does nothing with them.
-    pub fn operation(&self, notes: &mut ScriptNotes, sign: Sign, left: Kind, right: Kind) -> Option<Arith>
+    pub fn operation(
+        &self,
+        notes: &mut ScriptNotes,
+        sign: Sign,
+        left: Kind,
+        right: Kind,
+    ) -> Option<Arith>
         ensures { result ≡ operation_of sign left right }
     {
         let found = operation_of(sign, left, right);

@@ -1,8 +1,9 @@
 // The rules of types and names, and what is noted while a script is judged by them.
-ghost use Rattle.std.specs.Prelude.{◌≡◌, ◌↔◌, ◌<◌, None, IsTrue, IsSome, IfSome};
-ghost use Rattle.expression_rules.specs.Rules.{Before, IsFirst, rule_number};
+ghost use Rattle.std.specs.Prelude.{◌≡◌, ◌<◌, None, IsTrue, IsSome, IfSome};
+ghost use Rattle.expression_rules.specs.Rules.{rule_number};
+ghost use Rattle.papy_base.specs.Earliest.{IsFirst};
 
-use papy_base::Made;
+use papy_base::{BrokenRule, Earliest, Made, NumberedRule};
 use std::alloc::Global;
 use std::collections::HashSet;
 
@@ -61,12 +62,20 @@ impl TypeRule {
     }
 }
 
+impl NumberedRule for TypeRule {
+    ghost number_of = { rule_number };
+
+    fn number(self) -> u8 {
+        TypeRule::number(self)
+    }
+}
+
 /// The first broken rule of a script, and the different texts that its calls write out: default texts, and
 /// the names of Global functions as they are declared.
 #[derive(Drop)]
 pub struct ScriptNotes {
     alloc: Global,
-    first: Option<(u16, TypeRule)>,
+    first: Earliest<TypeRule>,
     texts: HashSet<Vec<u8>>,
     text_bytes: usize,
     defaults: u32,
@@ -75,11 +84,11 @@ pub struct ScriptNotes {
 impl ScriptNotes {
     /// Nothing noted.
     pub fn new(alloc: Global) -> ScriptNotes
-        ensures { result.first ≡ None }
+        ensures { result.first.found ≡ None }
     {
         ScriptNotes {
             alloc,
-            first: None,
+            first: Earliest { found: None },
             texts: HashSet::new(alloc),
             text_bytes: 0,
             defaults: 0,
@@ -88,21 +97,18 @@ impl ScriptNotes {
 
     /// Notes that a rule is broken at this line. The first by line and rule number is kept.
     pub fn note(&mut self, line: u16, rule: TypeRule)
-        ensures noted { IsSome self.new.first }
-        ensures least { IfSome self.new.first (IsFirst self.old.first line rule) }
+        ensures noted { IsSome self.new.first.found }
+        ensures least { IfSome self.new.first.found (IsFirst rule_number self.old.first.found line rule) }
         ensures others { self.new.texts ≡ self.old.texts }
     {
-        match self.first {
-            Some((least, known)) if !comes_before(line, rule, least, known) => {}
-            _ => self.first = Some((line, rule)),
-        }
+        self.first.note(line, rule);
     }
 
     /// The first broken rule by line and rule number, with its line.
-    pub fn first(&self) -> Option<(u16, TypeRule)>
-        ensures { result ≡ self.now.first }
+    pub fn first(&self) -> Option<BrokenRule<TypeRule>>
+        ensures { result ≡ self.now.first.found }
     {
-        self.first
+        self.first.found
     }
 
     /// Whether the calls of the script write out over 8,192 different texts, over 524,288 bytes of them
@@ -138,10 +144,4 @@ impl ScriptNotes {
         self.defaults += 1;
         true
     }
-}
-
-fn comes_before(line: u16, rule: TypeRule, other: u16, known: TypeRule) -> bool
-    ensures { IsTrue result ↔ Before line rule other known }
-{
-    line < other || (line == other && rule.number() < known.number())
 }

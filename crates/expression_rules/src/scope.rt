@@ -4,7 +4,8 @@ ghost use Rattle.core_tree.specs.InRange.{TypeInRange, ResultInRange, LiteralInR
 ghost use Rattle.type_scope.specs.Scope.{KindInRange};
 ghost use Rattle.type_scope.specs.Types.{signatures, type_named};
 ghost use Rattle.expression_rules.specs.Ranges.{CoreInRange, FormInRange, TypedInRange, bounds_of};
-ghost use Rattle.expression_rules.specs.Rules.{IsFirst};
+ghost use Rattle.expression_rules.specs.Rules.{rule_number};
+ghost use Rattle.papy_base.specs.Earliest.{IsFirst};
 ghost use Rattle.expression_rules.specs.Scopes.{Keeps, ScopeInRange, scope_bounds};
 
 use crate::rule::{ScriptNotes, TypeRule};
@@ -79,8 +80,8 @@ impl Context<'_> {
 
     /// The same where this rule is broken.
     pub fn broken(&self, notes: &mut ScriptNotes, rule: TypeRule) -> Made<Typed>
-        ensures noted { IsSome notes.new.first }
-        ensures least { IfSome notes.new.first (IsFirst notes.old.first self.now.line rule) }
+        ensures noted { IsSome notes.new.first.found }
+        ensures least { IfSome notes.new.first.found (IsFirst rule_number notes.old.first.found self.now.line rule) }
         ensures in_range { IfOk result (TypedInRange (bounds_of self.now)) }
     {
         self.fault(notes, rule);
@@ -96,15 +97,15 @@ impl Context<'_> {
 
     /// Notes that a rule is broken.
     pub fn fault(&self, notes: &mut ScriptNotes, rule: TypeRule)
-        ensures noted { IsSome notes.new.first }
-        ensures least { IfSome notes.new.first (IsFirst notes.old.first self.now.line rule) }
+        ensures noted { IsSome notes.new.first.found }
+        ensures least { IfSome notes.new.first.found (IsFirst rule_number notes.old.first.found self.now.line rule) }
     {
         notes.note(self.line, rule);
     }
 
     /// Notes that something needs an instance, which a Global function has not.
     pub fn needs_instance(&self, notes: &mut ScriptNotes)
-        ensures { IsTrue self.now.is_global → IsSome notes.new.first }
+        ensures { IsTrue self.now.is_global → IsSome notes.new.first.found }
     {
         if self.is_global {
             self.fault(notes, TypeRule::InstanceInGlobal);
@@ -115,7 +116,7 @@ impl Context<'_> {
     pub fn kind_named(&self, notes: &mut ScriptNotes, name: &TypeName) -> Option<CoreType>
         ensures found { result ≡ type_named self.now.catalog.now.set.now name.now }
         ensures in_range { ResultInRange (signatures self.now.catalog.now.set.now) result }
-        ensures noted { IfNone result (IsSome notes.new.first) }
+        ensures noted { IfNone result (IsSome notes.new.first.found) }
     {
         let found = self.catalog.type_of(name);
         if found.is_none() {
@@ -192,8 +193,8 @@ impl<'a> Scope<'a> {
     /// Notes that a rule is broken at the present line.
     pub fn fault(&mut self, rule: TypeRule)
         ensures kept { Keeps self.old self.new }
-        ensures noted { IsSome self.new.notes.first }
-        ensures least { IfSome self.new.notes.first (IsFirst self.old.notes.first self.old.line rule) }
+        ensures noted { IsSome self.new.notes.first.found }
+        ensures least { IfSome self.new.notes.first.found (IsFirst rule_number self.old.notes.first.found self.old.line rule) }
     {
         self.notes.note(self.line, rule);
     }
@@ -203,7 +204,7 @@ impl<'a> Scope<'a> {
         ensures found { result ≡ type_named self.old.catalog.now.set.now name.now }
         ensures in_range { ResultInRange (signatures self.old.catalog.now.set.now) result }
         ensures kept { Keeps self.old self.new }
-        ensures noted { IfNone result (IsSome self.new.notes.first) }
+        ensures noted { IfNone result (IsSome self.new.notes.first.found) }
     {
         context_of!(self).kind_named(&mut self.notes, name)
     }

@@ -1,5 +1,5 @@
 -- The arrays of a world, by number, and what the operations of a script do to them.
-use Rattle.std.specs.Prelude.{◌≡◌, IsTrue, ℕ, zero, suc, ◌+◌, ℤ, pos, negsuc, Bool, true, false, List, [], ◌∷◌, ◌++◌, Option, Some, None, Result, Ok, Err, length, replicate, drop, position, slice_index_or, slice_set, nat_lt, int_lt, if◌then◌else◌}
+use Rattle.std.specs.Prelude.{◌≡◌, IsTrue, ℕ, zero, suc, ◌+◌, ℤ, pos, Bool, true, false, List, [], ◌∷◌, ◌++◌, Option, Some, None, Result, Ok, Err, length, replicate, drop, position, slice_index_or, slice_set, nat_lt, int_lt, if◌then◌else◌}
 use Rattle.std.specs.Int.RustNames.{unsigned_abs}
 use Rattle.std.specs.Option.{option_map}
 use Rattle.instance_store.specs.declared.arrays.StoreFault.{StoreFault}
@@ -10,8 +10,9 @@ use Rattle.core_tree.specs.declared.core_type.CoreType.{CoreType}
 use Rattle.core_tree.specs.declared.core_type.CoreType.TheVariants as kinds
 use Rattle.core_tree.specs.declared.value.Value.{Value}
 use Rattle.core_tree.specs.declared.value.Value.TheVariants.{NoneValue}
-use Rattle.core_tree.specs.Values.{is_text}
-use Rattle.instance_store.specs.Values.{equals, default_value}
+use Rattle.core_tree.specs.Values.{is_text, place_number}
+use Rattle.instance_store.specs.Values.{equals}
+use Rattle.core_tree.specs.Values.{default_of}
 
 -- an array: the type of its elements, and the elements
 pub record ArrayState : Type 0 where
@@ -29,7 +30,7 @@ item_at items place = slice_index_or items place NoneValue
 
 -- a new array
 abbrev pub filled : CoreType → ℕ → ArrayState
-filled kind count = record { kind = kind; items = replicate count (default_value kind) }
+filled kind count = record { kind = kind; items = replicate count (default_of kind) }
 
 -- the place that an index names, where there is one
 abbrev pub place_in : ℕ → ℤ → Option ℕ
@@ -121,11 +122,6 @@ end_behind count (Some place) = place + 1
 abbrev pub found_place : List Value → Value → ℤ → Bool → Option ℕ
 found_place items value start false = first_equal items value (first_place start)
 found_place items value start true = last_equal items value (end_behind (length items) (place_in (length items) start))
-
--- a place as a script sees it, and -1 where there is none
-abbrev pub place_number : Option ℕ → ℤ
-place_number None = negsuc 0
-place_number (Some place) = pos place
 
 abbrev pub found : List ArrayState → Option ℕ → Value → ℤ → Bool → Result ℤ StackFault
 found arrays None value start back = Err NoneArray

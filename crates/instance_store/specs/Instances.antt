@@ -1,7 +1,7 @@
 -- The instances of a world, by number: the text of each one's state, and the values of its variables.
 use Rattle.std.specs.Prelude.{ℕ, ◌==◌, List, [], ◌∷◌, Option, Some, None, map, position, slice_get, slice_index_or, slice_set}
 use Rattle.papy_base.specs.Lineage.{lineage}
-use Rattle.core_tree.specs.Outlines.{parents_of}
+use Rattle.core_tree.specs.Outlines.{parents_of, name_or}
 use Rattle.core_tree.specs.declared.value.Value.{Value}
 use Rattle.core_tree.specs.declared.value.Value.TheVariants.{NoneValue}
 use Rattle.core_tree.specs.declared.outline.OutlineScript.{OutlineScript}
@@ -70,10 +70,6 @@ initial_values scripts script = record { script = script; values = initial_value
 abbrev pub auto_state_of : Option OutlineScript → Option (List ℕ)
 auto_state_of None = None
 auto_state_of (Some script) = script.auto_state
-
-abbrev pub name_or : Option (List ℕ) → List ℕ → List ℕ
-name_or None other = other
-name_or (Some name) other = name
 
 -- the Auto state of the first of these scripts that has one, else the empty state
 abbrev pub start_state : List OutlineScript → List ℕ → List ℕ

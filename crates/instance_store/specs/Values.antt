@@ -1,9 +1,7 @@
--- What the values of a store are compared with, and what they begin as.
-use Rattle.std.specs.Prelude.{ℕ, ◌==◌, Bool, true, false, List, [], ℤ, pos, not, if◌then◌else◌}
+-- What the values of a store are compared with.
+use Rattle.std.specs.Prelude.{ℕ, ◌==◌, Bool, true, false, List, ℤ, not, if◌then◌else◌}
 use Rattle.std.specs.Ordering.{int_eq}
 use Rattle.std.specs.Str.{str_eq_ignore_ascii_case}
-use Rattle.core_tree.specs.declared.core_type.CoreType.{CoreType}
-use Rattle.core_tree.specs.declared.core_type.CoreType.TheVariants as kinds
 use Rattle.core_tree.specs.declared.value.Value.{Value}
 use Rattle.core_tree.specs.declared.value.Value.TheVariants as values
 
@@ -63,24 +61,3 @@ equals (values.Bool truth) other = is_bool truth other
 equals (values.Text text) other = is_same_text text other
 equals (values.Instance number) other = is_instance number other
 equals (values.Array number) other = is_array number other
-
--- the value of an element that nothing has written
-abbrev pub default_value : CoreType → Value
-default_value kinds.Int = values.Int (pos 0)
-default_value kinds.Bool = values.Bool false
-default_value kinds.Text = values.Text []
-default_value (kinds.Script script) = values.NoneValue
-default_value kinds.IntArray = values.NoneValue
-default_value kinds.BoolArray = values.NoneValue
-default_value kinds.TextArray = values.NoneValue
-default_value (kinds.ScriptArray script) = values.NoneValue
-
-abbrev pub is_array_type : CoreType → Bool
-is_array_type kinds.Int = false
-is_array_type kinds.Bool = false
-is_array_type kinds.Text = false
-is_array_type (kinds.Script script) = false
-is_array_type kinds.IntArray = true
-is_array_type kinds.BoolArray = true
-is_array_type kinds.TextArray = true
-is_array_type (kinds.ScriptArray script) = true

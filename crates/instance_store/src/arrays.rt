@@ -3,10 +3,11 @@
 ghost use Rattle.std.specs.Prelude.{◌≡◌, ◌↔◌, ◌⊎◌, ◌<◌, ◌≤◌, [], ◌++◌, ◌∷◌, IfOk, IfErr, IsErrOf, IsTrue, OnErr, OnOk, not, pos, length, replicate, vec_len};
 ghost use Rattle.std.specs.Option.{ForSome};
 ghost use Rattle.instance_store.specs.declared.arrays.StoreFault.TheVariants.{OutOfMemory as StoreOutOfMemory};
-ghost use Rattle.instance_store.specs.Values.{is_array_type, default_value};
-ghost use Rattle.instance_store.specs.Arrays.{array_at, length_of, read, write_answer, arrays_with, found, item_of, write_answer_of, array_with, found_place, place_number, IsRefusal, IsCreated};
+ghost use Rattle.core_tree.specs.Values.{default_of, is_array_type};
+ghost use Rattle.instance_store.specs.Arrays.{array_at, length_of, read, write_answer, arrays_with, found, item_of, write_answer_of, array_with, found_place, IsRefusal, IsCreated};
+ghost use Rattle.core_tree.specs.Values.{place_number};
 
-use crate::values::{default_value, found_place, place_in, place_number};
+use crate::values::{found_place, place_in, place_number};
 use core_tree::{CoreType, Value};
 use papy_base::{Made, OutOfMemory, StackFault};
 use std::alloc::Global;
@@ -88,11 +89,11 @@ impl ValueArray {
 
 /// So many defaults of a type.
 fn defaults(alloc: Global, kind: CoreType, count: u8) -> Made<Vec<Value>>
-    ensures { IfOk result (λ items. items.items ≡ replicate count (default_value kind)) }
+    ensures { IfOk result (λ items. items.items ≡ replicate count (default_of kind)) }
 {
     let mut items = Vec::with_capacity(alloc, usize::from(count))?;
     for _made in 0..count {
-        items.push(default_value(alloc, kind)?)?;
+        items.push(Value::default_of(alloc, Some(kind))?)?;
     }
     Ok(items)
 }

@@ -1,6 +1,6 @@
 //! The instances of a world, and their variables.
 
-ghost use Rattle.std.specs.Prelude.{◌≡◌, ◌↔◌, ◌<◌, List, ℕ, IfOk, OnErr, IsTrue, length, map, slice_get, slice_set};
+ghost use Rattle.std.specs.Prelude.{◌≡◌, ◌↔◌, ◌<◌, List, IfOk, OnErr, IsTrue, length, map, slice_get, slice_set};
 ghost use Rattle.std.specs.Option.{option_copied};
 ghost use Rattle.core_tree.specs.Values.{is_text};
 ghost use Rattle.instance_store.specs.Instances.{instance_at, place_of, values_of, variable_of, scripts_with, instance_with, auto_state_of, initial_values, initial_values_of, start_state, started};

@@ -1,13 +1,12 @@
-//! Comparison and defaults of values, and places in lists of them.
+//! Comparison of values, and places in lists of them.
 
-ghost use Rattle.std.specs.Prelude.{◌≡◌, ◌≤◌, ◌<◌, IfOk, IfSome, length, position};
+ghost use Rattle.std.specs.Prelude.{◌≡◌, ◌≤◌, ◌<◌, IfSome, length, position};
 ghost use Rattle.std.specs.Option.{ForSome};
-ghost use Rattle.instance_store.specs.Values.{equals, default_value};
-ghost use Rattle.instance_store.specs.Arrays.{place_in, first_equal, last_equal, first_place, end_behind, found_place, place_number};
+ghost use Rattle.instance_store.specs.Values.{equals};
+ghost use Rattle.instance_store.specs.Arrays.{place_in, first_equal, last_equal, first_place, end_behind, found_place};
+ghost use Rattle.core_tree.specs.Values.{place_number};
 
-use core_tree::{CoreType, Value};
-use papy_base::{Made, Text};
-use std::alloc::Global;
+use core_tree::Value;
 
 /// Whether two values are equal, as `==` of a script says: texts with the case of A to Z ignored, instances and arrays where
 /// they are the same one.
@@ -23,18 +22,6 @@ pub fn equals(value: &Value, other: &Value) -> bool
         (Value::Array(a), Value::Array(b)) => a == b,
         _ => false,
     }
-}
-
-/// The value with which elements of a type begin.
-pub fn default_value(alloc: Global, kind: CoreType) -> Made<Value>
-    ensures { IfOk result (λ value. value ≡ default_value kind) }
-{
-    Ok(match kind {
-        CoreType::Int => Value::Int(0),
-        CoreType::Bool => Value::Bool(false),
-        CoreType::Text => Value::Text(Text::try_from_bytes(alloc, &[])?),
-        _ => Value::NoneValue,
-    })
 }
 
 /// The place that an index names, if it is below the count.

@@ -10,15 +10,12 @@ use Rattle.code_meaning.specs.Code.{Function, State, Script}
 use Rattle.code_meaning.specs.LookUp.{numbered, one_on, states_in, FoundMethod, method_at, method_of_state, method_of_script, first_method}
 use Rattle.pex_set.specs.Names.{number_in}
 use Rattle.pex_set.proofs.NameLemmas.{alike-number}
+use Rattle.pex_set.proofs.Positions.{falsely}
 use Rattle.pex_verify.specs.Meanings.{Meanings}
 use Rattle.pex_verify.specs.Signatures.{Declared}
 use Rattle.pex_verify.proofs.Views.{StateView, Declares, IsViewed, view_of, own_at, own_of_state, own_found, ViewFound, found_of_script, first_found}
 
 -- ---- texts and numbers
-falsely : (t : Bool) → (t ≡ true → ⊥) → t ≡ false
-falsely true h = absurd (h refl)
-falsely false h = refl
-
 same_test_by : (names : List (List ℕ)) (own text : List ℕ) (m n : ℕ) → number_in names own ≡ Some m → number_in names text ≡ Some n → (b : Bool) → (m == n) ≡ b → str_eq_ignore_ascii_case own text ≡ b
 same_test_by names own text m n e f true same =
     (alike-number names own text m e).0 (f ∙ ap (λ k. Some k) (sym (eqb-true m n same)))

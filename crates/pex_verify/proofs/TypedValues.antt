@@ -6,7 +6,7 @@ use Rattle.std.proofs.lemmas.Int.{ints}
 use Rattle.core_tree.specs.declared.core_type.CoreType.{CoreType}
 use Rattle.core_tree.specs.declared.core_type.CoreType.TheVariants as kinds
 use Rattle.core_tree.specs.Outlines.{ScriptShape}
-use Rattle.script_meaning.specs.Values.{element_kind}
+use Rattle.core_tree.specs.Values.{element_kind}
 use Rattle.code_meaning.specs.Code.{Function, Script, Slot}
 use Rattle.code_meaning.specs.Operands.{kind_in, type_of, variables_in}
 use Rattle.code_meaning.specs.Typed.{Scope, Gives, GivesArray, IsPlace, Stores, Compares, Computes as ComputesTyped, Searches}

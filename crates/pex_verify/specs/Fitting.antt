@@ -3,7 +3,7 @@ use Rattle.std.specs.Prelude.{◌≡◌, ◌⊎◌, true, List, Option, Some, No
 use Rattle.core_tree.specs.declared.core_type.CoreType.TheVariants as kinds
 use Rattle.papy_base.specs.Ranks.{is_below}
 use Rattle.papy_base.specs.declared.descent.Span.{Span}
-use Rattle.script_meaning.specs.Fits.{holds_none}
+use Rattle.core_tree.specs.Values.{holds_none}
 use Rattle.pex_verify.specs.declared.value_type.ValueType.{ValueType}
 use Rattle.pex_verify.specs.declared.value_type.ValueType.TheVariants.{Nothing, Float, Unknown, Of}
 

@@ -3,8 +3,8 @@ use Rattle.std.specs.Prelude.{ℕ, Bool, false, List, Option, Some, None, slice_
 use Rattle.std.specs.Option.{option_map}
 use Rattle.core_tree.specs.declared.core_type.CoreType.{CoreType}
 use Rattle.core_tree.specs.declared.core_type.CoreType.TheVariants as kinds
-use Rattle.script_meaning.specs.Fits.{holds_none}
-use Rattle.script_meaning.specs.Values.{element_kind}
+use Rattle.core_tree.specs.Values.{holds_none}
+use Rattle.core_tree.specs.Values.{element_kind}
 use Rattle.pex_verify.specs.declared.value_type.ValueType.{ValueType}
 use Rattle.pex_verify.specs.declared.value_type.ValueType.TheVariants.{Nothing, Float, Unknown, Of}
 

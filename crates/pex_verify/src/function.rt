@@ -1,7 +1,6 @@
 // One function.
-ghost use Rattle.std.specs.Prelude.{◌≡◌, ◌+◌, ℕ, [], ◌∷◌, ◌++◌, length, map, vec_len, All, IfOk, OnOk, IfSome};
-ghost use Rattle.pex_verify.specs.Signatures.{kind_at};
-ghost use Rattle.pex_verify.specs.Meanings.{of_result, result_meaning, value_meaning};
+ghost use Rattle.std.specs.Prelude.{◌≡◌, ◌+◌, ℕ, [], ◌∷◌, ◌++◌, map, vec_len, All, IfOk, OnOk, IfSome};
+ghost use Rattle.pex_verify.specs.Meanings.{of_result};
 ghost use Rattle.pex_verify.specs.Matching.{parameter_type, parameter_types, local_type, local_types, IsWritten};
 ghost use Rattle.pex_verify.specs.Judged.{AreTypedIn};
 ghost use Rattle.pex_verify.specs.Sites.{site_of};

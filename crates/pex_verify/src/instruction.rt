@@ -1,11 +1,11 @@
 // One instruction, with its operands resolved.
-ghost use Rattle.std.specs.Prelude.{◌≡◌, vec_len, IfOk, OnOk, ◌<◌, ◌≤◌, ◌+ℤ◌, ℕ, pos, length, All, IfSome, Some, option_copied};
+ghost use Rattle.std.specs.Prelude.{◌≡◌, vec_len, IfOk, ◌<◌, ◌≤◌, ◌+ℤ◌, ℕ, pos, length, IfSome, Some, option_copied};
 ghost use Rattle.pex_verify.specs.Found.{AreTold, IsTold, Allows};
-ghost use Rattle.pex_verify.specs.Uses.{use_at as use_in, action_of as action_by, uses_by};
+ghost use Rattle.pex_verify.specs.Uses.{use_at as use_in, action_of as action_by};
 ghost use Rattle.pex_verify.specs.Soundness.{IsResolved, AreResolved, IsSoundInstruction, Leads, LeadsBy};
 ghost use Rattle.pex_values.specs.declared.values.Datum.TheVariants.{Word};
 ghost use Rattle.pex_verify.specs.Accepted.{HasInstance, OperandsFit};
-ghost use Rattle.pex_verify.specs.Judged.{IsJudged, IsTypedIn};
+ghost use Rattle.pex_verify.specs.Judged.{IsTypedIn};
 ghost use Rattle.pex_verify.specs.Places.{bounds_of, IsFoundAmong};
 ghost use Rattle.pex_verify.specs.declared.action.Use.TheVariants.{Read};
 

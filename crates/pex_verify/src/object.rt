@@ -177,7 +177,7 @@ fn load_variable(
 // The value at the start: V7 where it isn't of the type, and V12 where a text is too long.
 fn start_value(alloc: Global, source: &SetFile<'_>, kind: CoreType, datum: Datum) -> Judged<Value> {
     match (kind, datum) {
-        (_, Datum::NoneValue) => Ok(default_value(alloc, kind)?),
+        (_, Datum::NoneValue) => Ok(Value::default_of(alloc, Some(kind))?),
         (CoreType::Int, Datum::Int(number)) => Ok(Value::Int(number)),
         (CoreType::Bool, Datum::Bool(byte)) => Ok(Value::Bool(byte != 0)),
         (CoreType::Text, Datum::Quoted(reference)) => {
@@ -187,16 +187,6 @@ fn start_value(alloc: Global, source: &SetFile<'_>, kind: CoreType, datum: Datum
         }
         _ => Err(refused(VerifyRule::OperandType)),
     }
-}
-
-// The value that a variable of the type has where the file gives none.
-fn default_value(alloc: Global, kind: CoreType) -> Made<Value> {
-    Ok(match kind {
-        CoreType::Int => Value::Int(0),
-        CoreType::Bool => Value::Bool(false),
-        CoreType::Text => Value::Text(Text::try_from_bytes(alloc, &[])?),
-        _ => Value::NoneValue,
-    })
 }
 
 fn load_properties(home: &Home<'_>, slots: &mut SlotList) -> Valid<Vec<LoadedProperty>>
@@ -254,7 +244,11 @@ fn has_empty_state(home: &Home<'_>) -> bool
 }
 
 // These states, none of which is the empty one, and an empty state of the members that the script lacks.
-fn completed(home: &Home<'_>, slots: &mut SlotList, mut states: Vec<StateFunctions>) -> Valid<Vec<StateFunctions>>
+fn completed(
+    home: &Home<'_>,
+    slots: &mut SlotList,
+    mut states: Vec<StateFunctions>,
+) -> Valid<Vec<StateFunctions>>
     requires { All (λ state. IsSoundState (bounds_of home.now) state.1.items) states.items }
     ensures sound { IfOk result (λ states. All (λ state. IsSoundState (bounds_of home.now) state.1.items) states.items) }
     ensures written { (before : List WrittenState) → AreStates (site_of home.now) before states.items

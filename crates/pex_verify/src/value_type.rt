@@ -44,8 +44,7 @@ impl ValueType {
         ensures { result ≡ takes_none self }
     {
         match self {
-            ValueType::Of(CoreType::Int | CoreType::Bool | CoreType::Text) => false,
-            ValueType::Of(_) => true,
+            ValueType::Of(kind) => kind.holds_none(),
             _ => false,
         }
     }
@@ -55,10 +54,7 @@ impl ValueType {
         ensures { result ≡ element_type self }
     {
         match self {
-            ValueType::Of(CoreType::IntArray) => Some(INT),
-            ValueType::Of(CoreType::BoolArray) => Some(BOOL),
-            ValueType::Of(CoreType::TextArray) => Some(TEXT),
-            Self::Of(CoreType::ScriptArray(script)) => Some(Self::Of(CoreType::Script(script))),
+            Self::Of(kind) => Some(Self::Of(kind.element()?)),
             _ => None,
         }
     }

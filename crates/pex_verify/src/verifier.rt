@@ -2,7 +2,7 @@
 ghost use Rattle.std.specs.Prelude.{◌≡◌, ◌+◌, ◌<◌, ℕ, List, [], ◌∷◌, ◌++◌, Some, length, vec_len, All, IfOk, OnOk, false, None};
 ghost use Rattle.pex_verify.specs.Files.{IsFile};
 ghost use Rattle.pex_verify.specs.Sources.{object_count, script_count};
-ghost use Rattle.pex_verify.specs.Sets.{AreSoundOutlines, AreSoundScripts};
+ghost use Rattle.pex_verify.specs.Sets.{AreSoundScripts};
 ghost use Rattle.pex_verify.specs.Heads.{Placed, placed, placed_in, placed_objects, members_of, AreNumbered, AreHeads};
 ghost use Rattle.papy_base.specs.Lineage.{AreRooted, AreAmong};
 ghost use Rattle.pex_set.specs.Names.{empty_name, number_in};

@@ -19,7 +19,7 @@ use Rattle.scene_binder.specs.declared.natives.Native.{Native}
 use Rattle.scene_binder.specs.declared.natives.Natives.{Natives}
 use Rattle.scene_binder.specs.Bound.{IsBoundNative}
 use Rattle.scene_binder.specs.Meant.{IsNativeMeant, binding_in, binding_meant, default_entries, full_name}
-use Rattle.scene_binder.specs.Members.{name_in}
+use Rattle.core_tree.specs.Outlines.{name_in}
 use Rattle.scene_binder.specs.Names.{entry_name}
 use Rattle.scene_binder.specs.NativeList.{Adds, AreBoundBy, AreLeft, AreMeant, AreNatives, AreTabled, HasEntry, HasMeaning, HoldsNative, IsUnbound, MayDo, native_key, native_name, native_place}
 use Rattle.scene_binder.specs.Natives.{native_place_here, native_places_from, native_places_in, native_places_of}

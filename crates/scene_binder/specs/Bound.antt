@@ -24,13 +24,6 @@ pub record IsInstanceOf (scripts : List OutlineScript) (instances : List ℕ) (n
   pub there : slice_get instances number ≡ Some own
   pub above : StandsAbove (parents_of scripts) own script
 
--- the types of which None is a value
-abbrev pub MayBeNone : CoreType → Type 0
-MayBeNone kinds.Int = ⊥
-MayBeNone kinds.Bool = ⊥
-MayBeNone kinds.Text = ⊥
-MayBeNone _ = Unit {0}
-
 -- the value is of the type
 abbrev pub IsOfType : List OutlineScript → List ℕ → CoreType → Value → Type 0
 IsOfType scripts instances kinds.Int (values.Int number) = Unit {0}

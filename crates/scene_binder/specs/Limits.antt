@@ -7,7 +7,8 @@ use Rattle.core_tree.specs.declared.scene.BoundNative.{BoundNative}
 use Rattle.core_tree.specs.declared.scene.Scene.{Scene}
 use Rattle.core_tree.specs.declared.value.Value.{Value}
 use Rattle.core_tree.specs.declared.value.Value.TheVariants as values
-use Rattle.scene_reader.specs.Limits.{BindingKeeps, IsInstanceName, IsQuantum, IsShort, IsTurns, OrderKeeps, TapeKeeps}
+use Rattle.papy_base.specs.InstanceName.{IsInstanceName}
+use Rattle.scene_reader.specs.Limits.{BindingKeeps, IsQuantum, IsShort, IsTurns, OrderKeeps, TapeKeeps}
 use Rattle.scene_binder.specs.declared.natives.Native.{Native}
 use Rattle.scene_binder.specs.declared.natives.Natives.{Natives}
 

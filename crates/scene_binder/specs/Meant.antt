@@ -21,7 +21,8 @@ use Rattle.core_tree.specs.declared.scene_tree.SceneValue.TheVariants as written
 use Rattle.core_tree.specs.declared.value.Value.{Value}
 use Rattle.core_tree.specs.declared.value.Value.TheVariants as values
 use Rattle.scene_binder.specs.Instances.{tree_name}
-use Rattle.scene_binder.specs.Members.{IsNearestProperty, name_in, script_named}
+use Rattle.scene_binder.specs.Members.{IsNearestProperty, script_named}
+use Rattle.core_tree.specs.Outlines.{name_in}
 use Rattle.scene_binder.specs.Names.{entry_name, first_of}
 use Rattle.scene_binder.specs.Natives.{IsFunctionAt}
 

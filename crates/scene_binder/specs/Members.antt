@@ -14,10 +14,6 @@ use Rattle.scene_binder.specs.Names.{first_of, function_name, property_name, scr
 abbrev pub script_named : List OutlineScript → List ℕ → Option ℕ
 script_named scripts name = place_of script_name scripts (folded name)
 
-abbrev pub name_in : Option OutlineScript → List ℕ
-name_in None = []
-name_in (Some script) = script.name
-
 abbrev pub functions_in : Option OutlineScript → List OutlineFunction
 functions_in None = []
 functions_in (Some script) = script.functions.items

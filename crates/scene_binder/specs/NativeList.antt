@@ -10,7 +10,7 @@ use Rattle.scene_binder.specs.declared.natives.Native.{Native}
 use Rattle.scene_binder.specs.declared.natives.Natives.{Natives}
 use Rattle.scene_binder.specs.Limits.{NativesKeepLimits}
 use Rattle.scene_binder.specs.Meant.{binding_in, binding_meant, full_name}
-use Rattle.scene_binder.specs.Members.{name_in}
+use Rattle.core_tree.specs.Outlines.{name_in}
 use Rattle.scene_binder.specs.Natives.{AllowsBinding, HasDevice, IsFunctionAt, native_places}
 
 abbrev pub native_place : Native → ℕ × ℕ

@@ -1,10 +1,10 @@
 // A scene bound to an outline, step by step: its instances and what they set, what native functions do, and its calls.
-ghost use Rattle.std.specs.Prelude.{IfOk, IfSome, IsErrOf, IsTrue, None, OnOk, Some, is_some, length, map, slice_get, ◌↔◌, ◌≡◌, ◌≤◌};
+ghost use Rattle.std.specs.Prelude.{IfOk, IfSome, IsErrOf, IsTrue, None, OnOk, Some, is_some, length, map, slice_get, ◌≡◌, ◌≤◌};
 ghost use Rattle.std.specs.List.{All};
 ghost use Rattle.papy_base.specs.Case.{folded};
 ghost use Rattle.papy_base.specs.Table.{Notes, number_in};
 ghost use Rattle.scene_reader.specs.Limits.{CallKeeps, EntryKeeps, InstanceKeeps, KeepsLimits, NativeKeeps, ValueKeeps};
-ghost use Rattle.scene_binder.specs.Bound.{AreBoundNatives, AreOfTypes, IsBound, IsBoundCall, IsBoundEntry, IsBoundInstance, IsCallableOn, IsInstanceOf, IsOfType, MayBeNone, call_parts, instance_name, script_of};
+ghost use Rattle.scene_binder.specs.Bound.{AreBoundNatives, AreOfTypes, IsBound, IsBoundCall, IsBoundEntry, IsBoundInstance, IsCallableOn, IsInstanceOf, IsOfType, call_parts, instance_name, script_of};
 ghost use Rattle.scene_binder.specs.Instances.{IsInstantiable, tree_call_parts, tree_name, tree_script};
 ghost use Rattle.scene_binder.specs.Kept.{IsOfTree};
 ghost use Rattle.scene_binder.specs.Limits.{CallKeepsLimits, InstanceKeepsLimits, IsShortEntry, IsShortValue, NativeKeepsLimits, SceneKeepsLimits};
@@ -288,7 +288,7 @@ impl<'s, 'a> Known<'s, 'a> {
                 self.alloc,
             )?)),
             (CoreType::Script(kind), SceneValue::Instance(name)) => self.instance_for(kind, name),
-            (_, SceneValue::NoneValue) if may_be_none(kind) => Ok(Value::NoneValue),
+            (_, SceneValue::NoneValue) if kind.holds_none() => Ok(Value::NoneValue),
             _ => Err(SceneFault::of(SceneRule::Arguments)),
         }
     }
@@ -313,10 +313,4 @@ impl<'s, 'a> Known<'s, 'a> {
             None => false,
         }
     }
-}
-
-fn may_be_none(kind: CoreType) -> bool
-    ensures { IsTrue result ↔ MayBeNone kind }
-{
-    !matches!(kind, CoreType::Int | CoreType::Bool | CoreType::Text)
 }

@@ -19,10 +19,12 @@ use Rattle.papy_base.specs.declared.faults.StackFault.{StackFault}
 use Rattle.papy_base.specs.declared.faults.StackFault.TheVariants as faults
 use Rattle.script_meaning.specs.Arrays.{array_limit, items_of, is_index, with_array, new_array, length_of, element_of, with_items, with_element, found, found_back}
 use Rattle.script_meaning.specs.Evaluation.{self_value}
-use Rattle.script_meaning.specs.Fits.{Known, known, IsOfScript, IsInstanceOf, HoldsElements, holds_none, HasType, IsResult, Extends, VariablesFit, ArrayFits, script_in, script_at, IsThere, is_native_at, NativesFit, SightFits, Types}
+use Rattle.script_meaning.specs.Fits.{Known, known, IsOfScript, IsInstanceOf, HoldsElements, HasType, IsResult, Extends, VariablesFit, ArrayFits, script_in, script_at, IsThere, is_native_at, NativesFit, SightFits, Types}
+use Rattle.core_tree.specs.Values.{holds_none}
 use Rattle.script_meaning.specs.Keeps.{IsOn, RequestFits}
 use Rattle.script_meaning.specs.Requests.{Sight, Setting, Request, Method, ParentMethod, GlobalFunction, GlobalNative, Get, Set, LoopPass, Return, binding_in, result_of, is_prompt, performed_at, method_of, get_of, set_of, Answer, Reply, Act, framed, request_answer, answer, replied, faulted}
-use Rattle.script_meaning.specs.Values.{Result, number_of, text_of, instance_of, array_of, default_of, upward, lineage, parent_in, is_child, instance_as, divided, joined, text_limit, calculated, arith_kind, element_kind}
+use Rattle.script_meaning.specs.Values.{Result, number_of, text_of, instance_of, array_of, upward, lineage, parent_in, is_child, instance_as, divided, joined, text_limit, calculated, arith_kind}
+use Rattle.core_tree.specs.Values.{default_of, element_kind}
 use Rattle.script_meaning.specs.World.{Place, ArrayState}
 use Rattle.script_meaning.proofs.Kept.{SameSight, performed_same, performed_fits}
 use Rattle.script_meaning.proofs.Typing.{all_at, all_written, all_repeated, all_more, get_more, arrays_moved, kinds_of, items_fit, same_kinds, arrays_written, default_fits, index_within}

@@ -10,7 +10,8 @@ use Rattle.script_meaning.specs.Arrays.{element_of}
 use Rattle.script_meaning.specs.Evaluation.{Home, Inner, Pending, Operand, EffectOperand, AndThen, OrElse, PropertyTarget, PropertyOld, PropertyRight, ElementArray, ElementIndex, ElementRight, Test, LoopTest, LoopBody, Loop, Statements, Outcome, Gives, Stops, then_do, asked, ask, noted, at_line, place_of, taken_at, by_parameter, name_at, applied, and_then, or_else, evaluated, with_operands, effected, with_effect, property_right, property_old, property_target, element_right, element_index, element_array, passed, tested, looped, done, all_done, chosen, given, onward, resumed}
 use Rattle.script_meaning.specs.InnerSteps.{nodes, all_nodes, statement_nodes, block_nodes, branch_nodes, after_value, no_more, expression_steps, operand_steps, right_steps, old_steps, read_steps, index_steps, body_steps, loop_steps, statement_steps, block_steps, branch_steps, given_steps, where_given, resumed_steps, grown_by, grown}
 use Rattle.script_meaning.specs.Requests.{ParentMethod, GlobalFunction, GlobalNative, Return, Question, Asks, method_of, get_of, set_of, Answer, Reply, Act, answer}
-use Rattle.script_meaning.specs.Values.{Result, instance_of, array_of, number_of, default_of, default_result, is_true, calculated}
+use Rattle.script_meaning.specs.Values.{Result, instance_of, array_of, number_of, is_true, calculated}
+use Rattle.core_tree.specs.Values.{default_of, default_result}
 
 -- ---- steps
 after_at_most : (o : Outcome) (f : Value → Inner → ℕ) (n : ℕ) → ((v : Value) (s : Inner) → f v s ≤ n) → after_value o f ≤ suc n

@@ -17,7 +17,8 @@ use Rattle.script_meaning.specs.Requests.{Sight, Setting}
 use Rattle.script_meaning.specs.Source.{Body, body_of, opened, named, functions_of_state, state_functions, with_script, or_else_found, first_function, first_empty, method_in, native_there, function_entered, properties_of, first_property, accessor_entered, get_entered, set_entered, get_found, set_found, enter_body, source_engine}
 use Rattle.script_meaning.specs.Stacks.{Way, ByMethod, ByParent, ByGlobal, ByGet, BySet, Entered, Opened, NativeThere, WriteThere, NothingThere}
 use Rattle.script_meaning.specs.Typed.{FunctionMeets, AccessorMeets, GetMeets, SetMeets, WhereFound, IsTypedFunction, IsTypedAccessor, IsTypedAccess, IsTypedSet, awaited_kind, Holds, source_types}
-use Rattle.script_meaning.specs.Values.{default_of, lineage, parent_in}
+use Rattle.script_meaning.specs.Values.{lineage, parent_in}
+use Rattle.core_tree.specs.Values.{default_of}
 use Rattle.script_meaning.proofs.Operating.{nothing_up, has_above, parent_above}
 use Rattle.script_meaning.proofs.TreesKeep.{all_pending_moved, run_body_fits}
 use Rattle.script_meaning.proofs.Typing.{result_moved, types_moved, types_joined, defaults_fit, default_result_fits}

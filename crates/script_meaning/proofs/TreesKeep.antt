@@ -23,7 +23,8 @@ use Rattle.script_meaning.specs.Requests.{Sight, Setting, Request, GlobalFunctio
 use Rattle.script_meaning.specs.Source.{Body, reply_or_none, stop_at, run_body}
 use Rattle.script_meaning.specs.Stacks.{Way, ByMethod, ByParent, ByGlobal, ByGet, BySet}
 use Rattle.script_meaning.specs.Typed.{Calls, Scope, CallsOn, ArePlaced, CanCast, IsArrayOf, Operates, HasKind, HaveKinds, returned_kinds, Affects, ChangesProperty, IsTyped, BlockTyped, BranchesTyped, PendingFits, AllPendingFits, awaited_kind, source_types}
-use Rattle.script_meaning.specs.Values.{Result, number_of, text_of, instance_of, array_of, default_of, default_result, is_true, cast_to, equal, in_order, calculated, joined, arith_kind}
+use Rattle.script_meaning.specs.Values.{Result, number_of, text_of, instance_of, array_of, is_true, cast_to, equal, in_order, calculated, joined, arith_kind}
+use Rattle.core_tree.specs.Values.{default_of, default_result}
 use Rattle.script_meaning.specs.World.{ArrayState, variable_of}
 use Rattle.script_meaning.proofs.Kept.{SameSight}
 use Rattle.script_meaning.proofs.Operating.{own_line, self_has, literal_fits, calculated_fits, joined_fits, target_is, instance_cast, array_is, length_fits, found_fits, found_back_fits, element_fits, Rewritten, element_written, array_made, sight_as, AnswerIs, framed_is, method_is, get_is, set_is, native_is, request_so}

@@ -12,7 +12,7 @@ use Rattle.core_tree.specs.declared.value.Value.TheVariants as values
 use Rattle.script_meaning.specs.Arrays.{items_of, is_index, with_items}
 use Rattle.script_meaning.specs.Fits.{Known, known, IsOfScript, IsInstanceOf, HoldsElements, HasType, IsResult, HaveTypes, typed, Extends, variable_kinds, VariablesFit, ArrayFits}
 use Rattle.script_meaning.specs.Keeps.{IsVariable}
-use Rattle.script_meaning.specs.Values.{default_of, default_result, element_kind}
+use Rattle.core_tree.specs.Values.{default_of, default_result, element_kind}
 use Rattle.script_meaning.specs.World.{Variables, ArrayState, values_of, variable_of, with_variable}
 
 -- ---- lists

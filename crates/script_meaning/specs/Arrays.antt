@@ -1,5 +1,5 @@
 -- What scripts do to arrays. An array is shared: it belongs to no instance.
-use Rattle.std.specs.Prelude.{ℕ, zero, suc, ◌+◌, Bool, false, if◌then◌else◌, nat_lt, ℤ, pos, negsuc, int_lt, List, [], ◌∷◌, ◌++◌, length, replicate, Option, Some, None, slice_index_or, slice_set}
+use Rattle.std.specs.Prelude.{ℕ, zero, suc, ◌+◌, Bool, false, if◌then◌else◌, nat_lt, ℤ, pos, int_lt, List, [], ◌∷◌, ◌++◌, length, replicate, Option, Some, None, slice_index_or, slice_set}
 use Rattle.std.specs.Int.RustNames.{unsigned_abs}
 use Rattle.core_tree.specs.declared.core_type.CoreType.{CoreType}
 use Rattle.core_tree.specs.declared.core_type.CoreType.TheVariants as kinds
@@ -7,7 +7,8 @@ use Rattle.core_tree.specs.declared.value.Value.{Value}
 use Rattle.core_tree.specs.declared.value.Value.TheVariants as values
 use Rattle.papy_base.specs.declared.faults.StackFault.{StackFault}
 use Rattle.papy_base.specs.declared.faults.StackFault.TheVariants as faults
-use Rattle.script_meaning.specs.Values.{Result, default_of, equal}
+use Rattle.script_meaning.specs.Values.{Result, equal}
+use Rattle.core_tree.specs.Values.{default_of, place_number}
 use Rattle.script_meaning.specs.World.{ArrayState}
 
 abbrev pub array_limit : ℕ
@@ -57,10 +58,6 @@ with_element arrays (Some number) index value =
     else arrays
 
 -- ---- searches
-abbrev pub place_number : Option ℕ → ℤ
-place_number None = negsuc 0
-place_number (Some place) = pos place
-
 abbrev pub next : Option ℕ → Option ℕ
 next None = None
 next (Some place) = Some (suc place)

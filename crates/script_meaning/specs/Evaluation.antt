@@ -13,7 +13,8 @@ use Rattle.core_tree.specs.Tree.{Operation, Calculate, Negate, Not, Join, Equal,
 use Rattle.papy_base.specs.declared.faults.StackFault.{StackFault}
 use Rattle.script_meaning.specs.Arrays.{with_array, new_array, length_of, element_of, write_fault, with_element, found, found_back}
 use Rattle.script_meaning.specs.Requests.{Sight, Setting, Request, ParentMethod, GlobalFunction, GlobalNative, LoopPass, Return, Question, Asks, method_of, get_of, set_of, Answer, Reply, Act, answer, faulted_where}
-use Rattle.script_meaning.specs.Values.{Result, number_of, text_of, instance_of, array_of, default_of, default_result, is_true, cast_to, equal, in_order, calculated, joined, script_name}
+use Rattle.script_meaning.specs.Values.{Result, number_of, text_of, instance_of, array_of, is_true, cast_to, equal, in_order, calculated, joined, script_name}
+use Rattle.core_tree.specs.Values.{default_of, default_result}
 use Rattle.script_meaning.specs.World.{Place, variable_of, with_variable}
 
 -- ---- what stays and what changes while a body runs

@@ -3,7 +3,7 @@ use Rattle.std.specs.Prelude.{ℕ, List, [], ◌∷◌, map, ℤ, Option, Some, 
 use Rattle.core_tree.specs.declared.DeviceKind.{DeviceKind}
 use Rattle.core_tree.specs.declared.value.Value.{Value}
 use Rattle.core_tree.specs.Device.{DeviceState, load}
-use Rattle.core_tree.specs.Outlines.{ScriptShape}
+use Rattle.core_tree.specs.Outlines.{ScriptShape, name_or}
 use Rattle.core_tree.specs.Scenes.{SceneShape, InstanceShape}
 use Rattle.script_meaning.specs.Stacks.{State}
 use Rattle.script_meaning.specs.Values.{lineage}
@@ -25,10 +25,6 @@ variables_set (first ∷ rest) variables = variables_set rest (with_variable var
 abbrev pub auto_state_in : Option ScriptShape → Option (List ℕ)
 auto_state_in None = None
 auto_state_in (Some script) = script.auto_state
-
-abbrev pub name_or : Option (List ℕ) → List ℕ → List ℕ
-name_or None other = other
-name_or (Some name) other = name
 
 -- the Auto state of the first of these scripts that has one, else the empty state
 abbrev pub start_state : List ScriptShape → List ℕ → List ℕ

@@ -15,7 +15,8 @@ use Rattle.script_meaning.specs.Locks.{takes}
 use Rattle.script_meaning.specs.Requests.{Sight, Setting, binding_in, functions_in, result_of}
 use Rattle.script_meaning.specs.Stacks.{Way, Stack, Done, ToEnter, Running, State, stack_at, inner_instance}
 use Rattle.script_meaning.specs.Turns.{sight_of, setting_of, instance_script, begun}
-use Rattle.script_meaning.specs.Values.{is_child, lineage, element_kind}
+use Rattle.script_meaning.specs.Values.{is_child, lineage}
+use Rattle.core_tree.specs.Values.{element_kind, holds_none}
 use Rattle.script_meaning.specs.World.{World, ArrayState}
 
 -- ---- a value and a type
@@ -29,13 +30,6 @@ pub record Known : Type 0 where
 abbrev pub known : List ScriptShape → List (ℕ × List ℕ) → List ArrayState → Known
 known outline instances arrays =
     record { outline = outline; instances = instances; arrays = map (λ array. array.kind) arrays }
-
--- None is of each script type and of each array type
-abbrev pub holds_none : CoreType → Bool
-holds_none kinds.Int = false
-holds_none kinds.Bool = false
-holds_none kinds.Text = false
-holds_none _ = true
 
 abbrev pub IsOfScript : List ScriptShape → ℕ → Option (ℕ × List ℕ) → Type 0
 IsOfScript outline script None = ⊥

@@ -11,7 +11,8 @@ use Rattle.script_meaning.specs.Evaluation.{Home, Inner, Pending, Operand, Effec
 use Rattle.script_meaning.specs.Requests.{Sight, Setting, Request, get_of, LoopPass}
 use Rattle.script_meaning.specs.Source.{Body, home_of, reply_or_none, run_body}
 use Rattle.script_meaning.specs.Stacks.{Frame, Stack, Done, ToEnter, Running, Entered, Opened, NativeThere, ReadThere, WriteThere, NothingThere, Stop, State}
-use Rattle.script_meaning.specs.Values.{instance_of, array_of, number_of, default_of, is_true}
+use Rattle.script_meaning.specs.Values.{instance_of, array_of, number_of, is_true}
+use Rattle.core_tree.specs.Values.{default_of}
 
 -- ---- the number of nodes
 abbrev mutual

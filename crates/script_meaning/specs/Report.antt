@@ -6,35 +6,17 @@ use Rattle.core_tree.specs.declared.outline.OutlineProperty.{OutlineProperty}
 use Rattle.core_tree.specs.declared.value.Value.{Value}
 use Rattle.core_tree.specs.declared.value.Value.TheVariants as values
 use Rattle.core_tree.specs.Outlines.{ScriptShape}
-use Rattle.papy_base.specs.declared.faults.StackFault.{StackFault}
-use Rattle.papy_base.specs.declared.faults.StackFault.TheVariants as faults
+use Rattle.papy_base.specs.ReportWords.{escaped, fault_name}
 use Rattle.script_meaning.specs.Arrays.{items_of}
 use Rattle.script_meaning.specs.Locks.{is_ready, waited_for}
 use Rattle.script_meaning.specs.Values.{lineage, script_name, written}
 use Rattle.script_meaning.specs.World.{World, Instance, title, Line, Traced, Faulted, instance_at, variable_of}
 
--- a line feed prints as `\n`, and `\` as `\\`
-abbrev pub escaped_byte : ℕ → List ℕ
-escaped_byte byte = if byte == 10 then codes "\\n" else (if byte == 92 then codes "\\\\" else byte ∷ [])
-
-abbrev pub escaped : List ℕ → List ℕ
-escaped text = flat_map escaped_byte text
-
-abbrev pub fault_word : StackFault → List ℕ
-fault_word faults.NoneCall = codes "NoneCall"
-fault_word faults.NoneProperty = codes "NoneProperty"
-fault_word faults.NoneArray = codes "NoneArray"
-fault_word faults.IndexRange = codes "IndexRange"
-fault_word faults.DivideZero = codes "DivideZero"
-fault_word faults.TextTooLong = codes "TextTooLong"
-fault_word faults.FrameLimit = codes "FrameLimit"
-fault_word faults.ArrayLimit = codes "ArrayLimit"
-
 -- ---- the lines of stacks
 abbrev pub line_text : Line → List ℕ
 line_text (Traced stack text) = codes "#" ++ decimal stack ++ codes " " ++ escaped text
 line_text (Faulted stack at fault) =
-    codes "!" ++ decimal stack ++ codes " " ++ at.script ++ codes "." ++ at.function ++ codes ":" ++ decimal at.line ++ codes " " ++ fault_word fault
+    codes "!" ++ decimal stack ++ codes " " ++ at.script ++ codes "." ++ at.function ++ codes ":" ++ decimal at.line ++ codes " " ++ fault_name fault
 
 -- ---- values
 abbrev pub names_of : World → List (ℕ × List ℕ)

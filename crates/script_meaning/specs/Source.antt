@@ -15,7 +15,8 @@ use Rattle.script_meaning.specs.First.{first_state}
 use Rattle.script_meaning.specs.Requests.{Sight, Setting, Return}
 use Rattle.script_meaning.specs.Stacks.{Way, ByMethod, ByParent, ByGlobal, ByGet, BySet, Entered, Opened, NativeThere, ReadThere, WriteThere, NothingThere, Stop, Engine}
 use Rattle.script_meaning.specs.Turns.{states_from}
-use Rattle.script_meaning.specs.Values.{default_of, default_result, lineage, parent_in}
+use Rattle.script_meaning.specs.Values.{lineage, parent_in}
+use Rattle.core_tree.specs.Values.{default_of, default_result}
 use Rattle.script_meaning.specs.World.{World}
 
 -- a running body: its script and the name of its function or property, what its end returns, its

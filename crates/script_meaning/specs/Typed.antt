@@ -14,7 +14,8 @@ use Rattle.script_meaning.specs.Keeps.{IsVariable, IsOn}
 use Rattle.script_meaning.specs.Requests.{functions_in, result_of}
 use Rattle.script_meaning.specs.Source.{Body, first_empty, method_in, native_there, first_property}
 use Rattle.script_meaning.specs.Stacks.{Way, ByMethod, ByParent, ByGlobal, ByGet, BySet}
-use Rattle.script_meaning.specs.Values.{element_kind, arith_kind, is_child, lineage, parent_in}
+use Rattle.script_meaning.specs.Values.{arith_kind, is_child, lineage, parent_in}
+use Rattle.core_tree.specs.Values.{element_kind}
 
 -- ---- calls
 -- parameters and result, as `is_global` wants it; a native function stands in the outline

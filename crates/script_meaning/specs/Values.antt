@@ -38,30 +38,10 @@ array_of (values.Array number) = Some number
 array_of _ = None
 
 -- ---- types
--- of the elements of an array type
-abbrev pub element_kind : CoreType → Option CoreType
-element_kind kinds.IntArray = Some kinds.Int
-element_kind kinds.BoolArray = Some kinds.Bool
-element_kind kinds.TextArray = Some kinds.Text
-element_kind (kinds.ScriptArray script) = Some (kinds.Script script)
-element_kind _ = None
-
 -- of the operands and the result of an operator
 abbrev pub arith_kind : Arith → CoreType
 arith_kind signs.Join = kinds.Text
 arith_kind _ = kinds.Int
-
--- ---- defaults
-abbrev pub default_of : CoreType → Value
-default_of kinds.Int = values.Int (pos 0)
-default_of kinds.Bool = values.Bool false
-default_of kinds.Text = values.Text []
-default_of _ = values.NoneValue
-
--- of a result, or None where there is none
-abbrev pub default_result : Option CoreType → Value
-default_result None = values.NoneValue
-default_result (Some kind) = default_of kind
 
 -- ---- scripts above scripts
 abbrev pub parent_in : Option ScriptShape → Option ℕ

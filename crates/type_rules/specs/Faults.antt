@@ -1,5 +1,6 @@
 -- Which broken rule of a set is reported.
 use Rattle.std.specs.Prelude.{ℕ, ◌+◌, ◌<◌, Option, Some, None, nat_lt, if◌then◌else◌}
+use Rattle.papy_base.specs.declared.earliest.BrokenRule.{BrokenRule}
 use Rattle.expression_rules.specs.declared.rule.TypeRule.{TypeRule}
 use Rattle.expression_rules.specs.declared.rule.TypeRule.TheVariants.{FunctionTooLarge}
 use Rattle.type_rules.specs.declared.fault.TypeFault.{TypeFault}
@@ -20,9 +21,9 @@ earlier (Some fault) now = Some fault
 earlier None now = now
 
 -- a rule that is broken in the file of this number
-abbrev pub broken_in : ℕ → Option (ℕ × TypeRule) → Option TypeFault
+abbrev pub broken_in : ℕ → Option (BrokenRule TypeRule) → Option TypeFault
 broken_in file None = None
-broken_in file (Some (line, rule)) = Some (Broken file line rule)
+broken_in file (Some found) = Some (Broken file found.line found.rule)
 
 -- the same of the rule of sizes
 abbrev pub too_large_in : ℕ → Option ℕ → Option TypeFault

@@ -17,7 +17,7 @@ use crate::members::{auto_state, core_properties, core_states, core_variables};
 use crate::work::ScriptRules;
 use core_tree::{CoreProperty, CoreScript, CoreSet, CoreState, CoreVariable};
 use expression_rules::TypeRule;
-use papy_base::{Made, PRELUDE_COUNT};
+use papy_base::{BrokenRule, Made, PRELUDE_COUNT};
 use script_linker::ScriptSet;
 use script_parser::Script;
 use std::alloc::Global;
@@ -144,8 +144,8 @@ fn core_script(catalog: &Catalog<'_>, number: u16, members: Members) -> Made<Cor
 /// What was found of one script.
 #[derive(Clone, Copy, PartialEq, Eq)]
 pub(crate) struct ScriptFaults {
-    /// The line and the rule of its first broken rule but K15.
-    pub(crate) broken: Option<(u16, TypeRule)>,
+    /// Its first broken rule but K15.
+    pub(crate) broken: Option<BrokenRule<TypeRule>>,
     /// The first line at which it breaks K15.
     pub(crate) too_large: Option<u16>,
 }
@@ -194,15 +194,15 @@ fn earlier(found: Option<TypeFault>, now: Option<TypeFault>) -> Option<TypeFault
     }
 }
 
-fn broken_in(file: u16, broken: Option<(u16, TypeRule)>) -> Option<TypeFault>
+fn broken_in(file: u16, broken: Option<BrokenRule<TypeRule>>) -> Option<TypeFault>
     ensures broken { result ≡ broken_in file broken }
     ensures below { (count : ℕ) → file + 6 < count → HasFaultBelow count result }
 {
     match broken {
-        Some((line, rule)) => Some(TypeFault::Broken {
+        Some(found) => Some(TypeFault::Broken {
             file,
-            line: u32::from(line),
-            rule,
+            line: u32::from(found.line),
+            rule: found.rule,
         }),
         None => None,
     }
@@ -212,5 +212,9 @@ fn too_large_in(file: u16, too_large: Option<u16>) -> Option<TypeFault>
     ensures broken { result ≡ too_large_in file too_large }
     ensures below { (count : ℕ) → file + 6 < count → HasFaultBelow count result }
 {
-    broken_in(file, Some((too_large?, TypeRule::FunctionTooLarge)))
+    let found = BrokenRule {
+        line: too_large?,
+        rule: TypeRule::FunctionTooLarge,
+    };
+    broken_in(file, Some(found))
 }

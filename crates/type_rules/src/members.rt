@@ -15,7 +15,7 @@ use core_tree::{
     Core, CoreAccess, CoreFunction, CoreLine, CoreProperty, CoreState, CoreStatement, CoreType,
     CoreVariable, Value,
 };
-use expression_rules::{TypeRule, default_of, kind_of, value_of};
+use expression_rules::{TypeRule, kind_of, value_of};
 use line_parser::Constant;
 use papy_base::{Made, Name, OutOfMemory};
 use script_parser::{Function, Property, PropertyForm, Script, State, Variable};
@@ -90,7 +90,7 @@ fn property_value(
 {
     match &property.form {
         PropertyForm::Auto(value) => first_value(work, property.line, value, kind),
-        _ => initial_value(work.catalog.alloc, kind),
+        _ => Value::default_of(work.catalog.alloc, kind),
     }
 }
 
@@ -309,7 +309,7 @@ fn first_value(
 {
     match constant {
         Some(constant) => constant_value(work, line, constant, kind),
-        None => initial_value(work.catalog.alloc, kind),
+        None => Value::default_of(work.catalog.alloc, kind),
     }
 }
 
@@ -333,22 +333,8 @@ fn constant_value(
 // Whether a constant of this kind is a value of the type as it stands. All are of an unknown type.
 fn is_value_of(given: Kind, kind: Option<CoreType>) -> bool {
     match kind {
-        Some(kind) => given == Kind::Of(kind) || (given == Kind::NoneLiteral && holds_none(kind)),
+        Some(kind) => given == Kind::Of(kind) || (given == Kind::NoneLiteral && kind.holds_none()),
         None => true,
-    }
-}
-
-fn holds_none(kind: CoreType) -> bool {
-    !matches!(kind, CoreType::Int | CoreType::Bool | CoreType::Text)
-}
-
-/// The value with which a thing of this type begins that is given none.
-pub(crate) fn initial_value(alloc: Global, kind: Option<CoreType>) -> Made<Value>
-    ensures { IfOk result LiteralInRange }
-{
-    match kind {
-        Some(kind) => default_of(alloc, kind),
-        None => Ok(Value::NoneValue),
     }
 }
 

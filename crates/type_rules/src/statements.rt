@@ -6,8 +6,7 @@ ghost use Rattle.expression_rules.specs.Ranges.{CoreInRange, FormInRange};
 ghost use Rattle.expression_rules.specs.Scopes.{Keeps, ScopeInRange, scope_bounds};
 ghost use Rattle.type_rules.specs.Ranges.{Grows, PromiseInRange};
 
-use crate::members::initial_value;
-use core_tree::{Core, CoreLine, CoreStatement, CoreType};
+use core_tree::{Core, CoreLine, CoreStatement, CoreType, Value};
 use expression_rules::{Scope, TypeRule};
 use line_parser::{Expr, TypeName};
 use papy_base::{Made, Name, OutOfMemory};
@@ -135,7 +134,7 @@ fn local_value(scope: &mut Scope<'_>, value: &Option<Expr>, kind: Option<CoreTyp
 {
     match value {
         Some(tree) => scope.value_as(tree, kind),
-        None => Ok(Core::Lit(initial_value(scope.catalog.alloc, kind)?)),
+        None => Ok(Core::Lit(Value::default_of(scope.catalog.alloc, kind)?)),
     }
 }
 

@@ -1,14 +1,15 @@
 // A script while it is judged.
 ghost use Rattle.std.specs.Prelude.{◌≡◌, [], IfNone, IfSome, IsSome};
 ghost use Rattle.core_tree.specs.InRange.{ResultInRange};
-ghost use Rattle.expression_rules.specs.Rules.{IsFirst};
+ghost use Rattle.expression_rules.specs.Rules.{rule_number};
+ghost use Rattle.papy_base.specs.Earliest.{IsFirst};
 ghost use Rattle.type_rules.specs.Ranges.{KeepsScript, functions_of, set_of};
 ghost use Rattle.type_scope.specs.Types.{type_named};
 
 use crate::elaboration::ScriptFaults;
 use crate::sizes::Sizes;
 use core_tree::CoreType;
-use expression_rules::{ScriptNotes, Scope, TypeRule};
+use expression_rules::{Scope, ScriptNotes, TypeRule};
 use line_parser::TypeName;
 use std::mem;
 use type_scope::{Catalog, Layout};
@@ -46,8 +47,8 @@ impl<'a> ScriptRules<'a> {
     /// Notes that a rule is broken at this line.
     pub(crate) fn fault(&mut self, line: u16, rule: TypeRule)
         ensures kept { KeepsScript self.old self.new }
-        ensures noted { IsSome self.new.notes.first }
-        ensures least { IfSome self.new.notes.first (IsFirst self.old.notes.first line rule) }
+        ensures noted { IsSome self.new.notes.first.found }
+        ensures least { IfSome self.new.notes.first.found (IsFirst rule_number self.old.notes.first.found line rule) }
     {
         self.notes.note(line, rule);
     }
@@ -57,7 +58,7 @@ impl<'a> ScriptRules<'a> {
         ensures found { result ≡ type_named (set_of self.old) name.now }
         ensures kept { KeepsScript self.old self.new }
         ensures in_range { ResultInRange (functions_of self.old) result }
-        ensures noted { IfNone result (IsSome self.new.notes.first) }
+        ensures noted { IfNone result (IsSome self.new.notes.first.found) }
     {
         let kind = self.catalog.type_of(name);
         if kind.is_none() {

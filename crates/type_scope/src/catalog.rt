@@ -222,16 +222,3 @@ pub fn array_of(element: CoreType) -> CoreType
         array => array,
     }
 }
-
-/// The element type of an array type, or none.
-pub fn element_of(array: CoreType) -> Option<CoreType>
-    ensures { (functions : Signatures) → TypeInRange functions array → ResultInRange functions result }
-{
-    match array {
-        CoreType::IntArray => Some(CoreType::Int),
-        CoreType::BoolArray => Some(CoreType::Bool),
-        CoreType::TextArray => Some(CoreType::Text),
-        CoreType::ScriptArray(script) => Some(CoreType::Script(script)),
-        _ => None,
-    }
-}

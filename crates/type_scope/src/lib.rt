@@ -6,7 +6,7 @@ mod catalog;
 mod layout;
 mod locals;
 
-pub use catalog::{Callee, Catalog, Kind, array_of, element_of};
+pub use catalog::{Callee, Catalog, Kind, array_of};
 pub use layout::{Layout, Source};
 pub use locals::{Local, Locals};
 
