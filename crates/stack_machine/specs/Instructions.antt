@@ -7,7 +7,7 @@ use Rattle.core_tree.specs.declared.value.Value.TheVariants as values
 use Rattle.pex_verify.specs.declared.loaded.LoadedInstruction.{LoadedInstruction}
 use Rattle.stack_machine.specs.declared.operands.Executor.{Executor}
 use Rattle.stack_machine.specs.Operands.{StoresAt, type_at, worth_at}
-use Rattle.stack_machine.specs.Stores.{default_in}
+use Rattle.core_tree.specs.Values.{default_result}
 use Rattle.stack_machine.specs.Values.{number_in}
 
 -- the number that a fixed operand is worth
@@ -32,4 +32,4 @@ StoresNumber old new instruction place (Err kind) fault =
 abbrev pub StoresValue : Executor → Executor → LoadedInstruction → Result Value StackFault → Option StackFault → Type 0
 StoresValue old new instruction (Ok value) fault = StoresAt old new instruction 0 value × (fault ≡ None)
 StoresValue old new instruction (Err kind) fault =
-    StoresAt old new instruction 0 (default_in (type_at old instruction 0)) × (fault ≡ Some kind)
+    StoresAt old new instruction 0 (default_result (type_at old instruction 0)) × (fault ≡ Some kind)

@@ -1,15 +1,8 @@
 -- What a store has at a place, where the place may be missing.
 use Rattle.std.specs.Prelude.{ℕ, List, Option, Some, None, length, nat_lt, if◌then◌else◌}
-use Rattle.core_tree.specs.declared.core_type.CoreType.{CoreType}
 use Rattle.core_tree.specs.declared.value.Value.{Value}
 use Rattle.core_tree.specs.declared.value.Value.TheVariants as values
 use Rattle.instance_store.specs.Arrays.{ArrayState}
-use Rattle.instance_store.specs.Values.{default_value}
-
--- the value that a place of a type begins with, and None for a place with no type
-abbrev pub default_in : Option CoreType → Value
-default_in None = values.NoneValue
-default_in (Some kind) = default_value kind
 
 -- the number of the array that a value is, where there is such an array
 abbrev pub array_in : List ArrayState → Value → Option ℕ

@@ -6,10 +6,12 @@ ghost use Rattle.std.specs.Option.{option_and_then};
 ghost use Rattle.std.specs.Result.{result_err};
 ghost use Rattle.core_tree.specs.declared.value.Value.TheVariants as values;
 ghost use Rattle.instance_store.specs.Arrays.{arrays_with, found, length_of, read, write_answer};
-ghost use Rattle.instance_store.specs.Values.{equals, is_array_type};
+ghost use Rattle.instance_store.specs.Values.{equals};
+ghost use Rattle.core_tree.specs.Values.{is_array_type};
 ghost use Rattle.pex_verify.specs.Uses.{action_of as action_by};
 ghost use Rattle.stack_machine.specs.Arithmetic.{computed, is_ordered};
-ghost use Rattle.stack_machine.specs.Calls.{element_of, reply_place};
+ghost use Rattle.stack_machine.specs.Calls.{reply_place};
+ghost use Rattle.core_tree.specs.Values.{element_kind};
 ghost use Rattle.stack_machine.specs.Instructions.{number_at, StoresComputed, StoresNumber, StoresValue};
 ghost use Rattle.stack_machine.specs.Operands.{worth_at, StoresAt};
 ghost use Rattle.stack_machine.specs.Stores.{array_in};
@@ -407,16 +409,10 @@ fn is_in_order(opcode: u8, left: i32, right: i32) -> bool
 
 /// The type of the elements of an array type.
 pub fn element_type(kind: Option<CoreType>) -> Option<CoreType>
-    ensures element { result ≡ option_and_then element_of kind }
+    ensures element { result ≡ option_and_then element_kind kind }
     ensures no_array { IfSome result (λ element. IsTrue (not (is_array_type element))) }
 {
-    match kind? {
-        CoreType::IntArray => Some(CoreType::Int),
-        CoreType::BoolArray => Some(CoreType::Bool),
-        CoreType::TextArray => Some(CoreType::Text),
-        CoreType::ScriptArray(script) => Some(CoreType::Script(script)),
-        _ => None,
-    }
+    kind?.element()
 }
 
 // The size that stands in the code, from 1 to 128.

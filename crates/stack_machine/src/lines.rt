@@ -2,7 +2,9 @@
 
 ghost use Rattle.std.specs.Prelude.{◌≡◌, ◌++◌, ◌∷◌, IfOk, slice_get};
 ghost use Rattle.std.specs.Fmt.{decimal};
-ghost use Rattle.stack_machine.specs.Lines.{escaped, escaped_byte, fault_line, fault_name, line_in, name_in, trace_line};
+ghost use Rattle.stack_machine.specs.Lines.{fault_line, line_in, trace_line};
+ghost use Rattle.core_tree.specs.Outlines.{name_in};
+ghost use Rattle.papy_base.specs.ReportWords.{escaped, escaped_byte, fault_name};
 
 use crate::operands::Executor;
 use crate::setting::Setting;

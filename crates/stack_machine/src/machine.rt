@@ -10,7 +10,7 @@ ghost use Rattle.stack_machine.specs.Plans.{ArePlanned, HasBegun, calls_before};
 ghost use Rattle.stack_machine.specs.Written.{WritesLines};
 
 use crate::casts::text_of;
-use crate::moves::{NoNotes, MoveSink};
+use crate::moves::{MoveSink, NoNotes};
 use crate::plan::Plan;
 use crate::setting::Setting;
 use crate::status::{Status, TurnEnd, TurnFault};

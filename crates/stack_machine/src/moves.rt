@@ -6,7 +6,7 @@ ghost use Rattle.run_replay.specs.declared.lock_move.LockMove.{LockMove};
 ghost use Rattle.stack_machine.specs.Moves.{Adds, Arrives, LetsGo};
 
 use papy_base::Made;
-use run_replay::LockMove;
+use run_replay::{LockMove, StackPlace};
 
 /// What is told the moves of a turn, in order.
 pub trait MoveSink {
@@ -50,21 +50,6 @@ pub fn note_any<N: MoveSink>(moved: Option<LockMove>, notes: &mut N) -> Made<()>
     }
 }
 
-/// Where a stack is that has started.
-#[derive(Clone, Copy, PartialEq, Eq)]
-pub enum StackPlace {
-    /// It runs without an instance.
-    Free,
-    /// It waits for this instance.
-    Waits(u16),
-    /// It holds this instance.
-    Holds(u16),
-    /// It sleeps until this turn.
-    Asleep(u32),
-    /// Its first call has returned.
-    Done,
-}
-
 /// The two moves of a stack from one place to another, none where it stays.
 pub fn moves_between(stack: u16, from: StackPlace, to: StackPlace) -> Option<(LockMove, LockMove)>
     ensures { IfSome result (λ moves. LetsGo stack moves.0 × Arrives stack moves.1) }
@@ -85,7 +70,7 @@ fn departure(stack: u16, from: StackPlace) -> LockMove
     }
 }
 
-// How it finds another. No act gives a stack an instance.
+// How it finds another. No act gives a stack an instance, or leaves it between two places.
 fn arrival(stack: u16, to: StackPlace) -> Option<LockMove>
     ensures { IfSome result (Arrives stack) }
 {
@@ -94,6 +79,6 @@ fn arrival(stack: u16, to: StackPlace) -> Option<LockMove>
         StackPlace::Waits(instance) => Some(LockMove::Join(stack, instance)),
         StackPlace::Asleep(until) => Some(LockMove::Sleep(stack, until)),
         StackPlace::Done => Some(LockMove::Done(stack)),
-        StackPlace::Holds(_) => None,
+        StackPlace::Holds(_) | StackPlace::Between => None,
     }
 }

@@ -1,15 +1,15 @@
 //! The body that runs, and what its operands are worth.
 
-ghost use Rattle.std.specs.Prelude.{◌≡◌, IfOk, OnOk, map, slice_index_or, slice_set};
+ghost use Rattle.std.specs.Prelude.{◌≡◌, IfOk, OnOk, map};
 ghost use Rattle.core_tree.specs.declared.value.Value.TheVariants as values;
-ghost use Rattle.stack_machine.specs.Operands.{state_in, state_with, type_at, variable_in, variable_with, worth, worth_at, Stores, StoresAt};
+ghost use Rattle.stack_machine.specs.Operands.{state_in, state_with, type_at, worth, worth_at, Stores, StoresAt};
 ghost use Rattle.stack_machine.specs.Instructions.{number_at};
-ghost use Rattle.stack_machine.specs.Stores.{default_in};
+ghost use Rattle.core_tree.specs.Values.{default_result};
 ghost use Rattle.stack_machine.specs.Values.{is_true};
 
 use crate::casts::{counts_as_true, number_of};
 use crate::setting::Setting;
-use crate::store::{Store, default_of};
+use crate::store::Store;
 use core_tree::{CoreType, Value};
 use papy_base::Made;
 use pex_verify::{LoadedFunction, LoadedInstruction, Operand};
@@ -182,9 +182,9 @@ impl Executor<'_> {
 
     /// Stores the default of a fixed operand's type in it.
     pub fn write_default(&mut self, instruction: &LoadedInstruction, place: usize) -> Made<()>
-        ensures { OnOk result (StoresAt self.old self.new instruction.now place (default_in (type_at self.old instruction.now place))) }
+        ensures { OnOk result (StoresAt self.old self.new instruction.now place (default_result (type_at self.old instruction.now place))) }
     {
-        let value = default_of(self.turn.alloc, self.type_of(instruction, place))?;
+        let value = Value::default_of(self.turn.alloc, self.type_of(instruction, place))?;
         self.write(instruction, place, value)
     }
 

@@ -1,7 +1,7 @@
 //! A body that runs, up to what ends its turn.
 #![tactic(auto, using(crate::proofs::Sinks::sinks))]
 
-ghost use Rattle.std.specs.Prelude.{◌≡◌, ◌+◌, ◌<◌, ◌≤◌, ◌^◌, IfOk, length, map};
+ghost use Rattle.std.specs.Prelude.{◌+◌, ◌<◌, ◌≤◌, ◌^◌, IfOk, length, map};
 ghost use Rattle.latent_natives.specs.Devices.{SameKinds};
 ghost use Rattle.stack_machine.specs.Machine.{CountsTurn};
 ghost use Rattle.stack_machine.specs.Written.{WritesLines};
@@ -13,7 +13,7 @@ use crate::natives::{Performed, perform};
 use crate::operands::{Executor, Turn};
 use crate::setting::Found;
 use crate::status::TurnFault;
-use crate::store::{Store, default_of};
+use crate::store::Store;
 use core_tree::Value;
 use latent_natives::Device;
 use papy_base::{Made, StackFault};
@@ -107,7 +107,7 @@ fn open(turn: &Turn<'_>, call: &mut Call, body: LoadedBody) -> Made<Running> {
     let mut slots = mem::replace(&mut call.arguments, Vec::new(turn.alloc));
     if let Some(function) = turn.setting.function(body) {
         for (_, kind) in &function.locals {
-            slots.push(default_of(turn.alloc, *kind)?)?;
+            slots.push(Value::default_of(turn.alloc, *kind)?)?;
         }
     }
     Ok(Running {
@@ -240,7 +240,7 @@ fn run_row(executor: &mut Executor<'_>, code: &[LoadedInstruction], from: usize)
 
 // A body that ends without a return gives the default of its type.
 fn returned(executor: &Executor<'_>) -> Made<RunEnd> {
-    let value = default_of(executor.turn.alloc, executor.function.result)?;
+    let value = Value::default_of(executor.turn.alloc, executor.function.result)?;
     Ok(returning(value))
 }
 

@@ -1,7 +1,7 @@
 //! Whether a held file has the fields for a state: lists and texts are no longer than their counts can say, and what has to
 //! ascend does.
 
-ghost use Rattle.std.specs.Prelude.{◌≡◌, true, List, map, refl, IfSome};
+ghost use Rattle.std.specs.Prelude.{◌≡◌, true, List, map, refl};
 ghost use Rattle.std.proofs.lemmas.List.{map-id};
 ghost use Rattle.std.proofs.Common.{sym};
 ghost use Rattle.std.specs.List.Sorted.{IsStrictlyIncreasing};

@@ -144,9 +144,7 @@ impl Setting {
                 let at = self.loaded.find_property(self.script_of(instance?)?, name)?;
                 Some(match self.property(at)?.variable {
                     Some(variable) => Found::Variable(at, variable),
-                    None if matches!(way, CallWay::Get(_)) => Found::Body(LoadedBody::Reader(
-                        at,
-                    )),
+                    None if matches!(way, CallWay::Get(_)) => Found::Body(LoadedBody::Reader(at)),
                     None => Found::Body(LoadedBody::Writer(at)),
                 })
             }

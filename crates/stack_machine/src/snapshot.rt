@@ -1,12 +1,11 @@
 //! The state of a run between two turns, as it is told. A stack of which no place is told is done.
 
-ghost use Rattle.std.specs.Prelude.{◌≡◌, ◌+◌, None, IfOk, vec_len};
+ghost use Rattle.std.specs.Prelude.{◌≡◌, None, IfOk, vec_len};
 ghost use Rattle.machine_state.specs.Plain.{plain};
 ghost use Rattle.machine_state.specs.Savable.{IsSavable};
 
 use crate::frame::{Call, CallWay, Frame, Running};
 use crate::machine::Machine;
-use crate::moves::StackPlace;
 use crate::savable::is_savable;
 use crate::setting::{Setting, name_of};
 use crate::store::copies;
@@ -17,6 +16,7 @@ use latent_natives::Device;
 use machine_state::{BodyPlace, FrameState, MachineState, Way};
 use papy_base::{Made, OutOfMemory, Text};
 use pex_verify::{LoadedInstruction, MethodPlace, Operand};
+use run_replay::StackPlace;
 use std::alloc::Global;
 
 /// A device of a state: its kind, its cells and its place.

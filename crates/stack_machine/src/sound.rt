@@ -359,7 +359,10 @@ fn is_sound_device(kind: DeviceKind, cells: &[i32], place: u64) -> bool {
 }
 
 fn takes_none(kind: Option<CoreType>) -> bool {
-    !matches!(kind, Some(CoreType::Int | CoreType::Bool | CoreType::Text))
+    match kind {
+        Some(kind) => kind.holds_none(),
+        None => true,
+    }
 }
 
 fn calls(instruction: Option<&LoadedInstruction>) -> bool {

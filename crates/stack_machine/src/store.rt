@@ -2,7 +2,7 @@
 
 ghost use Rattle.std.specs.Prelude.{◌≡◌, ◌↔◌, ◌<◌, [], IfOk, IfSome, IsTrue, OnErr, OnOk, length, slice_set, vec_len};
 ghost use Rattle.instance_store.specs.Instances.{instance_at, instance_with, variable_of};
-ghost use Rattle.stack_machine.specs.Stores.{array_in, default_in};
+ghost use Rattle.stack_machine.specs.Stores.{array_in};
 
 use core_tree::{CoreType, Scene, Value};
 use instance_store::{Arrays, Instances};
@@ -136,18 +136,6 @@ fn first_states(
         states.push(loaded.name_number(alloc, state.as_bytes())?)?;
     }
     Ok(states)
-}
-
-/// The value that a place of a type holds before anything is stored in it.
-pub fn default_of(alloc: Global, kind: Option<CoreType>) -> Made<Value>
-    ensures { IfOk result (λ value. value ≡ default_in kind) }
-{
-    Ok(match kind {
-        Some(CoreType::Int) => Value::Int(0),
-        Some(CoreType::Bool) => Value::Bool(false),
-        Some(CoreType::Text) => Value::Text(Text::try_from_bytes(alloc, &[])?),
-        _ => Value::NoneValue,
-    })
 }
 
 /// Copies of the values.

@@ -1,7 +1,7 @@
 //! Stacks, and where each of them is: it holds an instance, waits for one, runs free, sleeps or is done.
 #![tactic(auto, using(crate::proofs::Seats::seats))]
 
-ghost use Rattle.std.specs.Prelude.{◌≡◌, ◌↔◌, ◌+◌, ◌<◌, ◌≤◌, [], None, IfOk, IfSome, IsSome, IsTrue, MatchResult, OnOk, replicate, slice_index_or};
+ghost use Rattle.std.specs.Prelude.{◌≡◌, ◌↔◌, ◌+◌, ◌<◌, ◌≤◌, [], None, IfOk, IfSome, IsSome, IsTrue, MatchResult, OnOk, replicate};
 ghost use Rattle.std.specs.Option.{ForSome};
 ghost use Rattle.lock_queue.specs.declared.seat.Seat.TheVariants.{Resting};
 ghost use Rattle.lock_queue.specs.LockTable.{seat_of, waits_for, is_ready, ready_after, start_after};
@@ -9,7 +9,7 @@ ghost use Rattle.stack_machine.specs.Moves.{AddsSome, AreWakes, Begins, Noted, T
 ghost use Rattle.stack_machine.specs.Threads.{GoesToWait, HasGrown, IsOn, IsSameSize, due_after, let_go, put_to_sleep, taken};
 
 use crate::frame::{Call, CallWay, FRAME_LIMIT, Frame, Stack};
-use crate::moves::{MoveSink, StackPlace, note_any};
+use crate::moves::{MoveSink, note_any};
 use crate::natives::Performed;
 use crate::run::RunEnd;
 use crate::status::Status;
@@ -17,7 +17,7 @@ use core_tree::Value;
 use latent_natives::Sleepers;
 use lock_queue::Locks;
 use papy_base::Made;
-use run_replay::LockMove;
+use run_replay::{LockMove, StackPlace};
 use std::alloc::Global;
 use std::marker::Model;
 
@@ -221,7 +221,8 @@ impl Threads {
             StackPlace::Done => Status::Done,
             StackPlace::Asleep(until) => Status::Asleep(until),
             StackPlace::Waits(instance) if !self.is_ready(stack) => Status::Waits(instance),
-            StackPlace::Free | StackPlace::Waits(_) | StackPlace::Holds(_) => Status::Ready,
+            StackPlace::Free | StackPlace::Waits(_) | StackPlace::Holds(_) | StackPlace::Between =>
+                Status::Ready,
         }
     }
 

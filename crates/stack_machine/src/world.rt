@@ -1,7 +1,7 @@
 //! What turns change, and what a turn does.
 #![tactic(auto, using(crate::proofs::Sinks::sinks))]
 
-ghost use Rattle.std.specs.Prelude.{◌≡◌, ◌<◌, ◌≤◌, ◌+◌, IfOk, IfSome, MatchResult, Ok, OnOk, length, map, vec_len};
+ghost use Rattle.std.specs.Prelude.{◌≡◌, ◌<◌, ◌+◌, IfOk, IfSome, MatchResult, Ok, OnOk, map, vec_len};
 ghost use Rattle.std.specs.Option.{ForSome};
 ghost use Rattle.latent_natives.specs.Devices.{SameKinds};
 ghost use Rattle.stack_machine.specs.Choices.{chosen};
@@ -12,7 +12,7 @@ ghost use Rattle.stack_machine.specs.Threads.{HasGrown, IsSameSize};
 ghost use Rattle.stack_machine.specs.Written.{WritesLines};
 
 use crate::frame::{Call, CallWay, Frame};
-use crate::moves::{MoveSink, StackPlace, moves_between, note_any};
+use crate::moves::{MoveSink, moves_between, note_any};
 use crate::operands::Turn;
 use crate::plan::PlannedCall;
 use crate::run::run_innermost;
@@ -24,7 +24,7 @@ use core_tree::{Scene, TurnOrder};
 use latent_natives::Device;
 use papy_base::Made;
 use papy_io::Sink;
-use run_replay::LockMove;
+use run_replay::{LockMove, StackPlace};
 use std::alloc::Global;
 
 /// What turns change.

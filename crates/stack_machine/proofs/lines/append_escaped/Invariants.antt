@@ -1,5 +1,5 @@
 use Rattle.std.proofs.Common.{◌≡◌, ◌++◌, take}
-use Rattle.stack_machine.specs.Lines.{escaped}
+use Rattle.papy_base.specs.ReportWords.{escaped}
 use Rattle.stack_machine.proofs.lines.append_escaped.Given as goal
 
 abbrev pub invariant-loop-byte : goal.invariant-loop-byte
