@@ -9,7 +9,8 @@ use Rattle.pex_values.specs.declared.values.Pex.{Pex}
 use Rattle.pex_values.specs.Plain.{plain}
 use Rattle.pex_values.specs.Shape.{IsWellShaped}
 use Rattle.pex_verify.specs.Files.{IsFile}
-use Rattle.command_files.specs.Compiled.{AreFilesOf, bytes_of, spelled}
+use Rattle.command_files.specs.Compiled.{AreFilesOf, spelled}
+use Rattle.papy_base.specs.Bytes.{bytes_of}
 
 abbrev pub IsShaped : Pex → Type 0
 IsShaped value = IsWellShaped (plain value)

@@ -1,12 +1,11 @@
 -- Which rule a script breaks, and where, by what the layers answered.
-use Rattle.std.proofs.Common.{arith, ◌≡◌, ◌∙◌, inl, ℕ, All, suc, ◌+◌, ◌<◌, ◌≤◌, ◌^◌, ◌==◌, Bool, true, false, List, [], ◌∷◌, length, take, map, refl, sym, ap, subst, slice_index_or, String, Global, length-drop}
-use Rattle.std.specs.Prelude.{Option, None, Some, Result, Ok, Err, IfSome, if◌then◌else◌}
+use Rattle.std.proofs.Common.{arith, ◌≡◌, ◌∙◌, inl, ℕ, All, suc, ◌+◌, ◌<◌, List, [], length, take, map, refl, sym, ap, subst, slice_index_or, String, Global}
+use Rattle.std.specs.Prelude.{Option, None, Some, Result, Ok, Err, IfSome}
 use Rattle.std.specs.String.{string_bytes}
 use Rattle.std.specs.declared.vec.Vec.{Vec}
 use Rattle.std.proofs.lemmas.List.{get_or-map, length-map, take-map}
 use Rattle.papy_io.specs.Files.{Files}
 use Rattle.script_lexer.specs.declared.fault.LexRule.TheVariants.{TooLarge}
-use Rattle.script_lexer.specs.Lines.{LogicalLine, Lexes, physical_lines, text_of, mark_len}
 use Rattle.script_linker.specs.declared.set.SourceFile.{SourceFile}
 use Rattle.command_files.specs.declared.file_fault.FileFault.{FileFault}
 use Rattle.command_files.specs.declared.file_fault.FileFault.TheVariants.{ReadFault, OutOfMemory, Refused}
@@ -20,25 +19,6 @@ use Rattle.command_files.specs.Scripts.{EndsOnScripts, HoldScripts, HoldsRefused
 use Rattle.command_files.specs.SourceTexts.{EndsOnTexts, text_of as bytes_in}
 use Rattle.command_files.specs.declared.source_texts.NamedText.{NamedText}
 use Rattle.command_files.specs.TextFile.{ReadsText}
-
--- ---- lines
-
-one-more : (t : Bool) (n m : ℕ) → n ≤ m → (if t then 1 else 0) + n ≤ suc m
-one-more true n m small = omega arith
-one-more false n m small = omega arith
-
-few-physical : (text : List ℕ) → physical_lines text ≤ length text
-few-physical [] = omega arith
-few-physical (b ∷ []) = omega arith
-few-physical (b ∷ c ∷ bytes) = one-more (b == 10) (physical_lines (c ∷ bytes)) (length (c ∷ bytes)) (few-physical (c ∷ bytes))
-
--- a text of at most 1 MiB has few lines
-pub few_lines : (text : List ℕ) (lines : List LogicalLine) (last : ℕ) → Lexes text lines last → length text ≤ 1048576 → last + 1 < 2 ^ 32
-few_lines text lines last lexes small =
-    let counted : last ≡ physical_lines (text_of text) = lexes.as_last in
-    let few = few-physical (text_of text) in
-    let shorter = length-drop (mark_len text) text in
-    omega arith
 
 -- ---- one file
 

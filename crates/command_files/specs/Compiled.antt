@@ -1,15 +1,11 @@
 -- Which bytes the files of a set of scripts have.
 use Rattle.std.specs.Prelude.{◌≡◌, ℕ, List, length, map, All}
-use Rattle.std.specs.declared.alloc.Global.{Global}
-use Rattle.std.specs.declared.vec.Vec.{Vec}
+use Rattle.papy_base.specs.Bytes.{bytes_of}
 use Rattle.pex_values.specs.Plain.{plain}
 use Rattle.pex_values.specs.Spelling.{spelling}
 use Rattle.pex_values.specs.declared.values.Pex.{Pex}
 use Rattle.pex_verify.specs.Files.{IsFile}
 use Rattle.command_files.specs.declared.compiled.CompiledSet.{CompiledSet}
-
-abbrev pub bytes_of : Vec ℕ Global → List ℕ
-bytes_of file = file.items
 
 -- the bytes that spell a value
 abbrev pub spelled : Pex → List ℕ

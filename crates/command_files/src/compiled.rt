@@ -1,9 +1,10 @@
 //! What accepted scripts compile to: values that may run together, and their bytes.
-ghost use Rattle.std.specs.Prelude.{◌≡◌, ◌-◌, ◌≤◌, IfOk, map, vec_len};
+ghost use Rattle.std.specs.Prelude.{◌-◌, ◌≤◌, IfOk, map, vec_len};
 ghost use Rattle.std.specs.List.{AllByRecursion};
 ghost use Rattle.pex_values.specs.Plain.{plain};
 ghost use Rattle.pex_values.specs.Shape.{IsWellShaped};
-ghost use Rattle.command_files.specs.Compiled.{AreFilesOf, HasFiles, bytes_of};
+ghost use Rattle.command_files.specs.Compiled.{AreFilesOf, HasFiles};
+ghost use Rattle.papy_base.specs.Bytes.{bytes_of};
 
 use crate::compile_fault::CompileFault;
 use code_emit::emit;

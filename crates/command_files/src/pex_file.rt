@@ -1,7 +1,7 @@
 //! Compiled files.
 ghost use Rattle.std.specs.Prelude.{◌≡◌, ◌≤◌, vec_len, IfOk};
 ghost use Rattle.papy_io.specs.Activity.{Idle};
-ghost use Rattle.pex_codec.specs.Decoding.{Decodes, IsDecoded, SpellOne};
+ghost use Rattle.pex_codec.specs.Decoding.{IsDecoded, SpellOne};
 ghost use Rattle.command_files.specs.FileFault.{CountsFile, MissesFile};
 ghost use Rattle.command_files.specs.PexFile.{CountsPex, IsRefusalOf, ReadsBytes, ReadsPex};
 

@@ -1,5 +1,5 @@
 //! The scripts that a command names: read, cut into lines, parsed, linked into a set, and elaborated.
-ghost use Rattle.std.specs.Prelude.{◌≡◌, ◌≢◌, ◌+◌, ◌^◌, ◌<◌, ◌≤◌, length, map, vec_len, IfErr, IfOk, IfSome, OnErr};
+ghost use Rattle.std.specs.Prelude.{◌≡◌, ◌≢◌, ◌+◌, ◌^◌, ◌<◌, ◌≤◌, length, map, vec_len, IfErr, IfOk, IfSome};
 ghost use Rattle.std.specs.String.{string_bytes};
 ghost use Rattle.papy_io.specs.Activity.{Idle};
 ghost use Rattle.command_files.specs.Ending.{IsWordBelow, MissesScript};

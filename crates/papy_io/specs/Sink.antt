@@ -14,6 +14,11 @@ SinkWrites (Ok _) bytes before now = Appended bytes before now
 SinkWrites (Err Failed) bytes before now = (n : ℕ) × Appended (take n bytes) before now
 SinkWrites (Err OutOfMemory) bytes before now = now ≡ before
 
+-- all of the text was written, or, after an error, the first bytes of it, as many as there may be
+abbrev pub WritesText : {T : Type 0} → List ℕ → Result T IoFault → Option (List ℕ) → Option (List ℕ) → Type 0
+WritesText text (Ok _) before now = Appended text before now
+WritesText text (Err _) before now = (n : ℕ) × Appended (take n text) before now
+
 -- some bytes were appended, or none
 pub record AppendsSome (before now : Option (List ℕ)) : Type 0 where
   pub bytes : List ℕ

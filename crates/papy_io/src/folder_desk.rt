@@ -15,7 +15,7 @@ use std::{fs, mem, str};
 
 /// What the desk works on.
 #[derive(Drop)]
-enum Work<F> {
+enum FolderWork<F> {
     Idle,
     Reading {
         name: Vec<u8>,
@@ -29,7 +29,7 @@ enum Work<F> {
     },
 }
 
-impl<F: Read + Write> Work<F> {
+impl<F: Read + Write> FolderWork<F> {
     fn read(&mut self, buffer: &mut [u8]) -> Result<usize, Failed>
         requires { IsReading (activity_of self.old) }
         ensures busy { ReadsOn (activity_of self.old) result buffer.new (activity_of self.new) }
@@ -37,7 +37,7 @@ impl<F: Read + Write> Work<F> {
             MissesRead (activity_of self.old) result (missed_of self.old earlier) (missed_of self.new earlier) }
     {
         match self {
-            Work::Reading {
+            FolderWork::Reading {
                 file,
                 is_missed,
                 ..
@@ -58,7 +58,7 @@ impl<F: Read + Write> Work<F> {
         ensures missed { (earlier : Option (List ℕ)) → missed_of self.new earlier ≡ missed_of self.old earlier }
     {
         match self {
-            Work::Writing { file, .. } => file.write_all(bytes).map_err(|_| Failed),
+            FolderWork::Writing { file, .. } => file.write_all(bytes).map_err(|_| Failed),
             _ => unreachable!(),
         }
     }
@@ -83,7 +83,7 @@ fn create<R: Files>(rt: &R, name: &[u8]) -> Result<R::File, Failed> {
 pub struct FolderDesk<R: Files + Drop> {
     rt: R,
     alloc: Global,
-    work: Work<R::File>,
+    work: FolderWork<R::File>,
     /// The name that was missed last before the current work.
     missed_before: Option<Vec<u8>>,
     taken: u64,
@@ -116,7 +116,7 @@ impl<R: Files + Drop> FolderDesk<R> {
         FolderDesk {
             rt,
             alloc,
-            work: Work::Idle,
+            work: FolderWork::Idle,
             missed_before: None,
             taken: 0,
             read_faults: 0,
@@ -145,7 +145,7 @@ impl<R: Files + Drop> Desk for FolderDesk<R> {
             self.read_faults = counted(self.read_faults);
             return Err(IoFault::Failed);
         };
-        self.work = Work::Reading {
+        self.work = FolderWork::Reading {
             name: kept,
             file,
             is_missed: false,
@@ -172,7 +172,7 @@ impl<R: Files + Drop> Desk for FolderDesk<R> {
             self.write_faults = counted(self.write_faults);
             return Err(IoFault::Failed);
         };
-        self.work = Work::Writing { name: kept, file };
+        self.work = FolderWork::Writing { name: kept, file };
         Ok(())
     }
 
@@ -185,9 +185,9 @@ impl<R: Files + Drop> Desk for FolderDesk<R> {
     }
 
     fn finish(&mut self) -> Result<(), Failed> {
-        match mem::replace(&mut self.work, Work::Idle) {
-            Work::Idle => unreachable!(),
-            Work::Reading {
+        match mem::replace(&mut self.work, FolderWork::Idle) {
+            FolderWork::Idle => unreachable!(),
+            FolderWork::Reading {
                 name,
                 is_missed,
                 ..
@@ -197,7 +197,7 @@ impl<R: Files + Drop> Desk for FolderDesk<R> {
                 }
                 Ok(())
             }
-            Work::Writing { mut file, .. } => match file.flush() {
+            FolderWork::Writing { mut file, .. } => match file.flush() {
                 Ok(()) => Ok(()),
                 Err(_) => {
                     self.write_faults = counted(self.write_faults);

@@ -21,7 +21,7 @@ use std::mem;
 
 /// What the desk works on.
 #[derive(Drop)]
-enum Work {
+enum MemoryWork {
     Idle,
     Reading {
         name: Vec<u8>,
@@ -45,7 +45,7 @@ fn copy_front(bytes: &[u8], buffer: &mut [u8]) -> usize
     count
 }
 
-impl Work {
+impl MemoryWork {
     /// Reads the next bytes of the name.
     fn read(&mut self, files: &MemoryFiles, buffer: &mut [u8]) -> usize
         requires reading { IsReading (activity_in files.now self.old) }
@@ -56,7 +56,7 @@ impl Work {
         ensures missed { (earlier : Option (List ℕ)) → missed_in self.new earlier ≡ missed_in self.old earlier }
     {
         match self {
-            Work::Reading { name, at, .. } => match files.get(name) {
+            MemoryWork::Reading { name, at, .. } => match files.get(name) {
                 Some(bytes) => {
                     let count = copy_front(&bytes[*at..], buffer);
                     *at += count;
@@ -76,7 +76,7 @@ impl Work {
         ensures missed { (files : Files) (earlier : Option (List ℕ)) → MissesFailed (activity_in files self.old) (missed_in self.new earlier) }
     {
         match self {
-            Work::Reading { is_missed, .. } => *is_missed = true,
+            MemoryWork::Reading { is_missed, .. } => *is_missed = true,
             _ => unreachable!(),
         }
     }
@@ -92,7 +92,7 @@ impl Work {
 pub struct MemoryDesk {
     alloc: Global,
     files: MemoryFiles,
-    work: Work,
+    work: MemoryWork,
     /// The name that was missed last before the current work.
     missed_before: Option<Vec<u8>>,
     taken: u64,
@@ -137,7 +137,7 @@ impl MemoryDesk {
         MemoryDesk {
             alloc,
             files: MemoryFiles::new(alloc),
-            work: Work::Idle,
+            work: MemoryWork::Idle,
             missed_before: None,
             taken: 0,
             read_faults: 0,
@@ -196,7 +196,7 @@ impl Desk for MemoryDesk {
             self.calls = counted(self.calls);
             return Err(IoFault::Failed);
         }
-        self.work = Work::Reading {
+        self.work = MemoryWork::Reading {
             name: kept,
             at: 0,
             is_missed: false,
@@ -244,7 +244,7 @@ impl Desk for MemoryDesk {
         }
         let kept = Vec::from_slice(self.alloc, name)?;
         self.put(name, &[])?;
-        self.work = Work::Writing { name: kept };
+        self.work = MemoryWork::Writing { name: kept };
         self.calls = counted(self.calls);
         Ok(())
     }
@@ -264,7 +264,7 @@ impl Desk for MemoryDesk {
             return Err(IoFault::Failed);
         }
         match &self.work {
-            Work::Writing { name } => self.files.append(name.as_slice(), bytes)?,
+            MemoryWork::Writing { name } => self.files.append(name.as_slice(), bytes)?,
             _ => unreachable!(),
         }
         self.calls = counted(self.calls);
@@ -281,9 +281,9 @@ impl Desk for MemoryDesk {
     {
         let is_to_fail = is_listed(&self.failing, self.calls);
         self.calls = counted(self.calls);
-        match mem::replace(&mut self.work, Work::Idle) {
-            Work::Idle => unreachable!(),
-            Work::Reading {
+        match mem::replace(&mut self.work, MemoryWork::Idle) {
+            MemoryWork::Idle => unreachable!(),
+            MemoryWork::Reading {
                 name,
                 is_missed,
                 ..
@@ -296,7 +296,7 @@ impl Desk for MemoryDesk {
                     return Err(Failed);
                 }
             }
-            Work::Writing { .. } => {
+            MemoryWork::Writing { .. } => {
                 if is_to_fail {
                     self.write_faults = counted(self.write_faults);
                     return Err(Failed);

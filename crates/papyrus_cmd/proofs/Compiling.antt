@@ -8,7 +8,8 @@ use Rattle.papy_io.specs.declared.fault.IoFault.TheVariants as io
 use Rattle.papy_io.specs.Files.{Files}
 use Rattle.command_files.specs.declared.compiled.CompiledSet.{CompiledSet}
 use Rattle.papyrus_cmd.specs.Compile.{CompileLeaves, HaveFiles}
-use Rattle.command_files.specs.Compiled.{HasFiles, bytes_of, spelled}
+use Rattle.command_files.specs.Compiled.{HasFiles, spelled}
+use Rattle.papy_base.specs.Bytes.{bytes_of}
 use Rattle.command_files.specs.Ending.{write_ending}
 use Rattle.papyrus_cmd.specs.Written.{WritesEach}
 

@@ -8,7 +8,8 @@ use Rattle.command_files.specs.Outputs.{IsPart, Outputs}
 use Rattle.papyrus_cmd.specs.Answers.{Answers}
 use Rattle.command_files.specs.Ending.{note_of}
 use Rattle.papyrus_cmd.specs.TopCall.{CutShort, Told, Tried, WasCut}
-use Rattle.papyrus_cmd.proofs.NotedLines.{appended_nothing, tried_line}
+use Rattle.papyrus_cmd.proofs.NotedLines.{tried_line}
+use Rattle.papy_io.proofs.Appending.{appended_nothing}
 
 nothing_is_part : (words : List (List ℕ)) (holds : Option Files) → IfSome holds (λ files. IsPart (Answers words files) [])
 nothing_is_part words None = tt

@@ -29,7 +29,7 @@ use Rattle.command_files.specs.Ending.{CountsBoth, CountsReads, word_at}
 use Rattle.papyrus_cmd.specs.Missed.{MissesWord}
 use Rattle.command_files.specs.Refusal.{rule_status}
 use Rattle.papyrus_cmd.specs.TopCall.{Answered, CommandCut, CommandLeaves, FileCommandCut, FileCommandLeaves, FilesCut, FilesLeft, IsAnswer, Listed, Noted, NotRead, PlayCommandCut, PlayCommandLeaves, Told, WasCut, WritesNone, file_command_writes, play_command_writes, writes_files}
-use Rattle.papyrus_cmd.proofs.NotedLines.{appended_nothing}
+use Rattle.papy_io.proofs.Appending.{appended_nothing}
 
 -- the line was written where its status tells neither want of memory nor a failed write
 noted : (line : List ℕ) (wanted status : ℕ) (before now : Option (List ℕ)) (f f' : ℕ) → Noted line wanted status before now f f' → status ≢ 1 → status ≢ 4 →

@@ -11,5 +11,4 @@ pub mod Show
 pub mod TopCall
 pub mod Upgrade
 pub mod Waits
-pub mod WritesText
 pub mod Written

@@ -7,7 +7,7 @@ ghost use Rattle.command_files.specs.Outputs.{AnswersTo, Outputs};
 ghost use Rattle.papyrus_cmd.specs.Answers.{CheckAnswers};
 ghost use Rattle.papyrus_cmd.specs.Check.{accepted_line};
 ghost use Rattle.command_files.specs.Ending.{CountsReads, CountsWrites, IsWordBelow, MissesScript, word_at};
-ghost use Rattle.papyrus_cmd.specs.WritesText.{WritesText};
+ghost use Rattle.papy_io.specs.Sink.{WritesText};
 
 use command_files::{Ending, count_pex};
 use papy_base::Made;

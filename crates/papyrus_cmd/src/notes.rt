@@ -1,11 +1,9 @@
 //! The line that tells how a command ended, and the status after it.
 ghost use Rattle.std.specs.Prelude.{◌≡◌, IfOk, OnErr, map};
 ghost use Rattle.std.specs.String.{string_bytes};
-ghost use Rattle.papy_io.specs.Count.{CountsFaults};
-ghost use Rattle.papy_io.specs.Sink.{SinkWrites};
 ghost use Rattle.command_files.specs.Ending.{cannot_read, out_of_memory, IsWordOf};
 ghost use Rattle.command_files.specs.Refusal.{refusal_line, rule_status};
-ghost use Rattle.papyrus_cmd.specs.TopCall.{Noted, Told, ToldOfFile, Tried, noted_status};
+ghost use Rattle.papyrus_cmd.specs.TopCall.{Noted, Told, ToldOfFile, Tried};
 
 use command_files::{Ending, Place, Rule, refusal_line};
 use papy_base::{Made, OutOfMemory};

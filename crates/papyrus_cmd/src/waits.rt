@@ -8,7 +8,7 @@ ghost use Rattle.command_files.specs.Ending.{CountsReads, CountsWrites, IsWordBe
 ghost use Rattle.command_files.specs.FileFault.{CountsFile, MissesFile};
 ghost use Rattle.papyrus_cmd.specs.Answers.{WaitsAnswers};
 ghost use Rattle.papyrus_cmd.specs.Waits.{Checks, ReadsWaits, counted_line, counted_text};
-ghost use Rattle.papyrus_cmd.specs.WritesText.{WritesText};
+ghost use Rattle.papy_io.specs.Sink.{WritesText};
 
 use crate::check::accepted_line;
 use command_files::{Ending, FileFault, Place, Rule, read_text};

@@ -4,7 +4,7 @@ ghost use Rattle.std.specs.String.{string_bytes};
 ghost use Rattle.papy_io.specs.Activity.{Idle};
 ghost use Rattle.papy_io.specs.Count.{CountsFaults};
 ghost use Rattle.papy_io.specs.WriteFile.{WritesFile};
-ghost use Rattle.command_files.specs.Compiled.{bytes_of};
+ghost use Rattle.papy_base.specs.Bytes.{bytes_of};
 ghost use Rattle.papyrus_cmd.specs.Written.{WritesEach, renamed};
 
 use papy_base::{Made, Text};

@@ -7,10 +7,10 @@ use Rattle.papy_io.specs.Files.{Files}
 use Rattle.papy_io.specs.WriteFile.{WritesFile}
 use Rattle.papy_io.specs.declared.fault.IoFault.{IoFault}
 use Rattle.papy_io.specs.declared.fault.IoFault.TheVariants as io
-use Rattle.scene_runner.proofs.Appending.{appends_nothing}
+use Rattle.papy_io.proofs.Appending.{appends_nothing}
 use Rattle.stack_machine.specs.Written.{AppendsLines, IsLines}
 use Rattle.core_tree.specs.declared.scene_tree.SceneTree.{SceneTree}
-use Rattle.command_files.specs.Compiled.{bytes_of}
+use Rattle.papy_base.specs.Bytes.{bytes_of}
 use Rattle.command_files.specs.declared.ending.Ending.{Ending}
 use Rattle.command_files.specs.declared.ending.Ending.TheVariants.{Done, OutOfMemory, Usage, ReadFault, WriteFault, Refused, NotBuilt}
 use Rattle.command_files.specs.declared.refusal.Place.{Place}

@@ -13,7 +13,8 @@ use Rattle.papy_io.specs.Sink.{Appended}
 use Rattle.pex_values.specs.declared.values.Pex.{Pex}
 use Rattle.pex_verify.specs.Files as verified
 use Rattle.scene_runner.specs.Report.{Closes, IsClosing, IsReport, turns_line}
-use Rattle.scene_runner.proofs.Appending.{appends_nothing, reports_behind}
+use Rattle.scene_runner.proofs.Appending.{reports_behind}
+use Rattle.papy_io.proofs.Appending.{appends_nothing}
 use Rattle.stack_machine.specs.Written.{AppendsLines}
 use Rattle.stack_machine.specs.declared.status.TurnFault.{TurnFault}
 use Rattle.stack_save.specs.Held.{HasLayout, IsFile, IsHeld, LoadGives, limit}

@@ -14,7 +14,7 @@ use Rattle.command_files.specs.declared.refusal.Place.{Place}
 use Rattle.command_files.specs.declared.refusal.Rule.{Rule}
 use Rattle.command_files.specs.Ending.{CountsReads, CountsWrites, IsWordBelow, MissesScript, compile_ending}
 use Rattle.command_files.specs.Outputs.{IsPart, Outputs}
-use Rattle.scene_runner.proofs.Appending.{appends_nothing}
+use Rattle.papy_io.proofs.Appending.{appends_nothing}
 use Rattle.scene_binder.specs.Kept.{IsOfTree}
 use Rattle.scene_runner.specs.Report.{IsClosing, IsReport, Reports, turns_line}
 use Rattle.stack_machine.specs.Machine.{CountsFault, HasEnded, MachineView}

@@ -12,7 +12,8 @@ use Rattle.pex_verify.specs.Files.{IsFile}
 use Rattle.scene_reader.specs.Default.{call_plan, instance_plan}
 use Rattle.command_files.specs.declared.compiled.CompiledSet.{CompiledSet}
 use Rattle.command_files.specs.declared.source_texts.NamedText.{NamedText}
-use Rattle.command_files.specs.Compiled.{HasFiles, bytes_of, spelled}
+use Rattle.command_files.specs.Compiled.{HasFiles, spelled}
+use Rattle.papy_base.specs.Bytes.{bytes_of}
 use Rattle.command_files.specs.SourceTexts.{text_of}
 use Rattle.scene_runner.specs.Report.{Closes, IsClosing}
 use Rattle.stack_machine.specs.Machine.{MachineView}

@@ -1,33 +1,21 @@
 -- What is written of a text by one call of a sink after another.
-use Rattle.std.proofs.Common.{arith, ◌≡◌, ℕ, ◌+◌, ◌≤◌, List, [], ◌++◌, length, take, append_assoc, append-nil, sym, ap, ◌∙◌, subst, refl}
+use Rattle.std.proofs.Common.{arith, ◌≡◌, ℕ, ◌+◌, ◌≤◌, List, [], ◌++◌, length, take, append-nil, sym, ◌∙◌, subst}
 use Rattle.std.proofs.Math.Seq.{take-append-add}
 use Rattle.std.proofs.lemmas.List.{take-append-le, take_min}
-use Rattle.std.specs.Option.{option_map}
 use Rattle.std.proofs.lemmas.Bool.{false≢true}
-use Rattle.std.specs.Prelude.{Option, None, Some, Result, Ok, Err, IsErr, min}
+use Rattle.std.specs.Prelude.{Option, Result, Ok, Err, IsErr, min}
 use Rattle.papy_io.specs.declared.fault.IoFault.{IoFault}
 use Rattle.papy_io.specs.declared.fault.IoFault.TheVariants.{Failed, OutOfMemory}
+use Rattle.papy_io.proofs.Appending.{appended_none, both_appended}
 use Rattle.papy_io.specs.Sink.{Appended, SinkWrites}
-use Rattle.run_commands.specs.Sample.{WritesText}
-
-pub appended_none : (now : Option (List ℕ)) → Appended [] now now
-appended_none None = refl
-appended_none (Some written) = ap Some (sym (append-nil written))
-
-appended-twice : (first second : List ℕ) (before : Option (List ℕ)) →
-    option_map (λ written. written ++ second) (option_map (λ written. written ++ first) before) ≡ option_map (λ written. written ++ (first ++ second)) before
-appended-twice first second None = refl
-appended-twice first second (Some written) = ap Some (append_assoc written first second)
-
-appended-both : (first second : List ℕ) (before between now : Option (List ℕ)) → Appended first before between → Appended second between now → Appended (first ++ second) before now
-appended-both first second before between now a b = b ∙ ap (option_map (λ written. written ++ second)) a ∙ appended-twice first second before
+use Rattle.papy_io.specs.Sink.{WritesText}
 
 -- a text was written, and then another one or the first part of it
 pub writes_then : (T : Type 0) (first second : List ℕ) (result : Result T IoFault) (before between now : Option (List ℕ)) →
     Appended first before between → WritesText second result between now → WritesText (first ++ second) result before now
-writes_then T first second (Ok _) before between now a b = appended-both first second before between now a b
+writes_then T first second (Ok _) before between now a b = both_appended first second before between now a b
 writes_then T first second (Err _) before between now a (n, b) =
-    (length first + n, subst (λ text. Appended text before now) (sym (take-append-add first second n)) (appended-both first (take n second) before between now a b))
+    (length first + n, subst (λ text. Appended text before now) (sym (take-append-add first second n)) (both_appended first (take n second) before between now a b))
 
 nothing-written : (T : Type 0) (text : List ℕ) (fault : IoFault) (before now : Option (List ℕ)) → now ≡ before → WritesText {T = T} text (Err fault) before now
 nothing-written T text fault before now same = (0, same ∙ appended_none before)

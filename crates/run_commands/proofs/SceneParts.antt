@@ -16,7 +16,7 @@ use Rattle.command_files.specs.declared.ending.Ending.TheVariants as ending
 use Rattle.command_files.specs.Ending.{CountsWrites}
 use Rattle.command_files.specs.FileFault.{ending_at}
 use Rattle.command_files.specs.SceneFile.{scene_fault}
-use Rattle.scene_runner.proofs.Appending.{appends_nothing}
+use Rattle.papy_io.proofs.Appending.{appends_nothing}
 use Rattle.run_commands.specs.Play.{HasFewParts, Plays, Starts}
 
 same-length : {A B C : Type 0} (f : A → C) (g : B → C) (xs : List A) (ys : List B) → map f xs ≡ map g ys → length xs ≡ length ys

@@ -18,7 +18,7 @@ use Rattle.command_files.specs.declared.refusal.Place.{Place}
 use Rattle.command_files.specs.declared.refusal.Place.TheVariants.{Member}
 use Rattle.command_files.specs.declared.refusal.Rule.{Rule}
 use Rattle.command_files.specs.declared.refusal.Rule.TheVariants.{Verification}
-use Rattle.command_files.specs.Compiled.{bytes_of}
+use Rattle.papy_base.specs.Bytes.{bytes_of}
 use Rattle.command_files.specs.Ending.{word_at}
 use Rattle.command_files.specs.Held.{AreHeld, Hold, IsHeld}
 use Rattle.command_files.specs.PexFile.{RefusesPex}

@@ -1,12 +1,10 @@
 -- The scripts and the scene of a sample of so many workers, and what it writes.
-use Rattle.std.specs.Prelude.{◌≡◌, ℕ, List, [], ◌∷◌, ◌++◌, map, take, codes, Option, Result, Ok, Err}
+use Rattle.std.specs.Prelude.{◌≡◌, ℕ, List, [], ◌∷◌, ◌++◌, map, codes}
 use Rattle.std.specs.Fmt.{decimal}
 use Rattle.std.specs.List.{range_with_len}
 use Rattle.core_tree.specs.declared.scene_tree.SceneTree.{SceneTree}
 use Rattle.core_tree.specs.declared.scene_tree.SceneValue.TheVariants as values
 use Rattle.core_tree.specs.declared.scene_tree.TurnOrder.TheVariants as orders
-use Rattle.papy_io.specs.declared.fault.IoFault.{IoFault}
-use Rattle.papy_io.specs.Sink.{Appended}
 use Rattle.scene_reader.specs.Default.{CallPlan, InstancePlan, call_plan, instance_plan}
 use Rattle.command_files.specs.declared.ending.Ending.{Ending}
 use Rattle.command_files.specs.declared.ending.Ending.TheVariants.{Done, OutOfMemory, Usage, ReadFault, WriteFault, Refused, NotBuilt}
@@ -84,8 +82,3 @@ EndsUnreported Done = ⊥
 EndsUnreported Usage = ⊥
 EndsUnreported (ReadFault word) = ⊥
 EndsUnreported WriteFault = ⊥
-
--- all of the text was written, or, after an error, the first bytes of it, as many as there may be
-abbrev pub WritesText : {T : Type 0} → List ℕ → Result T IoFault → Option (List ℕ) → Option (List ℕ) → Type 0
-WritesText text (Ok _) before now = Appended text before now
-WritesText text (Err _) before now = (n : ℕ) × Appended (take n text) before now

@@ -43,13 +43,6 @@ pub fn exec<D: Desk, S: Sink>(
         Ok(program) => program,
         Err(ending) => return ending,
     };
-    let Program {
-        tree,
-        text,
-        loaded,
-        kept,
-    } = program;
-    drop(text);
-    drop(kept);
+    let Program { tree, loaded, .. } = program;
     play(alloc, loaded, tree, 1, out, devices)
 }

@@ -6,7 +6,7 @@ ghost use Rattle.machine_state.specs.Savable.{IsSavable};
 ghost use Rattle.papy_io.specs.Activity.{Idle};
 ghost use Rattle.stack_machine.specs.Machine.{CountsTurn};
 ghost use Rattle.stack_machine.specs.Written.{WritesLines};
-ghost use Rattle.command_files.specs.Compiled.{bytes_of};
+ghost use Rattle.papy_base.specs.Bytes.{bytes_of};
 ghost use Rattle.command_files.specs.Ending.{CountsBoth, CountsReads, IsWordBelow, word_at};
 ghost use Rattle.command_files.specs.Outputs.{Outputs};
 ghost use Rattle.latent_natives.specs.Devices.{SameKinds};

@@ -77,14 +77,7 @@ pub fn journal<D: Desk, S: Sink>(
         Ok(program) => program,
         Err(ending) => return ending,
     };
-    let Program {
-        tree,
-        text,
-        loaded,
-        kept,
-    } = program;
-    drop(text);
-    drop(kept);
+    let Program { tree, loaded, .. } = program;
     let journal = match play_noted(alloc, loaded, tree, out, devices) {
         Ok(journal) => journal,
         Err(ending) => return ending,

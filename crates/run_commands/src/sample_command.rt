@@ -13,7 +13,8 @@ ghost use Rattle.latent_natives.specs.Devices.{SameKinds};
 ghost use Rattle.run_commands.specs.Answers.{ReadsNothing, SampleAnswers};
 ghost use Rattle.scene_runner.specs.Report.{IsClosing};
 ghost use Rattle.run_commands.specs.Report.{IsClosingWithin, first_lines, most_turns, sample_text, scripts_line};
-ghost use Rattle.run_commands.specs.Sample.{EndsUnreported, WritesText};
+ghost use Rattle.run_commands.specs.Sample.{EndsUnreported};
+ghost use Rattle.papy_io.specs.Sink.{WritesText};
 
 use crate::play::start_machine;
 use crate::sample_scene::sample_scene;

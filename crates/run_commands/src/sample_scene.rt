@@ -1,7 +1,6 @@
 //! The scene of a sample: the hub, and its workers, each of which starts at turn 0.
 ghost use Rattle.std.specs.Prelude.{◌≡◌, ◌∷◌, IfOk, map};
 ghost use Rattle.std.specs.List.{range_with_len};
-ghost use Rattle.std.specs.String.{string_bytes};
 ghost use Rattle.scene_reader.specs.Default.{call_plan, instance_plan};
 ghost use Rattle.run_commands.specs.Sample.{IsSampleScene, hub_plan, start_plan, worker_name, worker_plan, worker_script};
 

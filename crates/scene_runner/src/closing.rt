@@ -1,6 +1,6 @@
 //! The closing report of a run.
 
-ghost use Rattle.std.specs.Prelude.{◌≡◌, ◌<◌, IfOk, None, vec_len};
+ghost use Rattle.std.specs.Prelude.{◌≡◌, ◌<◌, IfOk, None};
 ghost use Rattle.stack_machine.specs.Machine.{CountsTurn};
 ghost use Rattle.stack_machine.specs.Written.{IsLines, WritesLines};
 ghost use Rattle.papy_io.specs.Sink.{Appended, AppendsSome};

@@ -8,6 +8,7 @@ pub mod TriviaLemmas
 pub mod WordLemmas
 pub mod NumberLemmas
 pub mod SignLemmas
+pub mod FewLines
 pub mod ReadingLemmas
 pub mod SpanLemmas
 pub mod LawLemmas

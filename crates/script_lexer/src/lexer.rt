@@ -2,7 +2,7 @@ ghost use Rattle.std.specs.Prelude.{◌≡◌, ◌+◌, ◌<◌, ◌≤◌, ◌^
 ghost use Rattle.script_lexer.specs.Bytes.{line_ends, stays_in_line};
 ghost use Rattle.script_lexer.specs.Lines.{Answer, mark_len, physical_lines, logical_lines, text_of, IsAnswer, IsUnbroken, Lexes};
 ghost use Rattle.script_lexer.specs.Progress.{IsReady};
-ghost use Rattle.script_lexer.specs.Answers.{Opens, Stands, Answers};
+ghost use Rattle.script_lexer.specs.Answers.{Opens, Answers};
 ghost use Rattle.script_lexer.specs.Spans.{LinesStand};
 ghost use Rattle.script_lexer.specs.Steps.{PassesBlanks, CountsWithin, ends_before_last, StepAnswer, TextAnswer, FileFault};
 ghost use Rattle.script_lexer.specs.declared.opening.Opening.TheVariants as opening;

@@ -41,7 +41,7 @@ pub struct Progress {
 }
 
 impl Progress {
-    ghost use Rattle.std.specs.Prelude.{◌≡◌, ◌+◌, ◌<◌, ◌≤◌, ◌^◌, [], ◌++◌, List, ℕ, length, IfOk, OnOk};
+    ghost use Rattle.std.specs.Prelude.{◌≡◌, ◌+◌, ◌<◌, ◌≤◌, ◌^◌, [], ◌++◌, length, IfOk, OnOk};
     ghost use Rattle.script_lexer.specs.Bytes.{line_ends};
     ghost use Rattle.script_lexer.specs.Progress.{IsStart, IsReady, Takes, closed};
     ghost use Rattle.script_lexer.specs.Lines.{logical_lines, nonempty};

@@ -1,7 +1,7 @@
 // What bytes stand for: what the first of a piece opens, and the classes of those that stand in a row.
 ghost use Rattle.std.specs.Prelude.{◌≡◌, ◌≤◌, length};
 ghost use Rattle.std.specs.List.{prefix_len};
-ghost use Rattle.script_lexer.specs.Bytes.{class_test, is_sign_start, is_word_byte, is_word_start, opening_of, stays_in_line};
+ghost use Rattle.script_lexer.specs.Bytes.{class_test, is_word_start, opening_of, stays_in_line};
 
 /// What the first byte of a piece opens.
 #[derive(Clone, Copy)]

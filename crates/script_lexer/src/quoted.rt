@@ -1,8 +1,8 @@
 //! Texts in quotes.
 
-ghost use Rattle.std.specs.Prelude.{◌≡◌, ◌<◌, length, List, ℕ, ◌++◌, MatchOption, Some, None, IfOk};
+ghost use Rattle.std.specs.Prelude.{◌≡◌, ◌<◌, length, MatchOption, Some, None, IfOk};
 ghost use Rattle.script_lexer.specs.declared.opening.Opening.TheVariants as opening;
-ghost use Rattle.script_lexer.specs.Pieces.{item_bytes, item_value, is_good_item, is_escape};
+ghost use Rattle.script_lexer.specs.Pieces.{item_bytes, item_value, is_good_item};
 ghost use Rattle.script_lexer.specs.Answers.{Opens, Answers, BeginsItem, Stops, ReadsItems};
 
 use crate::fault::LexRule;

@@ -1,9 +1,9 @@
 //! Joins, comments and documentations.
 
-ghost use Rattle.std.specs.Prelude.{◌≡◌, ◌<◌, ◌≤◌, length, drop, Some, None, MatchOption, ⊤, true, false};
+ghost use Rattle.std.specs.Prelude.{◌≡◌, ◌<◌, ◌≤◌, length, drop, Some, None, MatchOption, ⊤};
 ghost use Rattle.script_lexer.specs.declared.opening.Opening.TheVariants as opening;
 ghost use Rattle.script_lexer.specs.Pieces.{behind_close};
-ghost use Rattle.script_lexer.specs.Answers.{Opens, Answers, Stands, begins_block};
+ghost use Rattle.script_lexer.specs.Answers.{Opens, Answers, begins_block};
 
 use crate::fault::LexRule;
 use crate::opening::ByteClass;

@@ -36,9 +36,6 @@ pub record Spells (files : List (List ℕ)) (scene : List ℕ) (state : PlainSta
 
 -- ---- saving
 
-abbrev pub bytes_of : Vec ℕ Global → List ℕ
-bytes_of file = file.items
-
 abbrev pub SaveGives : List (List ℕ) → List ℕ → PlainState → Result (Vec ℕ Global) SaveFault → Type 0
 SaveGives files scene state (Ok bytes) = Spells files scene state bytes.items × (length bytes.items ≤ limit)
 SaveGives files scene state (Err TooLarge) = limit < length (spelling files scene state)

@@ -3,8 +3,8 @@
 
 mod fault;
 mod fields;
+mod items;
 mod loading;
-mod part;
 mod saving;
 mod values;
 

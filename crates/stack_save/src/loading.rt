@@ -1,6 +1,6 @@
 //! The bytes of a held file to its files, its scene and its state.
 
-ghost use Rattle.std.specs.Prelude.{◌≡◌, ◌^◌, ◌++◌, ⊤, ℕ, List, [], length, map, MatchOption};
+ghost use Rattle.std.specs.Prelude.{◌≡◌, ◌^◌, ◌++◌, ⊤, ℕ, List, [], map, MatchOption};
 ghost use Rattle.std.specs.List.{flat_map};
 ghost use Rattle.machine_state.specs.Plain.{PlainState, plain};
 ghost use Rattle.machine_state.specs.Ranges.{IsU16, IsPairInRange, IsSleeperInRange, IsInRange};
@@ -14,7 +14,7 @@ ghost use Rattle.stack_save.specs.Spelling as spell;
 
 use crate::fault::{HeldFault, HeldRule, Taken, refused};
 use crate::fields::Cursor;
-use crate::part::take_list;
+use crate::items::take_list;
 use crate::{HEADING, HELD_LIMIT};
 use machine_state::MachineState;
 use pex_codec::decode;

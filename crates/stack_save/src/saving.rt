@@ -6,13 +6,14 @@ ghost use Rattle.machine_state.specs.Plain.{plain};
 ghost use Rattle.machine_state.specs.Ranges.{IsInRange};
 ghost use Rattle.machine_state.specs.Savable.{FitsTwoBytes, FitsFourBytes, IsSavable};
 ghost use Rattle.pex_values.specs.Spelling as pex;
-ghost use Rattle.stack_save.specs.Held.{SaveGives, bytes_of};
+ghost use Rattle.stack_save.specs.Held.{SaveGives};
+ghost use Rattle.papy_base.specs.Bytes.{bytes_of};
 ghost use Rattle.stack_save.specs.Parts.{HasPut, AreLocksInRange, AreThingsInRange};
 ghost use Rattle.stack_save.specs.Spelling as spell;
 
 use crate::fault::SaveFault;
 use crate::fields::{put_long_string, put_number_or_none};
-use crate::part::put_list;
+use crate::items::put_list;
 use crate::{HEADING, HELD_LIMIT};
 use machine_state::MachineState;
 use pex_values::{put_u16, put_u32};

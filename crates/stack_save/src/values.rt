@@ -14,7 +14,7 @@ ghost use Rattle.stack_save.specs.Spelling as spell;
 
 use crate::fault::Taken;
 use crate::fields::{Cursor, put_i32, put_number_or_none, put_string};
-use crate::part::{
+use crate::items::{
     Item, put_items, put_list, put_long_list, take_items, take_list, take_long_list,
 };
 use core_tree::{CoreType, DeviceKind, Value};

@@ -1,6 +1,7 @@
 use Rattle.std.proofs.Common.{ℕ, List, Global, ◌+◌, map, sym, subst, take}
 use Rattle.std.specs.declared.vec.Vec.{Vec}
-use Rattle.command_files.specs.Compiled.{AreFilesOf, bytes_of}
+use Rattle.command_files.specs.Compiled.{AreFilesOf}
+use Rattle.papy_base.specs.Bytes.{bytes_of}
 use Rattle.command_files.proofs.Encoded.{files_more, shaped_at}
 use Rattle.command_files.proofs.compiled.encode_each.Goals as goal
 

@@ -1,5 +1,6 @@
 use Rattle.std.proofs.Common.{map, take}
-use Rattle.command_files.specs.Compiled.{AreFilesOf, bytes_of}
+use Rattle.command_files.specs.Compiled.{AreFilesOf}
+use Rattle.papy_base.specs.Bytes.{bytes_of}
 use Rattle.command_files.proofs.compiled.encode_each.Given as goal
 
 abbrev pub invariant-loop-value : goal.invariant-loop-value

@@ -1,4 +1,4 @@
-use Rattle.command_files.proofs.ScriptFaults.{few_lines}
+use Rattle.script_lexer.proofs.FewLines.{few_lines}
 use Rattle.command_files.proofs.scripts.lines_of.Goals as goal
 
 pub returns-in-Ok-clause-few : goal.returns-in-Ok-clause-few

@@ -1,6 +1,6 @@
 use Rattle.std.proofs.Common.{arith, ◌≡◌, ◌-◌, map, length, vec_len}
 use Rattle.std.specs.String.{string_bytes}
-use Rattle.command_files.specs.Compiled.{bytes_of}
+use Rattle.papy_base.specs.Bytes.{bytes_of}
 use Rattle.papyrus_cmd.proofs.Compiling.{cut_leaves, have_files}
 use Rattle.papyrus_cmd.proofs.compile.compile.Goals as goal
 

@@ -2,7 +2,7 @@ use Rattle.std.proofs.Common.{◌≡◌, map}
 use Rattle.std.specs.Prelude.{codes}
 use Rattle.std.specs.String.{string_bytes}
 use Rattle.papy_io.specs.Activity.{Idle}
-use Rattle.command_files.specs.Compiled.{bytes_of}
+use Rattle.papy_base.specs.Bytes.{bytes_of}
 use Rattle.papyrus_cmd.specs.Written.{Written}
 use Rattle.papyrus_cmd.proofs.written.write_each.Given as goal
 

@@ -1,4 +1,4 @@
-use Rattle.pex_lift.proofs.FewLines.{few_lines}
+use Rattle.script_lexer.proofs.FewLines.{few_lines}
 use Rattle.pex_lift.proofs.lifting.lines_of.Goals as goal
 
 pub returns-in-Ok-clause-few : goal.returns-in-Ok-clause-few

@@ -1,7 +1,7 @@
 use Rattle.std.proofs.Common.{arith, ◌≡◌, ◌+◌, ◌∙◌, [], map, length, sym, ap}
 use Rattle.std.proofs.lemmas.List.{get_or-map}
 use Rattle.std.specs.String.{string_bytes}
-use Rattle.command_files.specs.Compiled.{bytes_of}
+use Rattle.papy_base.specs.Bytes.{bytes_of}
 use Rattle.command_files.specs.Ending.{word_at}
 use Rattle.run_commands.specs.Answers.{HoldAnswers}
 use Rattle.run_commands.proofs.EarlyEnds.{early_is_no_usage, early_outputs, early_writes}

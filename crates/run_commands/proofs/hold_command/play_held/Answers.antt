@@ -1,5 +1,5 @@
 use Rattle.std.proofs.Common.{map}
-use Rattle.command_files.specs.Compiled.{bytes_of}
+use Rattle.papy_base.specs.Bytes.{bytes_of}
 use Rattle.run_commands.proofs.HeldRun.{unstarted_held}
 use Rattle.run_commands.proofs.SceneParts.{unstarted_writes}
 use Rattle.run_commands.proofs.hold_command.play_held.Goals as goal

@@ -1,4 +1,5 @@
-use Rattle.scene_runner.proofs.Appending.{appends_more, reports_behind, writes_some}
+use Rattle.scene_runner.proofs.Appending.{reports_behind, writes_some}
+use Rattle.papy_io.proofs.Appending.{appends_more}
 use Rattle.scene_runner.proofs.runner.run_scene.Goals as goal
 
 pub returns-clause-appended : goal.returns-clause-appended

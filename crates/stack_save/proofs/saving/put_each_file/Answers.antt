@@ -2,7 +2,7 @@ use Rattle.std.proofs.Common.{ℕ, List, subst, sym}
 use Rattle.machine_state.specs.Savable.{FitsFourBytes}
 use Rattle.stack_save.proofs.Lists.{each_at}
 use Rattle.stack_save.proofs.saving.put_each_file.Goals as goal
-use Rattle.stack_save.specs.Held.{bytes_of}
+use Rattle.papy_base.specs.Bytes.{bytes_of}
 
 pub put_long_string-requires : goal.put_long_string-requires
 put_long_string-requires c =

@@ -1,7 +1,7 @@
 use Rattle.std.specs.Prelude.{⊤}
 use Rattle.stack_save.proofs.Lists.{PutFirst}
 use Rattle.stack_save.proofs.saving.put_each_file.Given as goal
-use Rattle.stack_save.specs.Held.{bytes_of}
+use Rattle.papy_base.specs.Bytes.{bytes_of}
 use Rattle.stack_save.specs.Spelling.{long_string}
 
 abbrev pub invariant-loop-file : goal.invariant-loop-file

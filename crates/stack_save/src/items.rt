@@ -1,6 +1,6 @@
 //! What the items of lists have in common, lists of them, and the items that are numbers or pairs of numbers.
 
-ghost use Rattle.std.specs.Prelude.{◌≡◌, ◌<◌, ◌^◌, ⊤, ℕ, ℤ, List, Option, length, map, IfOk, OnOk};
+ghost use Rattle.std.specs.Prelude.{◌≡◌, ◌<◌, ◌^◌, ⊤, ℕ, ℤ, List, Option, length, map, OnOk};
 ghost use Rattle.std.specs.List.{AllByRecursion, flat_map};
 ghost use Rattle.std.proofs.lemmas.List.{map-id};
 ghost use Rattle.std.proofs.Common.{sym};
@@ -36,7 +36,7 @@ pub(crate) trait Item: Drop {
     /// Its bytes.
     ghost spelling: { Plain → List ℕ };
 
-    /// The part at the front of bytes.
+    /// The item at the front of bytes.
     ghost at: { List ℕ → Option (Plain × List ℕ) };
 
     /// Adds it at the end.

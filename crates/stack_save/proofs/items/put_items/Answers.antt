@@ -1,7 +1,7 @@
 use Rattle.std.proofs.Common.{List, subst}
 use Rattle.std.specs.List.{AllByRecursion}
 use Rattle.stack_save.proofs.Lists.{each_at}
-use Rattle.stack_save.proofs.part.put_items.Goals as goal
+use Rattle.stack_save.proofs.items.put_items.Goals as goal
 
 pub put-requires : goal.put-requires
 put-requires g c =

@@ -4,7 +4,7 @@ use Rattle.std.specs.declared.alloc.Global.{Global}
 use Rattle.std.specs.declared.vec.Vec.{Vec}
 use Rattle.std.proofs.lemmas.Result.{err_from_is_err_and}
 use Rattle.stack_save.proofs.Lists.{TookFirst, TookFirst-missing, TookFirst-more, err_taken}
-use Rattle.stack_save.proofs.part.take_items.Goals as goal
+use Rattle.stack_save.proofs.items.take_items.Goals as goal
 use Rattle.stack_save.specs.Parts.{AreItems, IsPart}
 use Rattle.stack_save.specs.Reading.{items_at}
 
