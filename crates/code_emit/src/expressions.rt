@@ -74,7 +74,12 @@ fn leaf_value(writer: &mut Writer<'_>, form: &Core, depth: u16) -> Result<ValueP
 
 // Appends the code of a form whose first operand, where it has one, is evaluated.
 #[cycle(expression)]
-fn form_value(writer: &mut Writer<'_>, form: &Core, first: ValuePlace, depth: u16) -> Result<ValuePlace>
+fn form_value(
+    writer: &mut Writer<'_>,
+    form: &Core,
+    first: ValuePlace,
+    depth: u16,
+) -> Result<ValuePlace>
     requires { needs first ≤ writer.old.strings }
     ensures operand { IfOk result (λ operand. needs operand ≤ writer.new.strings) }
     ensures goes { GoesOn writer.old writer.new }
@@ -109,7 +114,12 @@ fn form_value(writer: &mut Writer<'_>, form: &Core, first: ValuePlace, depth: u1
 
 // Appends the code of a call whose target, where it has one, is evaluated.
 #[cycle(expression)]
-fn call_value(writer: &mut Writer<'_>, form: &Core, target: ValuePlace, depth: u16) -> Result<ValuePlace>
+fn call_value(
+    writer: &mut Writer<'_>,
+    form: &Core,
+    target: ValuePlace,
+    depth: u16,
+) -> Result<ValuePlace>
     requires { needs target ≤ writer.old.strings }
     ensures operand { IfOk result (λ operand. needs operand ≤ writer.new.strings) }
     ensures goes { GoesOn writer.old writer.new }
@@ -216,7 +226,12 @@ pub(crate) fn kept_value(
 }
 
 // The operand, with the value that it has before another expression is evaluated.
-fn kept_before(writer: &mut Writer<'_>, first: ValuePlace, next: &Core, depth: u16) -> Result<ValuePlace>
+fn kept_before(
+    writer: &mut Writer<'_>,
+    first: ValuePlace,
+    next: &Core,
+    depth: u16,
+) -> Result<ValuePlace>
     requires { needs first ≤ writer.old.strings }
     ensures operand { IfOk result (λ operand. needs operand ≤ writer.new.strings) }
     ensures goes { GoesOn writer.old writer.new }
@@ -333,7 +348,11 @@ fn call(
 
 // The operands of the arguments. Each keeps its value while those behind it are evaluated.
 #[cycle(expression)]
-fn argument_values(writer: &mut Writer<'_>, arguments: &[Core], depth: u16) -> Result<Vec<ValuePlace>>
+fn argument_values(
+    writer: &mut Writer<'_>,
+    arguments: &[Core],
+    depth: u16,
+) -> Result<Vec<ValuePlace>>
     ensures operands { IfOk result (λ operands. AreThere writer.new.strings operands.items) }
     ensures goes { GoesOn writer.old writer.new }
 {
@@ -415,7 +434,12 @@ fn jump_where(decided: bool, condition: Datum) -> JumpKind
 
 /// Appends the code of an expression, whose value goes to a variable.
 #[cycle(expression)]
-pub(crate) fn store_value(writer: &mut Writer<'_>, to: ValuePlace, of: &Core, depth: u16) -> Result<()>
+pub(crate) fn store_value(
+    writer: &mut Writer<'_>,
+    to: ValuePlace,
+    of: &Core,
+    depth: u16,
+) -> Result<()>
     requires { needs to ≤ writer.old.strings }
     ensures { GoesOn writer.old writer.new }
 {

@@ -1,7 +1,7 @@
 // Statements: for each form a function that appends its code.
 #![tactic(auto, using(crate::proofs::Goes::going))]
 
-ghost use Rattle.std.specs.Prelude.{◌≡◌, ◌≤◌, ◌∷◌, [], IfOk, OnErr};
+ghost use Rattle.std.specs.Prelude.{◌≤◌, ◌∷◌, [], IfOk, OnErr};
 ghost use Rattle.code_emit.specs.Writing.{GoesOn, AreThere, Leaps};
 
 use crate::expressions::{

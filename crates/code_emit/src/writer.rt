@@ -52,7 +52,7 @@ pub(crate) struct Writer<'a> {
     // How many of them the function's tree numbers.
     numbered: usize,
     // Temporaries that are read and may be used again, each by the places of its type's name and of its own.
-    spare: Vec<(u16, u16)>,
+    free_temporaries: Vec<(u16, u16)>,
     none_variable: Option<u16>,
 }
 
@@ -64,7 +64,7 @@ impl<'a> Model for Writer<'a> {
 
     ghost view = { λ w. record { strings = length w.strings; count = w.count; ahead = w.code.ahead } };
 
-    ghost invariant = { λ w. IsWriting (length w.strings) w.count w.code w.debug.items w.variables.items w.spare.items w.none_variable };
+    ghost invariant = { λ w. IsWriting (length w.strings) w.count w.code w.debug.items w.variables.items w.free_temporaries.items w.none_variable };
 }
 
 impl<'a> Writer<'a> {
@@ -83,7 +83,7 @@ impl<'a> Writer<'a> {
             line: 0,
             variables: Vec::new(alloc),
             numbered: 0,
-            spare: Vec::new(alloc),
+            free_temporaries: Vec::new(alloc),
             none_variable: None,
         }
     }
@@ -243,18 +243,18 @@ impl<'a> Writer<'a> {
         ensures goes { GoesOn self.old self.new }
     {
         let kind = self.numbered(Numbered::Type(Some(kind)))?;
-        let name = match self.take_spare(kind) {
+        let name = match self.reuse_temporary(kind) {
             Some(name) => name,
             None => self.new_local(kind)?,
         };
         Ok(ValuePlace::Temporary { name, kind })
     }
 
-    fn take_spare(&mut self, kind: u16) -> Option<u16>
+    fn reuse_temporary(&mut self, kind: u16) -> Option<u16>
         ensures name { IfSome result (λ name. name < self.new.strings) }
         ensures same { self.new ≡ self.old }
     {
-        take_free(&mut self.spare, kind)
+        take_free(&mut self.free_temporaries, kind)
     }
 
     /// The variable for what a function without result gives.
@@ -314,7 +314,7 @@ impl<'a> Writer<'a> {
         ensures { self.new ≡ self.old }
     {
         if let ValuePlace::Temporary { name, kind } = operand {
-            self.spare.push((kind, name))?;
+            self.free_temporaries.push((kind, name))?;
         }
         Ok(())
     }
@@ -343,7 +343,12 @@ impl<'a> Writer<'a> {
     }
 
     /// Writes an instruction whose result stands before its operand, and gives that back where it is a temporary.
-    pub(crate) fn compute(&mut self, opcode: u8, kind: CoreType, of: ValuePlace) -> Result<ValuePlace>
+    pub(crate) fn compute(
+        &mut self,
+        opcode: u8,
+        kind: CoreType,
+        of: ValuePlace,
+    ) -> Result<ValuePlace>
         requires opcode { Takes opcode 2 }
         requires of { needs of ≤ self.old.strings }
         ensures operand { IfOk result (λ operand. needs operand ≤ self.new.strings) }
@@ -502,7 +507,7 @@ impl<'a> Writer<'a> {
         self.count = 0;
         self.variables.clear();
         self.numbered = 0;
-        self.spare.clear();
+        self.free_temporaries.clear();
         self.none_variable = None;
         let written = PexFunction {
             result: kind,

@@ -1,6 +1,6 @@
 //! The buffer, its marks, and its jumps, which may have landed or not.
 
-ghost use Rattle.std.specs.Prelude.{◌≡◌, ◌<◌, ◌≤◌, ◌++◌, ◌∷◌, [], ℕ, pos, length, map, vec_len, Contains, position, ◌==◌, IfSome, IfOk, OnOk, OnErr, slice_set};
+ghost use Rattle.std.specs.Prelude.{◌≡◌, ◌<◌, ◌≤◌, ◌++◌, ◌∷◌, [], ℕ, pos, length, map, vec_len, Contains, position, ◌==◌, IfSome, IfOk, OnOk, OnErr};
 ghost use Rattle.pex_values.specs.Plain.{plain_instruction};
 ghost use Rattle.jump_patch.specs.Jumps.{jump, landed, offset, with_offset, without};
 
@@ -65,7 +65,7 @@ pub struct CodeBuffer {
 }
 
 impl Model for CodeBuffer {
-    ghost use Rattle.std.specs.Prelude.{ℕ, ◌≤◌, length, map, slice_index_or};
+    ghost use Rattle.std.specs.Prelude.{ℕ, ◌≤◌, length, map};
     ghost use Rattle.pex_values.specs.Plain.{plain_instruction};
     ghost use Rattle.jump_patch.specs.Jumps.{Buffer, AreAhead};
 

@@ -1,5 +1,5 @@
 // The grammar of expressions, one function for each production.
-ghost use Rattle.std.specs.Prelude.{◌≡◌, ◌+◌, ◌<◌, ◌≤◌, length, OnOk, IfOk};
+ghost use Rattle.std.specs.Prelude.{◌≡◌, ◌+◌, ◌<◌, length, OnOk, IfOk};
 
 use crate::cursor::{TokenCursor, is_sign_at};
 use crate::fault::{FormFault, NoForm};

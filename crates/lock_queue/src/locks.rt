@@ -4,7 +4,7 @@ ghost use Rattle.std.specs.Prelude.{◌≡◌, ◌<◌, ◌++◌, ◌∷◌, [],
 ghost use Rattle.std.specs.Option.{ForSome};
 ghost use Rattle.lock_queue.specs.LockTable.{IsIdle, seat_of, held_by, waits_for, owner_of, pairs_of, pairs_if, may_take, without_stack, waiter_after, ready_after, start_after};
 
-use crate::queues::{StackList, Queues};
+use crate::queues::{Queues, StackList};
 use crate::ready::ReadySet;
 use crate::seat::Seat;
 use papy_base::Made;

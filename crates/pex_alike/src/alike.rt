@@ -1,7 +1,7 @@
 // Code of two functions, compared.
 ghost use Rattle.std.specs.Prelude.{◌≡◌, ◌↔◌, IsTrue, map, take, drop};
 ghost use Rattle.pex_values.specs.Plain.{plain_function, plain_instruction};
-ghost use Rattle.pex_alike.specs.SameCode.{SameEach, SameFunction, SameInstruction, SameKinds, SameOperand, name_count, naming_of};
+ghost use Rattle.pex_alike.specs.SameCode.{SameEach, SameFunction, SameInstruction, SameKinds, SameOperand, name_count};
 ghost use Rattle.pex_alike.specs.Scopes.{naming};
 
 use crate::scope::{FunctionNames, same_string, same_word};

@@ -1,5 +1,5 @@
 // Members of two objects, compared by name, whatever their order.
-ghost use Rattle.std.specs.Prelude.{◌≡◌, ◌↔◌, ℕ, List, IsTrue, map, option_map};
+ghost use Rattle.std.specs.Prelude.{◌↔◌, ℕ, List, IsTrue, map, option_map};
 ghost use Rattle.std.specs.List.{All, Any};
 ghost use Rattle.pex_values.specs.Plain.{PlainFunction, PlainProperty, PlainState, plain, plain_function, plain_named, plain_object, plain_property, plain_state};
 ghost use Rattle.pex_values.specs.declared.values.PexVariable.{PexVariable};

@@ -1,6 +1,6 @@
 //! How instructions and functions are taken and written.
 
-ghost use Rattle.std.specs.Prelude.{◌≡◌, ◌+◌, ◌<◌, ◌≤◌, ◌^◌, ◌++◌, ℕ, length, map, refl, vec_len, vec_capacity, OnOk, IfSome, option_map, ⊤};
+ghost use Rattle.std.specs.Prelude.{◌≡◌, ◌+◌, ◌<◌, ◌^◌, ◌++◌, ℕ, length, map, refl, OnOk, IfSome, option_map, ⊤};
 ghost use Rattle.std.specs.List.{flat_map};
 ghost use Rattle.std.proofs.lemmas.List.{map-id};
 ghost use Rattle.std.proofs.Common.{sym};

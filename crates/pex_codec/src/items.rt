@@ -1,7 +1,6 @@
 //! How the parts of a file are taken from its bytes and written to them, and the lists of them.
 
-ghost use Rattle.std.specs.Prelude.{◌≡◌, ◌+◌, ◌<◌, ◌≤◌, ◌^◌, ◌++◌, ℕ, List, length, map, take, drop, refl, vec_len, vec_capacity, IfOk, ⊤};
-ghost use Rattle.std.specs.List.{flat_map};
+ghost use Rattle.std.specs.Prelude.{◌≡◌, ◌+◌, ◌<◌, ◌≤◌, ◌^◌, ◌++◌, ℕ, List, length, map, take, drop, vec_len, IfOk, ⊤};
 ghost use Rattle.std.proofs.lemmas.List.{map-id};
 ghost use Rattle.std.proofs.Common.{sym};
 ghost use Rattle.pex_values.specs.Fit.{IsCounted};

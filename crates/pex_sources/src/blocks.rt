@@ -62,7 +62,7 @@ pub(crate) struct Blocks<'w, 'f> {
 impl<'w, 'f> Blocks<'w, 'f> {
     /// A body without lines, in which the slots from `first` on are temporaries.
     pub(crate) fn new(code: &'f FunctionCode<'w>, first: usize) -> Blocks<'w, 'f> {
-        let alloc = code.world.alloc;
+        let alloc = code.set.alloc;
         Blocks {
             reader: TreeReader::new(code, first),
             lines: Vec::new(alloc),

@@ -1,6 +1,8 @@
 // The code of a function, with its operands resolved, and what is known of it however many locals its source had.
+use crate::compiled_scripts::{
+    BOOL, CompiledScript, CompiledScripts, INT, NONE, OWN_INSTANCE, STATE_VARIABLE, STRING,
+};
 use crate::fault::{Attempt, NOT_FOUND};
-use crate::world::{BOOL, INT, NONE, OWN_INSTANCE, STATE_VARIABLE, STRING, CompiledScript, CompiledScripts};
 use pex_values::{
     ARRAY_CREATE, ARRAY_FINDELEMENT, ARRAY_GETELEMENT, ARRAY_LENGTH, ARRAY_RFINDELEMENT, ASSIGN,
     CALL_METHOD, CALL_PARENT, CALL_STATIC, CMP_EQ, Datum, Instruction, JMP, JMPF, JMPT, PROPGET,
@@ -71,7 +73,7 @@ pub(crate) struct CodeStep {
 /// The instructions of a function.
 #[derive(Drop)]
 pub(crate) struct FunctionCode<'w> {
-    pub world: &'w CompiledScripts<'w>,
+    pub set: &'w CompiledScripts<'w>,
     pub script: &'w CompiledScript<'w>,
     pub function: &'w PexFunction,
     pub steps: Vec<CodeStep>,
@@ -88,13 +90,13 @@ pub(crate) struct FunctionCode<'w> {
 impl<'w> FunctionCode<'w> {
     /// A function of the script, of which no instruction is read.
     pub(crate) fn new(
-        world: &'w CompiledScripts<'w>,
+        set: &'w CompiledScripts<'w>,
         script: &'w CompiledScript<'w>,
         function: &'w PexFunction,
     ) -> FunctionCode<'w> {
-        let alloc = world.alloc;
+        let alloc = set.alloc;
         FunctionCode {
-            world,
+            set,
             script,
             function,
             steps: Vec::new(alloc),
@@ -176,7 +178,7 @@ impl<'w> FunctionCode<'w> {
         if let Some(slot) = self.slots.get(&name) {
             return Ok(OperandMeaning::Slot(*slot));
         }
-        match (self.world.variable(self.script, name), name) {
+        match (self.set.variable(self.script, name), name) {
             (Some(place), _) => Ok(OperandMeaning::Variable(place)),
             (None, OWN_INSTANCE) => Ok(OperandMeaning::OwnInstance),
             (None, STATE_VARIABLE) => Ok(OperandMeaning::StateText),
@@ -186,7 +188,7 @@ impl<'w> FunctionCode<'w> {
 
     // Which operands are read next, from the last instruction to the first.
     fn note_uses(&mut self) -> Attempt<()> {
-        let mut reads = vec![in self.world.alloc; false; self.pairs.len()]?;
+        let mut reads = vec![in self.set.alloc; false; self.pairs.len()]?;
         for step in self.steps.iter().rev() {
             note_step(*step, &mut self.operands, &mut reads);
         }
@@ -234,7 +236,9 @@ impl<'w> FunctionCode<'w> {
     pub(crate) fn type_of(&self, operand: OperandMeaning) -> Attempt<usize> {
         Ok(match operand {
             OperandMeaning::Slot(slot) => self.slot_type(slot)?,
-            OperandMeaning::Variable(place) => self.script.number(self.script.variable(place)?.kind),
+            OperandMeaning::Variable(place) => self
+                .script
+                .number(self.script.variable(place)?.kind),
             OperandMeaning::OwnInstance => self.script.name(),
             OperandMeaning::StateText | OperandMeaning::Literal(Datum::Quoted(_)) => STRING,
             OperandMeaning::Literal(Datum::Int(_)) => INT,

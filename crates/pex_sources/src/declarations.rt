@@ -1,10 +1,10 @@
 // The text of a script: its heading, imports, variables, properties, functions and states.
 use crate::blocks::Blocks;
 use crate::code::FunctionCode;
+use crate::compiled_scripts::{CompiledScript, CompiledScripts, NONE};
 use crate::expressions::Speaker;
 use crate::fault::{Attempt, NOT_FOUND, check};
 use crate::page::Page;
-use crate::world::{NONE, CompiledScript, CompiledScripts};
 use papy_base::Text;
 use pex_values::{
     CALL_STATIC, Datum, Instruction, PexFunction, PexProperty, PexState, PexVariable, RETURN,
@@ -24,23 +24,23 @@ const LINE_LIMIT: usize = 65_535;
 // The script that is written.
 #[derive(Clone, Copy)]
 struct Author<'a> {
-    world: &'a CompiledScripts<'a>,
+    set: &'a CompiledScripts<'a>,
     script: &'a CompiledScript<'a>,
 }
 
 /// The text of the script of this number, without indentation where it would be too long with it. `NotFound` comes where there is
 /// no such script, or where it has what no compiler writes.
-pub(crate) fn script_text(world: &CompiledScripts<'_>, number: usize) -> Attempt<Text> {
-    let script = world.script(number)?;
-    let author = Author { world, script };
-    let mut page = Page::new(world.alloc, true);
+pub(crate) fn script_text(set: &CompiledScripts<'_>, number: usize) -> Attempt<Text> {
+    let script = set.script(number)?;
+    let author = Author { set, script };
+    let mut page = Page::new(set.alloc, true);
     author.put_script(&mut page)?;
     let lines = page.bytes.iter().filter(|byte| **byte == b'\n').count();
     if page.bytes.len() > BYTE_LIMIT || lines > LINE_LIMIT {
-        page = Page::new(world.alloc, false);
+        page = Page::new(set.alloc, false);
         author.put_script(&mut page)?;
     }
-    Ok(Text::try_from_bytes(world.alloc, &page.bytes)?)
+    Ok(Text::try_from_bytes(set.alloc, &page.bytes)?)
 }
 
 impl<'a> Author<'a> {
@@ -86,9 +86,9 @@ impl<'a> Author<'a> {
     fn import_of(self, instruction: &Instruction) -> Option<u16> {
         match (instruction.opcode, instruction.fixed.as_slice()) {
             (CALL_STATIC, [Datum::Word(import), Datum::Word(name), ..]) => {
-                let (world, script) = (self.world, self.script);
-                let own = world.find_function(script.name(), script.number(*name));
-                let is_hidden = world.hides(script, script.number(*import));
+                let (set, script) = (self.set, self.script);
+                let own = set.find_function(script.name(), script.number(*name));
+                let is_hidden = set.hides(script, script.number(*import));
                 (is_hidden && own.is_none()).then_some(*import)
             }
             _ => None,
@@ -110,7 +110,7 @@ impl<'a> Author<'a> {
     }
 
     fn variable_place(self, name: u16) -> Attempt<usize> {
-        let place = self.world.variable(self.script, self.script.number(name));
+        let place = self.set.variable(self.script, self.script.number(name));
         place.ok_or(NOT_FOUND)
     }
 
@@ -121,7 +121,7 @@ impl<'a> Author<'a> {
             let variable = script.variable(place)?;
             let (kind, name) = (script.text(variable.kind), script.text(variable.name));
             let number = script.number(variable.name);
-            if self.world.property(script, number).is_none() {
+            if self.set.property(script, number).is_none() {
                 page.begin(&[kind, b" ", name])?;
                 self.put_initial(page, variable)?;
                 page.put_flags(variable.flags)?;
@@ -253,7 +253,7 @@ impl<'a> Author<'a> {
             return Ok(());
         }
         page.indent();
-        let mut code = FunctionCode::new(self.world, self.script, function);
+        let mut code = FunctionCode::new(self.set, self.script, function);
         code.fill()?;
         put_code(page, &code)?;
         page.outdent();
@@ -274,7 +274,7 @@ impl<'a> Author<'a> {
         for (place, pair) in function.parameters.iter().enumerate() {
             let comma: &[u8] = if place > 0 { b", " } else { b"" };
             page.put(&[comma, self.script.text(pair.1), b" "])?;
-            self.world.put_slot(page, (self.script, *pair, place))?;
+            self.set.put_slot(page, (self.script, *pair, place))?;
         }
         Ok(())
     }

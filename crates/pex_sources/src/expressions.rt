@@ -1,10 +1,10 @@
 // The text of a function's body: its lines, and their expressions.
 use crate::blocks::BodyLine;
 use crate::code::{CMP_NE, FunctionCode, OperandMeaning, sign_of};
+use crate::compiled_scripts::{BOOL, NONE, STRING, Slot};
 use crate::fault::{Attempt, NOT_FOUND, check};
 use crate::page::Page;
-use crate::trees::{Form, Input, ExpressionNode, Trees};
-use crate::world::{BOOL, NONE, STRING, Slot};
+use crate::trees::{ExpressionNode, Form, Input, Trees};
 use pex_values::{
     ARRAY_CREATE, ARRAY_FINDELEMENT, ARRAY_GETELEMENT, ARRAY_LENGTH, ARRAY_RFINDELEMENT,
     CALL_METHOD, CALL_PARENT, CALL_STATIC, CAST, CMP_EQ, Datum, INEG, JMPF, JMPT, NOT, PROPGET,
@@ -52,7 +52,8 @@ impl<'w, 'f> Speaker<'w, 'f> {
     fn put_line(self, page: &mut Page, line: BodyLine) -> Attempt<()> {
         match line {
             BodyLine::Skipped => return Ok(()),
-            BodyLine::EndIf | BodyLine::EndWhile | BodyLine::Else | BodyLine::ElseIf(_) => page.outdent(),
+            BodyLine::EndIf | BodyLine::EndWhile | BodyLine::Else | BodyLine::ElseIf(_) =>
+                page.outdent(),
             _ => {}
         }
         page.begin(&[])?;
@@ -106,7 +107,13 @@ impl<'w, 'f> Speaker<'w, 'f> {
     }
 
     // A value behind these bytes, which converts to the type by itself.
-    fn put_value(self, page: &mut Page, lead: &'static [u8], value: usize, to: usize) -> Attempt<()> {
+    fn put_value(
+        self,
+        page: &mut Page,
+        lead: &'static [u8],
+        value: usize,
+        to: usize,
+    ) -> Attempt<()> {
         let value = Unwritten::Node(self.loose(value, to)?, 0);
         self.put(page, &[Unwritten::Bytes(lead), value])
     }
@@ -124,7 +131,7 @@ impl<'w, 'f> Speaker<'w, 'f> {
                 }
                 Some(Unwritten::Bytes(bytes)) => page.put(&[bytes])?,
                 Some(Unwritten::Literal(value)) => page.put_literal(self.code.script, value)?,
-                Some(Unwritten::Slot(slot)) => self.code.world.put_slot(page, slot)?,
+                Some(Unwritten::Slot(slot)) => self.code.set.put_slot(page, slot)?,
                 None => return Ok(()),
             }
         }
@@ -159,21 +166,36 @@ impl<'w, 'f> Speaker<'w, 'f> {
             (CALL_METHOD | CALL_PARENT | CALL_STATIC, _) => self.call(node, opcode, names, parts),
             (NOT, [of]) => {
                 let value = self.loose(of.node, BOOL)?;
-                add(parts, &[Unwritten::Bytes(b"!"), Unwritten::Node(value, CAST_LEVEL)])
+                add(
+                    parts,
+                    &[Unwritten::Bytes(b"!"), Unwritten::Node(value, CAST_LEVEL)],
+                )
             }
-            (INEG, [of]) => add(parts, &[Unwritten::Bytes(b"-"), Unwritten::Node(of.node, CAST_LEVEL)]),
+            (INEG, [of]) => add(
+                parts,
+                &[Unwritten::Bytes(b"-"), Unwritten::Node(of.node, CAST_LEVEL)],
+            ),
             (CAST, [of]) => add(parts, &[chain(of), Unwritten::Bytes(b" as "), name]),
             (PROPGET, [of]) => add(parts, &[chain(of), Unwritten::Bytes(b"."), name]),
             (ARRAY_LENGTH, [of]) => add(parts, &[chain(of), Unwritten::Bytes(b".Length")]),
             (ARRAY_GETELEMENT, [of, index]) => {
                 add(parts, &[chain(of), Unwritten::Bytes(b"[")])?;
-                add(parts, &[Unwritten::Node(index.node, 0), Unwritten::Bytes(b"]")])
+                add(
+                    parts,
+                    &[Unwritten::Node(index.node, 0), Unwritten::Bytes(b"]")],
+                )
             }
             (ARRAY_CREATE, [size]) => {
                 let element = self.code.script.text(names.1).strip_suffix(b"[]");
                 let element = Unwritten::Bytes(element.ok_or(NOT_FOUND)?);
-                add(parts, &[Unwritten::Bytes(b"new "), element, Unwritten::Bytes(b"[")])?;
-                add(parts, &[Unwritten::Node(size.node, 0), Unwritten::Bytes(b"]")])
+                add(
+                    parts,
+                    &[Unwritten::Bytes(b"new "), element, Unwritten::Bytes(b"[")],
+                )?;
+                add(
+                    parts,
+                    &[Unwritten::Node(size.node, 0), Unwritten::Bytes(b"]")],
+                )
             }
             (ARRAY_FINDELEMENT, _) => self.find(node, b".Find(", 0, parts),
             (ARRAY_RFINDELEMENT, _) => self.find(node, b".RFind(", -1, parts),
@@ -188,10 +210,14 @@ impl<'w, 'f> Speaker<'w, 'f> {
     fn leaf(self, operand: OperandMeaning) -> Attempt<Unwritten<'w>> {
         let script = self.code.script;
         match operand {
-            OperandMeaning::Slot(place) => Ok(Unwritten::Slot((script, self.code.pair(place)?, place))),
+            OperandMeaning::Slot(place) => Ok(Unwritten::Slot((
+                script,
+                self.code.pair(place)?,
+                place,
+            ))),
             OperandMeaning::Variable(place) => {
                 let name = script.variable(place)?.name;
-                let property = self.code.world.property(script, script.number(name));
+                let property = self.code.set.property(script, script.number(name));
                 Ok(self.name(property.map_or(name, |property| property.name)))
             }
             OperandMeaning::OwnInstance => Ok(Unwritten::Bytes(b"Self")),
@@ -225,25 +251,43 @@ impl<'w, 'f> Speaker<'w, 'f> {
             }
             _ => {}
         }
-        add(parts, &[Unwritten::Node(left, level), Unwritten::Bytes(sign)])?;
+        add(
+            parts,
+            &[Unwritten::Node(left, level), Unwritten::Bytes(sign)],
+        )?;
         add(parts, &[Unwritten::Node(right, level.saturating_add(1))])
     }
 
     // A search, whose start is left out where it is the one that stands for none.
-    fn find(self, node: ExpressionNode, name: &'static [u8], start: i32, parts: &mut Items<'w>) -> Attempt<()> {
+    fn find(
+        self,
+        node: ExpressionNode,
+        name: &'static [u8],
+        start: i32,
+        parts: &mut Items<'w>,
+    ) -> Attempt<()> {
         let [array, value, from] = self.trees.inputs(node)? else {
             return Err(NOT_FOUND);
         };
-        let element = self.code.world.element(self.trees.node(array.node)?.kind)?;
+        let element = self.code.set.element(self.trees.node(array.node)?.kind)?;
         let value = Unwritten::Node(self.loose(value.node, element)?, 0);
         add(parts, &[chain(array), Unwritten::Bytes(name), value])?;
         if !self.is_literal(from.node, Datum::Int(start))? {
-            add(parts, &[Unwritten::Bytes(b", "), Unwritten::Node(from.node, 0)])?;
+            add(
+                parts,
+                &[Unwritten::Bytes(b", "), Unwritten::Node(from.node, 0)],
+            )?;
         }
         add(parts, &[Unwritten::Bytes(b")")])
     }
 
-    fn call(self, node: ExpressionNode, opcode: u8, names: (u16, u16), parts: &mut Items<'w>) -> Attempt<()> {
+    fn call(
+        self,
+        node: ExpressionNode,
+        opcode: u8,
+        names: (u16, u16),
+        parts: &mut Items<'w>,
+    ) -> Attempt<()> {
         let script = self.code.script;
         let (kind, arguments) = match (opcode, self.trees.inputs(node)?) {
             (CALL_PARENT, arguments) => {
@@ -259,7 +303,7 @@ impl<'w, 'f> Speaker<'w, 'f> {
             }
             (_, arguments) => {
                 let kind = script.number(names.0);
-                if !self.code.world.hides(script, kind) {
+                if !self.code.set.hides(script, kind) {
                     add(parts, &[self.name(names.0), Unwritten::Bytes(b".")])?;
                 }
                 (kind, arguments)
@@ -272,9 +316,15 @@ impl<'w, 'f> Speaker<'w, 'f> {
 
     // The arguments of a call of the function that is found from the script of this type upward, each with the name of its
     // parameter from the first on that doesn't stand at its place.
-    fn arguments(self, of: usize, name: u16, inputs: &[Input], parts: &mut Items<'w>) -> Attempt<()> {
+    fn arguments(
+        self,
+        of: usize,
+        name: u16,
+        inputs: &[Input],
+        parts: &mut Items<'w>,
+    ) -> Attempt<()> {
         let name = self.code.script.number(name);
-        let found = self.code.world.find_function(of, name);
+        let found = self.code.set.find_function(of, name);
         let (script, function) = found.ok_or(NOT_FOUND)?;
         check(function.parameters.len() == inputs.len())?;
         let mut is_named = false;
@@ -306,7 +356,7 @@ impl<'w, 'f> Speaker<'w, 'f> {
             return Ok(number);
         };
         let kind = self.trees.node(inner.node)?.kind;
-        let is_loose = node.kind == to && kind != to && self.code.world.converts(kind, to);
+        let is_loose = node.kind == to && kind != to && self.code.set.converts(kind, to);
         Ok(if is_loose { inner.node } else { number })
     }
 
@@ -315,7 +365,7 @@ impl<'w, 'f> Speaker<'w, 'f> {
         let kind = self.trees.node(side)?.kind;
         let loose = self.loose(side, kind)?;
         let (other, inner) = (self.trees.node(other)?.kind, self.trees.node(loose)?.kind);
-        let comes_back = opcode == STRCAT || self.code.world.common(other, inner) == Some(kind);
+        let comes_back = opcode == STRCAT || self.code.set.common(other, inner) == Some(kind);
         Ok(if comes_back { loose } else { side })
     }
 }

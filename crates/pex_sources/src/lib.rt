@@ -3,6 +3,7 @@
 
 mod blocks;
 mod code;
+mod compiled_scripts;
 mod declarations;
 mod expressions;
 mod fault;
@@ -11,7 +12,6 @@ mod reader;
 mod slots;
 mod source_texts;
 mod trees;
-mod world;
 
 pub use fault::SourceFault;
 pub use source_texts::sources;

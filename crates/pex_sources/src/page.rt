@@ -1,6 +1,6 @@
 // The text of a script while it is written.
+use crate::compiled_scripts::CompiledScript;
 use crate::fault::{Attempt, NOT_FOUND};
-use crate::world::CompiledScript;
 use pex_values::Datum;
 use std::alloc::Global;
 
@@ -69,7 +69,12 @@ impl Page {
     }
 
     /// Ends a heading with flags and documentation.
-    pub(crate) fn end_heading(&mut self, script: &CompiledScript<'_>, flags: u32, doc: u16) -> Attempt<()> {
+    pub(crate) fn end_heading(
+        &mut self,
+        script: &CompiledScript<'_>,
+        flags: u32,
+        doc: u16,
+    ) -> Attempt<()> {
         self.put_flags(flags)?;
         let doc = script.text(doc);
         if doc.is_empty() {

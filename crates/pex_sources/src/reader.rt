@@ -1,10 +1,10 @@
 // The instructions of a function, read one after another into expressions and simple statements.
 use crate::blocks::BodyLine;
-use crate::code::{FunctionCode, OperandMeaning, CodeStep};
+use crate::code::{CodeStep, FunctionCode, OperandMeaning};
+use crate::compiled_scripts::{BOOL, NONE};
 use crate::fault::{Attempt, NOT_FOUND, check};
 use crate::slots::Slots;
 use crate::trees::{Form, Input, Trees};
-use crate::world::{BOOL, NONE};
 use pex_values::{
     ARRAY_CREATE, ARRAY_GETELEMENT, ARRAY_SETELEMENT, ASSIGN, CAST, JMPF, JMPT, PROPGET, PROPSET,
     RETURN,
@@ -43,7 +43,7 @@ pub(crate) struct TreeReader<'w, 'f> {
 impl<'w, 'f> TreeReader<'w, 'f> {
     /// A reader for which the slots from `first` on are temporaries.
     pub(crate) fn new(code: &'f FunctionCode<'w>, first: usize) -> TreeReader<'w, 'f> {
-        let alloc = code.world.alloc;
+        let alloc = code.set.alloc;
         TreeReader {
             code,
             trees: Trees::new(alloc),
@@ -122,7 +122,12 @@ impl<'w, 'f> TreeReader<'w, 'f> {
     }
 
     // The expression whose value a temporary has, and whether it is shared: what a get reads may be read once more by a set.
-    fn take_value(&mut self, opcode: u8, slot: usize, is_read_next: bool) -> Attempt<(usize, bool)> {
+    fn take_value(
+        &mut self,
+        opcode: u8,
+        slot: usize,
+        is_read_next: bool,
+    ) -> Attempt<(usize, bool)> {
         let (node, was_read) = self.values.remove(&slot).ok_or(NOT_FOUND)?;
         if is_read_next {
             check(is_get(opcode) && !was_read)?;
@@ -138,18 +143,18 @@ impl<'w, 'f> TreeReader<'w, 'f> {
         check(self.values.insert(slot, (node, was_read))?.is_none())
     }
 
-    // Whether the code of each input stands before that of the next, and a variable is kept exactly where a later one acts.
+    // Whether the code of each input stands before that of the next, and a variable is kept exactly where a later one comes_to_act.
     fn is_in_order(&self) -> Attempt<bool> {
-        let mut acts = false;
+        let mut comes_to_act = false;
         let mut behind = usize::MAX;
         for input in self.inputs.iter().rev() {
             let node = self.trees.node(input.node)?;
             let overlaps = node.code.is_some_and(|(_, last)| last >= behind);
-            if overlaps || (node.varies() && node.code.is_some() != acts) {
+            if overlaps || (node.varies() && node.code.is_some() != comes_to_act) {
                 return Ok(false);
             }
             behind = node.code.map_or(behind, |(start, _)| start);
-            acts = acts || node.acts;
+            comes_to_act = comes_to_act || node.comes_to_act;
         }
         Ok(true)
     }
@@ -196,7 +201,13 @@ impl<'w, 'f> TreeReader<'w, 'f> {
     }
 
     // A jump: the left side of And or Or ends with it where the instruction before assigned what it tests, and else a test.
-    fn jump(&mut self, at: usize, step: CodeStep, end: usize, fresh: Option<usize>) -> Attempt<Outcome> {
+    fn jump(
+        &mut self,
+        at: usize,
+        step: CodeStep,
+        end: usize,
+        fresh: Option<usize>,
+    ) -> Attempt<Outcome> {
         let left = self.only_input()?;
         let Some(slot) = fresh.filter(|slot| left.operand == OperandMeaning::Slot(*slot)) else {
             check(step.opcode == JMPF)?;
@@ -231,7 +242,7 @@ impl<'w, 'f> TreeReader<'w, 'f> {
         Ok(Some(BodyLine::Set(self.leaf(target)?, value)))
     }
 
-    // A temporary gets a value: a side of And or Or, or a variable that is kept while a later operand acts.
+    // A temporary gets a value: a side of And or Or, or a variable that is kept while a later operand comes_to_act.
     fn assign_temporary(&mut self, at: usize, step: CodeStep, slot: usize) -> Attempt<Outcome> {
         let next = at.saturating_add(1);
         let last = self.sides.last().copied();
@@ -300,14 +311,14 @@ impl<'w, 'f> TreeReader<'w, 'f> {
     fn set(&mut self, at: usize, step: CodeStep) -> Attempt<Outcome> {
         self.end()?;
         let value = self.inputs.pop().ok_or(NOT_FOUND)?.node;
-        let world = self.code.world;
+        let set = self.code.set;
         let first = self.only_input()?.node;
         let of = self.trees.node(first)?.kind;
         let (opcode, kind) = if step.opcode == ARRAY_SETELEMENT {
-            (ARRAY_GETELEMENT, world.element(of)?)
+            (ARRAY_GETELEMENT, set.element(of)?)
         } else {
             let name = self.code.script.number(step.names.1);
-            (PROPGET, world.find_property(of, name).ok_or(NOT_FOUND)?)
+            (PROPGET, set.find_property(of, name).ok_or(NOT_FOUND)?)
         };
         let form = Form::Apply(opcode, step.names);
         let target = self.trees.add(form, kind, &self.inputs, Some((at, at)))?;

@@ -2,8 +2,8 @@
 ghost use Rattle.std.specs.Prelude.{◌<◌, length, IfSome};
 
 use crate::code::{FunctionCode, OperandMeaning};
+use crate::compiled_scripts::NONE;
 use crate::fault::{Attempt, check};
-use crate::world::NONE;
 use std::collections::HashSet;
 
 /// The slots of a function: parameters, then locals of the source, and from `first` on temporaries.
@@ -18,20 +18,20 @@ pub(crate) struct Slots<'w, 'f> {
     // The next temporary that wasn't handed out yet, and those that may be handed out again, each with the number of its type, in
     // this order. That of the type of no value is never in use.
     next_temporary: usize,
-    spare: Vec<(usize, usize)>,
+    free_temporaries: Vec<(usize, usize)>,
 }
 
 impl<'w, 'f> Slots<'w, 'f> {
     /// No local is defined and no temporary is handed out. The slots from `first` on are temporaries.
     pub(crate) fn new(code: &'f FunctionCode<'w>, first: usize) -> Slots<'w, 'f> {
-        let alloc = code.world.alloc;
+        let alloc = code.set.alloc;
         Slots {
             code,
             first,
             next_local: code.function.parameters.len(),
             defined: HashSet::new(alloc),
             next_temporary: first,
-            spare: Vec::new(alloc),
+            free_temporaries: Vec::new(alloc),
         }
     }
 
@@ -72,14 +72,14 @@ impl<'w, 'f> Slots<'w, 'f> {
     /// Hands out this temporary, where it is the one that a compiler takes for a value of its type.
     pub(crate) fn take(&mut self, slot: usize) -> Attempt<()> {
         let kind = self.code.slot_type(slot)?;
-        let taken = match spare_place(&self.spare, kind) {
-            Some(at) => self.spare.remove(at).1,
+        let taken = match free_place(&self.free_temporaries, kind) {
+            Some(at) => self.free_temporaries.remove(at).1,
             None => self.next_temporary,
         };
         check(taken == slot)?;
         self.next_temporary = self.next_temporary.max(slot.saturating_add(1));
         if kind == NONE {
-            self.spare.push((kind, slot))?;
+            self.free_temporaries.push((kind, slot))?;
         }
         Ok(())
     }
@@ -88,14 +88,16 @@ impl<'w, 'f> Slots<'w, 'f> {
     pub(crate) fn give_back(&mut self, slot: usize) -> Attempt<()> {
         let kind = self.code.slot_type(slot)?;
         if self.is_temporary(slot) && kind != NONE {
-            self.spare.push((kind, slot))?;
+            self.free_temporaries.push((kind, slot))?;
         }
         Ok(())
     }
 }
 
-fn spare_place(spare: &[(usize, usize)], kind: usize) -> Option<usize>
-    ensures { IfSome result (λ at. at < length spare.now) }
+fn free_place(free_temporaries: &[(usize, usize)], kind: usize) -> Option<usize>
+    ensures { IfSome result (λ at. at < length free_temporaries.now) }
 {
-    spare.iter().position(|temporary| temporary.0 == kind)
+    free_temporaries
+        .iter()
+        .position(|temporary| temporary.0 == kind)
 }

@@ -1,8 +1,8 @@
 ghost use Rattle.std.specs.Prelude.{◌≡◌, length, vec_len, IfOk};
 
+use crate::compiled_scripts::CompiledScripts;
 use crate::declarations::script_text;
 use crate::fault::SourceFault;
-use crate::world::CompiledScripts;
 use papy_base::{PRELUDE_COUNT, Text};
 use pex_set::Prelude;
 use pex_values::Pex;
@@ -19,18 +19,18 @@ pub fn sources(alloc: Global, files: &[Pex]) -> Result<Vec<Text>, SourceFault>
     ensures { IfOk result (λ texts. vec_len texts ≡ length files.now) }
 {
     let prelude = Prelude::new(alloc)?;
-    let mut world = CompiledScripts::new(alloc, &prelude)?;
-    world.fill(&prelude, files)?;
-    texts_of(&world, files.len())
+    let mut set = CompiledScripts::new(alloc, &prelude)?;
+    set.fill(&prelude, files)?;
+    texts_of(&set, files.len())
 }
 
 // The texts of the first scripts behind the prelude's, so many.
-fn texts_of(world: &CompiledScripts<'_>, count: usize) -> Result<Vec<Text>, SourceFault>
+fn texts_of(set: &CompiledScripts<'_>, count: usize) -> Result<Vec<Text>, SourceFault>
     ensures { IfOk result (λ texts. vec_len texts ≡ count) }
 {
-    let mut texts = Vec::with_capacity(world.alloc, count)?;
+    let mut texts = Vec::with_capacity(set.alloc, count)?;
     for number in 0..count {
-        texts.push(script_text(world, PRELUDE_COUNT.saturating_add(number))?)?;
+        texts.push(script_text(set, PRELUDE_COUNT.saturating_add(number))?)?;
     }
     Ok(texts)
 }

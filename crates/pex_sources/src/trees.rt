@@ -22,7 +22,7 @@ pub(crate) struct ExpressionNode {
     /// The first and the last of its instructions, where it has any.
     pub code: Option<(usize, usize)>,
     /// Whether it comes to an act, in which another stack may change variables.
-    pub acts: bool,
+    pub comes_to_act: bool,
 }
 
 impl ExpressionNode {
@@ -94,14 +94,14 @@ impl Trees {
         mut code: Option<(usize, usize)>,
     ) -> Attempt<usize> {
         let first = self.inputs.len();
-        let mut acts = matches!(
+        let mut comes_to_act = matches!(
             form,
             Form::Apply(PROPGET | CALL_METHOD | CALL_PARENT | CALL_STATIC, _)
         );
         for input in inputs {
             let node = self.node(input.node)?;
             if !input.is_shared {
-                acts = acts || node.acts;
+                comes_to_act = comes_to_act || node.comes_to_act;
                 let (begin, _) = node.code.unwrap_or((usize::MAX, 0));
                 code = code.map(|(start, last)| (start.min(begin), last));
             }
@@ -114,7 +114,7 @@ impl Trees {
             first,
             end: self.inputs.len(),
             code,
-            acts,
+            comes_to_act,
         })?;
         Ok(number)
     }

@@ -9,5 +9,5 @@ pub invariant_of-self-2 : goal.invariant_of-self-2
 invariant_of-self-2 c =
     let i = c.self.inside in
     let P : Written → Type 0 = λ w. IsShapedInstruction w.strings (plain_instruction c.args.instruction) in
-    with_instruction (length i.strings) i.count i.code i.debug.items i.variables.items i.spare.items i.none_variable c.self.invariant (plain_instruction c.args.instruction) i.line (i.count + 1) c.emit.new.self
+    with_instruction (length i.strings) i.count i.code i.debug.items i.variables.items i.free_temporaries.items i.none_variable c.self.invariant (plain_instruction c.args.instruction) i.line (i.count + 1) c.emit.new.self
     (subst P (sym c.self.view_is) c.requires) (search rules) (omega arith) c.in_ok-emit.ensures.ok refl

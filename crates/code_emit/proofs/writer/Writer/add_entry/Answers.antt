@@ -9,4 +9,4 @@ pub invariant_of-self-2 : goal.invariant_of-self-2
 invariant_of-self-2 c =
     let i = c.self.inside in
     let P : Written → Type 0 = λ w. IsShapedLines w.strings (plain_lines c.args.entry) in
-    with_entry (length i.strings) i.count i.code i.debug.items i.variables.items i.spare.items i.none_variable c.self.invariant c.args.entry c.push.new.self.items (subst P (sym c.self.view_is) c.requires) c.in_ok-push.ensures.items
+    with_entry (length i.strings) i.count i.code i.debug.items i.variables.items i.free_temporaries.items i.none_variable c.self.invariant c.args.entry c.push.new.self.items (subst P (sym c.self.view_is) c.requires) c.in_ok-push.ensures.items

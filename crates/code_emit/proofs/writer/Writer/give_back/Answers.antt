@@ -10,4 +10,4 @@ invariant_of-self c =
     let i = c.self.inside in
     let there = subst (λ (o : ValuePlace). needs o ≤ c.args.self.now.strings) c.in-Temporary.is c.requires in
     let P : Written → Type 0 = λ w. suc c.in-Temporary.name ≤ w.strings in
-    with_spare (length i.strings) i.count i.code i.debug.items i.variables.items i.spare.items i.none_variable c.self.invariant (c.in-Temporary.kind, c.in-Temporary.name) c.push.new.self.items (subst P (sym c.self.view_is) there) c.in_ok-push.ensures.items
+    with_spare (length i.strings) i.count i.code i.debug.items i.variables.items i.free_temporaries.items i.none_variable c.self.invariant (c.in-Temporary.kind, c.in-Temporary.name) c.push.new.self.items (subst P (sym c.self.view_is) there) c.in_ok-push.ensures.items

@@ -16,5 +16,5 @@ invariant_of-self-2 c =
     let i = c.self.inside in
     let P : Written → Type 0 = λ w. c.args.mark ≤ w.count in
     let reached = subst P (sym c.self.view_is) c.requires in
-    with_instruction (length i.strings) i.count i.code i.debug.items i.variables.items i.spare.items i.none_variable c.self.invariant (jump Always (offset (length i.code.code) c.args.mark)) i.line (i.count + 1) c.jump_to.new.self
+    with_instruction (length i.strings) i.count i.code i.debug.items i.variables.items i.free_temporaries.items i.none_variable c.self.invariant (jump Always (offset (length i.code.code) c.args.mark)) i.line (i.count + 1) c.jump_to.new.self
     (back_shaped (length i.strings) (length i.code.code) c.args.mark (omega (arith, c.self.invariant.count_is)) (omega (arith, c.self.invariant.few))) (search rules) (omega arith) c.in_ok-jump_to.ensures.ok refl

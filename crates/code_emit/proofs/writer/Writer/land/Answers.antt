@@ -8,4 +8,4 @@ pub invariant_of-self : goal.invariant_of-self
 invariant_of-self c =
     let i = c.self.inside in
     let P : Written → Type 0 = λ w. Contains w.ahead c.args.ahead in
-    with_landed (length i.strings) i.count i.code i.debug.items i.variables.items i.spare.items i.none_variable c.self.invariant c.args.ahead c.land.new.self (subst P (sym c.self.view_is) c.requires) c.land.ensures
+    with_landed (length i.strings) i.count i.code i.debug.items i.variables.items i.free_temporaries.items i.none_variable c.self.invariant c.args.ahead c.land.new.self (subst P (sym c.self.view_is) c.requires) c.land.ensures

@@ -6,7 +6,7 @@ use Rattle.code_emit.proofs.writer.Writer.string.Goals as goal
 pub invariant_of-self : goal.invariant_of-self
 invariant_of-self c =
     let i = c.self.inside in
-    writing_later (length i.strings) (length c.place_of.new.self) c.place_of.ensures.grows i.count i.code i.debug.items i.variables.items i.spare.items i.none_variable c.self.invariant
+    writing_later (length i.strings) (length c.place_of.new.self) c.place_of.ensures.grows i.count i.code i.debug.items i.variables.items i.free_temporaries.items i.none_variable c.self.invariant
 
 pub returns-clause-goes : goal.returns-clause-goes
 returns-clause-goes c =

@@ -32,7 +32,7 @@ static WORDS: [&str; 35] = [
 /// A parameter or a local: its script, references to its name and type, and its place.
 pub(crate) type Slot<'a> = (&'a CompiledScript<'a>, (u16, u16), usize);
 
-/// A script.
+/// A script of the set, as its compiled file has it.
 #[derive(Drop)]
 pub(crate) struct CompiledScript<'a> {
     /// Its place among the scripts of the set.
@@ -91,7 +91,7 @@ pub(crate) struct CompiledScripts<'a> {
 }
 
 impl<'a> CompiledScripts<'a> {
-    /// A world without scripts.
+    /// A set without scripts.
     pub(crate) fn new(alloc: Global, prelude: &'a Prelude) -> Made<CompiledScripts<'a>> {
         let table = NameNumbers::new(alloc)?;
         Ok(CompiledScripts {
@@ -207,7 +207,11 @@ impl<'a> CompiledScripts<'a> {
     }
 
     /// A script's own property of this name, or whose variable has it.
-    pub(crate) fn property(&self, script: &CompiledScript<'_>, name: usize) -> Option<&'a PexProperty> {
+    pub(crate) fn property(
+        &self,
+        script: &CompiledScript<'_>,
+        name: usize,
+    ) -> Option<&'a PexProperty> {
         self.properties.get(&(script.place, name)).copied()
     }
 
