@@ -1,9 +1,4 @@
-ghost use Rattle.std.specs.Prelude.{◌≡◌};
-ghost use Rattle.pex_lift.specs.declared.fault.LiftFault.TheVariants as fault;
-
-use papy_base::OutOfMemory;
-use pex_sources::SourceFault;
-use std::alloc::{AllocError, AllocFailed};
+use papy_base::Fault;
 use thiserror::Error;
 
 /// The rule of lifting.
@@ -25,40 +20,17 @@ pub enum LiftFault {
     OutOfMemory,
 }
 
+/// What was lifted, or why nothing was.
+pub(crate) type Lifted<T> = Result<T, Fault<LiftRule>>;
+
 /// No sources were found, or they don't compile to the same code.
-pub(crate) const NOT_LIFTED: LiftFault = LiftFault::Broken {
-    rule: LiftRule::NotLifted,
-};
+pub(crate) const NOT_LIFTED: Fault<LiftRule> = Fault::Broken(LiftRule::NotLifted);
 
-impl From<OutOfMemory> for LiftFault {
-    ghost from_gives = { λ _ given. given ≡ fault.OutOfMemory };
-
-    fn from(_error: OutOfMemory) -> LiftFault {
-        LiftFault::OutOfMemory
-    }
-}
-
-impl From<AllocError> for LiftFault {
-    ghost from_gives = { λ _ given. given ≡ fault.OutOfMemory };
-
-    fn from(_error: AllocError) -> LiftFault {
-        LiftFault::OutOfMemory
-    }
-}
-
-impl<T: Drop> From<AllocFailed<T>> for LiftFault {
-    ghost from_gives = { λ _ given. given ≡ fault.OutOfMemory };
-
-    fn from(_error: AllocFailed<T>) -> LiftFault {
-        LiftFault::OutOfMemory
-    }
-}
-
-impl From<SourceFault> for LiftFault {
-    fn from(fault: SourceFault) -> LiftFault {
+impl From<Fault<LiftRule>> for LiftFault {
+    fn from(fault: Fault<LiftRule>) -> LiftFault {
         match fault {
-            SourceFault::NotFound => NOT_LIFTED,
-            SourceFault::OutOfMemory => LiftFault::OutOfMemory,
+            Fault::Broken(rule) => LiftFault::Broken { rule },
+            Fault::OutOfMemory => LiftFault::OutOfMemory,
         }
     }
 }

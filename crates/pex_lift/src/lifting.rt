@@ -9,10 +9,10 @@ ghost use Rattle.pex_lift.specs.Lifted.{AreLinked, CompileTo, HasCore, IsElabora
 ghost use Rattle.pex_alike.specs.SameCode.{SameEach, SameCode};
 ghost use Rattle.pex_values.specs.Plain.{plain};
 
-use crate::fault::{LiftFault, NOT_LIFTED};
+use crate::fault::{LiftFault, Lifted, NOT_LIFTED};
 use code_emit::{EmitFault, emit};
 use core_tree::CoreSet;
-use papy_base::Text;
+use papy_base::{Fault, Text};
 use pex_alike::same_code;
 use pex_sources::sources;
 use pex_values::Pex;
@@ -37,13 +37,28 @@ pub fn lift(alloc: Global, files: &Vec<Pex>) -> Result<Vec<Text>, LiftFault>
     ensures lifted { IfOk result (λ texts. AreLifted (map plain files.now.items) texts.items) }
 {
     if files.len() >= TOO_MANY {
-        return Err(NOT_LIFTED);
+        return Err(LiftFault::from(NOT_LIFTED));
     }
-    let texts = sources(alloc, files)?;
+    let texts = found_sources(alloc, files)?;
     let values = compiled(alloc, &texts)?;
     let same = have_same_code(files, &values);
     drop(values);
-    if same { Ok(texts) } else { Err(NOT_LIFTED) }
+    if same {
+        Ok(texts)
+    } else {
+        Err(LiftFault::from(NOT_LIFTED))
+    }
+}
+
+// Texts that may be the sources.
+fn found_sources(alloc: Global, files: &[Pex]) -> Lifted<Vec<Text>>
+    ensures { IfOk result (λ texts. vec_len texts ≡ length files.now) }
+{
+    match sources(alloc, files) {
+        Ok(texts) => Ok(texts),
+        Err(Fault::OutOfMemory) => Err(Fault::OutOfMemory),
+        Err(Fault::Broken(_)) => Err(NOT_LIFTED),
+    }
 }
 
 #[tactic(auto, unfolding(pex_alike::specs::SameCode::SameEach))]
@@ -57,7 +72,7 @@ fn have_same_code(files: &[Pex], values: &[Pex]) -> bool
             .all(|(file, value)| same_code(file, value))
 }
 
-fn lines_of(alloc: Global, text: &[u8]) -> Result<Lines, LiftFault>
+fn lines_of(alloc: Global, text: &[u8]) -> Lifted<Lines>
     ensures few { IfOk result (λ lines. lines.last + 1 < 2 ^ 32) }
     ensures cut { IfOk result (λ lines. Lexes text.now (logical_lines lines.lines.items) lines.last) }
     ensures unbroken { OnOk result (IsUnbroken (text_of text.now)) }
@@ -66,25 +81,25 @@ fn lines_of(alloc: Global, text: &[u8]) -> Result<Lines, LiftFault>
 {
     match lex(alloc, text) {
         Ok(lines) => Ok(lines),
-        Err(LexFault::OutOfMemory) => Err(LiftFault::OutOfMemory),
+        Err(LexFault::OutOfMemory) => Err(Fault::OutOfMemory),
         Err(LexFault::Broken { .. }) => Err(NOT_LIFTED),
     }
 }
 
-fn script_of(alloc: Global, lines: &Lines) -> Result<Script, LiftFault>
+fn script_of(alloc: Global, lines: &Lines) -> Lifted<Script>
     requires { lines.now.last + 1 < 2 ^ 32 }
     ensures words { IfOk result (λ script. CountsDifferent (words_of lines.now.lines.items) script.words) }
     ensures declared { IfOk result (λ script. All (IsNumberOf lines.now.lines.items) (lines_of script)) }
 {
     match parse_script(alloc, lines) {
         Ok(script) => Ok(script),
-        Err(ParseFault::OutOfMemory) => Err(LiftFault::OutOfMemory),
+        Err(ParseFault::OutOfMemory) => Err(Fault::OutOfMemory),
         Err(ParseFault::Broken { .. }) => Err(NOT_LIFTED),
     }
 }
 
 // No name of a file is told anywhere.
-fn source_of(alloc: Global, text: &[u8]) -> Result<SourceFile, LiftFault>
+fn source_of(alloc: Global, text: &[u8]) -> Lifted<SourceFile>
     ensures { IfOk result (IsRead text.now) }
 {
     let name = Text::try_from_bytes(alloc, b"lifted.psc")?;
@@ -93,7 +108,7 @@ fn source_of(alloc: Global, text: &[u8]) -> Result<SourceFile, LiftFault>
     Ok(SourceFile { name, script })
 }
 
-fn sources_of(alloc: Global, texts: &[Text]) -> Result<Vec<SourceFile>, LiftFault>
+fn sources_of(alloc: Global, texts: &[Text]) -> Lifted<Vec<SourceFile>>
     ensures { IfOk result (λ files. SameEach IsRead texts.now files.items) }
 {
     let mut sources = Vec::with_capacity(alloc, texts.len())?;
@@ -104,39 +119,39 @@ fn sources_of(alloc: Global, texts: &[Text]) -> Result<Vec<SourceFile>, LiftFaul
     Ok(sources)
 }
 
-fn set_of(alloc: Global, sources: Vec<SourceFile>) -> Result<ScriptSet, LiftFault>
+fn set_of(alloc: Global, sources: Vec<SourceFile>) -> Lifted<ScriptSet>
     requires { vec_len sources < 65530 }
     ensures { IfOk result (AreLinked sources.items) }
 {
     match link(alloc, sources) {
         Ok(set) => Ok(set),
-        Err(LinkFault::OutOfMemory) => Err(LiftFault::OutOfMemory),
+        Err(LinkFault::OutOfMemory) => Err(Fault::OutOfMemory),
         Err(LinkFault::Broken { .. }) => Err(NOT_LIFTED),
     }
 }
 
-fn core_of(alloc: Global, set: &ScriptSet) -> Result<CoreSet, LiftFault>
+fn core_of(alloc: Global, set: &ScriptSet) -> Lifted<CoreSet>
     ensures { IfOk result (IsElaborated set.now) }
 {
     match elaborate(alloc, set) {
         Ok(core) => Ok(core),
-        Err(TypeFault::OutOfMemory) => Err(LiftFault::OutOfMemory),
+        Err(TypeFault::OutOfMemory) => Err(Fault::OutOfMemory),
         Err(TypeFault::Broken { .. }) => Err(NOT_LIFTED),
     }
 }
 
-fn values_of(alloc: Global, core: &CoreSet) -> Result<Vec<Pex>, LiftFault>
+fn values_of(alloc: Global, core: &CoreSet) -> Lifted<Vec<Pex>>
     ensures { IfOk result (λ values. IsEmitted core.now values.items) }
 {
     match emit(alloc, core) {
         Ok(values) => Ok(values),
-        Err(EmitFault::OutOfMemory) => Err(LiftFault::OutOfMemory),
+        Err(EmitFault::OutOfMemory) => Err(Fault::OutOfMemory),
         Err(EmitFault::OutOfRange | EmitFault::TooLarge) => Err(NOT_LIFTED),
     }
 }
 
 // The set is left to the end of the program: taking it apart takes longer than finding memory for what comes next.
-fn linked_core(alloc: Global, sources: Vec<SourceFile>) -> Result<CoreSet, LiftFault>
+fn linked_core(alloc: Global, sources: Vec<SourceFile>) -> Lifted<CoreSet>
     requires { vec_len sources < 65530 }
     ensures { IfOk result (HasCore sources.items) }
 {
@@ -147,7 +162,7 @@ fn linked_core(alloc: Global, sources: Vec<SourceFile>) -> Result<CoreSet, LiftF
 }
 
 // The values that the texts of fewer than 65,530 scripts compile to.
-fn compiled(alloc: Global, texts: &[Text]) -> Result<Vec<Pex>, LiftFault>
+fn compiled(alloc: Global, texts: &[Text]) -> Lifted<Vec<Pex>>
     requires { length texts.now < 65530 }
     ensures { IfOk result (λ values. CompileTo texts.now values.items) }
 {

@@ -1,7 +1,8 @@
 // Jumps, read into If and While, and the definitions of locals in them.
 use crate::code::FunctionCode;
-use crate::fault::{Attempt, NOT_FOUND, SourceFault, check};
+use crate::fault::{Attempt, NOT_FOUND, NotFound, check};
 use crate::reader::{Outcome, TreeReader};
+use papy_base::Fault;
 use pex_values::{JMP, JMPF};
 
 /// A line of a function's body, whose expressions are given by their numbers among those of the function.
@@ -79,7 +80,7 @@ impl<'w, 'f> Blocks<'w, 'f> {
         for first in code.function.parameters.len()..code.locals_end().saturating_add(1) {
             *self = Blocks::new(code, first);
             match self.attempt() {
-                Err(SourceFault::NotFound) => {}
+                Err(Fault::Broken(NotFound)) => {}
                 ended => return ended,
             }
         }

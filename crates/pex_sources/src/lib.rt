@@ -13,5 +13,5 @@ mod slots;
 mod source_texts;
 mod trees;
 
-pub use fault::SourceFault;
+pub use fault::{NotFound, SourceFault};
 pub use source_texts::sources;
