@@ -3,20 +3,21 @@ use Rattle.std.proofs.Common.{◌≡◌, ℕ, Bool, true, false, ◌||◌, cond,
 use Rattle.std.specs.List.{list_any}
 use Rattle.std.specs.declared.alloc.Global.{Global}
 use Rattle.std.specs.declared.vec.Vec.{Vec}
+use Rattle.std.specs.Str.{bytes_eq}
 use Rattle.std.proofs.lemmas.List.{map-append}
 use Rattle.indexmap.specs.IndexSet.{insert_key}
-use Rattle.code_emit.specs.Strings.{same_bytes, with_string}
+use Rattle.code_emit.specs.Strings.{with_string}
 
 -- what is held, as lists
 abbrev pub shown : List (Vec ℕ Global) → List (List ℕ)
 shown ks = map (λ k. k.items) ks
 
 abbrev pub same : Vec ℕ Global → Vec ℕ Global → Bool
-same a b = same_bytes a.items b.items
+same a b = bytes_eq a.items b.items
 
-pub list_any-shown : (string : List ℕ) (ks : List (Vec ℕ Global)) → list_any (λ k. same_bytes string k.items) ks ≡ list_any (same_bytes string) (shown ks)
+pub list_any-shown : (string : List ℕ) (ks : List (Vec ℕ Global)) → list_any (λ k. bytes_eq string k.items) ks ≡ list_any (bytes_eq string) (shown ks)
 list_any-shown string [] = refl
-list_any-shown string (k ∷ ks) = ap (λ (t : Bool). same_bytes string k.items || t) (list_any-shown string ks)
+list_any-shown string (k ∷ ks) = ap (λ (t : Bool). bytes_eq string k.items || t) (list_any-shown string ks)
 
 map_cond : (b : Bool) (xs ys : List (Vec ℕ Global)) → shown (cond b xs ys) ≡ cond b (shown xs) (shown ys)
 map_cond true xs ys = refl
@@ -28,5 +29,5 @@ shown-insert_key ks k =
     ∙ ap (λ (t : List (List ℕ)). cond (list_any (same k) ks) (shown ks) t) (map-append (λ (b : Vec ℕ Global). b.items) ks (k ∷ []))
     ∙ ap (λ (b : Bool). cond b (shown ks) (shown ks ++ k.items ∷ [])) (list_any-shown k.items ks)
 
-pub found_string : (strings : List (List ℕ)) (string : List ℕ) → list_any (same_bytes string) strings ≡ true → strings ≡ with_string strings string
+pub found_string : (strings : List (List ℕ)) (string : List ℕ) → list_any (bytes_eq string) strings ≡ true → strings ≡ with_string strings string
 found_string strings string found = sym (ap (λ (b : Bool). cond b strings (strings ++ string ∷ [])) found)
