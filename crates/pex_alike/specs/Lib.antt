@@ -1,2 +1,2 @@
 pub mod SameCode
-pub mod Scopes
+pub mod FunctionNaming

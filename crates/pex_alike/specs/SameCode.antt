@@ -8,8 +8,8 @@ use Rattle.pex_values.specs.declared.values.Datum.{Datum}
 use Rattle.pex_values.specs.declared.values.Datum.TheVariants as datum
 use Rattle.pex_values.specs.declared.values.PexVariable.{PexVariable}
 use Rattle.pex_values.specs.Plain.{PlainInstruction, PlainFunction, PlainProperty, PlainState, PlainObject, PlainPex}
-use Rattle.pex_alike.specs.declared.scope.Meaning.{Meaning}
-use Rattle.pex_alike.specs.declared.scope.Meaning.TheVariants as meaning
+use Rattle.pex_alike.specs.declared.function_names.Meaning.{Meaning}
+use Rattle.pex_alike.specs.declared.function_names.Meaning.TheVariants as meaning
 
 -- ---- names
 

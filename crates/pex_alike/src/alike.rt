@@ -2,15 +2,15 @@
 ghost use Rattle.std.specs.Prelude.{◌≡◌, ◌↔◌, IsTrue, map, take, drop};
 ghost use Rattle.pex_values.specs.Plain.{plain_function, plain_instruction};
 ghost use Rattle.pex_alike.specs.SameCode.{SameEach, SameFunction, SameInstruction, SameKinds, SameOperand, name_count};
-ghost use Rattle.pex_alike.specs.Scopes.{naming};
+ghost use Rattle.pex_alike.specs.FunctionNaming.{naming};
 
-use crate::scope::{FunctionNames, same_string, same_word};
+use crate::function_names::{FunctionNames, same_string, same_word};
 use papy_base::Text;
 use pex_values::{
     CALL_METHOD, CALL_PARENT, CALL_STATIC, Datum, Instruction, PROPGET, PROPSET, PexFunction,
 };
 
-/// Whether two operands, each in the scope of its function, are the same.
+/// Whether two operands, each among the names of its function, are the same.
 #[tactic(auto, unfolding(crate::specs::SameCode::SameOperand))]
 pub(crate) fn same_operand(
     these: FunctionNames<'_>,

@@ -2,7 +2,7 @@
 #![tactic(auto)]
 
 mod alike;
+mod function_names;
 mod members;
-mod scope;
 
 pub use members::same_code;

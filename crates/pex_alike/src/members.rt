@@ -6,7 +6,7 @@ ghost use Rattle.pex_values.specs.declared.values.PexVariable.{PexVariable};
 ghost use Rattle.pex_alike.specs.SameCode.{SameCode, SameEach, SameFunction, SameMembers, SameNamed, SameObject, SameOption, SameProperty, SameState, SameString, SameVariable};
 
 use crate::alike::{same_function, same_operand};
-use crate::scope::{FunctionNames, same_string};
+use crate::function_names::{FunctionNames, same_string};
 use papy_base::Text;
 use pex_values::{Pex, PexFunction, PexObject, PexProperty, PexState, PexVariable};
 

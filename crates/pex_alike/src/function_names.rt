@@ -4,7 +4,7 @@ ghost use Rattle.std.specs.Str.{bytes_eq};
 ghost use Rattle.papy_base.specs.Case.{folded};
 ghost use Rattle.pex_values.specs.Plain.{plain_function};
 ghost use Rattle.pex_alike.specs.SameCode.{SameString, SameWord, meaning_of, naming_of, no_slots, place_in, without_slots};
-ghost use Rattle.pex_alike.specs.Scopes.{naming};
+ghost use Rattle.pex_alike.specs.FunctionNaming.{naming};
 
 use papy_base::Text;
 use pex_set::text_at;
@@ -51,7 +51,7 @@ fn place_in(strings: &[Text], pairs: &[(u16, u16)], reference: u16) -> Option<us
 }
 
 impl<'a> FunctionNames<'a> {
-    /// The scope of a function.
+    /// Those of a function.
     pub(crate) fn of(strings: &'a [Text], function: &'a PexFunction) -> FunctionNames<'a>
         ensures { naming result ≡ naming_of strings.now (plain_function function.now) }
     {
@@ -62,7 +62,7 @@ impl<'a> FunctionNames<'a> {
         }
     }
 
-    /// The scope of what stands in no function.
+    /// The names of what stands in no function.
     pub(crate) fn outside(strings: &'a [Text]) -> FunctionNames<'a>
         ensures { naming result ≡ no_slots strings.now }
     {
@@ -73,7 +73,7 @@ impl<'a> FunctionNames<'a> {
         }
     }
 
-    /// The scope without parameters and locals.
+    /// The names of a function without parameters and locals.
     pub(crate) fn bare(self) -> FunctionNames<'a>
         ensures { naming result ≡ without_slots (naming self.entry) }
     {
@@ -94,7 +94,7 @@ impl<'a> FunctionNames<'a> {
     }
 }
 
-/// Whether two names, each in its scope, are the same parameter or local by its place, or the same name of something else.
+/// Whether two names, each among those of its function, are the same parameter or local by its place, or the same name of something else.
 #[tactic(auto, unfolding(crate::specs::SameCode::SameWord))]
 pub(crate) fn same_word(these: FunctionNames<'_>, those: FunctionNames<'_>, a: u16, b: u16) -> bool
     ensures { IsTrue result ↔ SameWord (naming these.entry) (naming those.entry) a b }
