@@ -1,5 +1,5 @@
 // A set with its scripts judged, and which of their broken rules is reported.
-ghost use Rattle.std.specs.Prelude.{◌≡◌, ◌+◌, ◌<◌, ℕ, length, map, slice_index_or, IfErr, IfOk};
+ghost use Rattle.std.specs.Prelude.{◌≡◌, ◌+◌, ◌<◌, ◌++◌, ◌∷◌, [], ℕ, length, map, slice_index_or, IfErr, IfOk, OnOk};
 ghost use Rattle.core_tree.specs.InRange.{InRange, ScriptInRange};
 ghost use Rattle.core_tree.specs.Set.{script_of};
 ghost use Rattle.script_linker.specs.declared.set.SourceFile.{SourceFile};
@@ -35,7 +35,7 @@ pub fn elaborate(alloc: Global, set: &ScriptSet) -> std::result::Result<CoreSet,
     ensures broken { IfErr result (IsFaultBelow (length set.now)) }
 {
     let catalog = Catalog::new(alloc, set)?;
-    let mut scripts = Vec::with_capacity(alloc, usize::from(set.count()))?;
+    let mut scripts = Vec::new(alloc);
     let mut faults = FirstFaults {
         broken: None,
         too_large: None,
@@ -43,7 +43,7 @@ pub fn elaborate(alloc: Global, set: &ScriptSet) -> std::result::Result<CoreSet,
     for number in 0..set.count() {
         let judged = judge_script(&catalog, number)?;
         faults.note(number, judged.faults);
-        scripts.push(judged.script)?;
+        add_script(&mut scripts, judged.script)?;
     }
     match faults.first() {
         Some(fault) => {
@@ -53,6 +53,13 @@ pub fn elaborate(alloc: Global, set: &ScriptSet) -> std::result::Result<CoreSet,
         }
         None => Ok(CoreSet { scripts }),
     }
+}
+
+fn add_script(scripts: &mut Vec<CoreScript>, script: CoreScript) -> Made<()>
+    ensures { OnOk result (scripts.new.items ≡ scripts.old.items ++ script ∷ []) }
+{
+    scripts.push(script)?;
+    Ok(())
 }
 
 // A script, and what was found of it. Where a rule is broken nobody uses the script.

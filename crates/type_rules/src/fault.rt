@@ -3,7 +3,6 @@ ghost use Rattle.type_rules.specs.declared.fault.TypeFault.TheVariants.{OutOfMem
 
 use expression_rules::TypeRule;
 use papy_base::OutOfMemory;
-use std::alloc::{AllocError, AllocFailed};
 use thiserror::Error;
 
 /// Why a set of scripts isn't accepted.
@@ -26,22 +25,6 @@ impl From<OutOfMemory> for TypeFault {
     ghost from_gives = { λ _ fault. fault ≡ TypeOutOfMemory };
 
     fn from(_error: OutOfMemory) -> TypeFault {
-        TypeFault::OutOfMemory
-    }
-}
-
-impl From<AllocError> for TypeFault {
-    ghost from_gives = { λ _ fault. fault ≡ TypeOutOfMemory };
-
-    fn from(_error: AllocError) -> TypeFault {
-        TypeFault::OutOfMemory
-    }
-}
-
-impl<T: Drop> From<AllocFailed<T>> for TypeFault {
-    ghost from_gives = { λ _ fault. fault ≡ TypeOutOfMemory };
-
-    fn from(_error: AllocFailed<T>) -> TypeFault {
         TypeFault::OutOfMemory
     }
 }

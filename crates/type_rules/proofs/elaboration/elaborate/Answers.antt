@@ -11,15 +11,15 @@ loop-number-preserved c =
     let set = c.args.set.now in
     let number = c.loop-number.number in
     let scripts = c.loop-number.scripts.items in
-    let all = c.push.new.self.items in
+    let all = c.add_script.new.scripts.items in
     let so_far = c.loop-number.invariant in
     let made = c.in_ok-judged.judged.script in
     let judged = c.in_ok-judged.ensures in
     let within : number < length set = omega arith in
     record {
-      heads = heads-push core_script_head (script_head set) set number scripts all made c.in_ok-push.ensures.items so_far.heads within (rw c.in_ok-catalog.ensures at judged.head);
-      variables = pairs-push (ScriptVariables set) set number scripts all made c.in_ok-push.ensures.items so_far.variables within (rw c.in_ok-catalog.ensures at judged.variables);
-      in_range = scripts-push (signatures set) scripts all made c.in_ok-push.ensures.items so_far.in_range (rw c.in_ok-catalog.ensures at judged.in_range);
+      heads = heads-push core_script_head (script_head set) set number scripts all made c.in_ok-add_script.ensures so_far.heads within (rw c.in_ok-catalog.ensures at judged.head);
+      variables = pairs-push (ScriptVariables set) set number scripts all made c.in_ok-add_script.ensures so_far.variables within (rw c.in_ok-catalog.ensures at judged.variables);
+      in_range = scripts-push (signatures set) scripts all made c.in_ok-add_script.ensures so_far.in_range (rw c.in_ok-catalog.ensures at judged.in_range);
       broken = c.note.ensures.broken_below (length set) within so_far.broken;
       too_large = c.note.ensures.too_large_below (length set) within so_far.too_large;
     }
