@@ -1,3 +1,4 @@
+// Decimal digits, as listings and journals have them.
 ghost use Rattle.std.specs.Prelude.{◌≡◌};
 ghost use Rattle.papy_base.specs.Digits.{decimal_number, has_leading_zero};
 

@@ -1,3 +1,4 @@
+// The names that instances may have.
 ghost use Rattle.std.specs.Prelude.{◌≡◌};
 ghost use Rattle.std.specs.List.{list_all};
 ghost use Rattle.papy_base.specs.InstanceName.{is_instance_name, is_name_byte};
