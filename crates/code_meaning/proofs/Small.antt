@@ -125,9 +125,9 @@ run_alike setting b c None sight r =
     subst (λ x. SameStop Both (run_body scripts setting x None sight) (run_code loaded setting c None sight)) (sym r.0) (subst (λ y. SameStop Both (run_body scripts setting opened_tree None sight) (run_code loaded setting y None sight)) (sym r.1) (record { request = refl; sight = refl; bodies = tt }))
 run_alike setting b c (Some reply) sight r = absurd r
 
-pub small_alike : EnginesAlike (by_types (source_types outline scripts)) Both (source_engine outline scripts) (code_engine outline loaded)
+pub small_alike : EnginesAlike (by_types (source_types outline scripts)) (λ self. Both) (source_engine outline scripts) (code_engine outline loaded)
 small_alike =
-    kept_alike (source_types outline scripts) Both (source_engine outline scripts) (code_engine outline loaded) (source_keeps outline scripts small_typed) (record { enter = λ setting sight script way arguments s a. enter_alike way script sight.state arguments; run = λ setting b c reply sight r s f. run_alike setting b c reply sight r })
+    kept_alike (source_types outline scripts) (λ self. Both) (source_engine outline scripts) (code_engine outline loaded) (source_keeps outline scripts small_typed) (record { enter = λ setting sight script way arguments s a. enter_alike way script sight.state arguments; run = λ setting b c reply sight r s f. run_alike setting b c reply sight r })
 
 -- ---- its code is typed
 typed_at : (at : BodyPlace) (function : Function) → function_at loaded at ≡ Some function → AllByRecursion (IsTypedCode (record { outline = outline; scripts = loaded; script = script_of at; function = function })) function.code

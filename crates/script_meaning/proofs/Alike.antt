@@ -1,5 +1,5 @@
 -- Engines that do the same on related bodies have the same runs of worlds.
-use Rattle.std.proofs.Common.{◌≡◌, ℕ, zero, suc, pred, ◌+◌, Bool, true, false, cond, ◌&&◌, List, [], ◌∷◌, ◌++◌, map, Option, Some, None, refl, ap, subst, ◌∙◌}
+use Rattle.std.proofs.Common.{◌≡◌, ℕ, zero, suc, pred, ◌+◌, Bool, true, false, cond, ◌&&◌, List, [], ◌∷◌, ◌++◌, map, Option, Some, None, refl, sym, ap, subst, ◌∙◌}
 use Rattle.std.specs.Prelude.{is_some, length, sum, nat_lt, slice_set}
 use Rattle.core_tree.specs.declared.DeviceKind.{DeviceKind}
 use Rattle.core_tree.specs.declared.expression.FunctionPlace.{FunctionPlace}
@@ -17,16 +17,16 @@ use Rattle.script_meaning.specs.World.{World, title}
 use Rattle.std.specs.List.{filter, AllByRecursion}
 use Rattle.std.proofs.Math.Dec.{eqb}
 
-module _ {B C : Type 0} (R : Bool → B → C → Type 0) where
+module _ {B C : Type 0} (R : Option ℕ → Bool → B → C → Type 0) where
   -- frames that wait
   pub data BelowAlike : List (Frame B) → List (Frame C) → Type 0 where
     none_below : BelowAlike [] []
-    more_below : {f : Frame B} {g : Frame C} {fs : List (Frame B)} {gs : List (Frame C)} → f.instance ≡ g.instance → R true f.body g.body → BelowAlike fs gs → BelowAlike (f ∷ fs) (g ∷ gs)
+    more_below : {f : Frame B} {g : Frame C} {fs : List (Frame B)} {gs : List (Frame C)} → f.instance ≡ g.instance → R f.instance true f.body g.body → BelowAlike fs gs → BelowAlike (f ∷ fs) (g ∷ gs)
 
   pub data StackAlike : Stack B → Stack C → Type 0 where
     both_done : StackAlike Done Done
     both_enter : (instance : Option ℕ) (way : Way) (arguments : List Value) {fs : List (Frame B)} {gs : List (Frame C)} → BelowAlike fs gs → StackAlike (ToEnter instance way arguments fs) (ToEnter instance way arguments gs)
-    both_run : (reply : Option Value) {f : Frame B} {g : Frame C} {fs : List (Frame B)} {gs : List (Frame C)} → f.instance ≡ g.instance → R (is_some reply) f.body g.body → BelowAlike fs gs → StackAlike (Running f reply fs) (Running g reply gs)
+    both_run : (reply : Option Value) {f : Frame B} {g : Frame C} {fs : List (Frame B)} {gs : List (Frame C)} → f.instance ≡ g.instance → R f.instance (is_some reply) f.body g.body → BelowAlike fs gs → StackAlike (Running f reply fs) (Running g reply gs)
 
   pub data StacksAlike : List (Stack B) → List (Stack C) → Type 0 where
     no_stacks : StacksAlike [] []
@@ -87,7 +87,7 @@ module _ {B C : Type 0} (R : Bool → B → C → Type 0) where
   abbrev frame_on : {Body : Type 0} → Turn → Body → Frame Body
   frame_on turn body = record { instance = turn.own; body = body }
 
-  acted_alike : (turn : Turn) (request : Request) (world : World) (b : B) (c : C) {fs : List (Frame B)} {gs : List (Frame C)} → AtRequest request (λ waits. R waits b c) → BelowAlike fs gs → AfterAlike (acted turn request (frame_on turn b) fs world) (acted turn request (frame_on turn c) gs world)
+  acted_alike : (turn : Turn) (request : Request) (world : World) (b : B) (c : C) {fs : List (Frame B)} {gs : List (Frame C)} → AtRequest request (λ waits. R turn.own waits b c) → BelowAlike fs gs → AfterAlike (acted turn request (frame_on turn b) fs world) (acted turn request (frame_on turn c) gs world)
   acted_alike turn (Method target name arguments otherwise) world b c a fs = (refl, both_enter (Some target) (ByMethod name) arguments (more_below refl a fs))
   acted_alike turn (ParentMethod script name arguments otherwise) world b c a fs = (refl, both_enter turn.own (ByParent script name) arguments (more_below refl a fs))
   acted_alike turn (GlobalFunction script name arguments otherwise) world b c a fs = (refl, both_enter None (ByGlobal script name) arguments (more_below refl a fs))
@@ -106,7 +106,7 @@ module _ {B C : Type 0} (R : Bool → B → C → Type 0) where
     abbrev Stopped : Setting → Stop B → Stop C → Type 0
     Stopped setting s t = StopsAlike fitting R setting s t
 
-    passes_alike : (setting : Setting) (request : Request) (s : Stop B) (t : Stop C) (go : B → Sight → Stop B) (go' : C → Sight → Stop C) → Stopped setting s t → AtRequest request (λ waits. R waits s.body t.body) → AtLoopPass request (fitting.sight setting s.sight × fitting.body setting s.sight s.body None) → (R false s.body t.body → (fitting.sight setting s.sight × fitting.body setting s.sight s.body None) → Stopped setting (go s.body s.sight) (go' t.body t.sight)) → Stopped setting (past_pass go s request) (past_pass go' t request)
+    passes_alike : (setting : Setting) (request : Request) (s : Stop B) (t : Stop C) (go : B → Sight → Stop B) (go' : C → Sight → Stop C) → Stopped setting s t → AtRequest request (λ waits. R setting.self waits s.body t.body) → AtLoopPass request (fitting.sight setting s.sight × fitting.body setting s.sight s.body None) → (R setting.self false s.body t.body → (fitting.sight setting s.sight × fitting.body setting s.sight s.body None) → Stopped setting (go s.body s.sight) (go' t.body t.sight)) → Stopped setting (past_pass go s request) (past_pass go' t request)
     passes_alike setting (Method target name arguments otherwise) s t go go' a r f more = a
     passes_alike setting (ParentMethod script name arguments otherwise) s t go go' a r f more = a
     passes_alike setting (GlobalFunction script name arguments otherwise) s t go go' a r f more = a
@@ -116,7 +116,7 @@ module _ {B C : Type 0} (R : Bool → B → C → Type 0) where
     passes_alike setting LoopPass s t go go' a r f more = more r f
     passes_alike setting (Return value) s t go go' a r f more = a
 
-    run_on_alike : (setting : Setting) (passes : ℕ) (b : B) (c : C) (reply : Option Value) (sight : Sight) → R (is_some reply) b c → fitting.sight setting sight → fitting.body setting sight b reply → Stopped setting (run_on left setting passes b reply sight) (run_on right setting passes c reply sight)
+    run_on_alike : (setting : Setting) (passes : ℕ) (b : B) (c : C) (reply : Option Value) (sight : Sight) → R setting.self (is_some reply) b c → fitting.sight setting sight → fitting.body setting sight b reply → Stopped setting (run_on left setting passes b reply sight) (run_on right setting passes c reply sight)
     run_on_alike setting zero b c reply sight r f h = alike.run setting b c reply sight r f h
     run_on_alike setting (suc passes) b c reply sight r f h =
         let s : Stop B = left.run setting b reply sight in
@@ -124,38 +124,38 @@ module _ {B C : Type 0} (R : Bool → B → C → Type 0) where
         let a : Stopped setting s t = alike.run setting b c reply sight r f h in
         let go : B → Sight → Stop B = λ next after. run_on left setting passes next None after in
         let go' : C → Sight → Stop C = λ next after. run_on right setting passes next None after in
-        let more : R false s.body t.body → (fitting.sight setting s.sight × fitting.body setting s.sight s.body None) → Stopped setting (go s.body s.sight) (go' t.body t.sight) = λ related fits. subst (λ x. Stopped setting (go s.body s.sight) (go' t.body x)) a.sight (run_on_alike setting passes s.body t.body None s.sight related fits.0 fits.1) in
+        let more : R setting.self false s.body t.body → (fitting.sight setting s.sight × fitting.body setting s.sight s.body None) → Stopped setting (go s.body s.sight) (go' t.body t.sight) = λ related fits. subst (λ x. Stopped setting (go s.body s.sight) (go' t.body x)) a.sight (run_on_alike setting passes s.body t.body None s.sight related fits.0 fits.1) in
         subst (λ q. Stopped setting (past_pass go s s.request) (past_pass go' t q)) a.request (passes_alike setting s.request s t go go' a a.bodies a.fits more)
 
-    stopped_alike : (turn : Turn) (world : World) (s : Stop B) (t : Stop C) {fs : List (Frame B)} {gs : List (Frame C)} → Stopped turn.setting s t → BelowAlike fs gs → AfterAlike (stopped turn world fs s) (stopped turn world gs t)
-    stopped_alike turn world s t {fs} {gs} a below =
-        let here : AfterAlike (acted turn s.request (frame_on turn s.body) fs (with_sight world turn.own s.sight)) (acted turn s.request (frame_on turn t.body) gs (with_sight world turn.own s.sight)) = acted_alike turn s.request (with_sight world turn.own s.sight) s.body t.body a.bodies below in
+    stopped_alike : (turn : Turn) (world : World) (s : Stop B) (t : Stop C) {fs : List (Frame B)} {gs : List (Frame C)} → turn.setting.self ≡ turn.own → Stopped turn.setting s t → BelowAlike fs gs → AfterAlike (stopped turn world fs s) (stopped turn world gs t)
+    stopped_alike turn world s t {fs} {gs} own a below =
+        let here : AfterAlike (acted turn s.request (frame_on turn s.body) fs (with_sight world turn.own s.sight)) (acted turn s.request (frame_on turn t.body) gs (with_sight world turn.own s.sight)) = acted_alike turn s.request (with_sight world turn.own s.sight) s.body t.body (subst (λ o. AtRequest s.request (λ waits. R o waits s.body t.body)) own a.bodies) below in
         subst (λ x. AfterAlike (stopped turn world fs s) (acted turn t.request (frame_on turn t.body) gs (with_sight world turn.own x))) a.sight (subst (λ q. AfterAlike (stopped turn world fs s) (acted turn q (frame_on turn t.body) gs (with_sight world turn.own s.sight))) a.request here)
 
-    ran_alike : (scene : SceneShape) (turn : Turn) (world : World) (b : B) (c : C) (reply : Option Value) {fs : List (Frame B)} {gs : List (Frame C)} → R (is_some reply) b c → fitting.sight turn.setting (sight_of world turn.own) → fitting.body turn.setting (sight_of world turn.own) b reply → BelowAlike fs gs → AfterAlike (ran scene left turn world fs b reply) (ran scene right turn world gs c reply)
-    ran_alike scene turn world b c reply r f h below =
-        stopped_alike turn world (run_on left turn.setting (pred scene.quantum) b reply (sight_of world turn.own)) (run_on right turn.setting (pred scene.quantum) c reply (sight_of world turn.own)) (run_on_alike turn.setting (pred scene.quantum) b c reply (sight_of world turn.own) r f h) below
+    ran_alike : (scene : SceneShape) (turn : Turn) (world : World) (b : B) (c : C) (reply : Option Value) {fs : List (Frame B)} {gs : List (Frame C)} → turn.setting.self ≡ turn.own → R turn.setting.self (is_some reply) b c → fitting.sight turn.setting (sight_of world turn.own) → fitting.body turn.setting (sight_of world turn.own) b reply → BelowAlike fs gs → AfterAlike (ran scene left turn world fs b reply) (ran scene right turn world gs c reply)
+    ran_alike scene turn world b c reply own r f h below =
+        stopped_alike turn world (run_on left turn.setting (pred scene.quantum) b reply (sight_of world turn.own)) (run_on right turn.setting (pred scene.quantum) c reply (sight_of world turn.own)) own (run_on_alike turn.setting (pred scene.quantum) b c reply (sight_of world turn.own) r f h) below
 
     native_entered_alike : (turn : Turn) (at : FunctionPlace) (arguments : List Value) (world : World) (prompt : Bool) {fs : List (Frame B)} {gs : List (Frame C)} → BelowAlike fs gs → AfterAlike (native_entered turn at arguments world fs prompt) (native_entered turn at arguments world gs prompt)
     native_entered_alike turn at arguments world true below = returned_alike turn _ _ below
     native_entered_alike turn at arguments world false below = native_alike turn at arguments world below
 
-    entered_alike : (scene : SceneShape) (turn : Turn) (world : World) (arguments : List Value) {fs : List (Frame B)} {gs : List (Frame C)} → BelowAlike fs gs → fitting.sight turn.setting (sight_of world turn.own) → {e : Entered B} {d : Entered C} → EnteredAlike (λ b c. R false b c × fitting.body turn.setting (sight_of world turn.own) b None) e d → AfterAlike (entered scene left turn world fs arguments e) (entered scene right turn world gs arguments d)
-    entered_alike scene turn world arguments below s (both_open {b} {c} r) = ran_alike scene turn world b c None r.0 s r.1 below
-    entered_alike scene turn world arguments below s (both_native at) = native_entered_alike turn at arguments world (is_prompt (binding_in turn.setting.natives at)) below
-    entered_alike scene turn world arguments below s (both_read script variable) = returned_alike turn _ _ below
-    entered_alike scene turn world arguments below s (both_write script variable) = returned_alike turn _ _ below
-    entered_alike scene turn world arguments below s both_nothing = returned_alike turn _ _ below
+    entered_alike : (scene : SceneShape) (turn : Turn) (world : World) (arguments : List Value) {fs : List (Frame B)} {gs : List (Frame C)} → turn.setting.self ≡ turn.own → BelowAlike fs gs → fitting.sight turn.setting (sight_of world turn.own) → {e : Entered B} {d : Entered C} → EnteredAlike (λ b c. R turn.setting.self false b c × fitting.body turn.setting (sight_of world turn.own) b None) e d → AfterAlike (entered scene left turn world fs arguments e) (entered scene right turn world gs arguments d)
+    entered_alike scene turn world arguments own below s (both_open {b} {c} r) = ran_alike scene turn world b c None own r.0 s r.1 below
+    entered_alike scene turn world arguments own below s (both_native at) = native_entered_alike turn at arguments world (is_prompt (binding_in turn.setting.natives at)) below
+    entered_alike scene turn world arguments own below s (both_read script variable) = returned_alike turn _ _ below
+    entered_alike scene turn world arguments own below s (both_write script variable) = returned_alike turn _ _ below
+    entered_alike scene turn world arguments own below s both_nothing = returned_alike turn _ _ below
 
     abbrev turn_on : ℕ → Setting → Option ℕ → Turn
     turn_on k setting own = record { stack = k; own = own; setting = setting }
 
-    in_turn_alike : (scene : SceneShape) (k : ℕ) (setting : Setting) (world : World) {s : Stack B} {t : Stack C} → StackAlike s t → InnermostFits fitting setting world s → AfterAlike (in_turn scene left (turn_on k setting (inner_instance s)) world s) (in_turn scene right (turn_on k setting (inner_instance s)) world t)
-    in_turn_alike scene k setting world both_done i = (refl, both_done)
-    in_turn_alike scene k setting world (both_enter instance way arguments below) i =
-        entered_alike scene (turn_on k setting instance) world arguments below i.0 (alike.enter setting (sight_of world instance) (instance_script world instance) way arguments i.0 i.1)
-    in_turn_alike scene k setting world (both_run reply {f} {g} e r below) i =
-        ran_alike scene (turn_on k setting f.instance) world f.body g.body reply r i.0 i.1 below
+    in_turn_alike : (scene : SceneShape) (k : ℕ) (setting : Setting) (world : World) {s : Stack B} {t : Stack C} → setting.self ≡ inner_instance s → StackAlike s t → InnermostFits fitting setting world s → AfterAlike (in_turn scene left (turn_on k setting (inner_instance s)) world s) (in_turn scene right (turn_on k setting (inner_instance s)) world t)
+    in_turn_alike scene k setting world own both_done i = (refl, both_done)
+    in_turn_alike scene k setting world own (both_enter instance way arguments below) i =
+        entered_alike scene (turn_on k setting instance) world arguments own below i.0 (alike.enter setting (sight_of world instance) (instance_script world instance) way arguments i.0 i.1)
+    in_turn_alike scene k setting world own (both_run reply {f} {g} e r below) i =
+        ran_alike scene (turn_on k setting f.instance) world f.body g.body reply own (subst (λ o. R o (is_some reply) f.body g.body) (sym own) r) i.0 i.1 below
 
     -- ---- turns
     turn_from : SceneShape → World → ℕ → Option ℕ → Bool → Turn
@@ -166,7 +166,7 @@ module _ {B C : Type 0} (R : Bool → B → C → Type 0) where
     unfolding turn_from
     after_alike scene world ss ts k all {s} {t} a n =
         let own : Option ℕ = inner_instance s in
-        let here : AfterAlike (in_turn scene left (turn_of scene world ss k own) world s) (in_turn scene right (turn_of scene world ss k own) world t) = in_turn_alike scene k (setting_of scene world ss k own) world a n in
+        let here : AfterAlike (in_turn scene left (turn_of scene world ss k own) world s) (in_turn scene right (turn_of scene world ss k own) world t) = in_turn_alike scene k (setting_of scene world ss k own) world refl a n in
         let room : AfterAlike (in_turn scene left (turn_of scene world ss k own) world s) (in_turn scene right (turn_of scene world ts k own) world t) = subst (λ x. AfterAlike (in_turn scene left (turn_of scene world ss k own) world s) (in_turn scene right (turn_from scene world k own x) world t)) (same_room k all) here in
         subst (λ o. AfterAlike (in_turn scene left (turn_of scene world ss k own) world s) (in_turn scene right (turn_of scene world ts k o) world t)) (same_inner a) room
 

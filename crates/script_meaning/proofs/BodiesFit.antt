@@ -212,10 +212,10 @@ module _ (most : ℕ) where
     entered_so (both_write script variable) = both_write script variable
     entered_so both_nothing = both_nothing
 
-    pub engine_alike : (outline : List ScriptShape) → EnginesAlike anything BothFit (source_engine outline scripts) (source_engine outline scripts)
+    pub engine_alike : (outline : List ScriptShape) → EnginesAlike anything (λ own. BothFit) (source_engine outline scripts) (source_engine outline scripts)
     engine_alike outline = record {
       enter = λ setting sight script way arguments s a. entered_so (enter_alike outline script sight.state way arguments);
-      run = λ setting b c reply sight r s f. subst (λ x. StopsAlike anything BothFit setting (run_body scripts setting b reply sight) (run_body scripts setting x reply sight)) r.0 (record { request = refl; sight = refl; fits = at_pass_too (run_body scripts setting b reply sight).request; bodies = in_any_case (run_body scripts setting b reply sight).request (refl, run_fits scripts setting most b reply sight r.1) });
+      run = λ setting b c reply sight r s f. subst (λ x. StopsAlike anything (λ own. BothFit) setting (run_body scripts setting b reply sight) (run_body scripts setting x reply sight)) r.0 (record { request = refl; sight = refl; fits = at_pass_too (run_body scripts setting b reply sight).request; bodies = in_any_case (run_body scripts setting b reply sight).request (refl, run_fits scripts setting most b reply sight r.1) });
     }
 
   -- ---- what alike states say of one
@@ -226,16 +226,16 @@ module _ (most : ℕ) where
   entered_fits (both_write script variable) = tt
   entered_fits both_nothing = tt
 
-  below_fits : {fs gs : List (Frame Body)} → BelowAlike BothFit fs gs → AllByRecursion (FrameFits most) fs
+  below_fits : {fs gs : List (Frame Body)} → BelowAlike (λ own. BothFit) fs gs → AllByRecursion (FrameFits most) fs
   below_fits none_below = tt
   below_fits (more_below e r fs) = (r.1, below_fits fs)
 
-  stack_fits : {s t : Stack Body} → StackAlike BothFit s t → StackFits most s
+  stack_fits : {s t : Stack Body} → StackAlike (λ own. BothFit) s t → StackFits most s
   stack_fits both_done = tt
   stack_fits (both_enter instance way arguments fs) = below_fits fs
   stack_fits (both_run reply e r fs) = (r.1, below_fits fs)
 
-  stacks_fit : {ss ts : List (Stack Body)} → StacksAlike BothFit ss ts → AllByRecursion (StackFits most) ss
+  stacks_fit : {ss ts : List (Stack Body)} → StacksAlike (λ own. BothFit) ss ts → AllByRecursion (StackFits most) ss
   stacks_fit no_stacks = tt
   stacks_fit (more_stacks s ss) = (stack_fits s, stacks_fit ss)
 
@@ -244,10 +244,10 @@ module _ (most : ℕ) where
   ended_or_more false more a = a
 
   module _ (scripts : List Script) (all : AllByRecursion (IsScriptWithin most) scripts) (outline : List ScriptShape) where
-    states_fit : (scene : SceneShape) (turns : ℕ) (s : State Body) → StatesAlike BothFit s s → AllByRecursion (StateFits most) (states_from scene (source_engine outline scripts) turns s)
+    states_fit : (scene : SceneShape) (turns : ℕ) (s : State Body) → StatesAlike (λ own. BothFit) s s → AllByRecursion (StateFits most) (states_from scene (source_engine outline scripts) turns s)
     states_fit scene zero s a = (stacks_fit a.stacks, tt)
     states_fit scene (suc turns) s a =
-        (stacks_fit a.stacks, ended_or_more (has_ended scene s.world) (states_from scene (source_engine outline scripts) turns (step scene (source_engine outline scripts) s)) (states_fit scene turns (step scene (source_engine outline scripts) s) (step_alike BothFit anything (source_engine outline scripts) (source_engine outline scripts) (engine_alike scripts all outline) scene s s (any_turn scene s) a)))
+        (stacks_fit a.stacks, ended_or_more (has_ended scene s.world) (states_from scene (source_engine outline scripts) turns (step scene (source_engine outline scripts) s)) (states_fit scene turns (step scene (source_engine outline scripts) s) (step_alike (λ own. BothFit) anything (source_engine outline scripts) (source_engine outline scripts) (engine_alike scripts all outline) scene s s (any_turn scene s) a)))
 
     pub run_fits_in : (scene : SceneShape) (kinds : List DeviceKind) (turns : ℕ) → AllByRecursion (StateFits most) (states_from scene (source_engine outline scripts) turns (first_state outline scene kinds))
     run_fits_in scene kinds turns = states_fit scene turns (first_state outline scene kinds) (record { world = refl; stacks = no_stacks })

@@ -1,5 +1,5 @@
 -- Engines that do alike are alike where the left one keeps what fits.
-use Rattle.std.proofs.Common.{Bool, false, List, Option, None, sym, subst}
+use Rattle.std.proofs.Common.{ℕ, Bool, false, List, Option, None, sym, subst}
 use Rattle.core_tree.specs.declared.core_type.CoreType.{CoreType}
 use Rattle.core_tree.specs.declared.value.Value.{Value}
 use Rattle.script_meaning.specs.Fits.{SightFits, Types, BodyHolds, BodyFits, by_types}
@@ -8,9 +8,9 @@ use Rattle.script_meaning.specs.Related.{EnteredAlike, both_open, both_native, b
 use Rattle.script_meaning.specs.Requests.{Sight, Setting, Request, Method, ParentMethod, GlobalFunction, GlobalNative, Get, Set, LoopPass, Return}
 use Rattle.script_meaning.specs.Stacks.{Entered, Stop, Engine}
 
-module _ {B C : Type 0} (types : Types B) (R : Bool → B → C → Type 0) where
+module _ {B C : Type 0} (types : Types B) (R : Option ℕ → Bool → B → C → Type 0) where
   -- a body that is found fits
-  found_so : (setting : Setting) (sight : Sight) (arguments : List Value) (result : Option CoreType) {e : Entered B} {d : Entered C} → FoundFits types (seen types.outline setting sight) setting.self arguments result e → EnteredAlike (R false) e d → EnteredAlike (λ b c. R false b c × BodyFits types setting sight b None) e d
+  found_so : (setting : Setting) (sight : Sight) (arguments : List Value) (result : Option CoreType) {e : Entered B} {d : Entered C} → FoundFits types (seen types.outline setting sight) setting.self arguments result e → EnteredAlike (R setting.self false) e d → EnteredAlike (λ b c. R setting.self false b c × BodyFits types setting sight b None) e d
   found_so setting sight arguments result f (both_open r) =
       both_open (r, record { awaited = None; result = result; held = f; reply = tt })
   found_so setting sight arguments result f (both_native at) = both_native at
@@ -30,7 +30,7 @@ module _ {B C : Type 0} (types : Types B) (R : Bool → B → C → Type 0) wher
       (s, record { awaited = None; result = result; held = r; reply = tt })
   passes_so setting sight body result (Return value) s r = tt
 
-  stops_so : (setting : Setting) (before : Sight) (result : Option CoreType) (s : Stop B) (t : Stop C) → StopFits types setting before result s → SameStop R s t → StopsAlike (by_types types) R setting s t
+  stops_so : (setting : Setting) (before : Sight) (result : Option CoreType) (s : Stop B) (t : Stop C) → StopFits types setting before result s → SameStop (R setting.self) s t → StopsAlike (by_types types) R setting s t
   stops_so setting before result s t f a =
       record { request = a.request; sight = a.sight; bodies = a.bodies; fits = passes_so setting s.sight s.body result s.request f.sight f.request }
 

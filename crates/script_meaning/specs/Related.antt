@@ -27,17 +27,17 @@ AtLoopPass LoopPass fits = fits
 AtLoopPass _ fits = Unit {0}
 
 -- two bodies come to the same act, have changed the same, and are related there
-pub record StopsAlike {B C : Type 0} (fitting : Fitting B) (R : Bool → B → C → Type 0) (setting : Setting) (left : Stop B) (right : Stop C) : Type 0 where
+pub record StopsAlike {B C : Type 0} (fitting : Fitting B) (R : Option ℕ → Bool → B → C → Type 0) (setting : Setting) (left : Stop B) (right : Stop C) : Type 0 where
   pub request : left.request ≡ right.request
   pub sight : left.sight ≡ right.sight
-  pub bodies : AtRequest left.request (λ waits. R waits left.body right.body)
+  pub bodies : AtRequest left.request (λ waits. R setting.self waits left.body right.body)
   pub fits : AtLoopPass left.request (fitting.sight setting left.sight × fitting.body setting left.sight left.body None)
 
 -- nothing is asked of the engines but where all that they get fits. Bodies that wait for a reply are related apart
 -- from those that go on without one, since neither body need show which it does
-pub record EnginesAlike {B C : Type 0} (fitting : Fitting B) (R : Bool → B → C → Type 0) (left : Engine B) (right : Engine C) : Type 0 where
-  pub enter : (setting : Setting) (sight : Sight) (script : Option ℕ) (way : Way) (arguments : List Value) → fitting.sight setting sight → fitting.arguments setting sight script way arguments → EnteredAlike (λ b c. R false b c × fitting.body setting sight b None) (left.enter script sight.state way arguments) (right.enter script sight.state way arguments)
-  pub run : (setting : Setting) (b : B) (c : C) (reply : Option Value) (sight : Sight) → R (is_some reply) b c → fitting.sight setting sight → fitting.body setting sight b reply → StopsAlike fitting R setting (left.run setting b reply sight) (right.run setting c reply sight)
+pub record EnginesAlike {B C : Type 0} (fitting : Fitting B) (R : Option ℕ → Bool → B → C → Type 0) (left : Engine B) (right : Engine C) : Type 0 where
+  pub enter : (setting : Setting) (sight : Sight) (script : Option ℕ) (way : Way) (arguments : List Value) → fitting.sight setting sight → fitting.arguments setting sight script way arguments → EnteredAlike (λ b c. R setting.self false b c × fitting.body setting sight b None) (left.enter script sight.state way arguments) (right.enter script sight.state way arguments)
+  pub run : (setting : Setting) (b : B) (c : C) (reply : Option Value) (sight : Sight) → R setting.self (is_some reply) b c → fitting.sight setting sight → fitting.body setting sight b reply → StopsAlike fitting R setting (left.run setting b reply sight) (right.run setting c reply sight)
 
 -- ---- where the left engine keeps what fits
 pub record SameStop {B C : Type 0} (R : Bool → B → C → Type 0) (left : Stop B) (right : Stop C) : Type 0 where
@@ -46,6 +46,6 @@ pub record SameStop {B C : Type 0} (R : Bool → B → C → Type 0) (left : Sto
   pub bodies : AtRequest left.request (λ waits. R waits left.body right.body)
 
 -- the same, but for what fits of the bodies that are found and that go on
-pub record DoAlike {B C : Type 0} (fitting : Fitting B) (R : Bool → B → C → Type 0) (left : Engine B) (right : Engine C) : Type 0 where
-  pub enter : (setting : Setting) (sight : Sight) (script : Option ℕ) (way : Way) (arguments : List Value) → fitting.sight setting sight → fitting.arguments setting sight script way arguments → EnteredAlike (R false) (left.enter script sight.state way arguments) (right.enter script sight.state way arguments)
-  pub run : (setting : Setting) (b : B) (c : C) (reply : Option Value) (sight : Sight) → R (is_some reply) b c → fitting.sight setting sight → fitting.body setting sight b reply → SameStop R (left.run setting b reply sight) (right.run setting c reply sight)
+pub record DoAlike {B C : Type 0} (fitting : Fitting B) (R : Option ℕ → Bool → B → C → Type 0) (left : Engine B) (right : Engine C) : Type 0 where
+  pub enter : (setting : Setting) (sight : Sight) (script : Option ℕ) (way : Way) (arguments : List Value) → fitting.sight setting sight → fitting.arguments setting sight script way arguments → EnteredAlike (R setting.self false) (left.enter script sight.state way arguments) (right.enter script sight.state way arguments)
+  pub run : (setting : Setting) (b : B) (c : C) (reply : Option Value) (sight : Sight) → R setting.self (is_some reply) b c → fitting.sight setting sight → fitting.body setting sight b reply → SameStop (R setting.self) (left.run setting b reply sight) (right.run setting c reply sight)

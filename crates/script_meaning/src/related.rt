@@ -1,5 +1,5 @@
 // Two engines that do the same.
-ghost use Rattle.std.specs.Prelude.{◌≡◌, ℕ, Bool, List, map};
+ghost use Rattle.std.specs.Prelude.{◌≡◌, ℕ, Bool, List, Option, map};
 ghost use Rattle.std.specs.List.{AllByRecursion};
 ghost use Rattle.core_tree.specs.declared.DeviceKind.{DeviceKind};
 ghost use Rattle.core_tree.specs.Outlines.{ScriptShape};
@@ -11,10 +11,10 @@ ghost use Rattle.script_meaning.specs.Related.{EnginesAlike, DoAlike};
 ghost use Rattle.script_meaning.specs.Stacks.{Engine};
 ghost use Rattle.script_meaning.specs.Turns.{states_from};
 
-/// Bodies of one engine that are related to bodies of another one, by whether they wait for a reply, and the types
+/// Bodies of one engine that are related to bodies of another one, by the instance on which both run and whether they wait for a reply, and the types
 /// of the scripts to which they belong.
 pub trait Related<C> {
-    ghost related: { Bool → Self → C → Type 0 };
+    ghost related: { Option ℕ → Bool → Self → C → Type 0 };
 
     ghost types: { Types Self };
 }
