@@ -1,8 +1,5 @@
 pub mod Code
 pub mod Engine
 pub mod Execution
-pub mod Laws
 pub mod LookUp
 pub mod Operands
-pub mod Steps
-pub mod Typed

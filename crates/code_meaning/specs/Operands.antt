@@ -7,7 +7,7 @@ use Rattle.core_tree.specs.declared.value.Value.{Value}
 use Rattle.core_tree.specs.declared.value.Value.TheVariants as values
 use Rattle.core_tree.specs.Outlines.{ScriptShape}
 use Rattle.papy_base.specs.declared.faults.StackFault.{StackFault}
-use Rattle.script_meaning.specs.Evaluation.{self_value}
+use Rattle.script_meaning.specs.Evaluation.{self_value, state_changed}
 use Rattle.script_meaning.specs.Requests.{Sight, Setting, faulted_where}
 use Rattle.script_meaning.specs.Values.{text_of, script_name}
 use Rattle.core_tree.specs.Values.{default_result}
@@ -70,7 +70,8 @@ with_value home (Slot number) value inner = record inner { slots = slice_set inn
 with_value home (Variable number) value inner =
     record inner { sight = record inner.sight { variables = with_variable inner.sight.variables home.script number value } }
 with_value home Itself value inner = inner
-with_value home StateText value inner = record inner { sight = record inner.sight { state = text_of value } }
+with_value home StateText value inner =
+    record inner { sight = state_changed home.setting.self (text_of value) inner.sight }
 
 -- a result of type None drops what is stored in it
 abbrev pub where_kept : Option CoreType → Inner → Inner → Inner

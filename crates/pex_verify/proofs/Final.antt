@@ -11,11 +11,11 @@ use Rattle.core_tree.specs.declared.outline.OutlineScript.{OutlineScript}
 use Rattle.core_tree.specs.declared.outline.OutlineVariable.{OutlineVariable}
 use Rattle.core_tree.specs.Outlines.{ScriptShape, script_shape}
 use Rattle.papy_base.specs.declared.name.Name.{Name}
-use Rattle.script_meaning.specs.Fits.{variable_kinds}
+use Rattle.run_laws.specs.Fits.{variable_kinds}
 use Rattle.script_meaning.specs.Values.{lineage, parent_in}
 use Rattle.code_meaning.specs.Code.{Function, Access, Property, State}
 use Rattle.code_meaning.specs.LookUp.{BodyPlace, OfState, OfGet, OfSet, script_of, states_in, properties_in, functions_in, reader_in, writer_in, function_at}
-use Rattle.code_meaning.specs.Typed.{IsTyped, IsTypedSet}
+use Rattle.run_laws.specs.TypedCode.{IsTyped, IsTypedSet}
 use Rattle.papy_base.specs.Lineage as objects_above
 use Rattle.pex_values.specs.declared.values.PexFunction.{PexFunction}
 use Rattle.pex_values.specs.declared.values.PexProperty.{PexProperty}

@@ -5,12 +5,12 @@ use Rattle.std.proofs.lemmas.Bool.{both_ways, cases_eq}
 use Rattle.std.proofs.lemmas.Option.{none-some, same_Some}
 use Rattle.core_tree.specs.Outlines.{ScriptShape}
 use Rattle.core_tree.specs.declared.core_type.CoreType.{CoreType}
-use Rattle.script_meaning.specs.Fits.{is_native_at}
+use Rattle.run_laws.specs.Fits.{is_native_at}
 use Rattle.script_meaning.specs.Requests.{result_of}
 use Rattle.script_meaning.specs.Values.{lineage}
 use Rattle.code_meaning.specs.Code.{Script}
 use Rattle.code_meaning.specs.LookUp.{FoundMethod, first_method, method_in, native_at}
-use Rattle.code_meaning.specs.Typed.{MethodMeets}
+use Rattle.run_laws.specs.TypedCode.{MethodMeets}
 use Rattle.pex_set.specs.Names.{number_in}
 use Rattle.pex_verify.specs.declared.scripts.Signature.{Signature}
 use Rattle.pex_verify.specs.declared.value_type.ValueType.TheVariants.{Of}

@@ -8,7 +8,7 @@ use Rattle.core_tree.specs.Outlines.{ScriptShape}
 use Rattle.script_meaning.specs.Values.{lineage, parent_in}
 use Rattle.code_meaning.specs.Code.{Access, Property, Script}
 use Rattle.code_meaning.specs.LookUp.{numbered, properties_in, property_at, first_property}
-use Rattle.code_meaning.specs.Typed.{GetMeets, SetMeets}
+use Rattle.run_laws.specs.TypedCode.{GetMeets, SetMeets}
 use Rattle.pex_set.specs.Names.{number_in}
 use Rattle.pex_set.specs.declared.inherited.MemberPlace.{MemberPlace}
 use Rattle.pex_set.specs.declared.inherited.OwnMember.{OwnMember}

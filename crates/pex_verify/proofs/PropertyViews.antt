@@ -11,9 +11,9 @@ use Rattle.core_tree.specs.declared.outline.OutlineScript.{OutlineScript}
 use Rattle.core_tree.specs.declared.outline.OutlineVariable.{OutlineVariable}
 use Rattle.core_tree.specs.Outlines.{ScriptShape, script_shape}
 use Rattle.papy_base.specs.declared.name.Name.{Name}
-use Rattle.script_meaning.specs.Fits.{variable_kinds}
-use Rattle.script_meaning.specs.Keeps.{IsVariable}
-use Rattle.code_meaning.specs.Typed.{AccessorMeets, GetMeets, SetMeets}
+use Rattle.run_laws.specs.Fits.{variable_kinds}
+use Rattle.run_laws.specs.Keeps.{IsVariable}
+use Rattle.run_laws.specs.TypedCode.{AccessorMeets, GetMeets, SetMeets}
 use Rattle.pex_set.specs.Names.{number_in}
 use Rattle.pex_values.specs.declared.values.PexFunction.{PexFunction}
 use Rattle.pex_values.specs.declared.values.PexProperty.{PexProperty}

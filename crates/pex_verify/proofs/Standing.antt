@@ -5,7 +5,7 @@ use Rattle.std.proofs.lemmas.List.Elements.{All-append, All-map}
 use Rattle.core_tree.specs.declared.core_type.CoreType.{CoreType}
 use Rattle.core_tree.specs.Outlines.{ScriptShape}
 use Rattle.papy_base.specs.declared.name.Name.{Name}
-use Rattle.script_meaning.specs.Fits.{variable_kinds}
+use Rattle.run_laws.specs.Fits.{variable_kinds}
 use Rattle.pex_verify.specs.declared.loaded.LoadedFunction.{LoadedFunction}
 use Rattle.pex_verify.specs.declared.scope.FunctionScope.{FunctionScope}
 use Rattle.pex_verify.specs.declared.value_type.ValueType.{ValueType}

@@ -8,7 +8,7 @@ use Rattle.script_meaning.specs.Values.{is_child, lineage, parent_in}
 use Rattle.script_meaning.specs.Stacks.{ByMethod, ByParent, ByGlobal, ByGet, BySet}
 use Rattle.code_meaning.specs.Code.{Function, Script}
 use Rattle.code_meaning.specs.LookUp.{method_in, first_method}
-use Rattle.code_meaning.specs.Typed.{Scope, AllGive, Calls, CallsOn, Gives, MethodMeets, Stores}
+use Rattle.run_laws.specs.TypedCode.{Scope, AllGive, Calls, CallsOn, Gives, MethodMeets, Stores}
 use Rattle.pex_verify.specs.declared.loaded.Operand.{Operand}
 use Rattle.pex_verify.specs.declared.scope.FunctionScope.{FunctionScope}
 use Rattle.pex_verify.specs.declared.scripts.PropertySignature.{PropertySignature}

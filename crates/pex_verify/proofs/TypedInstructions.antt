@@ -10,7 +10,7 @@ use Rattle.pex_values.specs.declared.values.Datum.TheVariants as values
 use Rattle.pex_values.specs.declared.values.Instruction.{Instruction}
 use Rattle.code_meaning.specs.Code.{Instruction as Typed, Function as Code, Script}
 use Rattle.code_meaning.specs.Code as op
-use Rattle.code_meaning.specs.Typed.{Scope, IsTyped}
+use Rattle.run_laws.specs.TypedCode.{Scope, IsTyped}
 use Rattle.pex_verify.specs.declared.action.Action.{Action}
 use Rattle.pex_verify.specs.declared.action.Action.TheVariants as action
 use Rattle.pex_verify.specs.declared.action.Use.{Use}

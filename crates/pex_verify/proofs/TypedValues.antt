@@ -9,7 +9,7 @@ use Rattle.core_tree.specs.Outlines.{ScriptShape}
 use Rattle.core_tree.specs.Values.{element_kind}
 use Rattle.code_meaning.specs.Code.{Function, Script, Slot}
 use Rattle.code_meaning.specs.Operands.{kind_in, type_of, variables_in}
-use Rattle.code_meaning.specs.Typed.{Scope, Gives, GivesArray, IsPlace, Stores, Compares, Computes as ComputesTyped, Searches}
+use Rattle.run_laws.specs.TypedCode.{Scope, Gives, GivesArray, IsPlace, Stores, Compares, Computes as ComputesTyped, Searches}
 use Rattle.pex_verify.specs.declared.loaded.Operand.{Operand}
 use Rattle.pex_verify.specs.declared.loaded.Operand.TheVariants as loaded
 use Rattle.pex_verify.specs.declared.scope.FunctionScope.{FunctionScope}

@@ -7,12 +7,12 @@ use Rattle.core_tree.specs.declared.core_type.CoreType.{CoreType}
 use Rattle.core_tree.specs.declared.core_type.CoreType.TheVariants as kinds
 use Rattle.core_tree.specs.declared.outline.OutlineVariable.{OutlineVariable}
 use Rattle.core_tree.specs.Outlines.{ScriptShape}
-use Rattle.script_meaning.specs.Fits.{variable_kinds}
+use Rattle.run_laws.specs.Fits.{variable_kinds}
 use Rattle.core_tree.specs.Values.{holds_none}
 use Rattle.core_tree.specs.Values.{element_kind}
 use Rattle.code_meaning.specs.Code.{Function, Script, Slot}
 use Rattle.code_meaning.specs.Operands.{slot_kinds, variables_in, kind_in, type_of}
-use Rattle.code_meaning.specs.Typed.{Scope, Fits, IsSeen, Gives, GivesResult, Where, Takes as TakesTyped, Stores, Casts}
+use Rattle.run_laws.specs.TypedCode.{Scope, Fits, IsSeen, Gives, GivesResult, Where, Takes as TakesTyped, Stores, Casts}
 use Rattle.pex_verify.specs.declared.loaded.Operand.{Operand}
 use Rattle.pex_verify.specs.declared.loaded.Operand.TheVariants as loaded
 use Rattle.pex_verify.specs.declared.scope.FunctionScope.{FunctionScope}

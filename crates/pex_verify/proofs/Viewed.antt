@@ -8,7 +8,7 @@ use Rattle.std.proofs.lemmas.List.{length-map}
 use Rattle.std.proofs.lemmas.Option.{none-some, same_Some, slice_get-map, slice_get_past, get_or_from_slice_get}
 use Rattle.core_tree.specs.declared.outline.OutlineScript.{OutlineScript}
 use Rattle.core_tree.specs.Outlines.{ScriptShape, script_shape, FunctionShape}
-use Rattle.script_meaning.specs.Fits.{is_native_in}
+use Rattle.run_laws.specs.Fits.{is_native_in}
 use Rattle.script_meaning.specs.Requests.{functions_in, result_in}
 use Rattle.code_meaning.specs.Code.{State, Script}
 use Rattle.code_meaning.specs.LookUp.{states_in}

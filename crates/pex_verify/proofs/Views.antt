@@ -4,12 +4,12 @@ use Rattle.std.specs.List.{AllZip}
 use Rattle.std.specs.Option.{option_and_then, option_or, option_map}
 use Rattle.core_tree.specs.Outlines.{ScriptShape}
 use Rattle.core_tree.specs.declared.core_type.CoreType.{CoreType}
-use Rattle.script_meaning.specs.Fits.{is_native_at}
+use Rattle.run_laws.specs.Fits.{is_native_at}
 use Rattle.script_meaning.specs.Requests.{result_of}
 use Rattle.script_meaning.specs.Values.{lineage, parent_in}
 use Rattle.code_meaning.specs.Code.{Function, Property, State, Script}
 use Rattle.code_meaning.specs.LookUp.{numbered, properties_in, states_in}
-use Rattle.code_meaning.specs.Typed.{GetMeets, SetMeets}
+use Rattle.run_laws.specs.TypedCode.{GetMeets, SetMeets}
 use Rattle.pex_set.specs.Names.{number_in}
 use Rattle.pex_set.specs.declared.inherited.MemberPlace.{MemberPlace}
 use Rattle.pex_set.specs.declared.inherited.OwnMember.{OwnMember}

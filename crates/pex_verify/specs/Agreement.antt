@@ -2,7 +2,7 @@
 use Rattle.std.specs.Prelude.{◌≡◌, ℕ, ◌<◌, true, List, [], ◌∷◌, Option, Some, None, map, vec_len, slice_get, slice_index_or, All}
 use Rattle.core_tree.specs.declared.core_type.CoreType.{CoreType}
 use Rattle.core_tree.specs.Outlines.{ScriptShape}
-use Rattle.script_meaning.specs.Fits.{variable_kinds}
+use Rattle.run_laws.specs.Fits.{variable_kinds}
 use Rattle.script_meaning.specs.Values.{is_child, lineage, parent_in}
 use Rattle.pex_set.specs.Names.{empty_name, number_in}
 use Rattle.pex_set.specs.Objects.{first_named}
@@ -10,7 +10,7 @@ use Rattle.papy_base.specs.Ranks.{is_below}
 use Rattle.code_meaning.specs.Code.{Function, Script}
 use Rattle.code_meaning.specs.LookUp.{first_method, first_property, method_in}
 use Rattle.code_meaning.specs.Operands.{slot_kinds}
-use Rattle.code_meaning.specs.Typed.{MethodMeets, GetMeets, SetMeets}
+use Rattle.run_laws.specs.TypedCode.{MethodMeets, GetMeets, SetMeets}
 use Rattle.pex_verify.specs.declared.scope.FunctionScope.{FunctionScope}
 use Rattle.pex_verify.specs.declared.scripts.PropertySignature.{PropertySignature}
 use Rattle.pex_verify.specs.declared.scripts.SetHeads.{SetHeads}

@@ -4,7 +4,7 @@ use Rattle.std.specs.List.{AllByRecursion}
 use Rattle.core_tree.specs.Outlines.{ScriptShape}
 use Rattle.pex_values.specs.declared.values.Instruction.{Instruction}
 use Rattle.code_meaning.specs.Code.{Function, Script}
-use Rattle.code_meaning.specs.Typed.{Scope, IsTyped}
+use Rattle.run_laws.specs.TypedCode.{Scope, IsTyped}
 use Rattle.pex_verify.specs.declared.action.Action.{Action}
 use Rattle.pex_verify.specs.declared.loaded.LoadedInstruction.{LoadedInstruction}
 use Rattle.pex_verify.specs.declared.loaded.Operand.{Operand}

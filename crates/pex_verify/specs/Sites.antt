@@ -4,9 +4,9 @@ use Rattle.std.specs.List.{AllByRecursion}
 use Rattle.core_tree.specs.declared.outline.OutlineVariable.{OutlineVariable}
 use Rattle.core_tree.specs.Outlines.{ScriptShape}
 use Rattle.pex_set.specs.Names.{empty_name, number_in}
-use Rattle.script_meaning.specs.Fits.{variable_kinds}
+use Rattle.run_laws.specs.Fits.{variable_kinds}
 use Rattle.code_meaning.specs.Code.{Script}
-use Rattle.code_meaning.specs.Typed.{IsTyped}
+use Rattle.run_laws.specs.TypedCode.{IsTyped}
 use Rattle.pex_verify.specs.declared.loaded.LoadedFunction.{LoadedFunction}
 use Rattle.pex_verify.specs.declared.scope.Home.{Home}
 use Rattle.pex_verify.specs.declared.scripts.SetHeads.{SetHeads}

@@ -1,17 +1,2 @@
-pub mod Alike
-pub mod BodiesFit
-pub mod Counts
 pub mod Examples
 pub mod Rows
-pub mod Runs
-pub mod Standing
-pub mod StepBounds
-pub mod Steps
-pub mod Touches
-pub mod TurnBounds
-pub mod Typing
-pub mod Kept
-pub mod KeptAlike
-pub mod Operating
-pub mod TreesEnter
-pub mod TreesKeep

@@ -177,8 +177,13 @@ abbrev pub with_field : ℕ → ℕ → Value → Inner → Inner
 with_field script number value inner =
     record inner { sight = record inner.sight { variables = with_variable inner.sight.variables script number value } }
 
-abbrev pub with_state : List ℕ → Inner → Inner
-with_state state inner = record inner { sight = record inner.sight { state = state } }
+-- a body without an instance has no state
+abbrev pub state_changed : Option ℕ → List ℕ → Sight → Sight
+state_changed None state sight = sight
+state_changed (Some own) state sight = record sight { state = state }
+
+abbrev pub with_state : Home → List ℕ → Inner → Inner
+with_state home state inner = record inner { sight = state_changed home.setting.self state inner.sight }
 
 -- an element is written, unless that faults
 abbrev pub with_stored : Home → Value → Value → Value → Inner → Inner
@@ -191,7 +196,7 @@ nothing inner = Gives values.NoneValue inner
 abbrev pub effected : Home → Effect → List Value → Inner → Outcome
 effected home (StoreLocal number) taken inner = nothing (with_local number (taken_at taken 0) inner)
 effected home (StoreField number) taken inner = nothing (with_field home.script number (taken_at taken 0) inner)
-effected home StoreState taken inner = nothing (with_state (text_of (taken_at taken 0)) inner)
+effected home StoreState taken inner = nothing (with_state home (text_of (taken_at taken 0)) inner)
 effected home (StoreProperty name) taken inner = ask home (set_of (instance_of (taken_at taken 0)) name (taken_at taken 1)) inner
 effected home StoreElement taken inner = nothing (with_stored home (taken_at taken 0) (taken_at taken 1) (taken_at taken 2) inner)
 effected home Drop taken inner = nothing inner

@@ -1,5 +1,5 @@
 -- The operations of scripts on values.
-use Rattle.std.specs.Prelude.{ℕ, zero, suc, ◌+◌, ◌==◌, Bool, true, false, not, ◌&&◌, nat_lt, nat_le, if◌then◌else◌, ℤ, pos, negsuc, ◌+ℤ◌, ◌-ℤ◌, ◌*ℤ◌, int_lt, int_le, int_div, int_rem, List, [], ◌∷◌, ◌++◌, length, codes, Option, Some, None, slice_get, slice_index_or}
+use Rattle.std.specs.Prelude.{ℕ, zero, suc, ◌+◌, ◌==◌, Bool, true, false, not, ◌&&◌, nat_lt, nat_le, if◌then◌else◌, ℤ, pos, negsuc, ◌+ℤ◌, ◌-ℤ◌, ◌*ℤ◌, int_lt, int_le, int_div, int_rem, List, [], ◌∷◌, ◌++◌, length, codes, Option, Some, None, slice_get}
 use Rattle.std.specs.List.{list_all, list_any}
 use Rattle.std.specs.Fmt.{signed_decimal}
 use Rattle.std.specs.Int.{w32, int_wrap}
@@ -95,8 +95,9 @@ int_of (values.Text text) = int_of_text text
 int_of _ = pos 0
 
 -- an instance by the names of its script and of itself, as `[Door <gate>]`
-abbrev pub instance_text : List ScriptShape → ℕ × List ℕ → List ℕ
-instance_text outline instance =
+abbrev pub instance_text : List ScriptShape → Option (ℕ × List ℕ) → List ℕ
+instance_text outline None = []
+instance_text outline (Some instance) =
     codes "[" ++ script_name outline instance.0 ++ codes " <" ++ instance.1 ++ codes ">]"
 
 -- what a cast to String gives. `instances` has the script and the name of each instance
@@ -105,12 +106,17 @@ written outline instances values.NoneValue = codes "None"
 written outline instances (values.Int number) = signed_decimal number
 written outline instances (values.Bool truth) = if truth then codes "True" else codes "False"
 written outline instances (values.Text text) = text
-written outline instances (values.Instance number) = instance_text outline (slice_index_or instances number (0, []))
+written outline instances (values.Instance number) = instance_text outline (slice_get instances number)
 written outline instances (values.Array number) = codes "None"
+
+-- whether an instance is of this script, or of one below it
+abbrev pub is_of_script : List ScriptShape → ℕ → Option (ℕ × List ℕ) → Bool
+is_of_script outline script None = false
+is_of_script outline script (Some instance) = is_child outline instance.0 script
 
 abbrev pub instance_as : List ScriptShape → List (ℕ × List ℕ) → ℕ → Value → Value
 instance_as outline instances script (values.Instance number) =
-    if is_child outline (slice_index_or instances number (0, [])).0 script then values.Instance number else values.NoneValue
+    if is_of_script outline script (slice_get instances number) then values.Instance number else values.NoneValue
 instance_as outline instances script value = value
 
 abbrev pub cast_to : List ScriptShape → List (ℕ × List ℕ) → CoreType → Value → Value

@@ -1,6 +1,6 @@
 use Rattle.std.proofs.Common.{◌≡◌, ℕ, List, length, map, vec_len, sym, subst, arith}
 use Rattle.std.specs.List.{AllByRecursion}
-use Rattle.code_meaning.specs.Typed.{IsTyped}
+use Rattle.run_laws.specs.TypedCode.{IsTyped}
 use Rattle.pex_verify.specs.declared.loaded.LoadedInstruction.{LoadedInstruction}
 use Rattle.pex_verify.specs.Judged.{AreTypedIn, placed_in}
 use Rattle.pex_verify.specs.Places.{bounds_of}

@@ -1,8 +1,8 @@
 -- The tables of a set that was verified agree with its scripts, so that it is typed.
-use Rattle.script_meaning.proofs.Kept.{run_keeps}
+use Rattle.run_laws.proofs.Kept.{run_keeps}
 use Rattle.code_meaning.specs.Engine.{code_engine}
-use Rattle.code_meaning.specs.Typed.{IsTypedSet, code_types}
-use Rattle.code_meaning.proofs.Enters.{code_keeps}
+use Rattle.run_laws.specs.TypedCode.{IsTypedSet, code_types}
+use Rattle.run_laws.proofs.CodeEnters.{code_keeps}
 use Rattle.pex_verify.specs.Plain.{outline_of, scripts_of}
 use Rattle.pex_verify.specs.Agreement.{Agrees}
 use Rattle.pex_verify.specs.Sets.{LoadedSet}

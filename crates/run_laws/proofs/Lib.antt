@@ -1,0 +1,17 @@
+pub mod Alike
+pub mod CodeEnters
+pub mod CodeKeeps
+pub mod CodeRuns
+pub mod CodeStepBounds
+pub mod Counts
+pub mod Kept
+pub mod KeptAlike
+pub mod Operating
+pub mod Runs
+pub mod SmallSet
+pub mod Standing
+pub mod Steps
+pub mod Touches
+pub mod TreesEnter
+pub mod TreesKeep
+pub mod Typing

@@ -1,0 +1,9 @@
+pub mod CodeSteps
+pub mod Exclusive
+pub mod Fits
+pub mod Holding
+pub mod Keeps
+pub mod Related
+pub mod Touch
+pub mod TypedCode
+pub mod TypedTrees

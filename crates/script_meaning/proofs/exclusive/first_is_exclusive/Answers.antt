@@ -1,5 +1,0 @@
-use Rattle.script_meaning.proofs.Runs.{first_exclusive}
-use Rattle.script_meaning.proofs.exclusive.first_is_exclusive.Goals as goal
-
-pub returns : goal.returns
-returns g c = λ outline scene kinds. first_exclusive outline scene kinds
