@@ -1,5 +1,6 @@
 #!/usr/bin/env python3
-"""Checks how the launcher finds the program of the code as it is, prints what is wrong, and ends with 'N passed, M failed'.
+"""Checks how the launcher finds the program of the code as it is, and what `install` puts into a folder, prints what is wrong, and ends with
+'N passed, M failed'.
 
   check_launcher.py                  all of these
   check_launcher.py --program PATH   another program than PAPYRUS_PROGRAM in the environment, or the one that was built last
@@ -7,10 +8,14 @@
   fresh      in a small repository whose programs are scripts, the launcher runs a program only while the code is that which it was made of: after each
              kind of change by which an editor, a copy or a checkout leaves other code it looks for another one, also where the times of files are kept or set
              back; after changes of other files it runs the same, and after the code is as before it runs it again
+  install    what is installed runs without the sources, and answers as the launcher does; whether the proofs were checked is told; what somebody else put
+             into the folder stays as it is, and is refused where it stands in the way; a call that is ended, or finds no room, leaves a program that runs;
+             it may be done again, with other programs too, and taken back, and then the folder is as it was
 """
 import argparse
 import os
 import pathlib
+import resource
 import shutil
 import subprocess
 import sys
@@ -35,9 +40,13 @@ FILES = {
     "crates/low/out/kept": "1\n",
 }
 PROVED, UNPROVED = "crates/papyrus/out/papyrus", "crates/papyrus/out/unproved/papyrus"
+JOURNAL = "journal 1\ninstance a\nturn 0\njoin 0 0\nrun 0\ntake 0 0\nrelease 0 0\ndone 0\nend 1\n"
+SCRIPT = 'ScriptName A\nEvent OnInit()\n  Debug.Trace("a")\nEndEvent\n'
+ROOM = 200_000
+KILLS = 12
 NO_PROGRAM = (125, b"", b"papyrus: the program must be built first, and the kit's rt isn't on the PATH\n")
 # The words by which a program here is called, and how often code is changed at once behind a call.
-WORDS, TIMES = ["any"], 30
+WORDS, TIMES = ["any"], 20
 # More than a step of the clocks of files, in seconds.
 STEP = 0.02
 
@@ -52,6 +61,9 @@ class Copy:
             self.path(name).write_text(text)
         shutil.copy(ROOT / "papyrus", root)
         shutil.copytree(ROOT / "tools", root / "tools", ignore=shutil.ignore_patterns("__pycache__"))
+        shutil.copytree(DOCS, root / "docs", ignore=shutil.ignore_patterns("__pycache__", "pictures"))
+        for name in ("install", "LICENSE"):
+            shutil.copy(ROOT / name, root)
         (root / "bin").mkdir()
         # All that the launcher needs, and no rt.
         for name in ("sh", "find", "cksum", "sort", "xargs", "touch", "rm", "readlink", "dirname", "python3", "cat"):
@@ -60,11 +72,11 @@ class Copy:
     def path(self, name):
         return self.root / name
 
-    def make(self, name):
-        """Makes a program of the code as it is, which prints its own name."""
+    def make(self, name, data=None):
+        """Makes a program of the code as it is, which prints its own name where its bytes aren't given."""
         path = self.path(name)
         path.parent.mkdir(parents=True, exist_ok=True)
-        path.write_text(f"#!/bin/sh\necho {name}\n")
+        path.write_bytes(data or f"#!/bin/sh\necho {name}\n".encode())
         path.chmod(0o755)
         sums = [subprocess.run([self.path("tools/sources"), *words], stdout=subprocess.PIPE, check=True).stdout for words in ([], ["all"])]
         stamp = pathlib.Path(f"{path}.sources")
@@ -77,11 +89,14 @@ class Copy:
         os.utime(self.path(f"{name}.sources"))
         time.sleep(STEP)
 
-    def call(self):
-        """What the launcher answers: its status, standard output and standard error."""
+    def run(self, words, **how):
+        """What words answer: their status, standard output and standard error."""
         streams = {"stdin": subprocess.DEVNULL, "stdout": subprocess.PIPE, "stderr": subprocess.PIPE}
-        ran = subprocess.run([self.path("papyrus"), *WORDS], env={**os.environ, "PATH": str(self.root / "bin")}, **streams)
+        ran = subprocess.run([str(word) for word in words], env={**os.environ, "PATH": str(self.root / "bin")}, **streams, **how)
         return ran.returncode, ran.stdout, ran.stderr
+
+    def call(self):
+        return self.run([self.path("papyrus"), *WORDS])
 
     def wants(self, name):
         """What is wrong with the launcher's answer, where it is to run this program, or none; or nothing."""
@@ -211,6 +226,161 @@ def check_fresh(tally):
         tally.note(named("the code is the proved program's", "again", copy.wants(PROVED)))
 
 
+def tree(folder):
+    """All that is in a folder, with its kind and what it holds, but for what Python keeps of its modules."""
+    found = {}
+    for path in sorted(folder.rglob("*")):
+        if "__pycache__" not in path.parts:
+            holds = os.readlink(path) if path.is_symlink() else path.read_bytes() if path.is_file() else ""
+            found[str(path.relative_to(folder))] = (path.lstat().st_mode, holds)
+    return found
+
+
+class Installed:
+    """A folder in which other files stand, and what `install` does to it."""
+
+    def __init__(self, copy, folder):
+        self.copy, self.folder = copy, folder
+        (folder / "bin").mkdir(parents=True)
+        (folder / "bin" / "other").write_text("other\n")
+        (folder / "share" / "man").mkdir(parents=True)
+        self.before = tree(folder)
+
+    def install(self, *words, **how):
+        return self.copy.run([self.copy.path("install"), *(words or [self.folder])], **how)
+
+    def remove(self):
+        return self.install("--remove", self.folder)
+
+    def command(self):
+        return self.folder / "bin" / "papyrus"
+
+    def others_stay(self):
+        """What of the files that were there is other now, or nothing."""
+        now = tree(self.folder)
+        return "".join(f"{name} was changed" for name, holds in self.before.items() if now.get(name) != holds)
+
+
+def wanted(tally, what, found, status, *texts):
+    """Notes whether an answer has this status, and these texts in its lines."""
+    text = (found[1] + found[2]).decode(errors="replace")
+    good = found[0] == status and all(one in text for one in texts)
+    tally.note("" if good else f"install, {what}: {found} and not {status} with {texts}")
+
+
+def check_answers(tally, copy, installed, room):
+    """What is installed answers as the launcher, from another folder and through a link, where the sources are away."""
+    place = room / "elsewhere"
+    place.mkdir()
+    (place / "journal").write_text(JOURNAL)
+    (place / "A.psc").write_text(SCRIPT)
+    (room / "link").symlink_to(installed.command())
+    several = [["--version"], ["--help"], ["once", "A.psc"], ["explain", "L4"], ["view", "journal"], ["explain", "?"], ["run", "none.json", "A.psc"]]
+    answers = [copy.run([copy.path("papyrus"), *words], cwd=place) for words in several]
+    copy.root.rename(room / "away")
+    bin_folder = room / "away" / "bin"
+    for words, answer in zip(several, answers):
+        for command in (installed.command(), room / "link"):
+            ran = subprocess.run([command, *words], cwd=place, stdin=subprocess.DEVNULL, stdout=subprocess.PIPE, stderr=subprocess.PIPE, env={**os.environ, "PATH": str(bin_folder)})
+            tally.note("" if (ran.returncode, ran.stdout, ran.stderr) == answer else f"install: papyrus {' '.join(words)} answers {ran} and not {answer}")
+    (room / "away").rename(copy.root)
+
+
+def check_told(tally, copy, installed, program):
+    """Whether the proofs were checked, and that another program comes in the place of the first."""
+    wanted(tally, "the first time", installed.install(), 0, f"{installed.command()} is installed. Its proofs weren't checked", "first on the PATH")
+    first = tree(installed.folder)
+    wanted(tally, "again", installed.install(), 0, "is installed")
+    tally.note("" if tree(installed.folder) == first else "install: the second time other files are there than the first time")
+    copy.make(PROVED, program.read_bytes())
+    wanted(tally, "a proved program", installed.install(), 0, "Its proofs were checked.")
+    copy.path("crates/low/specs/Lib.antt").write_text("-- three\n")
+    wanted(tally, "another definition", installed.install(), 0, "Its proofs were checked, but not as they are now")
+    copy.path("crates/low/specs/Lib.antt").write_text(FILES["crates/low/specs/Lib.antt"])
+    tally.note("" if len(list((installed.folder / "lib" / "papyrus").iterdir())) == 4 else "install: more than two versions are kept")
+    copy.path(PROVED).unlink()
+    tally.note(named("install", "files of others", installed.others_stay()))
+
+
+def check_in_the_way(tally, copy, room):
+    """What somebody else put there is refused and stays, and the folder is as it was."""
+    ways = {
+        "bin/papyrus": lambda path: path.write_text("mine\n"),
+        "share/man/man1/papyrus.1": lambda path: path.write_text("mine\n"),
+        "share/bash-completion/completions/papyrus": lambda path: path.mkdir(),
+        "share/zsh/site-functions/_papyrus": lambda path: path.symlink_to("/dev/null"),
+        "lib/papyrus": lambda path: path.mkdir() or (path / "mine").write_text("mine\n"),
+        "share/zsh": lambda path: path.write_text("mine\n"),
+        "lib": lambda path: path.write_text("mine\n"),
+    }
+    for number, (name, put) in enumerate(ways.items()):
+        installed = Installed(copy, room / f"way{number}")
+        (installed.folder / name).parent.mkdir(parents=True, exist_ok=True)
+        put(installed.folder / name)
+        before = tree(installed.folder)
+        wanted(tally, f"{name} is in the way", installed.install(), 1, "install: ", name.split("/")[-1])
+        tally.note("" if tree(installed.folder) == before else f"install: {name} is in the way, and the folder was changed")
+    (room / "file").write_text("mine\n")
+    for words, status, text in (([room / "file"], 1, "is no folder"), ([room / "file" / "below"], 1, "File exists"), ([copy.root / "crates"], 1, "is inside the sources"),
+                                (["/proc/none"], 1, "/proc/none"), ([""], 2, "it takes a folder"), (["--help"], 2, "it takes a folder"), (["a", "b"], 2, "it takes a folder"),
+                                (["--remove", room / "none"], 1, "nothing is installed")):
+        wanted(tally, f"of {words}", installed.install(*words), status, text)
+
+
+def check_no_room(tally, installed):
+    """Where files find no room nothing is left the first time, and later what was there."""
+    before = tree(installed.folder)
+    limit = {"preexec_fn": lambda: resource.setrlimit(resource.RLIMIT_FSIZE, (ROOM, ROOM))}
+    wanted(tally, "no room", installed.install(**limit), 1, "install: ", "File too large")
+    tally.note("" if tree(installed.folder) == before else "install: no room, and the folder was changed")
+
+
+def check_ended(tally, copy, installed, program):
+    """A call that is ended at any moment leaves the program that was there, or another; the next call does well."""
+    for number in range(KILLS):
+        copy.make(UNPROVED, program.read_bytes() + bytes(number))
+        before = installed.command().exists()
+        process = subprocess.Popen([copy.path("install"), installed.folder], stdout=subprocess.DEVNULL, stderr=subprocess.DEVNULL, env={**os.environ, "PATH": str(copy.path("bin"))})
+        time.sleep(number * 0.3 / KILLS)
+        process.kill()
+        process.wait()
+        answer = copy.run([installed.command(), "--version"]) if before or installed.command().exists() else (0, b"papyrus 0.1.0\n", b"")
+        tally.note("" if answer == (0, b"papyrus 0.1.0\n", b"") else f"install, ended: papyrus --version answers {answer}")
+        tally.note(named("install, ended", "files of others", installed.others_stay()))
+        wanted(tally, "behind one that was ended", installed.install(), 0, "is installed")
+
+
+def check_remove(tally, installed):
+    page = installed.folder / "share" / "man" / "man1" / "papyrus.1"
+    page.write_text("mine\n")
+    wanted(tally, "a changed page", installed.install(), 1, "papyrus.1 is there, and isn't as an install put it there")
+    wanted(tally, "a changed page stays", installed.remove(), 0, "is removed", "papyrus.1 stays, since it was changed")
+    tally.note("" if page.read_text() == "mine\n" else "install: a changed page was taken away")
+    page.unlink()
+    page.parent.rmdir()
+    tally.note("" if tree(installed.folder) == installed.before else f"install: removed, and there is {sorted(set(tree(installed.folder)) ^ set(installed.before))}")
+    wanted(tally, "removed twice", installed.remove(), 1, "nothing is installed")
+
+
+def check_install(tally, program):
+    with tempfile.TemporaryDirectory(prefix="papyrus-install-") as name:
+        room = pathlib.Path(name).resolve()
+        copy = Copy(room / "sources")
+        copy.make(UNPROVED, program.read_bytes())
+        installed = Installed(copy, room / "a folder's")
+        check_no_room(tally, installed)
+        check_told(tally, copy, installed, program)
+        check_no_room(tally, installed)
+        check_answers(tally, copy, installed, room)
+        check_ended(tally, copy, installed, program)
+        check_remove(tally, installed)
+        check_in_the_way(tally, copy, room)
+        new = room / "new" / "folder"
+        wanted(tally, "a folder that isn't there", installed.install(new), 0, "is installed")
+        wanted(tally, "and remove it", installed.install("--remove", new), 0, "is removed")
+        tally.note("" if not new.exists() else "install: a folder that was made stays")
+
+
 def main():
     parser = argparse.ArgumentParser(description=__doc__, formatter_class=argparse.RawDescriptionHelpFormatter)
     parser.add_argument("--program", type=pathlib.Path, default=check_examples.PROGRAM)
@@ -220,6 +390,7 @@ def main():
         return 2
     tally = check_pages.Tally()
     check_fresh(tally)
+    check_install(tally, words.program.resolve())
     print("\n".join([*tally.wrong, f"{tally.passed} passed, {len(tally.wrong)} failed"]))
     return 1 if tally.wrong else 0
 
