@@ -9,10 +9,14 @@
   near       of words that name no rule, `explain` lists the rules that are near
   launcher   the launcher knows the helpers and tells of them behind the program's own help, and runs the program on all other words. What `view`
              draws is checked by check_pictures.py
+  words      `help` prints what each command takes. Behind the line of words that are no command, and of files of another kind than a command takes, the
+             launcher tells what was meant, and the program's own line and status stay; a terminal is told which script compiled files lack. Of words that are
+             a command it says nothing
 """
 import argparse
 import os
 import pathlib
+import pty
 import re
 import shutil
 import subprocess
@@ -21,15 +25,59 @@ import tempfile
 
 DOCS = pathlib.Path(__file__).resolve().parent
 ROOT = DOCS.parent
-sys.path[:0] = [str(DOCS), str(ROOT / "tools")]
+sys.path[:0] = [str(DOCS), str(ROOT / "tools"), str(ROOT / "tools" / "shell")]
 import check_examples
 import check_pages
 import explain
+import make
 import make_rule_index
 import view
 
 WIDTHS = (80, 100)
+SCENE = '{"version": 2, "instances": [{"name": "a", "script": "A"}], "calls": [], "order": "round", "turns": 1}\n'
 JOURNAL = "journal 1\ninstance a\nturn 0\njoin 0 0\nrun 0\ntake 0 0\nrelease 0 0\ndone 0\nend 1\n"
+NO_SCRIPT = "is no SCRIPT, whose name ends with .psc"
+MISSING = {"SCRIPT": "SCRIPT is missing, a script, whose name ends with .psc", "PEX": "PEX is missing, a compiled file", "N": "N is missing, a number, from 1 to 200 of workers and from 0 to 1,000,000 of turns"}
+LISTS = "papyrus help lists the commands"
+# What the launcher tells behind the program's line on these words.
+TOLD = {
+    (): [LISTS],
+    ("",): [f"an empty word is no command; {LISTS}"],
+    ("--help", "--help"): ["papyrus --help", "--help is one word more than it takes"],
+    ("--help", ""): ["papyrus --help", " is one word more than it takes"],
+    ("xyzzy", "a"): [f"xyzzy is no command; {LISTS}"],
+    ("Explain", "L4"): ["papyrus explain [RULE]", "Explain is no command, and explain is near it"],
+    ("compil", "A.psc"): ["papyrus compile SCRIPT..", "compil is no command, and compile is near it"],
+    ("A.psc",): [f"A.psc is a script and no command: papyrus compile A.psc, or papyrus once A.psc", LISTS],
+    ("A.pex",): [f"A.pex is a compiled file and no command: papyrus check A.pex, or papyrus show A.pex", LISTS],
+    ("once", "explain"): ["papyrus once SCRIPT..", f"explain {NO_SCRIPT}"],
+    ("once", "a.json", "A.psc"): ["papyrus once SCRIPT..", "a.json is a scene: papyrus run runs scripts on a scene"],
+    ("once", "A.pex"): ["papyrus once SCRIPT..", "A.pex is a compiled file: papyrus exec runs compiled files, on a scene"],
+    ("once",): ["papyrus once SCRIPT..", MISSING["SCRIPT"]],
+    ("compile", "A.psc", "Hello.txt"): ["papyrus compile SCRIPT..", f"Hello.txt {NO_SCRIPT}"],
+    ("compile", ".psc"): ["papyrus compile SCRIPT..", f".psc {NO_SCRIPT}"],
+    ("compile", "A.psc", ""): ["papyrus compile SCRIPT..", "an empty word stands where a SCRIPT is to stand"],
+    ("compile", *["A.psc"] * 257): ["papyrus compile SCRIPT..", "257 files are named, and it takes 256"],
+    ("compile", "a" * 4093 + ".psc", "x"): ["papyrus compile SCRIPT..", f"the word {'a' * 57}... is longer than 4,096 bytes"],
+    ("run", "a.json"): ["papyrus run SCENE SCRIPT..", MISSING["SCRIPT"]],
+    ("run", "A.psc"): ["papyrus run SCENE SCRIPT..", MISSING["SCRIPT"], "papyrus once runs scripts without a scene"],
+    ("run", "a.json", "A.pex"): ["papyrus run SCENE SCRIPT..", "A.pex is a compiled file: papyrus exec runs compiled files"],
+    ("run", "A.psc", "A.psc"): ["A.psc is a script, and run takes a scene first; papyrus once runs scripts without a scene"],
+    ("exec", "a.json"): ["papyrus exec SCENE PEX..", MISSING["PEX"]],
+    ("exec", "a.json", "A.psc"): ["A.psc is a script: papyrus compile writes the compiled files of scripts, and papyrus run runs scripts on a scene"],
+    ("exec", "A.pex", "A.pex"): ["A.pex is a compiled file, and exec takes a scene first"],
+    ("journal", "a.json", "j", "A.PSC"): ["A.PSC is a script: papyrus compile writes the compiled files of scripts"],
+    ("check", "A.psc"): ["A.psc is a script: papyrus compile tells whether scripts break a rule"],
+    ("show", "A.psc"): ["A.psc is a script: papyrus compile writes the compiled files of scripts, which papyrus show lists"],
+    ("check", "a", "b"): ["papyrus check PEX", "b is one word more than it takes"],
+    ("lift", "A.psc"): ["papyrus lift PEX..", "A.psc is a script: papyrus lift takes compiled files, and papyrus compile writes those of scripts"],
+    ("hold", "x", "a.json", "h", "A.pex"): ["papyrus hold N SCENE HELD PEX..", "x is no number from 0 to 1,000,000"],
+    ("hold", "1000001", "a.json", "h", "A.pex"): ["papyrus hold N SCENE HELD PEX..", "1000001 is no number from 0 to 1,000,000"],
+    ("resume", "01", "h"): ["papyrus resume N HELD", "01 is no number from 0 to 1,000,000"],
+    ("sample", "201"): ["papyrus sample N", "201 is no number from 1 to 200"],
+    ("sample",): ["papyrus sample N", MISSING["N"]],
+    ("asm", "a"): ["papyrus asm TEXT PEX", MISSING["PEX"]],
+}
 FILE = re.compile(r"([\w.]+\.\w+)(, in hexadecimal digits)?:")
 
 
@@ -188,20 +236,69 @@ def ran(program, words, folder, **how):
 
 def answers(pages, program, folder):
     """What the launcher is to answer to some words."""
+    (folder / "journal").write_text(JOURNAL)
+    (folder / "a.json").write_text(SCENE)
+    for name in ("A.psc", "A.PSC"):
+        (folder / name).write_text("ScriptName A\n")
+    ran(program, ["compile", "A.psc"], folder)
     status, own, notes = ran(program, ["--help"], folder)
     cases = {("--help",): (status, own + (ROOT / "tools" / "shell" / "helpers.txt").read_bytes(), notes)}
-    for words in (("--help", "--help"), ("--help", ""), ("--version",), ("Explain", "L4"), ("once", "explain"), ("",), ()):
+    cases[("-h",)] = cases[("help",)] = cases[("--help",)]
+    for words in (("--version",), ("check", "none"), ("compile", "none.psc"), ("exec", "none.json", "none.pex"), ("resume", "1000000", "none"), ("sample", "1")):
         cases[words] = ran(program, words, folder)
+    for words, told in TOLD.items():
+        status, own, notes = ran(program, words, folder)
+        cases[words] = (status, own, notes + "".join(f"    {line}\n" for line in told).encode())
     for words in ((), ("l4",), ("FLOATLITERAL",), ("A.psc:3:", "L4", "FloatLiteral"), ("L0",), ("",)):
         status, lines, notes = explain.answer(words, pages, WIDTHS[1])
         cases[("explain", *words)] = (status, *("".join(line + "\n" for line in text).encode() for text in (lines, notes)))
-    (folder / "journal").write_text(JOURNAL)
     (folder / "spoiled").write_text(JOURNAL.replace("take 0 0", "take 0 1"))
     cases[("view", "journal")] = (0, view.drawn([str(folder / "journal")]).encode(), b"")
     cases[("view", "spoiled")] = (12, b"", b"spoiled:6: J1 BadLine\n")
     cases[("view", "missing")] = (3, b"", b"papyrus: cannot read missing\n")
-    cases[("view",)] = (2, b"", b"papyrus: usage\n")
+    cases[("view",)] = (2, b"", b"papyrus: usage\n    papyrus view JOURNAL [REPORT..]\n    JOURNAL is missing, a journal of a run\n")
+    cases[("explore", "none.json")] = (2, b"", b"papyrus: usage\n    papyrus explore SCENE SCRIPT..\n    SCRIPT is missing, a script, whose name ends with .psc\n")
+    cases[("help", "resum")] = (2, b"", b"papyrus: usage\n    resum is no command, and resume is near it\n")
+    cases[("help", "a", "b")] = (2, b"", b"papyrus: usage\n    papyrus help takes a command; papyrus help lists the commands\n")
     return cases
+
+
+def check_help(tally, launcher, program, folder):
+    """`help` tells of each command its words and what they are; and so do the words that ask for help behind it, where they are no file."""
+    table = make.Table((make.HERE / "commands.table").read_text())
+    for command, words, _, sentences in table.commands + table.helpers:
+        asked = [["help", command]] if command == "help" or command.startswith("-") else [["help", command], [command, "--help"], [command, "-h"]]
+        status, out, notes = ran(launcher, ["help", command], folder)
+        lines = out.decode().splitlines()
+        good = (status, notes, lines[:1]) == (0, b"", [" ".join(["papyrus", command, words]).rstrip()]) and words_of(sentences) == words_of(" ".join(lines))[len(words_of(lines[0])) :][: len(words_of(sentences))]
+        meant = [table.words[word.strip("[].")][1] for word in words.split()]
+        tally.note("" if good and all(any(line.endswith(f"  {one}") for line in lines) for one in meant) else f"papyrus help {command}: {status} {out} {notes}")
+        for asking in asked:
+            tally.note("" if ran(launcher, asking, folder) == (0, out, b"") else f"papyrus {' '.join(asking)} doesn't print the help on {command}")
+    (folder / "-h").write_bytes(b"")
+    tally.note("" if ran(launcher, ["check", "-h"], folder) == ran(program, ["check", "-h"], folder) else "a file -h isn't checked")
+
+
+def check_missing(tally, launcher, program, folder):
+    """Before a terminal the launcher tells which scripts compiled files lack, and else it doesn't."""
+    scripts = {"Base": "", "Child": " extends Base", "User": "\nBase[] Property All Auto\nFunction F(Other o)\nEndFunction", "Other": ""}
+    for name, rest in scripts.items():
+        (folder / f"{name}.psc").write_text(f"ScriptName {name}{rest}\n")
+    ran(program, ["compile", *(f"{name}.psc" for name in scripts)], folder)
+    (folder / "Other.pex").unlink()
+    lacks = "{} {}, which no file here has: name {} too"
+    for files, told in ((["Child.pex"], [("Child.pex", "extends Base", "Base.pex")]),
+                        (["User.pex", "Child.pex"], [("Child.pex", "extends Base", "Base.pex"), ("User.pex", "names the script Other", "Other.pex")]),
+                        (["Child.pex", "Base.pex"], [])):
+        words = ["lift", *files]
+        tally.note("" if ran(launcher, words, folder) == ran(program, words, folder) else f"papyrus {' '.join(words)} isn't answered as the program does")
+        wanted = ran(program, words, folder)[2] + "".join(f"    {lacks.format(*one)}\n" for one in told).encode()
+        master, terminal = pty.openpty()
+        status, out, _ = ran(launcher, words, folder, stderr=terminal)
+        os.close(terminal)
+        found = os.read(master, 1 << 16).replace(b"\r\n", b"\n") if wanted else b""
+        os.close(master)
+        tally.note("" if (out, found) == (b"", wanted) and (status == 0) == (not told) else f"papyrus {' '.join(words)} before a terminal: {status} {found} and not {wanted}")
 
 
 def check_launcher(tally, pages, program):
@@ -215,6 +312,8 @@ def check_launcher(tally, pages, program):
             for words in (["--help"], ["explain", "l4"], ["view", "journal"]):
                 found = ran(launcher, words, folder, stdout=full)
                 tally.note("" if found == (4, None, b"papyrus: cannot write\n") else f"papyrus {' '.join(words)}, where no room is: {found}")
+        check_help(tally, launcher, program, folder)
+        check_missing(tally, launcher, program, folder)
         (folder / "docs").unlink()
         found = ran(launcher, ["explain", "l4"], folder)
         wanted = (3, b"", f"papyrus: cannot read {folder}/docs/rules.md\n".encode())

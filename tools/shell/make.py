@@ -24,7 +24,9 @@ class Table:
         self.helpers = sections["helpers"]
         self.words = {name: (pattern, meaning) for name, pattern, meaning in sections["words"]}
         self.statuses = sections["statuses"]
-        self.codes = " ".join(rule.code for rule in explain.read_pages().rules)
+        codes = " ".join(rule.code for rule in explain.read_pages().rules)
+        # The words of which one may stand in a place where no file does.
+        self.choices = {"RULE": codes, "COMMAND": " ".join(row[0] for row in self.commands + self.helpers if not row[0].startswith("-"))}
 
     def pattern(self, word):
         return self.words[word.strip("[].")][0]
@@ -63,8 +65,10 @@ def bash(table):
     for command, words, _, _ in table.commands:
         lines += bash_arm(command, words.split(), table)
     for helper, words, _, _ in table.helpers:
-        if words == "[RULE]":
-            lines += [f"    {helper})", f"        [ \"$COMP_CWORD\" -gt 2 ] || COMPREPLY=($(compgen -W \"{table.codes}\" -- \"${{word^^}}\"))", "        ;;"]
+        choice = words.strip("[]")
+        if choice in table.choices:
+            begun = "${word^^}" if choice == "RULE" else "$word"
+            lines += [f"    {helper})", f"        [ \"$COMP_CWORD\" -gt 2 ] || COMPREPLY=($(compgen -W \"{table.choices[choice]}\" -- \"{begun}\"))", "        ;;"]
         else:
             lines += bash_arm(helper, unbracketed(words), table)
     lines += ["    esac",
@@ -111,7 +115,7 @@ def zsh(table):
 def zsh_word(word, table):
     """What completes a word of a command."""
     pattern, meaning = table.words[word.rstrip(".")]
-    action = f"({table.codes})" if word == "RULE" else f"_files -g \"{pattern}\"" if pattern else ""
+    action = f"({table.choices[word]})" if word in table.choices else f"_files -g \"{pattern}\"" if pattern else ""
     return f"'{'*' if word.endswith('..') else ''}:{meaning.split(',')[0]}:{action}'"
 
 
