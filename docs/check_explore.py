@@ -8,17 +8,19 @@
   parting   two outcomes part where they do by hand, and each of the two orders that are told shows its outcome
   plain     small scenes have the outcomes that trying every list of stacks shows, turn by turn, without a look at any state
   shown     each scene that is written shows its outcome
-  alike     the answer is the same whatever the number of jobs, and random orders lead to outcomes that all orders have
-  refused   a refused scene or script gets the program's own line and status
+  alike     the answer is the same whatever the number of jobs, and random orders lead to outcomes that all orders have; Ctrl-C loses nothing
+  refused   a refused scene or script gets the program's own line and status, and a word that names nothing one that names it
 """
 import argparse
 import json
 import os
 import pathlib
 import re
+import signal
 import subprocess
 import sys
 import tempfile
+import time
 
 DOCS = pathlib.Path(__file__).resolve().parent
 ROOT = DOCS.parent
@@ -288,8 +290,27 @@ def check_alike(tally, room):
     tally.note("" if len(answers) == 1 else "random runs: another answer with other jobs")
     lines = {line for found in answers for lines in outcomes_of(found[1]).values() for line in lines}
     tally.note("" if lines == {"flag.Seen = 0", "flag.Seen = 1"} else f"random runs: {lines}")
-    _, text, _ = room.explore(name, *room.files, "--states", "3")
-    tally.note("" if text.startswith(b"Not all orders were followed: 3 states") else f"--states: {text.decode()}")
+    (room.folder / "outcome-3.json").write_text("{}")
+    (room.folder / "outcome-5.json").write_text("{}")
+    room.explore(name, *room.files)
+    left = [number for number in range(1, 6) if (room.folder / f"outcome-{number}.json").exists()]
+    tally.note("" if left == [1, 2, 5] else f"the scenes {left} are left of an earlier search")
+    status, text, _ = room.explore(name, *room.files, "--states", "3")
+    is_told = text.startswith(b"Not all orders were followed: 3 states") and b"None of the orders that were followed has ended so far" in text
+    tally.note("" if status == 15 and is_told else f"--states: status {status}, {text.decode()}")
+    check_stopped(tally, room, name)
+
+
+def check_stopped(tally, room, name):
+    """Ctrl-C ends random runs, and those that were made are told."""
+    words = [sys.executable, str(ROOT / "tools" / "explore.py"), name, *room.files, "--random", "1000000", "--of", "Seen"]
+    streams = {"stdin": subprocess.DEVNULL, "stdout": subprocess.PIPE, "stderr": subprocess.PIPE}
+    ran = subprocess.Popen(words, cwd=room.folder, env={**os.environ, "PAPYRUS_PROGRAM": str(room.program)}, **streams)
+    time.sleep(3)
+    ran.send_signal(signal.SIGINT)
+    text, notes = ran.communicate(timeout=60)
+    is_told = b" of 1000000 runs of random orders" in text
+    tally.note("" if (ran.returncode, notes) == (15, b"") and is_told else f"Ctrl-C: status {ran.returncode}, {notes.decode()}{text.decode()}")
 
 
 def check_refused(tally, room):
@@ -304,9 +325,14 @@ def check_refused(tally, room):
     for words in (("wrong.json", *room.files), ("unbound.json", *room.files), (good, "Absent.pex")):
         wanted, found = room.run("exec", *words), room.explore(*words)
         tally.note("" if found == wanted else f"explore {' '.join(words)}: {found} in place of {wanted}")
-    for words in ((), (good,), (good, *room.files, "--jobs", "0"), (good, *room.files, "--states", "x"), (good, *room.files, "--nothing")):
+    for words in ((), (good,), (good, *room.files, "--to")):
         status, text, notes = room.explore(*words)
         tally.note("" if (status, text, notes) == (2, b"", b"papyrus: usage\n") else f"explore {' '.join(words)}: status {status}, {notes.decode()}")
+    for words, wanted, line in ((("--jobs", "0"), 14, "explore: --jobs takes a number from 1 to 1024, not 0"), (("--states", "x"), 14, "explore: --states takes a number from 1 to 1000000000, not x"),
+                                (("--nothing",), 14, "explore: there is no option --nothing"), (("--of", "Seen", "Sean"), 14, "explore: --of Sean: no instance of the scene has this property"),
+                                (("--of", "two.Seen"), 14, "explore: --of two.Seen: no instance of the scene has this property"), (("--to", "absent"), 4, "cannot write into absent")):
+        found = room.explore(good, *room.files, *words)
+        tally.note("" if found == (wanted, b"", f"papyrus: {line}\n".encode()) else f"explore {' '.join(words)}: {found}")
 
 
 def main():

@@ -11,8 +11,9 @@
       --seed S                   with this seed (0)
       --to FOLDER                writes the scenes outcome-1.json .. into this folder (the current one)
 
-Each step of each run is made by the program's own commands, so what it shows is real. The status is 0 where it told what it found, and else that
-of the program, with its line: 2 for other words, 3 where a file can't be read, 5 to 9 for refused files, and 4 where nothing can be written.
+Each step of each run is made by the program's own commands, so what it shows is real. The status is 0 where all orders were followed, or all random
+runs made, 14 where an option has a value that can't be or names nothing of the scene, 15 where orders are left that weren't followed, and else that of
+the program, with its line: 2 for other words, 3 where a file can't be read, 5 to 9 for refused files, and 4 where nothing can be written.
 """
 import argparse
 import os
@@ -23,12 +24,19 @@ import sys
 sys.path.insert(0, str(pathlib.Path(__file__).resolve().parent))
 from exploring.outcomes import Findings, kept, path_to, split, values
 from exploring.program import MOST_TURNS, NO_STACK, Program, Refused, compiled, first_look, folder
-from exploring.randomly import random_runs
+from exploring.randomly import RunProgress, random_runs
 from exploring.search import Progress, Search, Walker
 from exploring.turns import Orders
 
 # The most lines of an outcome, and the most outcomes, that are printed whole.
 MOST_LINES, MOST_OUTCOMES = 60, 20
+# The statuses beside the program's own.
+NAMES_NOTHING, NOT_ALL_FOLLOWED = 14, 15
+
+
+def unnamed(text):
+    """A refusal of a word, which it names."""
+    return Refused(f"papyrus: explore: {text}\n", NAMES_NOTHING)
 
 
 class Words(argparse.ArgumentParser):
@@ -38,13 +46,24 @@ class Words(argparse.ArgumentParser):
         raise Refused("papyrus: usage\n", 2)
 
 
-def whole(least, most):
-    def read(word):
-        if not (word.isdigit() and least <= int(word) <= most):
-            raise argparse.ArgumentTypeError(word)
-        return int(word)
+class Whole(argparse.Action):
+    """A whole number between bounds."""
 
-    return read
+    def __init__(self, bounds, **more):
+        super().__init__(**more)
+        self.bounds = bounds
+
+    def __call__(self, parser, words, word, option):
+        least, most = self.bounds
+        if not (word.isascii() and word.isdigit() and least <= int(word) <= most):
+            raise unnamed(f"{option} takes a number from {least} to {most}, not {word}")
+        setattr(words, self.dest, int(word))
+
+
+def folder_in(words):
+    """Refuses a folder in which no scene can be written."""
+    if not (words.to.is_dir() and os.access(words.to, os.W_OK | os.X_OK)):
+        raise Refused(f"papyrus: cannot write into {words.to}\n", 4)
 
 
 def words_of(line):
@@ -52,14 +71,21 @@ def words_of(line):
     parser.add_argument("scene")
     parser.add_argument("files", nargs="+")
     parser.add_argument("--of", nargs="+", action="extend", default=[], metavar="PROPERTY")
-    parser.add_argument("--until", type=whole(1, MOST_TURNS))
-    parser.add_argument("--states", type=whole(1, 10 ** 9), default=10 ** 6)
-    parser.add_argument("--jobs", type=whole(1, 1024), default=len(os.sched_getaffinity(0)))
+    parser.add_argument("--until", action=Whole, bounds=(1, MOST_TURNS))
+    parser.add_argument("--states", action=Whole, bounds=(1, 10 ** 9), default=10 ** 6)
+    parser.add_argument("--jobs", action=Whole, bounds=(1, 1024), default=len(os.sched_getaffinity(0)))
     parser.add_argument("--any-start", action="store_true")
-    parser.add_argument("--random", type=whole(1, 10 ** 9))
-    parser.add_argument("--seed", type=whole(0, 10 ** 18), default=0)
+    parser.add_argument("--random", action=Whole, bounds=(1, 10 ** 9))
+    parser.add_argument("--seed", action=Whole, bounds=(0, 10 ** 18), default=0)
     parser.add_argument("--to", type=pathlib.Path, default=pathlib.Path())
-    return parser.parse_args(line)
+    words, rest = parser.parse_known_args(line)
+    if rest:
+        raise unnamed(f"there is no option {rest[0]}")
+    return words
+
+
+def scene_name(number):
+    return f"outcome-{number}.json"
 
 
 class Teller:
@@ -67,12 +93,21 @@ class Teller:
 
     def __init__(self, orders, words, walker):
         self.orders, self.to, self.walker = orders, words.to, walker
+        self.written = 0
 
     def scene_of(self, path, number):
         """Writes the scene of an outcome, and gives its name."""
-        name = f"outcome-{number}.json"
+        name = scene_name(number)
         (self.to / name).write_text(path.scene_text(len(path.order)) + "\n")
+        self.written = number
         return name
+
+    def forget_others(self):
+        """Removes the scenes of an earlier search that found more outcomes."""
+        number = self.written + 1
+        while (self.to / scene_name(number)).is_file():
+            (self.to / scene_name(number)).unlink()
+            number += 1
 
     def outcome(self, number, head, lines, path):
         shown = f"{self.scene_of(path, number)} shows it in {count(len(path.order), 'turn')}: {order_text(path.order)}"
@@ -196,8 +231,11 @@ def tell_search(search, was_whole, words, teller):
             teller.outcome(place, "not every stack ends", [line.encode() for line in lines], path_to(search.graph, state, teller.orders))
     if place > MOST_OUTCOMES:
         print(f"\n.. and {place - MOST_OUTCOMES} more outcomes; --of tells fewer apart")
-    if not place:
-        print("\nNo order came to an end.")
+    if not place and search.graph.open:
+        print(f"\nNone of the orders that were followed has ended so far, and {count(len(search.graph.open), 'state')} {'waits' if len(search.graph.open) == 1 else 'wait'}. "
+              "Raise --states or --until, ask for fewer things by --of, or try --random 100.")
+    elif not place:
+        print("\nNo order comes to an end.")
     for one, other in list(zip(outcomes, list(outcomes)[1:]))[:MOST_OUTCOMES]:
         teller.reason(findings, one, other, numbers)
 
@@ -205,13 +243,25 @@ def tell_search(search, was_whole, words, teller):
 def tell_random(runs, words, teller):
     """The outcomes of random runs, the most frequent first."""
     ended = [run for run in runs if run.report is not None]
-    print(f"{count(len(runs), 'run')} of random orders, with the seed {words.seed}; {len(runs) - len(ended)} didn't end within {count(words.until, 'turn')}.")
+    made = count(len(runs), "run") if len(runs) == words.random else f"{len(runs)} of {count(words.random, 'run')}"
+    print(f"{made} of random orders, with the seed {words.seed}; {len(runs) - len(ended)} didn't end within {count(words.until, 'turn')}.")
     found = {}
     for run in ended:
         found.setdefault(kept(run.report, words.of), []).append(run.path)
     for place, (lines, paths) in enumerate(sorted(found.items(), key=lambda item: -len(item[1])), 1):
         if place <= MOST_OUTCOMES:
             teller.outcome(place, f"it came {count(len(paths), 'time')}", lines, min(paths, key=lambda path: len(path.order)))
+    if len(found) > MOST_OUTCOMES:
+        rare = len(ended) - sum(sorted(map(len, found.values()))[-MOST_OUTCOMES:])
+        print(f"\n.. and {len(found) - MOST_OUTCOMES} more outcomes, which came {count(rare, 'time')} in all; --of tells fewer apart")
+
+
+def named_properties(report, asked):
+    """Refuses a property that no instance has, of which nothing could be told."""
+    found = [(instance.lower(), text.split(" = ")[0].lower()) for instance, text in values(split(report)[1])]
+    for word in asked:
+        if not any(word.lower() in (name, f"{instance}.{name}") for instance, name in found):
+            raise unnamed(f"--of {word}: no instance of the scene has this property")
 
 
 def explore(words, program, room):
@@ -219,27 +269,35 @@ def explore(words, program, room):
     files = compiled(program, words.files, room)
     look = Program(program, files, room)
     look.run(["hold", "0", words.scene, look.held, *look.files])
+    named_properties(look.report(scene.ordered([], 0)), words.of)
+    folder_in(words)
     words.until = words.until or scene.turns
     orders = Orders(scene, words.any_start)
     walker = Walker(program, look.files, orders, not words.of)
     teller = Teller(orders, words, walker)
     try:
         if words.random:
-            tell_random(random_runs((program, look.files, orders, False), words), words, teller)
+            runs = random_runs((program, look.files, orders, False), words, RunProgress(sys.stderr, words.random))
+            tell_random(runs, words, teller)
+            is_all = len(runs) == words.random
         else:
             search = Search(program, look.files, orders, not words.of, words.jobs)
             was_whole = search.follow(words.until, words.states, Progress(sys.stderr))
             tell_search(search, was_whole, words, teller)
+            is_all = not search.graph.open
+        teller.forget_others()
     finally:
         walker.close()
+    return 0 if is_all else NOT_ALL_FOLLOWED
 
 
 def main():
     room = folder()
     try:
         words = words_of(sys.argv[1:])
-        explore(words, os.path.abspath(os.environ["PAPYRUS_PROGRAM"]), room)
+        status = explore(words, os.path.abspath(os.environ["PAPYRUS_PROGRAM"]), room)
         sys.stdout.flush()
+        return status
     except Refused as refused:
         sys.stderr.write(refused.line)
         return refused.status
@@ -249,9 +307,11 @@ def main():
     except OSError:
         sys.stderr.write("papyrus: cannot write\n")
         return 4
+    except KeyboardInterrupt:
+        sys.stderr.write("papyrus: explore: stopped before anything was found\n")
+        return NOT_ALL_FOLLOWED
     finally:
         shutil.rmtree(room, ignore_errors=True)
-    return 0
 
 
 if __name__ == "__main__":

@@ -1,6 +1,5 @@
 """Runs of random orders."""
 import collections
-import multiprocessing
 import random
 
 from . import search
@@ -25,14 +24,27 @@ def one_run(task):
         path = path.with_step(chance.choice(choices))
 
 
-def random_runs(walker_words, words):
-    """So many runs, which rest on the seed and not on the number of jobs."""
+class RunProgress(search.Line):
+    """A line on a terminal that tells how many runs were made."""
+
+    def __init__(self, stream, wanted):
+        super().__init__(stream)
+        self.wanted = wanted
+
+    def tell(self, made):
+        self.write(lambda seconds: f"{made} of {self.wanted} runs, {made / seconds:.1f} a second")
+
+
+def random_runs(walker_words, words, progress):
+    """So many runs, which rest on the seed and not on the number of jobs; fewer where Ctrl-C ends them."""
     tasks = [(words.seed, number, words.until) for number in range(words.random)]
-    if words.jobs == 1:
-        search.begin_here(walker_words)
-        try:
-            return list(map(one_run, tasks))
-        finally:
-            search.walker.close()
-    with multiprocessing.get_context("fork").Pool(words.jobs, search.begin, walker_words) as pool:
-        return pool.map(one_run, tasks, chunksize=1)
+    runs = []
+    try:
+        with search.pool(words.jobs, walker_words) as pool:
+            for run in pool(one_run, tasks):
+                runs.append(run)
+                progress.tell(len(runs))
+    except KeyboardInterrupt:
+        pass
+    progress.clear()
+    return runs

@@ -150,23 +150,29 @@ class Graph:
         return steps[::-1]
 
 
-class Progress:
-    """A line on a terminal that tells how far the search is."""
+class Line:
+    """A line on a terminal, which is written anew twice a second."""
 
     def __init__(self, stream):
         self.stream, self.began, self.told = stream if stream.isatty() else None, time.monotonic(), 0
 
-    def tell(self, graph, left):
+    def write(self, text):
         now = time.monotonic()
         if self.stream and now - self.told > 0.5:
             self.told = now
-            rate = len(graph) / max(now - self.began, 0.001)
-            self.stream.write(f"\r{len(graph)} states, {left} to follow, {rate:.0f} a second, {len(graph.reports)} outcomes \033[K")
+            self.stream.write(f"\r{text(max(now - self.began, 0.001))} \033[K")
             self.stream.flush()
 
     def clear(self):
         if self.stream:
             self.stream.write("\r\033[K")
+
+
+class Progress(Line):
+    """Tells how far the search is."""
+
+    def tell(self, graph, left):
+        self.write(lambda seconds: f"{len(graph)} states, {left} to follow, {len(graph) / seconds:.0f} a second, {len(graph.reports)} outcomes")
 
 
 class Search:
@@ -191,11 +197,11 @@ class Search:
         else:
             buckets[0].append((number, reached.choices))
         try:
-            with self.pool() as pool:
+            with pool(self.jobs, self.words) as run:
                 while buckets:
                     turn = min(buckets)
                     tasks = buckets.pop(turn)
-                    self.follow_all(pool, self.within(tasks, most_turns), buckets, most_states, progress)
+                    self.follow_all(run, self.within(tasks, most_turns), buckets, most_states, progress)
         except KeyboardInterrupt:
             progress.clear()
             return False
@@ -216,28 +222,13 @@ class Search:
                 found.append((number, steps))
         return found
 
-    @contextlib.contextmanager
-    def pool(self):
-        """A function that expands many states, in order."""
-        if self.jobs == 1:
-            begin_here(self.words)
-            try:
-                yield lambda tasks: map(expanded, tasks)
-            finally:
-                walker.close()
-            return
-        with multiprocessing.get_context("fork").Pool(self.jobs, begin, self.words) as pool:
-            yield lambda tasks: pool.imap(expanded, tasks, chunksize=4)
-            pool.close()
-            pool.join()
-
-    def follow_all(self, pool, tasks, buckets, most_states, progress):
+    def follow_all(self, run, tasks, buckets, most_states, progress):
         """Follows all steps of these states, unless so many states were met."""
         graph = self.graph
         room = max(0, most_states - len(graph))
         done = 0
         try:
-            for (number, _), found in zip(tasks, pool((graph.path(number), choices) for number, choices in tasks[:room])):
+            for (number, _), found in zip(tasks, run(expanded, ((graph.path(number), choices) for number, choices in tasks[:room]))):
                 if len(graph) >= most_states:
                     break
                 for reached in found:
@@ -251,6 +242,22 @@ class Search:
         finally:
             # Also where Ctrl-C comes in between: nothing may be said of how these go on.
             graph.open += [number for number, _ in tasks[done:]]
+
+
+@contextlib.contextmanager
+def pool(jobs, words):
+    """A function that does many tasks in order, in as many processes as there are jobs."""
+    if jobs == 1:
+        begin_here(words)
+        try:
+            yield map
+        finally:
+            walker.close()
+        return
+    with multiprocessing.get_context("fork").Pool(jobs, begin, words) as processes:
+        yield lambda work, tasks: processes.imap(work, tasks)
+        processes.close()
+        processes.join()
 
 
 def begin_here(words):
