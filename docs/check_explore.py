@@ -9,6 +9,7 @@
   plain     small scenes have the outcomes that trying every list of stacks shows, turn by turn, without a look at any state
   shown     each scene that is written shows its outcome
   alike     the answer is the same whatever the number of jobs, and random orders lead to outcomes that all orders have; Ctrl-C loses nothing
+  expected  expectations hold and are broken as is known by hand, and each scene that is written breaks its own
   refused   a refused scene or script gets the program's own line and status, and a word that names nothing one that names it
 """
 import argparse
@@ -294,21 +295,55 @@ def check_alike(tally, room):
     (room.folder / "outcome-5.json").write_text("{}")
     room.explore(name, *room.files)
     left = [number for number in range(1, 6) if (room.folder / f"outcome-{number}.json").exists()]
-    tally.note("" if left == [1, 2, 5] else f"the scenes {left} are left of an earlier search")
+    tally.note("" if left == [1, 2] else f"the scenes {left} are left of an earlier search")
     status, text, _ = room.explore(name, *room.files, "--states", "3")
     is_told = text.startswith(b"Not all orders were followed: 3 states") and b"None of the orders that were followed has ended so far" in text
     tally.note("" if status == 15 and is_told else f"--states: status {status}, {text.decode()}")
     check_stopped(tally, room, name)
 
 
+# Words behind a scene of one look and one raise, or of waits that never end, the status, and which expectations are told as broken.
+EXPECTED = [
+    (LOOK, ["--expect", "flag.Seen <= 1", "flag.IsUp = True", "every stack ends", "no faults", "flag @", "always flag.Seen >= 0"], 0, set()),
+    (LOOK, ["--expect", "flag.Seen = 1"], 16, {1}),
+    (LOOK, ["--of", "Seen", "--expect", "flag.Seen = 1", "flag.Seen = 0", "always flag.Seen != 1"], 16, {1, 2, 3}),
+    (LOOK, ["--expect", "flag @Raised", "one.Target = None"], 16, {1, 2}),
+    (LOOK, ["--states", "3", "--expect", "flag.Seen <= 1"], 15, set()),
+    (LOOK, ["--random", "20", "--seed", "7", "--expect", "flag.Seen = 1", "flag.Seen < 2"], 16, {1}),
+    (scene(WAITERS, call("flag", "Await"), call("two", "Raise")), ["--any-start", "--of", "Seen", "--expect", "every stack ends", "no faults"], 16, {1}),
+    (scene(CHESTS, call("chest", "Count", 1), call("chest", "Count", 1)), ["--any-start", "--expect", 'never "12"', 'never "13"', "always chest.Gold < 12"], 16, {1, 3}),
+    (scene([("one", "Waiter", {})], call("one", "Look")), ["--of", "Target", "--expect", "no faults", "every stack ends"], 16, {1}),
+]
+
+
+def check_expected(tally, room):
+    """What is told as broken is broken in the scene that is told with it: the same words have the same answer for that scene's own order."""
+    for number, (tree, words, wanted, places) in enumerate(EXPECTED):
+        status, text, notes = room.explore(room.lay(tree), *room.files, *words)
+        told = {int(place) for place in re.findall(rb"^Broken: .* broken-(\d+)\.json shows it", text, re.MULTILINE)}
+        is_so = (status, notes, told) == (wanted, b"", places) and all((room.folder / f"broken-{place}.json").exists() == (place in places) for place in range(1, 7))
+        tally.note("" if is_so else f"expectations {number}: status {status}, {notes.decode()}{text.decode()}")
+        for place in places:
+            expectation = words[words.index("--expect") + place]
+            if expectation == "every stack ends":
+                continue
+            _, text, _ = room.explore(f"broken-{place}.json", *room.files, "--states", "1", "--to", "elsewhere", "--expect", expectation)
+            is_so = b"Broken in the scene's own order" in text or expectation.startswith("always")
+            tally.note("" if is_so else f"expectations {number}: broken-{place}.json doesn't break {expectation}: {text.decode()}")
+
+
 def check_stopped(tally, room, name):
     """Ctrl-C ends random runs, and those that were made are told."""
     words = [sys.executable, str(ROOT / "tools" / "explore.py"), name, *room.files, "--random", "1000000", "--of", "Seen"]
     streams = {"stdin": subprocess.DEVNULL, "stdout": subprocess.PIPE, "stderr": subprocess.PIPE}
-    ran = subprocess.Popen(words, cwd=room.folder, env={**os.environ, "PAPYRUS_PROGRAM": str(room.program)}, **streams)
-    time.sleep(3)
-    ran.send_signal(signal.SIGINT)
-    text, notes = ran.communicate(timeout=60)
+    for seconds in (2, 10, 40):
+        # A busy machine may not have begun earlier.
+        ran = subprocess.Popen(words, cwd=room.folder, env={**os.environ, "PAPYRUS_PROGRAM": str(room.program)}, **streams)
+        time.sleep(seconds)
+        ran.send_signal(signal.SIGINT)
+        text, notes = ran.communicate(timeout=100)
+        if text:
+            break
     is_told = b" of 1000000 runs of random orders" in text
     tally.note("" if (ran.returncode, notes) == (15, b"") and is_told else f"Ctrl-C: status {ran.returncode}, {notes.decode()}{text.decode()}")
 
@@ -330,6 +365,10 @@ def check_refused(tally, room):
         tally.note("" if (status, text, notes) == (2, b"", b"papyrus: usage\n") else f"explore {' '.join(words)}: status {status}, {notes.decode()}")
     for words, wanted, line in ((("--jobs", "0"), 14, "explore: --jobs takes a number from 1 to 1024, not 0"), (("--states", "x"), 14, "explore: --states takes a number from 1 to 1000000000, not x"),
                                 (("--nothing",), 14, "explore: there is no option --nothing"), (("--of", "Seen", "Sean"), 14, "explore: --of Sean: no instance of the scene has this property"),
+                                (("--expect", "flag.Sean = 1"), 14, "explore: --expect flag.Sean = 1: flag has no property Sean"),
+                                (("--expect", "flog @"), 14, "explore: --expect flog @: no instance of the scene is flog"),
+                                (("--expect", "flag.IsUp < 1"), 14, "explore: --expect flag.IsUp < 1: < compares numbers alone"),
+                                (("--expect", "flag.Seen == 1"), 14, "explore: --expect flag.Seen == 1: is no expectation, and no file that can be read"),
                                 (("--of", "two.Seen"), 14, "explore: --of two.Seen: no instance of the scene has this property"), (("--to", "absent"), 4, "cannot write into absent")):
         found = room.explore(good, *room.files, *words)
         tally.note("" if found == (wanted, b"", f"papyrus: {line}\n".encode()) else f"explore {' '.join(words)}: {found}")
@@ -345,7 +384,8 @@ def main():
     tally = check_pages.Tally()
     with tempfile.TemporaryDirectory(prefix="papyrus-explore-") as folder:
         room = Room(program, pathlib.Path(folder).resolve())
-        for check in (check_known, check_parting, check_plain, check_alike, check_refused):
+        (room.folder / "elsewhere").mkdir()
+        for check in (check_known, check_parting, check_plain, check_alike, check_expected, check_refused):
             check(tally, room)
     print("\n".join([*tally.wrong, f"{tally.passed} passed, {len(tally.wrong)} failed"]))
     return 1 if tally.wrong else 0

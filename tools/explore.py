@@ -3,6 +3,8 @@
 
   explore.py SCENE SCRIPT..      of scripts; compiled files (.pex) may stand in their place
       --of PROPERTY..            tells outcomes apart by these properties alone, each as `Gold` or `chest.Gold`
+      --expect EXPECTATION..     tells the shortest order that breaks each of these, or of those in a file of this name, one a line: `chest.Gold = 3` or
+                                 `gate @Open` at the end, `always chest.Gold >= 0`, `every stack ends`, `no faults`, `never "text"` of what is traced
       --until N                  follows orders of at most N turns (the scene's number of turns where it isn't given)
       --states N                 stops after so many states (1000000)
       --jobs N                   runs so many processes side by side (one for each processor)
@@ -12,16 +14,18 @@
       --to FOLDER                writes the scenes outcome-1.json .. into this folder (the current one)
 
 Each step of each run is made by the program's own commands, so what it shows is real. The status is 0 where all orders were followed, or all random
-runs made, 14 where an option has a value that can't be or names nothing of the scene, 15 where orders are left that weren't followed, and else that of
-the program, with its line: 2 for other words, 3 where a file can't be read, 5 to 9 for refused files, and 4 where nothing can be written.
+runs made, and no expectation is broken, 14 where an option has a value that can't be or names nothing of the scene, 15 where orders are left that weren't
+followed, 16 where an expectation is broken, and else that of the program, with its line: 2 for other words, 3 where a file can't be read, 5 to 9 for refused files, and 4 where nothing can be written.
 """
 import argparse
 import os
 import pathlib
+import re
 import shutil
 import sys
 
 sys.path.insert(0, str(pathlib.Path(__file__).resolve().parent))
+from exploring.expectations import Expectations, NoExpectation
 from exploring.outcomes import Findings, kept, path_to, split, values
 from exploring.program import MOST_TURNS, NO_STACK, Program, Refused, compiled, first_look, folder
 from exploring.randomly import RunProgress, random_runs
@@ -31,7 +35,7 @@ from exploring.turns import Orders
 # The most lines of an outcome, and the most outcomes, that are printed whole.
 MOST_LINES, MOST_OUTCOMES = 60, 20
 # The statuses beside the program's own.
-NAMES_NOTHING, NOT_ALL_FOLLOWED = 14, 15
+NAMES_NOTHING, NOT_ALL_FOLLOWED, IS_BROKEN = 14, 15, 16
 
 
 def unnamed(text):
@@ -71,6 +75,7 @@ def words_of(line):
     parser.add_argument("scene")
     parser.add_argument("files", nargs="+")
     parser.add_argument("--of", nargs="+", action="extend", default=[], metavar="PROPERTY")
+    parser.add_argument("--expect", nargs="+", action="extend", default=[], metavar="EXPECTATION")
     parser.add_argument("--until", action=Whole, bounds=(1, MOST_TURNS))
     parser.add_argument("--states", action=Whole, bounds=(1, 10 ** 9), default=10 ** 6)
     parser.add_argument("--jobs", action=Whole, bounds=(1, 1024), default=len(os.sched_getaffinity(0)))
@@ -84,8 +89,12 @@ def words_of(line):
     return words
 
 
-def scene_name(number):
-    return f"outcome-{number}.json"
+# The names of scenes that are written.
+SCENE_NAME = re.compile(r"(outcome|broken)-[0-9]+\.json")
+
+
+def scene_name(number, kind="outcome"):
+    return f"{kind}-{number}.json"
 
 
 class Teller:
@@ -93,27 +102,35 @@ class Teller:
 
     def __init__(self, orders, words, walker):
         self.orders, self.to, self.walker = orders, words.to, walker
-        self.written = 0
+        self.expectations = walker.expectations.all
+        self.written = set()
 
-    def scene_of(self, path, number):
-        """Writes the scene of an outcome, and gives its name."""
-        name = scene_name(number)
+    def scene_of(self, path, number, kind="outcome"):
+        """Writes the scene of an outcome or of a broken expectation, and gives its name."""
+        name = scene_name(number, kind)
         (self.to / name).write_text(path.scene_text(len(path.order)) + "\n")
-        self.written = number
+        self.written.add(name)
         return name
 
     def forget_others(self):
-        """Removes the scenes of an earlier search that found more outcomes."""
-        number = self.written + 1
-        while (self.to / scene_name(number)).is_file():
-            (self.to / scene_name(number)).unlink()
-            number += 1
+        """Removes the scenes of an earlier search."""
+        for path in self.to.iterdir():
+            if SCENE_NAME.fullmatch(path.name) and path.name not in self.written:
+                path.unlink()
+
+    def shown(self, path, number, kind="outcome"):
+        """Which scene shows something, and by which order."""
+        text = f"{self.scene_of(path, number, kind)} shows it in {count(len(path.order), 'turn')}: {order_text(path.order) or 'none'}"
+        if self.orders.any_start and path.begun:
+            text += "; " + ", ".join(f"call {call} begins at turn {turn}" for call, turn in sorted(path.begun.items()))
+        return text
+
+    def broken(self, place, how, path):
+        """Tells an expectation that is broken, as soon as it is known."""
+        print(f"Broken: {self.expectations[place].text}: {how}. {self.shown(path, place + 1, 'broken')}", flush=True)
 
     def outcome(self, number, head, lines, path):
-        shown = f"{self.scene_of(path, number)} shows it in {count(len(path.order), 'turn')}: {order_text(path.order)}"
-        if self.orders.any_start:
-            shown += "; " + ", ".join(f"call {call} begins at turn {turn}" for call, turn in sorted(path.begun.items()))
-        print(f"\nOutcome {number}: {head}. {shown}")
+        print(f"\nOutcome {number}: {head}. {self.shown(path, number)}")
         for line in lines[:MOST_LINES]:
             print("  " + line.decode(errors="backslashreplace").rstrip("\n"))
         if len(lines) > MOST_LINES:
@@ -210,7 +227,7 @@ def told_whole(search, whole_search, words):
     graph = search.graph
     if not graph.open:
         return f"All orders were followed: {count(len(graph), 'state')}, {count(len(graph.made), 'step')}."
-    why = "until it was stopped" if not whole_search else f"up to {count(words.states, 'state')} and {count(words.until, 'turn')}"
+    why = "until every expectation was broken" if search.has_nothing_to_ask() else "until it was stopped" if not whole_search else f"up to {count(words.states, 'state')} and {count(words.until, 'turn')}"
     return f"Not all orders were followed: {count(len(graph), 'state')} were met {why}, and {count(len(graph.open), 'state')} of them weren't followed."
 
 
@@ -225,7 +242,8 @@ def tell_search(search, was_whole, words, teller):
             head = f"{outcome.leading} of {count(len(search.graph), 'state')} lead to it"
             teller.outcome(place, head, outcome.lines, path_to(search.graph, outcome.state, teller.orders))
     place = len(outcomes)
-    for lines, state in teller.endless(findings).items():
+    endless = teller.endless(findings)
+    for lines, state in endless.items():
         place += 1
         if place <= MOST_OUTCOMES:
             teller.outcome(place, "not every stack ends", [line.encode() for line in lines], path_to(search.graph, state, teller.orders))
@@ -238,6 +256,41 @@ def tell_search(search, was_whole, words, teller):
         print("\nNo order comes to an end.")
     for one, other in list(zip(outcomes, list(outcomes)[1:]))[:MOST_OUTCOMES]:
         teller.reason(findings, one, other, numbers)
+    tell_endings(search, endless, teller)
+
+
+def tell_endings(search, endless, teller):
+    """Tells the expectation that every stack ends, where an order was found after which not every one does, and which expectations hold."""
+    for place, expectation in enumerate(teller.expectations):
+        if expectation.is_of_end and endless:
+            lines, state = min(endless.items(), key=lambda item: search.graph.turns[item[1]])
+            search.graph.broken[place] = lines[0]
+            teller.broken(place, lines[0], path_to(search.graph, state, teller.orders))
+    if teller.expectations:
+        held = "that hold" if not search.graph.open else "that no order breaks which was followed"
+        print(f"\nExpectations {held}: {len(teller.expectations) - len(search.graph.broken)} of {len(teller.expectations)}.")
+
+
+def tell_broken_runs(runs, teller):
+    """Tells each expectation that random runs break, by the shortest order among them, and gives how many there are."""
+    found = {}
+    for run in runs:
+        for place, (how, path) in run.broken.items():
+            if place not in found or len(path.order) < len(found[place][1].order):
+                found[place] = (how, path)
+    for place, (how, path) in sorted(found.items()):
+        teller.broken(place, how, path)
+    return len(found)
+
+
+def tell_own(report, expectations):
+    """Tells which expectations the scene's own order of turns breaks, and how many."""
+    lines, closing = split(report)
+    is_end = all(line.split()[2] == b"done" for line in closing if line.startswith(b"stack "))
+    found = expectations.broken_by_lines(lines) + (expectations.broken_by_values(report, True) if is_end else [])
+    for place, how in found:
+        print(f"Broken in the scene's own order of turns: {expectations.all[place].text}: {how}.", flush=True)
+    return len(found)
 
 
 def tell_random(runs, words, teller):
@@ -269,26 +322,48 @@ def explore(words, program, room):
     files = compiled(program, words.files, room)
     look = Program(program, files, room)
     look.run(["hold", "0", words.scene, look.held, *look.files])
-    named_properties(look.report(scene.ordered([], 0)), words.of)
+    start = look.report(scene.ordered([], 0))
+    named_properties(start, words.of)
+    expectations = expected(words, start)
     folder_in(words)
     words.until = words.until or scene.turns
     orders = Orders(scene, words.any_start)
-    walker = Walker(program, look.files, orders, not words.of)
+    walker_words = (program, look.files, orders, not words.of and not words.random, expectations)
+    walker = Walker(*walker_words)
     teller = Teller(orders, words, walker)
     try:
-        if words.random:
-            runs = random_runs((program, look.files, orders, False), words, RunProgress(sys.stderr, words.random))
-            tell_random(runs, words, teller)
-            is_all = len(runs) == words.random
-        else:
-            search = Search(program, look.files, orders, not words.of, words.jobs)
-            was_whole = search.follow(words.until, words.states, Progress(sys.stderr))
-            tell_search(search, was_whole, words, teller)
-            is_all = not search.graph.open
+        own = tell_own(look.run(["exec", words.scene, *look.files]), expectations) if expectations.all else 0
+        is_all, is_broken = random_found(walker_words, words, teller) if words.random else search_found(walker_words, words, teller)
         teller.forget_others()
     finally:
         walker.close()
-    return 0 if is_all else NOT_ALL_FOLLOWED
+    return IS_BROKEN if is_broken or own else 0 if is_all else NOT_ALL_FOLLOWED
+
+
+def expected(words, start):
+    """The expectations of the words, all of which the scene has."""
+    try:
+        expectations = Expectations(words.expect)
+        expectations.look_up(start)
+    except NoExpectation as fault:
+        raise unnamed(f"--expect {fault}")
+    return expectations
+
+
+def random_found(walker_words, words, teller):
+    """Whether all random runs were made, and whether one breaks an expectation."""
+    runs = random_runs(walker_words, words, RunProgress(sys.stderr, words.random))
+    broken = tell_broken_runs(runs, teller)
+    tell_random(runs, words, teller)
+    return len(runs) == words.random, broken > 0
+
+
+def search_found(walker_words, words, teller):
+    """Whether all orders were followed, and whether one breaks an expectation."""
+    search = Search(walker_words, words.jobs, teller.broken)
+    was_whole = search.follow(words.until, words.states, Progress(sys.stderr))
+    tell_search(search, was_whole, words, teller)
+    return not search.graph.open, bool(search.graph.broken)
 
 
 def main():

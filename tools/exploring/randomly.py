@@ -4,23 +4,24 @@ import random
 
 from . import search
 
-# A run: its turns, and its report where it ended.
-Run = collections.namedtuple("Run", "path report")
+# A run: its turns, its report where it ended, and of each expectation that it breaks how it does so and after which turns.
+Run = collections.namedtuple("Run", "path report broken")
 
 
 def one_run(task):
     """A run in which each turn is a ready stack's, each with the same chance."""
     seed, number, most_turns = task
     chance = random.Random(f"{seed} {number}")
-    path = search.Path([], search.walker.orders)
+    path, broken = search.Path([], search.walker.orders), {}
     while True:
-        _, held = search.walker.state(path)
-        choices = search.walker.orders.choices(held, path.begun)
-        if choices is None:
-            return Run(path, search.walker.program.report(path.scene_text(len(path.order))))
-        choices = [step for step in choices if len(path.order) + step.idle < most_turns]
+        reached = search.walker.reached(path, None)
+        for place, how in reached.broken:
+            broken.setdefault(place, (how, path))
+        if reached.choices is None:
+            return Run(path, reached.report, broken)
+        choices = [step for step in reached.choices if len(path.order) + step.idle < most_turns]
         if not choices:
-            return Run(path, None)
+            return Run(path, None, broken)
         path = path.with_step(chance.choice(choices))
 
 
