@@ -26,6 +26,7 @@ import sys
 
 sys.path.insert(0, str(pathlib.Path(__file__).resolve().parent))
 from exploring.expectations import Expectations, NoExpectation
+from exploring.lines import Lines
 from exploring.outcomes import Findings, kept, path_to, split, values
 from exploring.program import MOST_TURNS, NO_STACK, Program, Refused, compiled, first_look, folder
 from exploring.randomly import RunProgress, random_runs
@@ -104,6 +105,8 @@ class Teller:
         self.orders, self.to, self.walker = orders, words.to, walker
         self.expectations = walker.expectations.all
         self.written = set()
+        # Read where it is asked for.
+        self.lines = None
 
     def scene_of(self, path, number, kind="outcome"):
         """Writes the scene of an outcome or of a broken expectation, and gives its name."""
@@ -162,9 +165,10 @@ class Teller:
         differ = list(differences(findings.lines[one], findings.lines[other]))
         print(f"\nWhy outcomes {numbers[one]} and {numbers[other]} differ{': ' + '; '.join(differ[:4]) if differ else ''}")
         print(f"  Both orders may begin with {count(len(common.order), 'turn')}: {order_text(common.order) or 'none'}")
-        self.held(common)
+        _, held = self.walker.state(common)
+        self.held(held)
         for number, step, path in zip((one, other), parting.steps, paths):
-            begun = self.begun(step) if self.orders.any_start else ""
+            begun = (self.begun(step) if self.orders.any_start else "") or self.from_line(held, step.stack)
             print(f"  Then turn {len(common.order) + step.idle}{begun} is stack {step.stack}'s for outcome {numbers[number]}: {order_text(path.order)}")
 
     def begun(self, step):
@@ -173,9 +177,18 @@ class Teller:
         names = [f"{call['instance']}.{call['function']} of call {number}" for number, call in zip(step.calls, calls)]
         return f", in which {' and '.join(names)} {'begins' if len(names) == 1 else 'begin'}," if names else ""
 
-    def held(self, path):
-        """Who holds what, and who waits, after the turns of a path."""
-        _, held = self.walker.state(path)
+    def from_line(self, held, stack):
+        """From where in its script a stack goes on, where that is known."""
+        if stack >= held.started:
+            return ""
+        if self.lines is None:
+            self.lines = Lines(self.walker.program, self.walker.program.files)
+        bodies, enters = held.standing(stack)
+        told = self.lines.told(bodies)
+        return f", from {told} on," if told else f", in which it enters {enters.decode(errors='backslashreplace')}," if enters else ""
+
+    def held(self, held):
+        """Who holds what, and who waits."""
         names = self.orders.scene.names
         told = [f"stack {stack} holds {names[instance]}" for instance, stack in sorted(held.owners.items())]
         told += [f"stack {stack} waits for {names[instance]}" for instance, stack in held.waiters]
