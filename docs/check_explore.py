@@ -10,6 +10,7 @@
   shown     each scene that is written shows its outcome
   alike     the answer is the same whatever the number of jobs, and random orders lead to outcomes that all orders have; Ctrl-C loses nothing
   expected  expectations hold and are broken as is known by hand, and each scene that is written breaks its own
+  told      --help has the options that the man page has
   refused   a refused scene or script gets the program's own line and status, and a word that names nothing one that names it
 """
 import argparse
@@ -375,6 +376,14 @@ def check_refused(tally, room):
         tally.note("" if found == (wanted, b"", f"papyrus: {line}\n".encode()) else f"explore {' '.join(words)}: {found}")
 
 
+def check_told(tally, room):
+    """What --help tells has the options of the completions and the man page, and no other."""
+    status, text, notes = room.explore("--help")
+    told = re.findall(r"^  (--\S+)", text.decode(), re.MULTILINE)
+    options = [line.split(" | ")[1] for line in (ROOT / "tools" / "shell" / "commands.table").read_text().splitlines() if line.startswith("explore | --")]
+    tally.note("" if (status, notes, told) == (0, b"", options) else f"--help: {told} in place of {options}")
+
+
 def main():
     parser = argparse.ArgumentParser(description=__doc__, formatter_class=argparse.RawDescriptionHelpFormatter)
     parser.add_argument("--program", type=pathlib.Path, default=check_examples.PROGRAM)
@@ -386,7 +395,7 @@ def main():
     with tempfile.TemporaryDirectory(prefix="papyrus-explore-") as folder:
         room = Room(program, pathlib.Path(folder).resolve())
         (room.folder / "elsewhere").mkdir()
-        for check in (check_known, check_parting, check_plain, check_alike, check_expected, check_refused):
+        for check in (check_known, check_parting, check_plain, check_alike, check_expected, check_refused, check_told):
             check(tally, room)
     print("\n".join([*tally.wrong, f"{tally.passed} passed, {len(tally.wrong)} failed"]))
     return 1 if tally.wrong else 0

@@ -1,21 +1,24 @@
 #!/usr/bin/env python3
 """Follows every order of turns of a scene and tells the outcomes that it can have, each with a shortest order that shows it.
 
-  explore.py SCENE SCRIPT..      of scripts; compiled files (.pex) may stand in their place
-      --of PROPERTY..            tells outcomes apart by these properties alone, each as `Gold` or `chest.Gold`
-      --expect EXPECTATION..     tells the shortest order that breaks each of these, or of those in a file of this name, one a line: `chest.Gold = 3` or
-                                 `gate @Open` at the end, `always chest.Gold >= 0`, `every stack ends`, `no faults`, `never "text"` of what is traced
-      --until N                  follows orders of at most N turns (the scene's number of turns where it isn't given)
-      --states N                 stops after so many states (1000000)
-      --jobs N                   runs so many processes side by side (one for each processor)
-      --any-start                lets each call of the scene begin at any turn from its own on
-      --random N                 makes N runs of random orders in place of following all, and counts how often each outcome came
-      --seed S                   with this seed (0)
-      --to FOLDER                writes the scenes outcome-1.json .. into this folder (the current one)
+papyrus explore SCENE SCRIPT.. [OPTION ..], where compiled files (.pex) may stand in the place of scripts
+
+  --of PROPERTY..          tells outcomes apart by these properties alone, each as `Gold` or `chest.Gold`
+  --expect EXPECTATION..   tells the shortest order that breaks each of these, or of those in a file of this name, one a line: `chest.Gold = 3` or
+                           `gate @Open` at the end, `always chest.Gold >= 0`, `every stack ends`, `no faults`, `never "text"` of what is traced
+  --until N                follows orders of at most N turns (the scene's number of turns where it isn't given)
+  --states N               stops after N states (1000000)
+  --jobs N                 runs N processes side by side (one for each processor)
+  --any-start              lets each call of the scene begin at any turn from its own on
+  --random N               makes N runs of random orders in place of following all, and counts how often each outcome came
+  --seed S                 makes them with this seed (0)
+  --to FOLDER              writes the scenes outcome-1.json .. and broken-1.json .. into this folder (the current one)
+  --help                   prints this
 
 Each step of each run is made by the program's own commands, so what it shows is real. The status is 0 where all orders were followed, or all random
-runs made, and no expectation is broken, 14 where an option has a value that can't be or names nothing of the scene, 15 where orders are left that weren't
-followed, 16 where an expectation is broken, and else that of the program, with its line: 2 for other words, 3 where a file can't be read, 5 to 9 for refused files, and 4 where nothing can be written.
+runs made, and no expectation is broken; 14 where an option has a value that can't be, or names nothing of the scene; 15 where orders are left that weren't
+followed; 16 where an expectation is broken; and else that of the program, with its line: 2 for other words, 3 where a file can't be read, 5 to 9 for
+refused files, and 4 where nothing can be written.
 """
 import argparse
 import os
@@ -102,7 +105,7 @@ class Teller:
     """Prints what was found, and writes the scenes of outcomes."""
 
     def __init__(self, orders, words, walker):
-        self.orders, self.to, self.walker = orders, words.to, walker
+        self.orders, self.to, self.asked, self.walker = orders, words.to, words.of, walker
         self.expectations = walker.expectations.all
         self.written = set()
         # Read where it is asked for.
@@ -132,12 +135,20 @@ class Teller:
         """Tells an expectation that is broken, as soon as it is known."""
         print(f"Broken: {self.expectations[place].text}: {how}. {self.shown(path, place + 1, 'broken')}", flush=True)
 
-    def outcome(self, number, head, lines, path):
-        print(f"\nOutcome {number}: {head}. {self.shown(path, number)}")
+    def own_outcome(self, report):
+        """Tells how the scene's own order of turns goes."""
+        print("The scene's own order of turns shows:")
+        self.lines_of(kept(report, self.asked))
+
+    def lines_of(self, lines):
         for line in lines[:MOST_LINES]:
             print("  " + line.decode(errors="backslashreplace").rstrip("\n"))
         if len(lines) > MOST_LINES:
             print(f"  .. and {len(lines) - MOST_LINES} more lines")
+
+    def outcome(self, number, head, lines, path):
+        print(f"\nOutcome {number}: {head}. {self.shown(path, number)}")
+        self.lines_of(lines)
 
     def endless(self, findings):
         """What is told of the states in which stacks never end, and the first state, by what is told."""
@@ -244,7 +255,7 @@ def told_whole(search, whole_search, words):
     return f"Not all orders were followed: {count(len(graph), 'state')} were met {why}, and {count(len(graph.open), 'state')} of them weren't followed."
 
 
-def tell_search(search, was_whole, words, teller):
+def tell_search(search, was_whole, words, teller, own):
     findings = Findings(search.graph, words.of)
     print(told_whole(search, was_whole, words))
     outcomes = findings.outcomes()
@@ -265,6 +276,7 @@ def tell_search(search, was_whole, words, teller):
     if not place and search.graph.open:
         print(f"\nNone of the orders that were followed has ended so far, and {count(len(search.graph.open), 'state')} {'waits' if len(search.graph.open) == 1 else 'wait'}. "
               "Raise --states or --until, ask for fewer things by --of, or try --random 100.")
+        teller.own_outcome(own)
     elif not place:
         print("\nNo order comes to an end.")
     for one, other in list(zip(outcomes, list(outcomes)[1:]))[:MOST_OUTCOMES]:
@@ -345,12 +357,13 @@ def explore(words, program, room):
     walker = Walker(*walker_words)
     teller = Teller(orders, words, walker)
     try:
-        own = tell_own(look.run(["exec", words.scene, *look.files]), expectations) if expectations.all else 0
-        is_all, is_broken = random_found(walker_words, words, teller) if words.random else search_found(walker_words, words, teller)
+        own = look.run(["exec", words.scene, *look.files])
+        broken = tell_own(own, expectations)
+        is_all, is_broken = random_found(walker_words, words, teller) if words.random else search_found(walker_words, words, teller, own)
         teller.forget_others()
     finally:
         walker.close()
-    return IS_BROKEN if is_broken or own else 0 if is_all else NOT_ALL_FOLLOWED
+    return IS_BROKEN if is_broken or broken else 0 if is_all else NOT_ALL_FOLLOWED
 
 
 def expected(words, start):
@@ -371,15 +384,18 @@ def random_found(walker_words, words, teller):
     return len(runs) == words.random, broken > 0
 
 
-def search_found(walker_words, words, teller):
-    """Whether all orders were followed, and whether one breaks an expectation."""
+def search_found(walker_words, words, teller, own):
+    """Whether all orders were followed, and whether one breaks an expectation. `own` is the report of the scene's own order."""
     search = Search(walker_words, words.jobs, teller.broken)
     was_whole = search.follow(words.until, words.states, Progress(sys.stderr))
-    tell_search(search, was_whole, words, teller)
+    tell_search(search, was_whole, words, teller, own)
     return not search.graph.open, bool(search.graph.broken)
 
 
 def main():
+    if sys.argv[1:] == ["--help"]:
+        print(__doc__.rstrip())
+        return 0
     room = folder()
     try:
         words = words_of(sys.argv[1:])
