@@ -8,17 +8,21 @@
   parting   two outcomes part where they do by hand, and each of the two orders that are told shows its outcome
   plain     small scenes have the outcomes that trying every list of stacks shows, turn by turn, without a look at any state
   shown     each scene that is written shows its outcome
-  alike     the answer is the same whatever the number of jobs, and random orders lead to outcomes that all orders have
-  refused   a refused scene or script gets the program's own line and status
+  alike     the answer is the same whatever the number of jobs, and random orders lead to outcomes that all orders have; Ctrl-C loses nothing
+  expected  expectations hold and are broken as is known by hand, and each scene that is written breaks its own
+  told      --help has the options that the man page has
+  refused   a refused scene or script gets the program's own line and status, and a word that names nothing one that names it
 """
 import argparse
 import json
 import os
 import pathlib
 import re
+import signal
 import subprocess
 import sys
 import tempfile
+import time
 
 DOCS = pathlib.Path(__file__).resolve().parent
 ROOT = DOCS.parent
@@ -240,7 +244,8 @@ def check_parting(tally, room):
         _, text, _ = room.explore(room.lay(tree), *scripts)
         found = outcomes_of(text)
         common, sides = parting_of(text)
-        tally.note("" if len(found) == 2 and {stack for _, stack, _ in sides.values()} == set(marks) else f"{what}: {text.decode()}")
+        is_so = len(found) == 2 and {stack for _, stack, _ in sides.values()} == set(marks)
+        tally.note("" if is_so and (what != "the gates" or text.count(b", from line 13 of Gate.OnActivate on, is stack") == 2) else f"{what}: {text.decode()}")
         for number, (turn, stack, order) in sides.items():
             report = room.run("run", room.lay({**tree, "order": order, "turns": len(order)}, "parted.json"), *scripts)[1]
             lines = [line.decode().rstrip("\n") for line in kept(report, [])]
@@ -288,8 +293,61 @@ def check_alike(tally, room):
     tally.note("" if len(answers) == 1 else "random runs: another answer with other jobs")
     lines = {line for found in answers for lines in outcomes_of(found[1]).values() for line in lines}
     tally.note("" if lines == {"flag.Seen = 0", "flag.Seen = 1"} else f"random runs: {lines}")
-    _, text, _ = room.explore(name, *room.files, "--states", "3")
-    tally.note("" if text.startswith(b"Not all orders were followed: 3 states") else f"--states: {text.decode()}")
+    (room.folder / "outcome-3.json").write_text("{}")
+    (room.folder / "outcome-5.json").write_text("{}")
+    room.explore(name, *room.files)
+    left = [number for number in range(1, 6) if (room.folder / f"outcome-{number}.json").exists()]
+    tally.note("" if left == [1, 2] else f"the scenes {left} are left of an earlier search")
+    status, text, _ = room.explore(name, *room.files, "--states", "3")
+    is_told = text.startswith(b"Not all orders were followed: 3 states") and b"None of the orders that were followed has ended so far" in text
+    tally.note("" if status == 15 and is_told else f"--states: status {status}, {text.decode()}")
+    check_stopped(tally, room, name)
+
+
+# Words behind a scene of one look and one raise, or of waits that never end, the status, and which expectations are told as broken.
+EXPECTED = [
+    (LOOK, ["--expect", "flag.Seen <= 1", "flag.IsUp = True", "every stack ends", "no faults", "flag @", "always flag.Seen >= 0"], 0, set()),
+    (LOOK, ["--expect", "flag.Seen = 1"], 16, {1}),
+    (LOOK, ["--of", "Seen", "--expect", "flag.Seen = 1", "flag.Seen = 0", "always flag.Seen != 1"], 16, {1, 2, 3}),
+    (LOOK, ["--expect", "flag @Raised", "one.Target = None"], 16, {1, 2}),
+    (LOOK, ["--states", "3", "--expect", "flag.Seen <= 1"], 15, set()),
+    (LOOK, ["--random", "20", "--seed", "7", "--expect", "flag.Seen = 1", "flag.Seen < 2"], 16, {1}),
+    (scene(WAITERS, call("flag", "Await"), call("two", "Raise")), ["--any-start", "--of", "Seen", "--expect", "every stack ends", "no faults"], 16, {1}),
+    (scene(CHESTS, call("chest", "Count", 1), call("chest", "Count", 1)), ["--any-start", "--expect", 'never "12"', 'never "13"', "always chest.Gold < 12"], 16, {1, 3}),
+    (scene([("one", "Waiter", {})], call("one", "Look")), ["--of", "Target", "--expect", "no faults", "every stack ends"], 16, {1}),
+]
+
+
+def check_expected(tally, room):
+    """What is told as broken is broken in the scene that is told with it: the same words have the same answer for that scene's own order."""
+    for number, (tree, words, wanted, places) in enumerate(EXPECTED):
+        status, text, notes = room.explore(room.lay(tree), *room.files, *words)
+        told = {int(place) for place in re.findall(rb"^Broken: .* broken-(\d+)\.json shows it", text, re.MULTILINE)}
+        is_so = (status, notes, told) == (wanted, b"", places) and all((room.folder / f"broken-{place}.json").exists() == (place in places) for place in range(1, 7))
+        tally.note("" if is_so else f"expectations {number}: status {status}, {notes.decode()}{text.decode()}")
+        for place in places:
+            expectation = words[words.index("--expect") + place]
+            if expectation == "every stack ends":
+                continue
+            _, text, _ = room.explore(f"broken-{place}.json", *room.files, "--states", "1", "--to", "elsewhere", "--expect", expectation)
+            is_so = b"Broken in the scene's own order" in text or expectation.startswith("always")
+            tally.note("" if is_so else f"expectations {number}: broken-{place}.json doesn't break {expectation}: {text.decode()}")
+
+
+def check_stopped(tally, room, name):
+    """Ctrl-C ends random runs, and those that were made are told."""
+    words = [sys.executable, str(ROOT / "tools" / "explore.py"), name, *room.files, "--random", "1000000", "--of", "Seen"]
+    streams = {"stdin": subprocess.DEVNULL, "stdout": subprocess.PIPE, "stderr": subprocess.PIPE}
+    for seconds in (2, 10, 40):
+        # A busy machine may not have begun earlier.
+        ran = subprocess.Popen(words, cwd=room.folder, env={**os.environ, "PAPYRUS_PROGRAM": str(room.program)}, **streams)
+        time.sleep(seconds)
+        ran.send_signal(signal.SIGINT)
+        text, notes = ran.communicate(timeout=100)
+        if text:
+            break
+    is_told = b" of 1000000 runs of random orders" in text
+    tally.note("" if (ran.returncode, notes) == (15, b"") and is_told else f"Ctrl-C: status {ran.returncode}, {notes.decode()}{text.decode()}")
 
 
 def check_refused(tally, room):
@@ -304,9 +362,26 @@ def check_refused(tally, room):
     for words in (("wrong.json", *room.files), ("unbound.json", *room.files), (good, "Absent.pex")):
         wanted, found = room.run("exec", *words), room.explore(*words)
         tally.note("" if found == wanted else f"explore {' '.join(words)}: {found} in place of {wanted}")
-    for words in ((), (good,), (good, *room.files, "--jobs", "0"), (good, *room.files, "--states", "x"), (good, *room.files, "--nothing")):
+    for words in ((), (good,), (good, *room.files, "--to")):
         status, text, notes = room.explore(*words)
         tally.note("" if (status, text, notes) == (2, b"", b"papyrus: usage\n") else f"explore {' '.join(words)}: status {status}, {notes.decode()}")
+    for words, wanted, line in ((("--jobs", "0"), 14, "explore: --jobs takes a number from 1 to 1024, not 0"), (("--states", "x"), 14, "explore: --states takes a number from 1 to 1000000000, not x"),
+                                (("--nothing",), 14, "explore: there is no option --nothing"), (("--of", "Seen", "Sean"), 14, "explore: --of Sean: no instance of the scene has this property"),
+                                (("--expect", "flag.Sean = 1"), 14, "explore: --expect flag.Sean = 1: flag has no property Sean"),
+                                (("--expect", "flog @"), 14, "explore: --expect flog @: no instance of the scene is flog"),
+                                (("--expect", "flag.IsUp < 1"), 14, "explore: --expect flag.IsUp < 1: < compares numbers alone"),
+                                (("--expect", "flag.Seen == 1"), 14, "explore: --expect flag.Seen == 1: is no expectation, and no file that can be read"),
+                                (("--of", "two.Seen"), 14, "explore: --of two.Seen: no instance of the scene has this property"), (("--to", "absent"), 4, "cannot write into absent")):
+        found = room.explore(good, *room.files, *words)
+        tally.note("" if found == (wanted, b"", f"papyrus: {line}\n".encode()) else f"explore {' '.join(words)}: {found}")
+
+
+def check_told(tally, room):
+    """What --help tells has the options of the completions and the man page, and no other."""
+    status, text, notes = room.explore("--help")
+    told = re.findall(r"^  (--\S+)", text.decode(), re.MULTILINE)
+    options = [line.split(" | ")[1] for line in (ROOT / "tools" / "shell" / "commands.table").read_text().splitlines() if line.startswith("explore | --")]
+    tally.note("" if (status, notes, told) == (0, b"", options) else f"--help: {told} in place of {options}")
 
 
 def main():
@@ -319,7 +394,8 @@ def main():
     tally = check_pages.Tally()
     with tempfile.TemporaryDirectory(prefix="papyrus-explore-") as folder:
         room = Room(program, pathlib.Path(folder).resolve())
-        for check in (check_known, check_parting, check_plain, check_alike, check_refused):
+        (room.folder / "elsewhere").mkdir()
+        for check in (check_known, check_parting, check_plain, check_alike, check_expected, check_refused, check_told):
             check(tally, room)
     print("\n".join([*tally.wrong, f"{tally.passed} passed, {len(tally.wrong)} failed"]))
     return 1 if tally.wrong else 0

@@ -59,6 +59,34 @@ class Held:
         return found
 
 
+    def standing(self, stack):
+        """Where the frames of a stack stand that run, outermost first, and the name of what it enters, none where that isn't pending."""
+        at = 2
+        for _ in range(stack):
+            at = after_frames(self.stacks, at)
+        (frames,), at = struct.unpack_from(">H", self.stacks, at), at + 2
+        bodies, enters = [], None
+        for _ in range(frames):
+            if self.stacks[at] == 0:
+                enters = text_at(self.stacks, at + (6 if self.stacks[at + 3] in (1, 2) else 4))
+            else:
+                bodies.append(body_at(self.stacks, at + 3))
+            at = after_frame(self.stacks, at)
+        return bodies, enters
+
+
+def text_at(data, at):
+    return data[at + 2:after_text(data, at)]
+
+
+def body_at(data, at):
+    """The place of a running frame: the script's number, the state, the name and the kind of its function, and the instruction."""
+    (script,) = struct.unpack_from(">H", data, at)
+    behind = after_text(data, at + 2)
+    end = after_text(data, behind)
+    return script, text_at(data, at + 2), text_at(data, behind), data[end], struct.unpack_from(">H", data, end + 1)[0]
+
+
 def pairs(data, at):
     (count,) = struct.unpack_from(">H", data, at)
     end = at + 2 + 4 * count
@@ -108,6 +136,13 @@ def after_devices(data, at):
 def after_list(data, at):
     (count,) = struct.unpack_from(">H", data, at)
     return after_values(data, at + 2, count)
+
+
+def after_frames(data, at):
+    (count,), at = struct.unpack_from(">H", data, at), at + 2
+    for _ in range(count):
+        at = after_frame(data, at)
+    return at
 
 
 def after_frame(data, at):

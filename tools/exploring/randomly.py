@@ -1,38 +1,51 @@
 """Runs of random orders."""
 import collections
-import multiprocessing
 import random
 
 from . import search
 
-# A run: its turns, and its report where it ended.
-Run = collections.namedtuple("Run", "path report")
+# A run: its turns, its report where it ended, and of each expectation that it breaks how it does so and after which turns.
+Run = collections.namedtuple("Run", "path report broken")
 
 
 def one_run(task):
     """A run in which each turn is a ready stack's, each with the same chance."""
     seed, number, most_turns = task
     chance = random.Random(f"{seed} {number}")
-    path = search.Path([], search.walker.orders)
+    path, broken = search.Path([], search.walker.orders), {}
     while True:
-        _, held = search.walker.state(path)
-        choices = search.walker.orders.choices(held, path.begun)
-        if choices is None:
-            return Run(path, search.walker.program.report(path.scene_text(len(path.order))))
-        choices = [step for step in choices if len(path.order) + step.idle < most_turns]
+        reached = search.walker.reached(path, None)
+        for place, how in reached.broken:
+            broken.setdefault(place, (how, path))
+        if reached.choices is None:
+            return Run(path, reached.report, broken)
+        choices = [step for step in reached.choices if len(path.order) + step.idle < most_turns]
         if not choices:
-            return Run(path, None)
+            return Run(path, None, broken)
         path = path.with_step(chance.choice(choices))
 
 
-def random_runs(walker_words, words):
-    """So many runs, which rest on the seed and not on the number of jobs."""
+class RunProgress(search.Line):
+    """A line on a terminal that tells how many runs were made."""
+
+    def __init__(self, stream, wanted):
+        super().__init__(stream)
+        self.wanted = wanted
+
+    def tell(self, made):
+        self.write(lambda seconds: f"{made} of {self.wanted} runs, {made / seconds:.1f} a second")
+
+
+def random_runs(walker_words, words, progress):
+    """So many runs, which rest on the seed and not on the number of jobs; fewer where Ctrl-C ends them."""
     tasks = [(words.seed, number, words.until) for number in range(words.random)]
-    if words.jobs == 1:
-        search.begin_here(walker_words)
-        try:
-            return list(map(one_run, tasks))
-        finally:
-            search.walker.close()
-    with multiprocessing.get_context("fork").Pool(words.jobs, search.begin, walker_words) as pool:
-        return pool.map(one_run, tasks, chunksize=1)
+    runs = []
+    try:
+        with search.pool(words.jobs, walker_words) as pool:
+            for run in pool(one_run, tasks):
+                runs.append(run)
+                progress.tell(len(runs))
+    except KeyboardInterrupt:
+        pass
+    progress.clear()
+    return runs

@@ -11,8 +11,8 @@ import time
 from .held import Held
 from .program import MOST_TURNS, NO_STACK, Program, folder
 
-# What a step leads to: the sum of the state, the steps that may follow, the report where nothing is left, and the turn.
-Reached = collections.namedtuple("Reached", "step sum choices report turn")
+# What a step leads to: the sum of the state, the steps that may follow, the report where nothing is left, the turn, and which expectations are broken, and how.
+Reached = collections.namedtuple("Reached", "step sum choices report turn broken")
 
 
 class Path:
@@ -43,10 +43,10 @@ class Path:
 class Walker:
     """Makes one step of an order of turns by the program itself."""
 
-    def __init__(self, program, files, orders, with_lines):
+    def __init__(self, program, files, orders, with_lines, expectations):
         self.room = folder()
         self.program = Program(program, files, self.room)
-        self.orders, self.with_lines = orders, with_lines
+        self.orders, self.with_lines, self.expectations = orders, with_lines, expectations
 
     def close(self):
         shutil.rmtree(self.room, ignore_errors=True)
@@ -60,9 +60,19 @@ class Walker:
         lines, held = self.state(path)
         choices = self.orders.choices(held, path.begun)
         report = None
-        if choices is None:
+        if choices is None or self.expectations.always:
             report = self.program.report(path.scene_text(len(path.order)))
-        return Reached(step, self.sum(held, path, lines), choices, report, held.turn)
+        broken = self.broken(lines, report, choices is None)
+        return Reached(step, self.sum(held, path, lines), choices, report if choices is None else None, held.turn, broken)
+
+    def broken(self, lines, report, is_end):
+        """Which expectations are broken by the lines so far and by the values of a report, and how."""
+        found = self.expectations.broken_by_lines(lines.splitlines())
+        if report is not None:
+            found += self.expectations.broken_by_values(report, False)
+            if is_end:
+                found += self.expectations.broken_by_values(report, True)
+        return found
 
     def sum(self, held, path, lines):
         """A sum of all that the turns to come rest on, and of the lines so far where these are asked for, each stack's apart."""
@@ -116,6 +126,8 @@ class Graph:
         self.reports, self.report_numbers, self.ends = [], {}, {}
         # States with steps that weren't followed.
         self.open = []
+        # Which expectations are broken, and how.
+        self.broken = {}
 
     def __len__(self):
         return len(self.parents)
@@ -150,18 +162,17 @@ class Graph:
         return steps[::-1]
 
 
-class Progress:
-    """A line on a terminal that tells how far the search is."""
+class Line:
+    """A line on a terminal, which is written anew twice a second."""
 
     def __init__(self, stream):
         self.stream, self.began, self.told = stream if stream.isatty() else None, time.monotonic(), 0
 
-    def tell(self, graph, left):
+    def write(self, text):
         now = time.monotonic()
         if self.stream and now - self.told > 0.5:
             self.told = now
-            rate = len(graph) / max(now - self.began, 0.001)
-            self.stream.write(f"\r{len(graph)} states, {left} to follow, {rate:.0f} a second, {len(graph.reports)} outcomes \033[K")
+            self.stream.write(f"\r{text(max(now - self.began, 0.001))} \033[K")
             self.stream.flush()
 
     def clear(self):
@@ -169,21 +180,41 @@ class Progress:
             self.stream.write("\r\033[K")
 
 
+class Progress(Line):
+    """Tells how far the search is."""
+
+    def tell(self, graph, left):
+        self.write(lambda seconds: f"{len(graph)} states, {left} to follow, {len(graph) / seconds:.0f} a second, {len(graph.reports)} outcomes")
+
+
 class Search:
     """Follows orders of turns up to bounds, in as many processes as there are jobs. The answer doesn't rest on the number of jobs."""
 
-    def __init__(self, program, files, orders, with_lines, jobs):
-        self.words, self.orders, self.jobs = (program, files, orders, with_lines), orders, jobs
+    def __init__(self, walker_words, jobs, tell_broken):
+        self.words, self.jobs, self.tell_broken = walker_words, jobs, tell_broken
+        self.orders, self.expectations = walker_words[2], walker_words[4]
         self.graph = Graph()
 
+    def note_broken(self, reached, steps):
+        """Tells which expectations are broken for the first time, by these steps."""
+        for place, how in reached.broken:
+            if place not in self.graph.broken:
+                self.graph.broken[place] = how
+                self.tell_broken(place, how, Path(steps, self.orders))
+
+    def has_nothing_to_ask(self):
+        """Whether there are expectations, and all are broken."""
+        return bool(self.expectations.all) and len(self.graph.broken) == len(self.expectations.all)
+
     def follow(self, most_turns, most_states, progress):
-        """Whether the search came to its end or was stopped by Ctrl-C."""
+        """Whether the search came to its end, its bounds or its last answer, and wasn't stopped by Ctrl-C."""
         first = Walker(*self.words)
         try:
             reached = first.reached(Path([], self.orders), None)
         finally:
             first.close()
         graph = self.graph
+        self.note_broken(reached, [])
         number, _ = graph.add(reached.sum, -1, None, 0)
         buckets = collections.defaultdict(list)
         if reached.choices is None:
@@ -191,11 +222,11 @@ class Search:
         else:
             buckets[0].append((number, reached.choices))
         try:
-            with self.pool() as pool:
-                while buckets:
+            with pool(self.jobs, self.words) as run:
+                while buckets and not self.has_nothing_to_ask():
                     turn = min(buckets)
                     tasks = buckets.pop(turn)
-                    self.follow_all(pool, self.within(tasks, most_turns), buckets, most_states, progress)
+                    self.follow_all(run, self.within(tasks, most_turns), buckets, most_states, progress)
         except KeyboardInterrupt:
             progress.clear()
             return False
@@ -216,31 +247,19 @@ class Search:
                 found.append((number, steps))
         return found
 
-    @contextlib.contextmanager
-    def pool(self):
-        """A function that expands many states, in order."""
-        if self.jobs == 1:
-            begin_here(self.words)
-            try:
-                yield lambda tasks: map(expanded, tasks)
-            finally:
-                walker.close()
-            return
-        with multiprocessing.get_context("fork").Pool(self.jobs, begin, self.words) as pool:
-            yield lambda tasks: pool.imap(expanded, tasks, chunksize=4)
-            pool.close()
-            pool.join()
-
-    def follow_all(self, pool, tasks, buckets, most_states, progress):
+    def follow_all(self, run, tasks, buckets, most_states, progress):
         """Follows all steps of these states, unless so many states were met."""
         graph = self.graph
         room = max(0, most_states - len(graph))
         done = 0
         try:
-            for (number, _), found in zip(tasks, pool((graph.path(number), choices) for number, choices in tasks[:room])):
+            for (number, _), found in zip(tasks, run(expanded, ((graph.path(number), choices) for number, choices in tasks[:room]))):
                 if len(graph) >= most_states:
                     break
                 for reached in found:
+                    if any(place not in graph.broken for place, _ in reached.broken):
+                        progress.clear()
+                        self.note_broken(reached, [*graph.path(number), reached.step])
                     target, is_new = graph.add(reached.sum, number, reached.step, reached.turn)
                     if reached.report is not None:
                         graph.end(target, reached.report)
@@ -251,6 +270,22 @@ class Search:
         finally:
             # Also where Ctrl-C comes in between: nothing may be said of how these go on.
             graph.open += [number for number, _ in tasks[done:]]
+
+
+@contextlib.contextmanager
+def pool(jobs, words):
+    """A function that does many tasks in order, in as many processes as there are jobs."""
+    if jobs == 1:
+        begin_here(words)
+        try:
+            yield map
+        finally:
+            walker.close()
+        return
+    with multiprocessing.get_context("fork").Pool(jobs, begin, words) as processes:
+        yield lambda work, tasks: processes.imap(work, tasks)
+        processes.close()
+        processes.join()
 
 
 def begin_here(words):

@@ -22,6 +22,9 @@ class Table:
                 rows.append([cell.strip() for cell in line.split("|")])
         self.commands = sections["commands"]
         self.helpers = sections["helpers"]
+        self.options = {}
+        for helper, *option in sections["options"]:
+            self.options.setdefault(helper, []).append(option)
         self.words = {name: (pattern, meaning) for name, pattern, meaning in sections["words"]}
         self.statuses = sections["statuses"]
         codes = " ".join(rule.code for rule in explain.read_pages().rules)
@@ -70,7 +73,7 @@ def bash(table):
             begun = "${word^^}" if choice == "RULE" else "$word"
             lines += [f"    {helper})", f"        [ \"$COMP_CWORD\" -gt 2 ] || COMPREPLY=($(compgen -W \"{table.choices[choice]}\" -- \"{begun}\"))", "        ;;"]
         else:
-            lines += bash_arm(helper, unbracketed(words), table)
+            lines += bash_options(helper, table) + bash_arm(helper, unbracketed(words), table)
     lines += ["    esac",
               "    [ -n \"$pattern\" ] || return",
               "    local IFS=$'\\n'",
@@ -79,6 +82,12 @@ def bash(table):
               "}", "",
               "complete -F _papyrus papyrus ./papyrus"]
     return "\n".join(lines) + "\n"
+
+
+def bash_options(helper, table):
+    """The arm of a helper's options."""
+    names = " ".join(option for option, _, _ in table.options.get(helper, []))
+    return [f"    {helper})", f"        case $word in --*) COMPREPLY=($(compgen -W \"{names}\" -- \"$word\")); return ;; esac", "        ;;&"] if names else []
 
 
 def unbracketed(words):
@@ -106,7 +115,7 @@ def zsh(table):
         lines.append(f"    '{command}:{escaped}'")
     lines += [")", "if (( CURRENT == 2 )); then", "    _describe command commands", "    return", "fi", "case $words[2] in"]
     for command, words, _, _ in table.commands + table.helpers:
-        spec = [zsh_word(word, table) for word in unbracketed(words)]
+        spec = [zsh_word(word, table) for word in unbracketed(words)] + [zsh_option(option) for option in table.options.get(command, [])]
         if spec:
             lines.append(f"    {command}) shift words; (( CURRENT-- )); _arguments {' '.join(spec)} ;;")
     return "\n".join([*lines, "esac"]) + "\n"
@@ -117,6 +126,12 @@ def zsh_word(word, table):
     pattern, meaning = table.words[word.rstrip(".")]
     action = f"({table.choices[word]})" if word in table.choices else f"_files -g \"{pattern}\"" if pattern else ""
     return f"'{'*' if word.endswith('..') else ''}:{meaning.split(',')[0]}:{action}'"
+
+
+def zsh_option(option):
+    """What completes an option."""
+    name, word, meaning = option
+    return f"'{name}[{meaning}]{':' + word.rstrip('.').lower() + ':' if word else ''}'"
 
 
 def roff(text):
@@ -137,6 +152,8 @@ def man(table):
     lines += [".SH HELPERS", "The launcher at the top of the repository has these beside the program."]
     for helper, words, _, sentence in table.helpers:
         lines += [".TP", f".B {roff(helper)} \\fI{roff(words)}\\fR", roff(sentence)]
+        for option, word, meaning in table.options.get(helper, []):
+            lines += [".RS", ".TP", f".B {roff(option)}" + (f" \\fI{roff(word)}\\fR" if word else ""), roff(meaning[0].upper() + meaning[1:]) + ".", ".RE"]
     lines += [".SH WORDS"]
     for word, (_, meaning) in table.words.items():
         lines += [".TP", f".I {roff(word)}", roff(meaning[0].upper() + meaning[1:]) + "."]

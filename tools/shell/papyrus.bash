@@ -84,6 +84,9 @@ _papyrus() {
         esac
         ;;
     explore)
+        case $word in --*) COMPREPLY=($(compgen -W "--of --expect --until --states --jobs --any-start --random --seed --to --help" -- "$word")); return ;; esac
+        ;;&
+    explore)
         case $COMP_CWORD in
         2) pattern='*.json' ;;
         *) pattern='*.psc' ;;
