@@ -28,7 +28,7 @@ use Rattle.papyrus_cmd.specs.Upgrade.{MayUpgrade, UpgradeLeaves}
 use Rattle.command_files.specs.Ending.{CountsBoth, CountsReads, word_at}
 use Rattle.papyrus_cmd.specs.Missed.{MissesWord}
 use Rattle.command_files.specs.Refusal.{rule_status}
-use Rattle.papyrus_cmd.specs.TopCall.{Answered, CommandCut, CommandLeaves, FileCommandCut, FileCommandLeaves, FilesCut, FilesLeft, IsAnswer, Listed, Noted, NotRead, PlayCommandCut, PlayCommandLeaves, Told, WasCut, WritesNone, file_command_writes, play_command_writes, writes_files}
+use Rattle.papyrus_cmd.specs.TopCall.{Answered, CommandCut, CommandLeaves, FileCommandCut, FileCommandLeaves, FilesCut, FilesLeft, IsAnswer, Noted, NotRead, PlayCommandCut, PlayCommandLeaves, Told, WasCut, WritesNone, file_command_writes, play_command_writes, writes_files}
 use Rattle.papy_io.proofs.Appending.{appended_nothing}
 
 -- the line was written where its status tells neither want of memory nor a failed write
@@ -119,31 +119,6 @@ all_read words (Refused word place rule) status notes notes' f f' r r' same told
 all_read words (ReadFault word) status notes notes' f f' r r' risen (inl told) answer =
     absurd (answer.was_read (noted _ _ status notes notes' f f' told answer.memory answer.was_written).0)
 all_read words (ReadFault word) status notes notes' f f' r r' risen (inr (is, tried)) answer = absurd (answer.memory is)
-
-not-zero : (rule : Rule) → rule_status rule ≢ 0
-not-zero rule = λ is. absurd (let above = above-four rule in omega arith)
-
--- a status that tells that all went well
-well-wanted : (line : List ℕ) (wanted status : ℕ) (before now : Option (List ℕ)) (f f' : ℕ) → Noted line wanted status before now f f' → status ≡ 0 → wanted ≡ 0
-well-wanted line wanted status before now f f' told well =
-    sym (noted line wanted status before now f f' told (λ is. absurd (omega arith)) (λ is. absurd (omega arith))).0 ∙ well
-
--- what was listed by a command that ended well
-pub listed : (words : List (List ℕ)) (holds : Option Files) (ending : Ending) (status : ℕ) (out out' notes notes' : Option (List ℕ)) (f f' : ℕ) →
-    Listed words ending holds out out' → Told words ending status notes notes' f f' → status ≡ 0 → Listed words Done holds out out'
-listed words holds Done status out out' notes notes' f f' lists told well = lists
-listed words holds OutOfMemory status out out' notes notes' f f' lists (is, tried) well = absurd (omega arith)
-listed words holds WriteFault status out out' notes notes' f f' lists (is, tried) well = absurd (omega arith)
-listed words holds Usage status out out' notes notes' f f' lists told well =
-    absurd (let wanted = well-wanted _ 2 status notes notes' f f' told well in omega arith)
-listed words holds NotBuilt status out out' notes notes' f f' lists told well =
-    absurd (let wanted = well-wanted _ 10 status notes notes' f f' told well in omega arith)
-listed words holds (ReadFault word) status out out' notes notes' f f' lists (inl told) well =
-    absurd (let wanted = well-wanted _ 3 status notes notes' f f' told well in omega arith)
-listed words holds (ReadFault word) status out out' notes notes' f f' lists (inr (is, tried)) well = absurd (omega arith)
-listed words holds (Refused word place rule) status out out' notes notes' f f' lists (inl told) well =
-    absurd (not-zero rule (well-wanted _ _ status notes notes' f f' told well))
-listed words holds (Refused word place rule) status out out' notes notes' f f' lists (inr (is, tried)) well = absurd (omega arith)
 
 -- ---- files
 

@@ -13,6 +13,7 @@ use Rattle.pex_codec.specs.Decoding.{IsSpelling}
 use Rattle.papyrus_cmd.specs.Asm.{RefusesListing}
 use Rattle.papyrus_cmd.specs.Check.{accepted_line}
 use Rattle.papyrus_cmd.specs.Command.{command_of}
+use Rattle.papyrus_cmd.specs.Show.{Lists}
 use Rattle.command_files.specs.Ending.{word_at}
 use Rattle.papyrus_cmd.specs.Help.{help_text, version_text}
 use Rattle.papyrus_cmd.specs.Lift.{RefusesLifted}
@@ -54,9 +55,9 @@ CheckAnswers bytes Usage text = ⊥
 CheckAnswers bytes (ReadFault word) text = ⊥
 CheckAnswers bytes WriteFault text = ⊥
 
--- how `show` ends on a file with these bytes; nothing is said yet of what it writes
+-- how `show` ends on a file with these bytes, and what it writes
 abbrev pub ShowAnswers : List ℕ → Ending → List ℕ → Type 0
-ShowAnswers bytes Done text = IsSpelling bytes
+ShowAnswers bytes Done text = Lists bytes text
 ShowAnswers bytes (Refused word place rule) text = (word ≡ 1) × RefusesPex bytes place rule × (text ≡ [])
 ShowAnswers bytes NotBuilt text = ⊥
 ShowAnswers bytes OutOfMemory text = ⊥

@@ -21,7 +21,6 @@ use Rattle.papyrus_cmd.specs.Asm.{AsmLeaves, MayWrite}
 use Rattle.papyrus_cmd.specs.Command.{command_of, files_read}
 use Rattle.papyrus_cmd.specs.Compile.{CompileLeaves, MayCompile}
 use Rattle.papyrus_cmd.specs.Lift.{LiftLeaves, MayLift}
-use Rattle.papyrus_cmd.specs.Show.{ShowsHead}
 use Rattle.papyrus_cmd.specs.Upgrade.{MayUpgrade, UpgradeLeaves}
 use Rattle.command_files.specs.Ending.{status_of, note_of, cannot_read, out_of_memory, word_at}
 use Rattle.command_files.specs.Refusal.{rule_status}
@@ -70,26 +69,6 @@ CommandLeaves None names ending before now holds left = left ≡ holds
 
 abbrev pub FilesLeft : List (List ℕ) → Ending → Option (List ℕ) → Option (List ℕ) → Option Files → Option Files → Type 0
 FilesLeft words ending before now holds left = CommandLeaves (command_of words) (drop 1 words) ending before now holds left
-
--- what a command on files of these names that ended so has listed
-abbrev pub FileCommandLists : FileCommand → List (List ℕ) → Ending → Option Files → Option (List ℕ) → Option (List ℕ) → Type 0
-FileCommandLists files.Show names ending holds before now = ShowsHead (word_at names 0) ending holds before now
-FileCommandLists files.Compile names ending holds before now = Unit {0}
-FileCommandLists files.Check names ending holds before now = Unit {0}
-FileCommandLists files.Asm names ending holds before now = Unit {0}
-FileCommandLists files.Upgrade names ending holds before now = Unit {0}
-FileCommandLists files.Waits names ending holds before now = Unit {0}
-FileCommandLists files.Lift names ending holds before now = Unit {0}
-
-abbrev pub CommandLists : Option Command → List (List ℕ) → Ending → Option Files → Option (List ℕ) → Option (List ℕ) → Type 0
-CommandLists (Some (command.Files work)) names ending holds before now = FileCommandLists work names ending holds before now
-CommandLists (Some (command.Play work)) names ending holds before now = Unit {0}
-CommandLists (Some command.Help) names ending holds before now = Unit {0}
-CommandLists (Some command.Version) names ending holds before now = Unit {0}
-CommandLists None names ending holds before now = Unit {0}
-
-abbrev pub Listed : List (List ℕ) → Ending → Option Files → Option (List ℕ) → Option (List ℕ) → Type 0
-Listed words ending holds before now = CommandLists (command_of words) (drop 1 words) ending holds before now
 
 -- what the files may be where a command on files of these names was cut short
 abbrev pub FileCommandCut : FileCommand → List (List ℕ) → Option Files → Option Files → Type 0

@@ -9,7 +9,7 @@ ghost use Rattle.papyrus_cmd.specs.Answers.{Answers, FileCommandOn, PlayCommandO
 ghost use Rattle.papyrus_cmd.specs.Command.{command_of, files_used};
 ghost use Rattle.papyrus_cmd.specs.Dispatch.{SuitsFiles, SuitsPlay};
 ghost use Rattle.papyrus_cmd.specs.Missed.{MissesPlayed, MissesWord};
-ghost use Rattle.papyrus_cmd.specs.TopCall.{FileCommandLeaves, FileCommandLists, FilesLeft, Listed, PlayCommandLeaves, RunsNone};
+ghost use Rattle.papyrus_cmd.specs.TopCall.{FileCommandLeaves, FilesLeft, PlayCommandLeaves, RunsNone};
 
 use crate::asm::asm;
 use crate::check::check;
@@ -54,7 +54,6 @@ fn use_files<D: Desk, S: Sink>(
     ensures never_usage { result ≢ Ending.Usage }
     ensures word { IsWordBelow (length files.now + 1) result }
     ensures output { Outputs (FileCommandOn command (map string_bytes files.now)) (D.holds desk.old) result (S.written out.old) (S.written out.new) }
-    ensures listed { FileCommandLists command (map string_bytes files.now) result (D.holds desk.old) (S.written out.old) (S.written out.new) }
 {
     match command {
         FileCommand::Compile => compile(alloc, files, desk),
@@ -120,7 +119,6 @@ pub fn run<D: Desk, S: Sink>(
     ensures usage { (result ≡ Ending.Usage) ↔ (command_of (map string_bytes words.now) ≡ None) }
     ensures output { Outputs (Answers (map string_bytes words.now)) (D.holds desk.old) result (S.written out.old) (S.written out.new) }
     ensures kinds { SameKinds (map (λ d. device_state d) devices.old.items) (map (λ d. device_state d) devices.new.items) }
-    ensures listed { Listed (map string_bytes words.now) result (D.holds desk.old) (S.written out.old) (S.written out.new) }
     ensures untouched { RunsNone (map string_bytes words.now) → map (λ d. device_state d) devices.new.items ≡ map (λ d. device_state d) devices.old.items }
 {
     match command_of(words) {

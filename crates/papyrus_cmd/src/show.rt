@@ -4,7 +4,6 @@ ghost use Rattle.std.specs.String.{string_bytes};
 ghost use Rattle.papy_io.specs.Activity.{Idle};
 ghost use Rattle.command_files.specs.Outputs.{AnswersTo, Outputs};
 ghost use Rattle.papyrus_cmd.specs.Answers.{ShowAnswers};
-ghost use Rattle.papyrus_cmd.specs.Show.{ShowsHead};
 ghost use Rattle.command_files.specs.Ending.{CountsReads, CountsWrites, IsWordBelow, MissesScript, word_at};
 
 use command_files::{Ending, read_pex};
@@ -26,7 +25,6 @@ pub fn show<D: Desk, S: Sink>(alloc: Global, files: &[String], desk: &mut D, out
     ensures never_usage { result ≢ Ending.Usage }
     ensures word { IsWordBelow 2 result }
     ensures output { Outputs (AnswersTo ShowAnswers (word_at (map string_bytes files.now) 0)) (D.holds desk.old) result (S.written out.old) (S.written out.new) }
-    ensures listed { ShowsHead (word_at (map string_bytes files.now) 0) result (D.holds desk.old) (S.written out.old) (S.written out.new) }
 {
     let file = &files[0];
     let pex = match read_pex(alloc, desk, file.as_bytes()) {

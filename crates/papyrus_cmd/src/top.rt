@@ -4,9 +4,8 @@ ghost use Rattle.std.specs.String.{string_bytes};
 ghost use Rattle.latent_natives.specs.Devices.{SameKinds};
 ghost use Rattle.papy_io.specs.Activity.{Idle};
 ghost use Rattle.papy_io.specs.Count.{HasRisen};
-ghost use Rattle.command_files.specs.declared.ending.Ending.TheVariants as Ending;
 ghost use Rattle.papyrus_cmd.specs.Command.{command_of};
-ghost use Rattle.papyrus_cmd.specs.TopCall.{Answered, CutShort, FilesCut, IsAnswer, IsStatus, Listed, NotRead, RunsNone, WasCut, WritesNone};
+ghost use Rattle.papyrus_cmd.specs.TopCall.{Answered, CutShort, FilesCut, IsAnswer, IsStatus, NotRead, RunsNone, WasCut, WritesNone};
 
 use crate::dispatch::run;
 use crate::notes::tell;
@@ -48,7 +47,6 @@ pub fn papyrus<D: Desk, S: Sink, E: Sink>(
     // After it a file may hold the first part of what was to be written.
     ensures cut_file { WasCut result → FilesCut (map string_bytes words.now) (D.holds desk.old) (D.holds desk.new) }
     ensures quiet { ¬ WasCut result → (S.faults out.new ≡ S.faults out.old) × (E.faults notes.new ≡ E.faults notes.old) × (D.write_faults desk.new ≡ D.write_faults desk.old) }
-    ensures listed { result ≡ 0 → Listed (map string_bytes words.now) Ending.Done (D.holds desk.old) (S.written out.old) (S.written out.new) }
 
     // The causes of 2, 3 and 4.
     ensures usage { result ≡ 2 → command_of (map string_bytes words.now) ≡ None }

@@ -1,5 +1,7 @@
 pub mod Numbers
 pub mod Lines
+pub mod Listing
+pub mod Spelled
 pub mod Opened
 pub mod Showing
 pub mod Reading

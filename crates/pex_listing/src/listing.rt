@@ -284,21 +284,20 @@ impl<'a> Listing<'a> {
         ensures { IfOk result (λ found. IfSome found (IsReference (vec_len names.now.spelled))) }
     {
         let field = self.field()?;
-        let (place, by_word, is_canonical) = match field {
+        let place = match field {
             [b'#', digits @ ..] if is_digits(digits) => {
-                let number = decimal_number(digits).unwrap_or(u64::MAX);
-                (u16::try_from(number).ok(), false, !has_leading_zero(digits))
+                u16::try_from(decimal_number(digits).unwrap_or(u64::MAX)).ok()
             }
-            _ if is_word(field) => (names.place_of(field), true, true),
+            _ if is_word(field) => names.place_of(field),
             _ => return Err(BAD_LINE),
         };
         let Some(place) = place else {
             return Ok(None);
         };
-        let Some(is_spelled) = names.spelled.get(place as usize) else {
+        let Some(spelled) = names.spelled.get(place as usize) else {
             return Ok(None);
         };
-        self.note(is_canonical && *is_spelled == by_word);
+        self.note(field == spelled.as_slice());
         Ok(Some(place))
     }
 

@@ -1,51 +1,94 @@
 //! The strings of a file by their bytes, and how references to them are spelled.
 
-ghost use Rattle.std.specs.Prelude.{◌≡◌, length, vec_len, IfOk, IfSome};
+ghost use Rattle.std.specs.Prelude.{◌≡◌, ℕ, List, ◌∷◌, ◌++◌, length, vec_len, if◌then◌else◌, IfOk, IfSome, OnOk, map};
+ghost use Rattle.std.specs.Fmt.{decimal};
+ghost use Rattle.std.specs.List.{list_all, range_with_len};
 ghost use Rattle.pex_values.specs.Shape.{IsReference};
+ghost use Rattle.pex_listing.specs.Lines.{field, is_word_byte, is_word, reference};
+ghost use Rattle.pex_listing.specs.Spelled.{HasWords, Noted, spelled_in};
 
 use crate::faults::{BAD_NAME, Read};
-use indexmap::IndexMap;
+use itoa::Buffer;
 use papy_base::{Made, Text};
-use std::alloc::Global;
-use std::str;
+use std::alloc::{AllocError, Global};
+use std::collections::HashMap;
 
 /// The most bytes of a string that a reference is spelled by.
 const LONGEST_WORD: usize = 64;
 
-/// Where the strings of a file stand, and which references are spelled by them.
+/// Where the strings of a file stand, and how references to them are spelled.
 #[derive(Drop)]
 pub(crate) struct StringWords {
     /// The first place of each string that is a word.
-    first: IndexMap<Vec<u8>, usize>,
-    /// For each string, whether a reference to it is spelled by it: it is a word of at most 64 bytes, and the first
-    /// of its bytes.
-    pub spelled: Vec<bool>,
+    first: HashMap<Vec<u8>, usize>,
+    /// The spelling of the reference to each string.
+    pub spelled: Vec<Vec<u8>>,
 }
 
-fn is_word_byte(byte: u8) -> bool {
-    matches!(byte, b'A'..=b'Z' | b'a'..=b'z' | b'0'..=b'9' | b'_' | b':' | b'.' | b'[' | b']')
+fn is_word_byte(byte: u8) -> bool
+    ensures { result ≡ is_word_byte byte }
+{
+    byte.is_ascii_alphanumeric() || matches!(byte, b'_' | b':' | b'.' | b'[' | b']')
+}
+
+fn are_word_bytes(bytes: &[u8]) -> bool
+    ensures { result ≡ list_all is_word_byte bytes.now }
+{
+    bytes.iter().all(|byte| is_word_byte(*byte))
 }
 
 /// Whether a reference may be spelled by these bytes: one or more letters, digits, or `_ : . [ ]`.
-pub(crate) fn is_word(bytes: &[u8]) -> bool {
-    !bytes.is_empty() && bytes.iter().all(|byte| is_word_byte(*byte))
+pub(crate) fn is_word(bytes: &[u8]) -> bool
+    ensures { result ≡ is_word bytes.now }
+{
+    !bytes.is_empty() && are_word_bytes(bytes)
+}
+
+/// How a reference to the string at this place is spelled: by its bytes where they are its own word, else by `#` and the
+/// place.
+fn spelling(alloc: Global, string: &[u8], place: usize, is_own_word: bool) -> Made<Vec<u8>>
+    ensures { IfOk result (λ bytes. bytes.items ≡ (if is_own_word then string.now else 35 ∷ decimal place)) }
+{
+    if is_own_word {
+        return Ok(Vec::from_slice(alloc, string)?);
+    }
+    let mut bytes = Vec::new(alloc);
+    bytes.push(b'#')?;
+    bytes.extend_from_slice(Buffer::new().format(place).as_bytes())?;
+    Ok(bytes)
 }
 
 impl StringWords {
     pub(crate) fn new(alloc: Global, strings: &[Text]) -> Made<StringWords>
-        ensures { IfOk result (λ table. vec_len table.spelled ≡ length strings.now) }
+        ensures words { IfOk result (λ table. HasWords strings.now table) }
+        ensures spelled { IfOk result (λ table. map (λ bytes. bytes.items) table.spelled.items ≡ map (reference strings.now) (range_with_len 0 (length strings.now))) }
+        ensures count { IfOk result (λ table. vec_len table.spelled ≡ length strings.now) }
     {
-        let mut first = IndexMap::new(alloc);
-        let mut spelled = Vec::new(alloc);
+        let mut words = StringWords {
+            first: HashMap::new(alloc),
+            spelled: Vec::new(alloc),
+        };
         for (place, text) in strings.iter().enumerate() {
-            let bytes = text.as_bytes();
-            let is_first = is_word(bytes) && !first.contains_key(bytes);
-            if is_first {
-                first.insert(bytes.to_vec(alloc)?, place)?;
-            }
-            spelled.push(is_first && bytes.len() <= LONGEST_WORD)?;
+            let string = text.as_bytes();
+            let is_own_word = words.note(alloc, string, place)?;
+            let spelled = spelling(alloc, string, place, is_own_word)?;
+            words.spelled.push(spelled)?;
         }
-        Ok(StringWords { first, spelled })
+        Ok(words)
+    }
+
+    /// Notes the place of a string, which follows those that were noted, and says whether it is a word of its own.
+    fn note(&mut self, alloc: Global, string: &[u8], place: usize) -> Made<bool>
+        ensures { IfOk result (λ own. Noted self.old self.new string.now place own) }
+    {
+        if !is_word(string) {
+            return Ok(false);
+        }
+        if self.first.contains_key(string) {
+            return Ok(false);
+        }
+        self.first.insert(Vec::from_slice(alloc, string)?, place)?;
+        Ok(string.len() <= LONGEST_WORD)
     }
 
     /// The first place of a string of these bytes, which are a word.
@@ -60,18 +103,18 @@ impl StringWords {
     {
         found.ok_or(BAD_NAME)
     }
-}
 
-/// For each string the word that a reference to it is spelled by, if it is.
-pub(crate) fn reference_words<'a>(
-    alloc: Global,
-    strings: &'a [Text],
-) -> Made<Vec<Option<&'a str>>> {
-    let spelled = StringWords::new(alloc, strings)?.spelled;
-    let mut words = Vec::with_capacity(alloc, strings.len())?;
-    for (text, is_spelled) in strings.iter().zip(&spelled) {
-        let word = str::from_utf8(text.as_bytes()).ok();
-        words.push(word.filter(|_| *is_spelled))?;
+    /// Adds a reference as a field.
+    pub(crate) fn put(&self, out: &mut Vec<u8>, place: u16) -> Result<(), AllocError>
+        ensures { OnOk result (out.new.items ≡ out.old.items ++ field (spelled_in self.now place)) }
+    {
+        out.push(b' ')?;
+        match self.spelled.get(place as usize) {
+            Some(spelled) => out.extend_from_slice(spelled.as_slice()),
+            None => {
+                out.push(b'#')?;
+                out.extend_from_slice(Buffer::new().format(place).as_bytes())
+            }
+        }
     }
-    Ok(words)
 }

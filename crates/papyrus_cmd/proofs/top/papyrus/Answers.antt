@@ -1,7 +1,7 @@
 use Rattle.std.proofs.Common.{map}
 use Rattle.std.specs.String.{string_bytes}
 use Rattle.papyrus_cmd.proofs.CutShort.{cut_short}
-use Rattle.papyrus_cmd.proofs.Statuses.{all_read, answered, cut_file, files_kept, listed, not_read, not_written, quiet, unread_kept}
+use Rattle.papyrus_cmd.proofs.Statuses.{all_read, answered, cut_file, files_kept, not_read, not_written, quiet, unread_kept}
 use Rattle.papyrus_cmd.proofs.top.papyrus.Goals as goal
 
 pub returns-clause-answered : goal.returns-clause-answered
@@ -25,9 +25,6 @@ returns-clause-not_read g c =
 
 pub returns-clause-all_read : goal.returns-clause-all_read
 returns-clause-all_read g c = λ answer. all_read _ c.run-ending.result c.tell.result _ _ _ _ _ _ c.run-ending.ensures.read_faults c.tell.ensures answer
-
-pub returns-clause-listed : goal.returns-clause-listed
-returns-clause-listed g c = λ well. listed _ _ c.run-ending.result c.tell.result _ _ _ _ _ _ c.run-ending.ensures.listed c.tell.ensures well
 
 pub returns-clause-unread_kept : goal.returns-clause-unread_kept
 returns-clause-unread_kept g c = λ three. unread_kept _ c.run-ending.result c.tell.result _ _ _ _ _ _ _ _ c.tell.ensures three c.run-ending.ensures.files

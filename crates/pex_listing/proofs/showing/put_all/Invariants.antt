@@ -1,0 +1,7 @@
+use Rattle.std.proofs.Common.{◌≡◌, ◌++◌, take}
+use Rattle.std.specs.List.{flat_map}
+use Rattle.pex_listing.specs.Spelled.{spelled_in}
+use Rattle.pex_listing.proofs.showing.put_all.Given as goal
+
+abbrev pub invariant-loop-part : goal.invariant-loop-part
+invariant-loop-part g l = l.out.items ≡ l.initial.out.items ++ flat_map (g.T.Shown.text (spelled_in l.names)) (take l.part-index l.parts)
