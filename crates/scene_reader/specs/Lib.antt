@@ -1,2 +1,3 @@
 pub mod Default
 pub mod Limits
+pub mod SceneText

@@ -1,4 +1,5 @@
 ghost use Rattle.std.specs.Prelude.{◌≡◌};
+ghost use Rattle.scene_reader.specs.declared.fault.PartFault.TheVariants.{OutOfMemory as NoPartMemory};
 ghost use Rattle.scene_reader.specs.declared.fault.SceneFault.TheVariants.{OutOfMemory as NoMemory};
 
 use papy_base::OutOfMemory;
@@ -71,5 +72,51 @@ impl<T: Drop> From<AllocFailed<T>> for SceneFault {
 
     fn from(_error: AllocFailed<T>) -> SceneFault {
         SceneFault::OutOfMemory
+    }
+}
+
+/// Why a JSON value is no part of a scene. A broken limit is noted and told later, since a fault of shape comes first.
+#[derive(Clone, Copy)]
+pub(crate) enum PartFault {
+    /// It hasn't the form of the part.
+    Shape,
+    /// No memory was found.
+    OutOfMemory,
+}
+
+impl From<OutOfMemory> for PartFault {
+    ghost from_gives = { λ _ fault. fault ≡ NoPartMemory };
+
+    fn from(_error: OutOfMemory) -> PartFault {
+        PartFault::OutOfMemory
+    }
+}
+
+impl From<AllocError> for PartFault {
+    ghost from_gives = { λ _ fault. fault ≡ NoPartMemory };
+
+    fn from(_error: AllocError) -> PartFault {
+        PartFault::OutOfMemory
+    }
+}
+
+impl<T: Drop> From<AllocFailed<T>> for PartFault {
+    ghost from_gives = { λ _ fault. fault ≡ NoPartMemory };
+
+    fn from(_error: AllocFailed<T>) -> PartFault {
+        PartFault::OutOfMemory
+    }
+}
+
+impl From<PartFault> for SceneFault {
+    ghost use Rattle.scene_reader.specs.SceneText.{part_fault};
+
+    ghost from_gives = { λ part fault. fault ≡ part_fault part };
+
+    fn from(part: PartFault) -> SceneFault {
+        match part {
+            PartFault::Shape => SceneFault::of(SceneRule::Shape),
+            PartFault::OutOfMemory => SceneFault::OutOfMemory,
+        }
     }
 }

@@ -5,7 +5,7 @@ ghost use Rattle.std.specs.Option.{ForSome};
 ghost use Rattle.papy_base.specs.InstanceName.{IsInstanceName};
 ghost use Rattle.scene_reader.specs.Limits.{BindingKeeps, CallKeeps, InstanceKeeps, IsShort, IsTurns, Keeps, NamedKeeps, TapeKeeps, ValueKeeps};
 
-use crate::fault::{SceneFault, SceneRule};
+use crate::fault::PartFault;
 use core_tree::{Binding, SceneCall, SceneInstance, SceneValue};
 use papy_base::{Text, is_instance_name};
 use serde_json::Value;
@@ -31,22 +31,17 @@ pub const TURN_LIMIT: u32 = 1_000_000;
 /// The most loop passes of a turn.
 pub const QUANTUM_LIMIT: u32 = 1000;
 
-/// The fault of a form that a scene doesn't have.
-pub(crate) const SHAPE_FAULT: SceneFault = SceneFault::Broken {
-    rule: SceneRule::Shape,
-};
-
 /// Refuses what is no object, and an object with another key than these.
-pub(crate) fn check_keys(value: &Value, keys: &[&str]) -> Result<(), SceneFault> {
+pub(crate) fn check_keys(value: &Value, keys: &[&str]) -> Result<(), PartFault> {
     match value.as_object() {
         Some(object) if object.keys().all(|key| keys.contains(&key.as_str())) => Ok(()),
-        _ => Err(SHAPE_FAULT),
+        _ => Err(PartFault::Shape),
     }
 }
 
 /// The value of a key that must be there.
-pub(crate) fn needed<'v>(value: &'v Value, key: &str) -> Result<&'v Value, SceneFault> {
-    value.get(key).ok_or(SHAPE_FAULT)
+pub(crate) fn needed<'v>(value: &'v Value, key: &str) -> Result<&'v Value, PartFault> {
+    value.get(key).ok_or(PartFault::Shape)
 }
 
 /// The versions of the form of scenes. The second has prompt natives and the quantum.
@@ -69,7 +64,7 @@ pub(crate) trait Item: Drop {
     /// Whether it keeps its limits.
     ghost keeps: { Self → Type 0 };
 
-    fn read(reader: &mut SceneReader, value: &Value) -> Result<Self, SceneFault>
+    fn read(reader: &mut SceneReader, value: &Value) -> Result<Self, PartFault>
         ensures { IfOk result (λ item. Keeps reader.old.broken reader.new.broken (keeps item)) };
 }
 
@@ -84,13 +79,13 @@ impl SceneReader {
     }
 
     // A whole number. One past its bounds breaks a limit, and reads as the least one.
-    fn number(&mut self, value: &Value, least: i64, most: i64) -> Result<i64, SceneFault>
+    fn number(&mut self, value: &Value, least: i64, most: i64) -> Result<i64, PartFault>
         requires { least ≤ℤ most }
         ensures limits { OnOk result (Keeps self.old.broken self.new.broken (Unit {0})) }
         ensures within { IfOk result (λ n. (least ≤ℤ n) × (n ≤ℤ most)) }
     {
         if value.is_f64() || !value.is_number() {
-            return Err(SHAPE_FAULT);
+            return Err(PartFault::Shape);
         }
         match value.as_i64() {
             Some(number) if least <= number && number <= most => Ok(number),
@@ -102,7 +97,7 @@ impl SceneReader {
     }
 
     /// A number between these two.
-    pub(crate) fn count(&mut self, value: &Value, least: u32, most: u32) -> Result<u32, SceneFault>
+    pub(crate) fn count(&mut self, value: &Value, least: u32, most: u32) -> Result<u32, PartFault>
         requires { least ≤ most }
         ensures { IfOk result (λ n. Keeps self.old.broken self.new.broken ((least ≤ n) × (n ≤ most))) }
     {
@@ -110,14 +105,14 @@ impl SceneReader {
     }
 
     /// The text that the value is.
-    pub(crate) fn text(&mut self, value: &Value) -> Result<Text, SceneFault>
+    pub(crate) fn text(&mut self, value: &Value) -> Result<Text, PartFault>
         ensures { IfOk result (λ text. Keeps self.old.broken self.new.broken (IsShort text)) }
     {
-        self.text_of(value.as_str().ok_or(SHAPE_FAULT)?)
+        self.text_of(value.as_str().ok_or(PartFault::Shape)?)
     }
 
     /// A text of these bytes. One that is too long breaks a limit.
-    pub(crate) fn text_of(&mut self, text: &str) -> Result<Text, SceneFault>
+    pub(crate) fn text_of(&mut self, text: &str) -> Result<Text, PartFault>
         ensures { IfOk result (λ text. Keeps self.old.broken self.new.broken (IsShort text)) }
     {
         self.require_at_most(text.len(), TEXT_LIMIT);
@@ -129,7 +124,7 @@ impl SceneReader {
         &mut self,
         value: Option<&Value>,
         most: usize,
-    ) -> Result<Vec<T>, SceneFault>
+    ) -> Result<Vec<T>, PartFault>
         ensures count { IfOk result (λ items. Keeps self.old.broken self.new.broken (length items.items ≤ most)) }
         ensures items { IfOk result (λ items. Keeps self.old.broken self.new.broken (All T.keeps items.items)) }
     {
@@ -137,7 +132,7 @@ impl SceneReader {
         let Some(value) = value else {
             return Ok(items);
         };
-        for value in value.as_array().ok_or(SHAPE_FAULT)? {
+        for value in value.as_array().ok_or(PartFault::Shape)? {
             let item = T::read(self, value)?;
             items.push(item)?;
         }
@@ -149,14 +144,14 @@ impl SceneReader {
     pub(crate) fn entries<T: Item>(
         &mut self,
         value: Option<&Value>,
-    ) -> Result<Vec<(Text, T)>, SceneFault>
+    ) -> Result<Vec<(Text, T)>, PartFault>
         ensures { IfOk result (λ entries. Keeps self.old.broken self.new.broken (All (NamedKeeps T.keeps) entries.items)) }
     {
         let mut entries = Vec::new(self.alloc);
         let Some(value) = value else {
             return Ok(entries);
         };
-        for (key, value) in value.as_object().ok_or(SHAPE_FAULT)? {
+        for (key, value) in value.as_object().ok_or(PartFault::Shape)? {
             let name = self.text_of(key.as_str())?;
             let item = T::read(self, value)?;
             entries.push((name, item))?;
@@ -169,7 +164,7 @@ impl SceneReader {
 impl Item for i32 {
     ghost keeps = { λ _. Unit {0} };
 
-    fn read(reader: &mut SceneReader, value: &Value) -> Result<i32, SceneFault> {
+    fn read(reader: &mut SceneReader, value: &Value) -> Result<i32, PartFault> {
         Ok(reader.number(value, i64::from(i32::MIN), i64::from(i32::MAX))? as i32)
     }
 }
@@ -178,7 +173,7 @@ impl Item for i32 {
 impl Item for u16 {
     ghost keeps = { λ _. Unit {0} };
 
-    fn read(reader: &mut SceneReader, value: &Value) -> Result<u16, SceneFault> {
+    fn read(reader: &mut SceneReader, value: &Value) -> Result<u16, PartFault> {
         Ok(reader.number(value, 0, i64::from(u16::MAX))? as u16)
     }
 }
@@ -187,7 +182,7 @@ impl Item for u16 {
 impl Item for Vec<i32> {
     ghost keeps = { TapeKeeps };
 
-    fn read(reader: &mut SceneReader, value: &Value) -> Result<Vec<i32>, SceneFault> {
+    fn read(reader: &mut SceneReader, value: &Value) -> Result<Vec<i32>, PartFault> {
         reader.list::<i32>(Some(value), TAPE_LIMIT)
     }
 }
@@ -195,7 +190,7 @@ impl Item for Vec<i32> {
 impl Item for SceneCall {
     ghost keeps = { CallKeeps };
 
-    fn read(reader: &mut SceneReader, value: &Value) -> Result<SceneCall, SceneFault> {
+    fn read(reader: &mut SceneReader, value: &Value) -> Result<SceneCall, PartFault> {
         check_keys(value, &["turn", "instance", "function", "arguments"])?;
         Ok(SceneCall {
             turn: reader.count(needed(value, "turn")?, 0, TURN_LIMIT)?,
@@ -209,7 +204,7 @@ impl Item for SceneCall {
 impl Item for SceneInstance {
     ghost keeps = { InstanceKeeps };
 
-    fn read(reader: &mut SceneReader, value: &Value) -> Result<SceneInstance, SceneFault> {
+    fn read(reader: &mut SceneReader, value: &Value) -> Result<SceneInstance, PartFault> {
         check_keys(value, &["name", "script", "set"])?;
         let name = instance_name(reader.alloc, needed(value, "name")?)?;
         let script = reader.text(needed(value, "script")?)?;
@@ -219,12 +214,12 @@ impl Item for SceneInstance {
 }
 
 // The name of an instance.
-fn instance_name(alloc: Global, value: &Value) -> Result<Text, SceneFault>
+fn instance_name(alloc: Global, value: &Value) -> Result<Text, PartFault>
     ensures { IfOk result IsInstanceName }
 {
-    let name = value.as_str().ok_or(SHAPE_FAULT)?.as_bytes();
+    let name = value.as_str().ok_or(PartFault::Shape)?.as_bytes();
     if !is_instance_name(name) {
-        return Err(SHAPE_FAULT);
+        return Err(PartFault::Shape);
     }
     Ok(Text::try_from_bytes(alloc, name)?)
 }
@@ -232,7 +227,7 @@ fn instance_name(alloc: Global, value: &Value) -> Result<Text, SceneFault>
 impl Item for SceneValue {
     ghost keeps = { ValueKeeps };
 
-    fn read(reader: &mut SceneReader, value: &Value) -> Result<SceneValue, SceneFault> {
+    fn read(reader: &mut SceneReader, value: &Value) -> Result<SceneValue, PartFault> {
         match value {
             Value::Null => Ok(SceneValue::NoneValue),
             Value::Bool(truth) => Ok(SceneValue::Bool(*truth)),
@@ -250,7 +245,7 @@ impl Item for SceneValue {
 impl Item for Binding {
     ghost keeps = { BindingKeeps };
 
-    fn read(reader: &mut SceneReader, value: &Value) -> Result<Binding, SceneFault> {
+    fn read(reader: &mut SceneReader, value: &Value) -> Result<Binding, PartFault> {
         match needed(value, "kind")?.as_str() {
             Some("sleep") => {
                 check_keys(value, &["kind"])?;
@@ -271,23 +266,23 @@ impl Item for Binding {
                     Some(latency) => Binding::Device { device, latency },
                 })
             }
-            _ => Err(SHAPE_FAULT),
+            _ => Err(PartFault::Shape),
         }
     }
 }
 
 // How many turns later a native's effect lets its caller go on, or none where it does in the same turn.
-fn latency_of(reader: &mut SceneReader, value: &Value) -> Result<Option<u32>, SceneFault>
+fn latency_of(reader: &mut SceneReader, value: &Value) -> Result<Option<u32>, PartFault>
     ensures { IfOk result (λ latency. Keeps reader.old.broken reader.new.broken (ForSome latency IsTurns)) }
 {
     // The key belongs to version 2.
     let is_prompt = match value.get("prompt") {
         None => false,
-        Some(_) if reader.version == Version::One => return Err(SHAPE_FAULT),
-        Some(prompt) => prompt.as_bool().ok_or(SHAPE_FAULT)?,
+        Some(_) if reader.version == Version::One => return Err(PartFault::Shape),
+        Some(prompt) => prompt.as_bool().ok_or(PartFault::Shape)?,
     };
     match value.get("latency") {
-        Some(_) if is_prompt => Err(SHAPE_FAULT),
+        Some(_) if is_prompt => Err(PartFault::Shape),
         Some(latency) => Ok(Some(reader.count(latency, 0, TURN_LIMIT)?)),
         None if is_prompt => Ok(None),
         None => Ok(Some(0)),

@@ -1,0 +1,82 @@
+-- The JSON value that a scene's text is, the rule that a text breaks before its form is judged, and the text of an upgraded scene.
+use Rattle.std.specs.Prelude.{◌≡◌, ℕ, false, List, length, codes, nat_lt, if◌then◌else◌, Option, Some, None, Result, Ok, Err}
+use Rattle.std.specs.Str.{is_utf8}
+use Rattle.serde_json.specs.Data.{Data, null, boolean, number, string, array, object, put, unsigned}
+use Rattle.serde_json.specs.Read.{read}
+use Rattle.serde_json.specs.Written.{IsInOrder, compact_text, has_float}
+use Rattle.scene_reader.specs.declared.fault.PartFault.{PartFault}
+use Rattle.scene_reader.specs.declared.fault.PartFault.TheVariants as part
+use Rattle.scene_reader.specs.declared.fault.SceneFault.{SceneFault}
+use Rattle.scene_reader.specs.declared.fault.SceneFault.TheVariants as faults
+use Rattle.scene_reader.specs.declared.fault.SceneRule.{SceneRule}
+use Rattle.scene_reader.specs.declared.fault.SceneRule.TheVariants.{NotJson, Shape, Limit}
+
+-- the JSON value that the bytes are, by RFC 8259; of equal keys the last counts
+abbrev pub json_in : List ℕ → Option Data
+json_in bytes = if is_utf8 bytes then read bytes else None
+
+-- ---- rules
+
+abbrev pub json_rule : Option Data → Option SceneRule
+json_rule None = Some NotJson
+json_rule (Some value) = None
+
+-- the rule that a text breaks before its form is judged: it has more than 16 MiB, whatever else it breaks, or is no JSON
+abbrev pub text_rule : List ℕ → Option SceneRule
+text_rule bytes = if nat_lt 16777216 (length bytes) then Some Limit else json_rule (json_in bytes)
+
+-- a fault of form: the value isn't of the form of a scene, or passes a limit
+abbrev pub IsFormFault : SceneFault → Type 0
+IsFormFault (faults.Broken Shape) = Unit {0}
+IsFormFault (faults.Broken Limit) = Unit {0}
+IsFormFault (faults.Broken _) = ⊥
+IsFormFault faults.OutOfMemory = Unit {0}
+
+abbrev pub ByForm : {T : Type 0} → Result T SceneFault → Type 0
+ByForm (Ok found) = Unit {0}
+ByForm (Err fault) = IsFormFault fault
+
+-- the fault is that of the rule
+abbrev pub IsFaultOf : SceneRule → SceneFault → Type 0
+IsFaultOf rule (faults.Broken broken) = broken ≡ rule
+IsFaultOf rule faults.OutOfMemory = Unit {0}
+
+-- a text that breaks a rule before its form is judged is refused by it, and no other text is refused by a rule that isn't of the
+-- form
+abbrev pub ByText : {T : Type 0} → Option SceneRule → Result T SceneFault → Type 0
+ByText None result = ByForm result
+ByText (Some rule) (Ok found) = ⊥
+ByText (Some rule) (Err fault) = IsFaultOf rule fault
+
+-- why a text has no JSON value
+abbrev pub IsFaultByRule : Option SceneRule → SceneFault → Type 0
+IsFaultByRule None fault = fault ≡ faults.OutOfMemory
+IsFaultByRule (Some rule) fault = IsFaultOf rule fault
+
+abbrev pub IsTextFault : List ℕ → SceneFault → Type 0
+IsTextFault bytes fault = IsFaultByRule (text_rule bytes) fault
+
+-- a part's fault as the scene's
+abbrev pub part_fault : PartFault → SceneFault
+part_fault part.Shape = faults.Broken Shape
+part_fault part.OutOfMemory = faults.OutOfMemory
+
+-- ---- upgraded scenes
+
+-- an object with `version` 2
+abbrev pub with_version_2 : Data → Data
+with_version_2 null = null
+with_version_2 (boolean b) = boolean b
+with_version_2 (number n) = number n
+with_version_2 (string s) = string s
+with_version_2 (array ds) = array ds
+with_version_2 (object ms) = object (put (codes "version") (number (unsigned 2)) ms)
+
+-- the text reads as the same value with `version` 2, and has the keys of each object in the order of their bytes; where that has
+-- no float, it is its compact text
+pub record IsUpgraded (bytes text : List ℕ) : Type 0 where
+  pub value : Data
+  pub json : json_in bytes ≡ Some value
+  pub reads : json_in text ≡ Some (with_version_2 value)
+  pub in_order : IsInOrder text (with_version_2 value)
+  pub compact : has_float (with_version_2 value) ≡ false → text ≡ compact_text (with_version_2 value)
