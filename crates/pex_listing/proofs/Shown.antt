@@ -1,6 +1,6 @@
 -- The texts of parts that hold vectors, and how a table spells references.
-use Rattle.std.proofs.Common.{◌≡◌, ℕ, ◌+◌, ◌<◌, ◌≤◌, List, [], ◌∷◌, ◌++◌, map, length, get_or, refl, sym, ap, ◌∙◌, ⊎_elim, arith, rules}
-use Rattle.std.specs.Prelude.{codes, Option, None, Some, option_map, slice_get, unwrap_or, vec_len}
+use Rattle.std.proofs.Common.{◌≡◌, ℕ, ◌+◌, ◌<◌, ◌≤◌, List, [], ◌∷◌, ◌++◌, map, length, get_or, refl, sym, ap, ◌∙◌, ⊎_elim, arith}
+use Rattle.std.specs.Prelude.{codes, Option, None, Some, option_map, slice_get, unwrap_or}
 use Rattle.std.specs.Fmt.{decimal}
 use Rattle.std.specs.List.{flat_map, range_with_len}
 use Rattle.std.proofs.lemmas.Bool.{cases_lt}
@@ -15,7 +15,7 @@ use Rattle.pex_values.specs.declared.values.PexFunction.{PexFunction}
 use Rattle.pex_values.specs.declared.values.PexObject.{PexObject}
 use Rattle.pex_values.specs.declared.values.PexState.{PexState}
 use Rattle.pex_values.specs.Plain.{plain, plain_debug, plain_function, plain_instruction, plain_lines, plain_named, plain_object, plain_property, plain_state}
-use Rattle.pex_listing.specs.Lines.{number, line_end, reference, string_line, table_lines}
+use Rattle.pex_listing.specs.Lines.{number, line_end, reference, string_line}
 use Rattle.pex_listing.specs.Listing as form
 use Rattle.pex_listing.specs.Showing.{entries_of}
 use Rattle.pex_listing.specs.Spelled.{spelled_in}

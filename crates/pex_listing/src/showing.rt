@@ -5,7 +5,7 @@ ghost use Rattle.std.specs.Fmt.{digit_glyph};
 ghost use Rattle.std.specs.List.{flat_map};
 ghost use Rattle.pex_values.specs.Plain.{plain, plain_debug, plain_function, plain_instruction, plain_lines, plain_named, plain_object, plain_property, plain_state};
 ghost use Rattle.pex_values.specs.Shape.{IsWellShaped};
-ghost use Rattle.pex_listing.specs.Lines.{eight_digits, escaped, field, number, quoted, string_line, two_digits, first_line, header_lines};
+ghost use Rattle.pex_listing.specs.Lines.{eight_digits, escaped, field, number, quoted, string_line, two_digits};
 ghost use Rattle.pex_listing.specs.Listing as form;
 ghost use Rattle.pex_listing.specs.Spelled.{spelled_in};
 ghost use Rattle.pex_listing.specs.Showing.{Shows, Writes, WritesListing, Wrote, entries_of};

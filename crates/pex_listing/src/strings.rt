@@ -1,6 +1,6 @@
 //! The strings of a file by their bytes, and how references to them are spelled.
 
-ghost use Rattle.std.specs.Prelude.{◌≡◌, ℕ, List, ◌∷◌, ◌++◌, length, vec_len, if◌then◌else◌, IfOk, IfSome, OnOk, map};
+ghost use Rattle.std.specs.Prelude.{◌≡◌, ◌∷◌, ◌++◌, length, vec_len, if◌then◌else◌, IfOk, IfSome, OnOk, map};
 ghost use Rattle.std.specs.Fmt.{decimal};
 ghost use Rattle.std.specs.List.{list_all, range_with_len};
 ghost use Rattle.pex_values.specs.Shape.{IsReference};

@@ -15,7 +15,7 @@ pub returns : goal.returns
 returns c =
     let n = vec_len c.in_ok-names.names.spelled in
     let strings = c.in_ok-strings.strings.items in
-    let same : n ≡ length strings = c.in_ok-names.ensures ∙ ap (λ (s : List (List ℕ)). length s) c.deref.ensures.value in
+    let same : n ≡ length strings = c.in_ok-names.ensures.count ∙ ap (λ (s : List (List ℕ)). length s) c.deref.ensures.value in
     let ss = read_as IsCounted string _ _ strings c.in_ok-strings.ensures.reads in
     let d = c.in_ok-debug.ensures in
     let fs = read_as (IsShapedFlag n) flag _ _ c.in_ok-user_flags.user_flags.items c.in_ok-user_flags.ensures in

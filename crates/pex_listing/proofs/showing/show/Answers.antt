@@ -3,7 +3,7 @@ use Rattle.std.specs.List.{range_with_len}
 use Rattle.pex_values.specs.Plain.{plain}
 use Rattle.pex_listing.specs.Lines.{reference}
 use Rattle.pex_listing.specs.Listing.{all_lines, listing}
-use Rattle.pex_listing.specs.Showing.{HoldsBack, WritesListing}
+use Rattle.pex_listing.specs.Showing.{HoldsBack}
 use Rattle.pex_listing.specs.Spelled.{spelled_in}
 use Rattle.pex_listing.proofs.Shown.{spelled_is}
 use Rattle.pex_listing.proofs.Writing.{StopsIn, ends, listing_err, stops_at_once}

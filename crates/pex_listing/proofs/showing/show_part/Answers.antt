@@ -1,5 +1,4 @@
-use Rattle.std.proofs.Common.{◌++◌, refl, sym}
-use Rattle.pex_listing.specs.Spelled.{spelled_in}
+use Rattle.std.proofs.Common.{refl}
 use Rattle.pex_listing.proofs.Writing.{stops_at_once, wrote_as, wrote_err}
 use Rattle.pex_listing.proofs.showing.show_part.Goals as goal
 
